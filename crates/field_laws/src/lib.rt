@@ -1,0 +1,1 @@
+// The law records of rings and fields of characteristic 2: definitions alone, in specs/, no code.
