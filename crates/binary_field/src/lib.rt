@@ -1,0 +1,47 @@
+// Elements of GF(2^5) and GF(2^61): numbers below 2^d whose bit i is the coefficient of t^i.
+// A call refuses a degree other than 5 and 61 with 106, then a number of 2^d or more with 110.
+ghost use mathlib.Core.Path.{_≡_};
+ghost use mathlib.Core.Bool.{cond};
+ghost use mathlib.Core.List.{[], _∷_};
+ghost use Rattle.binary_field.specs.Answer.{reply, below, due, sum-reply};
+
+pub enum Answer {
+    Element(u64),
+    Refused(u32),
+}
+
+// 110 where one of two numbers is m or more, else 0.
+fn range_due(m: u64, a: u64, b: u64) -> u32
+    ensures { λ r. ⌜ r ≡ cond (below m (a ∷ b ∷ [])) 0 110 ⌝ }
+{
+    if a < m {
+        if b < m {
+            return 0;
+        }
+    }
+    110
+}
+
+// The refusal that is due to a call on two numbers, and 0 where none is.
+fn refusal_due(d: u8, a: u64, b: u64) -> u32
+    ensures { λ r. ⌜ r ≡ due d (a ∷ b ∷ []) ⌝ }
+{
+    if d == 5 {
+        return range_due(0x20, a, b);
+    }
+    if d == 61 {
+        return range_due(0x2000_0000_0000_0000, a, b);
+    }
+    106
+}
+
+// The sum of two elements.
+pub fn sum(d: u8, a: u64, b: u64) -> Answer
+    ensures { λ r. ⌜ reply r ≡ sum-reply d a b ⌝ }
+{
+    let n = refusal_due(d, a, b);
+    if n != 0 {
+        return Answer::Refused(n);
+    }
+    Answer::Element(a ^ b)
+}
