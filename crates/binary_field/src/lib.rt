@@ -3,7 +3,9 @@
 ghost use mathlib.Core.Path.{_≡_};
 ghost use mathlib.Core.Bool.{cond};
 ghost use mathlib.Core.List.{[], _∷_};
-ghost use Rattle.binary_field.specs.Answer.{reply, below, due, sum-reply};
+ghost use Rattle.binary_field.specs.Answer.{reply, below, due, sum-reply, product-reply};
+
+mod multiply;
 
 pub enum Answer {
     Element(u64),
@@ -44,4 +46,15 @@ pub fn sum(d: u8, a: u64, b: u64) -> Answer
         return Answer::Refused(n);
     }
     Answer::Element(a ^ b)
+}
+
+// The product of two elements.
+pub fn product(d: u8, a: u64, b: u64) -> Answer
+    ensures { λ r. ⌜ reply r ≡ product-reply d a b ⌝ }
+{
+    let n = refusal_due(d, a, b);
+    if n != 0 {
+        return Answer::Refused(n);
+    }
+    Answer::Element(multiply::product_of(d, a, b))
 }
