@@ -59,6 +59,13 @@ due-twice d a = ap (λ (x : Bool). cond (eqb d 5 || eqb d 61) (cond x 0 110) 106
     twice true = refl
     twice false = refl
 
+-- a call on one number
+pub refuses-one : (d a v : ℕ) {k : ℕ} → k ≡ due d (a ∷ a ∷ []) → (k ≡ 0 → ⊥) → refusal k ≡ answered (due d (a ∷ [])) v
+refuses-one d a v e h = refuses v (e ∙ due-twice d a) h
+
+pub replies-one : (d a : ℕ) {k v : ℕ} → k ≡ due d (a ∷ a ∷ []) → k ≡ 0 → element v ≡ answered (due d (a ∷ [])) v
+replies-one d a e h = replies (e ∙ due-twice d a) h
+
 -- the degree is accepted and the numbers are in range: the answer is the element
 module _ (d a : ℕ) (hd : Accepted d) (ha : a < 2 ^ d) where
   none-one : due d (a ∷ []) ≡ 0

@@ -2,3 +2,4 @@
 pub mod Carryless
 pub mod Element
 pub mod Answer
+pub mod Spreading

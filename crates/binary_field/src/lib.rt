@@ -3,9 +3,12 @@
 ghost use mathlib.Core.Path.{_≡_};
 ghost use mathlib.Core.Bool.{cond};
 ghost use mathlib.Core.List.{[], _∷_};
-ghost use Rattle.binary_field.specs.Answer.{reply, below, due, sum-reply, product-reply};
+ghost use Rattle.binary_field.specs.Answer.{reply, below, due, sum-reply, product-reply, square-reply, inverse-reply};
 
+mod folding;
+mod inverting;
 mod multiply;
+mod squaring;
 
 pub enum Answer {
     Element(u64),
@@ -57,4 +60,28 @@ pub fn product(d: u8, a: u64, b: u64) -> Answer
         return Answer::Refused(n);
     }
     Answer::Element(multiply::product_of(d, a, b))
+}
+
+// The square of an element.
+pub fn square(d: u8, a: u64) -> Answer
+    ensures { λ r. ⌜ reply r ≡ square-reply d a ⌝ }
+{
+    let n = refusal_due(d, a, a);
+    if n != 0 {
+        return Answer::Refused(n);
+    }
+    let table = squaring::spreads();
+    Answer::Element(squaring::square_of(d, a, &table))
+}
+
+// The inverse of an element, and 0 of 0.
+pub fn inverse(d: u8, a: u64) -> Answer
+    ensures { λ r. ⌜ reply r ≡ inverse-reply d a ⌝ }
+{
+    let n = refusal_due(d, a, a);
+    if n != 0 {
+        return Answer::Refused(n);
+    }
+    let table = squaring::spreads();
+    Answer::Element(inverting::inverse_of(d, a, &table))
 }
