@@ -9,8 +9,12 @@ pub mod Linear
 pub mod Frobenius
 pub mod Certificate
 pub mod Inverses
+pub mod Irreducible
+pub mod Chain
+pub mod Field
 pub mod Replies
 pub mod Turns
 pub mod Table
 pub mod Folds
-pub mod Chain
+pub mod ChainSteps
+pub mod Evens

@@ -3,11 +3,12 @@
 ghost use mathlib.Core.Path.{_≡_};
 ghost use mathlib.Core.Bool.{cond};
 ghost use mathlib.Core.List.{[], _∷_};
-ghost use Rattle.binary_field.specs.Answer.{reply, below, due, sum-reply, product-reply, square-reply, inverse-reply};
+ghost use Rattle.binary_field.specs.Answer.{reply, below, due, sum-reply, product-reply, square-reply, root-reply, inverse-reply};
 
 mod folding;
 mod inverting;
 mod multiply;
+mod rooting;
 mod squaring;
 
 pub enum Answer {
@@ -72,6 +73,17 @@ pub fn square(d: u8, a: u64) -> Answer
     }
     let table = squaring::spreads();
     Answer::Element(squaring::square_of(d, a, &table))
+}
+
+// The square root of an element.
+pub fn square_root(d: u8, a: u64) -> Answer
+    ensures { λ r. ⌜ reply r ≡ root-reply d a ⌝ }
+{
+    let n = refusal_due(d, a, a);
+    if n != 0 {
+        return Answer::Refused(n);
+    }
+    Answer::Element(rooting::root_of(d, a))
 }
 
 // The inverse of an element, and 0 of 0.

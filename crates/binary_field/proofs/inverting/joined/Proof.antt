@@ -1,6 +1,6 @@
 -- `joined` meets its contract.
 use borrow.Author.Needs.{needs}
-use Rattle.binary_field.proofs.Chain.{multiplied}
+use Rattle.binary_field.proofs.ChainSteps.{multiplied}
 use Rattle.binary_field.proofs.inverting.joined.Statement.{statement}
 use Rattle.binary_field.proofs.inverting.joined.Tie as tie
 

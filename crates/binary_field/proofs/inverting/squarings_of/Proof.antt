@@ -3,7 +3,7 @@ use mathlib.Core.Path.{_≡_, ap, _∙_, sym}
 use Prim.Native.Nat.{_≤_, _<_, _-_, _^_}
 use native.Mathlib.Omega.{arith}
 use Rattle.binary_field.specs.Element.{squarings}
-use Rattle.binary_field.proofs.Chain.{none-squared, once-more, all-squared}
+use Rattle.binary_field.proofs.ChainSteps.{none-squared, once-more, all-squared}
 use Rattle.binary_field.proofs.inverting.squarings_of.Statement.{statement}
 use Rattle.binary_field.proofs.inverting.squarings_of.Tie as tie
 
