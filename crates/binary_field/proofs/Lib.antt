@@ -10,8 +10,9 @@ pub mod Frobenius
 pub mod Certificate
 pub mod Inverses
 pub mod Irreducible
-pub mod Chain
+pub mod FastInverse
 pub mod Field
+pub mod Theorems
 pub mod Replies
 pub mod Turns
 pub mod Table
