@@ -15,7 +15,7 @@ use Rattle.binary_field.proofs.Linear.{Additive, basis}
 use Rattle.binary_field.proofs.Spread.{spread-sum}
 use Rattle.binary_field.proofs.Remainder.{remainder-sum, remainder-small, remainder-double, remainder-idem}
 use Rattle.binary_field.proofs.Products.{low-lt, product-lt, product-comm, two-product, square-lt, square-sum, square-product, square-spread}
-use Rattle.binary_field.proofs.Turns.{power-le}
+use Rattle.binary_field.proofs.Degrees.{digits-61}
 use Rattle.binary_field.proofs.Certificate.{certified}
 use Rattle.binary_field.proofs.Frobenius.{square-root, square-injective, root-lt}
 
@@ -117,7 +117,7 @@ module _ (d : ℕ) (hd : Accepted d) where
       (square-product d h (evens 32 (a / 2)) s ∙ ap (product d (square d (evens 32 (a / 2)))) e
       ∙ product-comm d (square d (evens 32 (a / 2))) 2 ∙ double-square (evens 32 (a / 2)))
       ∙ sym (remainder-sum d (low d) h (spread (evens 32 a)) (2 * spread (evens 32 (a / 2))))
-      ∙ ap (remainder d (low d)) (evens-parts a (omega (arith, power-le d hd))) ∙ remainder-small d (low d) h a ha
+      ∙ ap (remainder d (low d)) (evens-parts a (omega (arith, digits-61 a d hd ha))) ∙ remainder-small d (low d) h a ha
 
   -- and so what the code makes is the root
   pub root-made : (a e o s p : ℕ) → a < 2 ^ d → square d s ≡ 2 → e ≡ evens 32 a → o ≡ evens 32 (a / 2) → p ≡ product d o s → bitXor e p ≡ root d a

@@ -14,8 +14,7 @@ pub mod FastInverse
 pub mod Field
 pub mod Theorems
 pub mod Replies
-pub mod Turns
+pub mod Degrees
 pub mod Table
-pub mod Folds
 pub mod ChainSteps
 pub mod Evens

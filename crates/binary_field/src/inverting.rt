@@ -4,7 +4,7 @@ ghost use mathlib.Core.Path.{_≡_};
 ghost use Prim.Native.Nat.{_<_, _^_};
 ghost use Rattle.binary_field.specs.Element.{Accepted, product, squarings, inverse};
 ghost use Rattle.binary_field.specs.Spreading.{Spreads};
-use crate::multiply;
+use crate::carryless;
 use crate::squaring;
 
 fn squarings_of(d: u8, a: u64, k: u8, table: &[u16; 256]) -> u64
@@ -25,7 +25,7 @@ fn joined(d: u8, x: u64, k: u8, y: u64, table: &[u16; 256]) -> u64
     requires { ⌜ Accepted d × (x < 2 ^ d) × (y < 2 ^ d) × Spreads (now table) ⌝ }
     ensures { λ r. ⌜ (r ≡ product d (squarings d k x) y) × (r < 2 ^ d) ⌝ }
 {
-    multiply::product_of(d, squarings_of(d, x, k, table), y)
+    carryless::product_of(d, squarings_of(d, x, k, table), y)
 }
 
 // The chain 1, 2, 4.

@@ -5,9 +5,8 @@ ghost use mathlib.Core.Bool.{cond};
 ghost use mathlib.Core.List.{[], _∷_};
 ghost use Rattle.binary_field.specs.Answer.{reply, below, due, sum-reply, product-reply, square-reply, root-reply, inverse-reply};
 
-mod folding;
+mod carryless;
 mod inverting;
-mod multiply;
 mod rooting;
 mod squaring;
 
@@ -60,7 +59,7 @@ pub fn product(d: u8, a: u64, b: u64) -> Answer
     if n != 0 {
         return Answer::Refused(n);
     }
-    Answer::Element(multiply::product_of(d, a, b))
+    Answer::Element(carryless::product_of(d, a, b))
 }
 
 // The square of an element.

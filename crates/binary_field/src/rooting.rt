@@ -4,7 +4,7 @@ ghost use mathlib.Core.Path.{_≡_};
 ghost use Prim.Native.Nat.{_<_, _^_};
 ghost use Rattle.binary_field.specs.Element.{Accepted, square, root};
 ghost use Rattle.binary_field.specs.Spreading.{evens};
-use crate::multiply;
+use crate::carryless;
 
 // The digits at even places, brought together in ever longer runs.
 fn evens_of(n: u64) -> u64
@@ -36,5 +36,5 @@ pub(crate) fn root_of(d: u8, a: u64) -> u64
     let e = evens_of(a);
     let o = evens_of(a >> 1);
     let s = root_of_t(d);
-    e ^ multiply::product_of(d, o, s)
+    e ^ carryless::product_of(d, o, s)
 }

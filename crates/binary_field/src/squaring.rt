@@ -4,7 +4,8 @@ ghost use Prim.Native.Nat.{_<_, _^_};
 ghost use Rattle.binary_field.specs.Carryless.{spread};
 ghost use Rattle.binary_field.specs.Element.{Accepted, square};
 ghost use Rattle.binary_field.specs.Spreading.{Spreads};
-use crate::folding;
+use crate::carryless;
+use crate::carryless::Words;
 
 // Bit i of a byte goes to bit 2i.
 const SPREAD: [u16; 256] = [
@@ -295,12 +296,18 @@ fn spread_32(w: u64, table: &[u16; 256]) -> u64
     (spread_16(w >> 16, table) << 32) ^ spread_16(w & 0xffff, table)
 }
 
+// The low half of a spreads to the digits below 64, the high half to those above.
 pub(crate) fn square_of(d: u8, a: u64, table: &[u16; 256]) -> u64
     requires { ⌜ Accepted d × (a < 2 ^ d) × Spreads (now table) ⌝ }
     ensures { λ r. ⌜ r ≡ square d a ⌝ }
 {
-    if d == 5 {
-        return folding::fold_5(spread_8(a, table));
-    }
-    folding::fold_61(spread_32(a >> 32, table), spread_32(a & 0xffff_ffff, table))
+    let high = spread_32(a >> 32, table);
+    let low = spread_32(a & 0xffff_ffff, table);
+    carryless::fold(
+        d,
+        Words {
+            lo: low & 0x1fff_ffff_ffff_ffff,
+            hi: (high << 3) ^ (low >> 61),
+        },
+    )
 }

@@ -1,5 +1,5 @@
 -- `inverse_of` meets its contract, degree by degree.
-use Rattle.binary_field.proofs.Folds.{other-degree}
+use Rattle.binary_field.proofs.Degrees.{other-degree}
 use Rattle.binary_field.proofs.inverting.inverse_of.Statement.{statement}
 use Rattle.binary_field.proofs.inverting.inverse_of.Tie as tie
 
