@@ -8,6 +8,7 @@ ghost use Rattle.binary_field.specs.Answer.{reply, below, due, sum-reply
 mod carryless;
 mod inverting;
 mod rooting;
+mod spreading;
 mod squaring;
 
 pub enum Answer {
@@ -70,7 +71,7 @@ pub fn square(d: u8, a: u64) -> Answer
     if n != 0 {
         return Answer::Refused(n);
     }
-    let table = squaring::spreads();
+    let table = spreading::spreads();
     Answer::Element(squaring::square_of(d, a, &table))
 }
 
@@ -93,6 +94,6 @@ pub fn inverse(d: u8, a: u64) -> Answer
     if n != 0 {
         return Answer::Refused(n);
     }
-    let table = squaring::spreads();
+    let table = spreading::spreads();
     Answer::Element(inverting::inverse_of(d, a, &table))
 }

@@ -2,8 +2,8 @@
 use borrow.Author.Needs.{needs}
 use native.Mathlib.Omega.{arith}
 use Rattle.binary_field.proofs.Spread.{spread-lt}
-use Rattle.binary_field.proofs.squaring.spread_8.Statement.{statement}
-use Rattle.binary_field.proofs.squaring.spread_8.Tie as tie
+use Rattle.binary_field.proofs.spreading.spread_8.Statement.{statement}
+use Rattle.binary_field.proofs.spreading.spread_8.Tie as tie
 
 mul-result : tie.Need-mul-result
 mul-result c = search needs

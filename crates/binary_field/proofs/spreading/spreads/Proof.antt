@@ -2,8 +2,8 @@
 use mathlib.Core.Path.{refl}
 use Rattle.binary_field.specs.Carryless.{spread, digits, digits-to}
 use Rattle.binary_field.proofs.Table.{every, by-test}
-use Rattle.binary_field.proofs.squaring.spreads.Statement.{statement}
-use Rattle.binary_field.proofs.squaring.spreads.Tie as tie
+use Rattle.binary_field.proofs.spreading.spreads.Statement.{statement}
+use Rattle.binary_field.proofs.spreading.spreads.Tie as tie
 
 returns : tie.Need-returns
 unfolding every spread digits digits-to

@@ -3,8 +3,8 @@ use borrow.Author.Needs.{needs}
 use lib.Bits.{mask-lt}
 use lib.Dec.{lit<, lit≤}
 use Rattle.binary_field.proofs.Table.{spread-joined}
-use Rattle.binary_field.proofs.squaring.spread_32.Statement.{statement}
-use Rattle.binary_field.proofs.squaring.spread_32.Tie as tie
+use Rattle.binary_field.proofs.spreading.spread_32.Statement.{statement}
+use Rattle.binary_field.proofs.spreading.spread_32.Tie as tie
 
 spread-16-requires : tie.Need-spread-16-requires
 spread-16-requires c κs = search needs
