@@ -1,0 +1,2 @@
+-- Algebra in characteristic 2.
+pub mod Ring

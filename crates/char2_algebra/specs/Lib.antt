@@ -1,0 +1,2 @@
+-- Polynomials over a field of characteristic 2.
+pub mod Polynomials
