@@ -1,0 +1,3 @@
+-- Ideals of the coordinate ring, composition, reduction and uniqueness of reduced pairs.
+pub mod Coordinate
+pub mod Ideal
