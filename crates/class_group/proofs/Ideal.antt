@@ -155,3 +155,17 @@ module _ {B : Type 0} (S : Ring2 B) where
     forth = carries-product (h .α) (h .β) (h .forth);
     back = carries-product (h .β) (h .α) (h .back);
   }
+
+  -- α I
+  abbrev pub Scaled : (α : B) (I : B → Type 0) → B → Type 0
+  Scaled α I z = (a : B) × I a × (z ≡ α · a)
+
+  pub ~-scaled : {I : B → Type 0} (α : B) → ¬ (𝟙 ≡ 𝟘) → ¬ (α ≡ 𝟘) → Equivalent (Scaled α I) I
+  ~-scaled α p h = record {
+    α = 𝟙;
+    β = α;
+    α≢𝟘 = p;
+    β≢𝟘 = h;
+    forth = λ z r. (r .0, r .1, 𝟙-· S z ∙ r .2);
+    back = λ a i. (α · a, (a, i, refl), sym (𝟙-· S (α · a)));
+  }
