@@ -1,2 +1,3 @@
 -- Algebra in characteristic 2.
 pub mod Ring
+pub mod Solver
