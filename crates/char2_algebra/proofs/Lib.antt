@@ -1,4 +1,5 @@
 -- Algebra in characteristic 2.
 pub mod Ring
+pub mod Solver
 pub mod Degree
 pub mod Product
