@@ -1,2 +1,5 @@
 -- Polynomials over a field of characteristic 2.
 pub mod Polynomials
+pub mod Degree
+pub mod Euclid
+pub mod Square
