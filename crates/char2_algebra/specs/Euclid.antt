@@ -3,7 +3,7 @@ use Prim.Native.Nat.{ℕ, zero, suc}
 use Rattle.field_laws.specs.Ring.{Ring2}
 use Rattle.field_laws.specs.Field.{Field2}
 use Rattle.char2_algebra.specs.Polynomials.{Polynomials}
-use Rattle.char2_algebra.specs.Degree.{lead}
+use Rattle.char2_algebra.specs.Lead.{lead}
 
 -- g = s a + t b
 pub record Bezout (P : Type 0) : Type 0 where

@@ -3,7 +3,7 @@ use Prim.Native.Nat.{ℕ}
 use mathlib.Core.Path.{_≡_}
 use Rattle.field_laws.specs.Field.{Field2}
 use Rattle.char2_algebra.specs.Polynomials.{Polynomials}
-use Rattle.char2_algebra.specs.Degree.{Monic}
+use Rattle.char2_algebra.specs.Lead.{Monic}
 
 pub record Curve {K P : Type 0} {F : Field2 K} (A : Polynomials F P) : Type 0 where
   pub f : P

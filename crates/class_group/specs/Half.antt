@@ -65,14 +65,14 @@ module _ {K P : Type 0} {F : Field2 K} (A : Polynomials F P) where
   -- otherwise a lift by (x + q)/t with q = √(u1 + 1/t), and a step
   unfoldable pub half-of-degree-3 : Triple P → Pair P
   half-of-degree-3 T =
-      let S = step (lift (con (root (coeff (T .w) 3))) T) in
+      let S = step (lift (quadratic 𝟘ₖ 𝟘ₖ (root (coeff (T .w) 3))) T) in
       let t = root (coeff (S .u) 1) in
       elim (discrete t 𝟘ₖ) [
         | yes _ ↦ halved 𝟙ₖ S
         | no _ ↦
             (let i = inverse t in
             let q = root (coeff (T .u) 1 +ₖ i) in
-            halved (t ·ₖ t) (step (lift (con i · (x + con q)) S)))
+            halved (t ·ₖ t) (step (lift (quadratic 𝟘ₖ i (q ·ₖ i)) S)))
       ]
 
 module _ {K P : Type 0} {F : Field2 K} {A : Polynomials F P} (C : Curve A) where

@@ -7,7 +7,8 @@ use lib.Dec.{ltb}
 use Rattle.field_laws.specs.Ring.{Ring2}
 use Rattle.field_laws.specs.Field.{Field2}
 use Rattle.char2_algebra.specs.Polynomials.{Polynomials}
-use Rattle.char2_algebra.specs.Degree.{Monic, Divides}
+use Rattle.char2_algebra.specs.Divides.{Divides}
+use Rattle.char2_algebra.specs.Lead.{Monic}
 use Rattle.class_group.specs.Curve.{Curve}
 
 pub record Pair (P : Type 0) : Type 0 where
@@ -29,7 +30,7 @@ module _ {K P : Type 0} {F : Field2 K} {A : Polynomials F P} (C : Curve A) where
     pub u-monic : Monic A (D .u)
     pub u-len : len (D .u) ≤ 4
     pub v-len : len (D .v) < len (D .u)
-    pub divides : Divides A (D .u) (value (D .v))
+    pub divides : Divides ring (D .u) (value (D .v))
 
   -- the neutral class is [1, 0]
   unfoldable pub neutral : Pair P

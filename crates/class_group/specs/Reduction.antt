@@ -5,7 +5,7 @@ use lib.Dec.{ltb}
 use Rattle.field_laws.specs.Ring.{Ring2}
 use Rattle.field_laws.specs.Field.{Field2}
 use Rattle.char2_algebra.specs.Polynomials.{Polynomials}
-use Rattle.char2_algebra.specs.Degree.{monic-of}
+use Rattle.char2_algebra.specs.Lead.{monic-of}
 use Rattle.class_group.specs.Curve.{Curve}
 use Rattle.class_group.specs.Mumford.{Pair, value}
 
