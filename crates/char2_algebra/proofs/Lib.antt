@@ -1,2 +1,4 @@
 -- Algebra in characteristic 2.
 pub mod Ring
+pub mod Degree
+pub mod Product
