@@ -1,4 +1,4 @@
--- Ideals of the coordinate ring, composition, reduction and uniqueness of reduced pairs.
+-- The theory of classes.
 pub mod Coordinate
 pub mod Ideal
 pub mod PairIdeal

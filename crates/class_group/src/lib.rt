@@ -1,1 +1,1 @@
-// Reduced classes on y^2 + y = f(x): definitions and lemmas alone, in specs/ and proofs/, no code.
+// Divisor classes of genus 3 in characteristic 2: definitions and theorems alone, in specs/ and proofs/, no code.
