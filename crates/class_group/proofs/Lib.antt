@@ -3,3 +3,5 @@ pub mod Coordinate
 pub mod Ideal
 pub mod PairIdeal
 pub mod Reduction
+pub mod Triple
+pub mod LiftCoefficients
