@@ -5,3 +5,4 @@ pub mod PairIdeal
 pub mod Reduction
 pub mod Triple
 pub mod LiftCoefficients
+pub mod Rows

@@ -9,9 +9,9 @@ use Rattle.class_group.specs.Half.{quadratic}
 
 module _ {B : Type 0} (R : Ring2 B) where
   open Ring2 R using (add as _⊞_, mul as _·_, one as 𝟙)
+
   infixl 60 _⊞_
   infixl 70 _·_
-
   square-identity :
       (x c0 c1 c2 u : B)
       → (c0 ⊞ x · (c1 ⊞ x · c2)) · (c0 ⊞ x · (c1 ⊞ x · c2)) · u
@@ -22,11 +22,11 @@ module _ {K P : Type 0} {F : Field2 K} (A : Polynomials F P) where
   open Polynomials A using (ring, coeff, con, x)
   open Ring2 ring using (add as _⊞_, mul as _·_)
   open Ring2 (F .ring) using (add as _+ₖ_, mul as _·ₖ_, nought as 𝟘ₖ)
+
   infixl 60 _⊞_
   infixl 70 _·_
   infixl 60 _+ₖ_
   infixl 70 _·ₖ_
-
   coeff-con-mul2 : (a b : K) (p : P) (i : ℕ) → coeff (con a · con b · p) i ≡ a ·ₖ b ·ₖ coeff p i
   coeff-con-mul2 a b p i =
       ap (λ z. coeff z i) (ring .mul-assoc (con a) (con b) p)
@@ -35,7 +35,7 @@ module _ {K P : Type 0} {F : Field2 K} (A : Polynomials F P) where
       ∙ sym (F .ring .mul-assoc a b (coeff p i))
 
   module _ (k2 k1 k0 : K) (u w : P) where
-    abbrev lifted : P
+    abbrev pub lifted : P
     lifted = w ⊞ quadratic A k2 k1 k0 ⊞ quadratic A k2 k1 k0 · quadratic A k2 k1 k0 · u
 
     inner2 : P
@@ -72,11 +72,11 @@ module _ {K P : Type 0} {F : Field2 K} (A : Polynomials F P) where
     quadratic-past n =
         A .coeff-add _ _ (suc (suc (suc n)))
         ∙ ap₂
-          _+ₖ_
-          (A .coeff-con-suc k0 (suc (suc n)))
-          (A .coeff-x-mul-suc _ (suc (suc n))
-          ∙ A .coeff-add _ _ (suc (suc n))
-          ∙ ap₂ _+ₖ_ (A .coeff-con-suc k1 (suc n)) (A .coeff-x-mul-suc (con k2) (suc n) ∙ A .coeff-con-suc k2 n))
+        _+ₖ_
+        (A .coeff-con-suc k0 (suc (suc n)))
+        (A .coeff-x-mul-suc _ (suc (suc n))
+        ∙ A .coeff-add _ _ (suc (suc n))
+        ∙ ap₂ _+ₖ_ (A .coeff-con-suc k1 (suc n)) (A .coeff-x-mul-suc (con k2) (suc n) ∙ A .coeff-con-suc k2 n))
         ∙ 𝟘-+ (F .ring) _
         ∙ 𝟘-+ (F .ring) 𝟘ₖ
 
@@ -90,11 +90,11 @@ module _ {K P : Type 0} {F : Field2 K} (A : Polynomials F P) where
     lifted-three =
         lifted-coeff 3
         ∙ ap₂
-          _+ₖ_
-          (ap (λ z. coeff w 3 +ₖ z) (quadratic-past 0) ∙ +-𝟘 (F .ring) _)
-          (ap
-            (λ z. k0 ·ₖ k0 ·ₖ coeff u 3 +ₖ z)
-            (xx-suc inner1 1 ∙ A .coeff-add _ _ 1 ∙ ap₂ _+ₖ_ (coeff-con-mul2 k1 k1 u 1) (xx-one _) ∙ +-𝟘 (F .ring) _))
+        _+ₖ_
+        (ap (λ z. coeff w 3 +ₖ z) (quadratic-past 0) ∙ +-𝟘 (F .ring) _)
+        (ap
+        (λ z. k0 ·ₖ k0 ·ₖ coeff u 3 +ₖ z)
+        (xx-suc inner1 1 ∙ A .coeff-add _ _ 1 ∙ ap₂ _+ₖ_ (coeff-con-mul2 k1 k1 u 1) (xx-one _) ∙ +-𝟘 (F .ring) _))
 
     pub lifted-past :
         (n : ℕ)
@@ -105,10 +105,10 @@ module _ {K P : Type 0} {F : Field2 K} (A : Polynomials F P) where
     lifted-past n =
         lifted-coeff (suc (suc (suc (suc n))))
         ∙ ap₂
-          _+ₖ_
-          (ap (λ z. coeff w (suc (suc (suc (suc n)))) +ₖ z) (quadratic-past (suc n)) ∙ +-𝟘 (F .ring) _)
-          (ap
-            (λ z. k0 ·ₖ k0 ·ₖ coeff u (suc (suc (suc (suc n)))) +ₖ z)
-            (xx-suc inner1 (suc (suc n))
-            ∙ A .coeff-add _ _ (suc (suc n))
-            ∙ ap₂ _+ₖ_ (coeff-con-mul2 k1 k1 u (suc (suc n))) (xx-suc _ n ∙ coeff-con-mul2 k2 k2 u n)))
+        _+ₖ_
+        (ap (λ z. coeff w (suc (suc (suc (suc n)))) +ₖ z) (quadratic-past (suc n)) ∙ +-𝟘 (F .ring) _)
+        (ap
+        (λ z. k0 ·ₖ k0 ·ₖ coeff u (suc (suc (suc (suc n)))) +ₖ z)
+        (xx-suc inner1 (suc (suc n))
+        ∙ A .coeff-add _ _ (suc (suc n))
+        ∙ ap₂ _+ₖ_ (coeff-con-mul2 k1 k1 u (suc (suc n))) (xx-suc _ n ∙ coeff-con-mul2 k2 k2 u n)))

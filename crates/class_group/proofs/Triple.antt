@@ -10,9 +10,9 @@ use Rattle.class_group.specs.Half.{Triple, lift, step}
 
 module _ {B : Type 0} (R : Ring2 B) where
   open Ring2 R using (add as _+_, mul as _·_, one as 𝟙)
+
   infixl 60 _+_
   infixl 70 _·_
-
   lift-identity :
       (u v w f k : B)
       → u · w ≡ v · v + v + f
