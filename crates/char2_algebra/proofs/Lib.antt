@@ -2,3 +2,6 @@
 pub mod Ring
 pub mod Degree
 pub mod Product
+pub mod Divides
+pub mod Division
+pub mod Lead
