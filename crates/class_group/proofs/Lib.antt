@@ -6,3 +6,5 @@ pub mod Reduction
 pub mod Triple
 pub mod LiftCoefficients
 pub mod Rows
+pub mod EvenRoot
+pub mod HalfChain
