@@ -23,16 +23,8 @@ fn degree(p: u128) -> u32 {
 
 /// The product of two polynomials over GF(2), of degrees that add up to less than 128.
 fn polynomial_product(a: u128, b: u128) -> u128 {
-    let mut product = 0;
-    for i in 0..128 {
-        if b >> i & 1 == 1 {
-            product ^= a << i;
-        }
-        if b >> i <= 1 {
-            break;
-        }
-    }
-    product
+    let powers = (0..128 - b.leading_zeros()).filter(|&i| b >> i & 1 == 1);
+    powers.fold(0, |product, i| product ^ a << i)
 }
 
 /// Quotient and remainder of `a` by `b`, which is not 0.
