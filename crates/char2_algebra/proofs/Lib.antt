@@ -8,3 +8,5 @@ pub mod Division
 pub mod Lead
 pub mod Euclid
 pub mod Square
+pub mod Coefficients
+pub mod Expand
