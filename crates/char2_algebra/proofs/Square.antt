@@ -1,7 +1,7 @@
 -- Squares of polynomials: their even coefficients are the squares of the coefficients, the odd ones are nought; a polynomial without odd
 -- powers is the square of `sqrt` of it, of half the degree, monic if it is; a square has one square root.
 use Prim.Native.Nat.{ℕ, zero, suc, _+_ as _+ℕ_, _≤_}
-use mathlib.Core.Path.{_≡_, refl, sym, _∙_, ap, ap₂, fun-ext}
+use mathlib.Core.Path.{_≡_, sym, _∙_, ap, ap₂, fun-ext}
 use native.Mathlib.Omega.{arith}
 use Rattle.field_laws.specs.Ring.{Ring2}
 use Rattle.field_laws.specs.Field.{Field2}
