@@ -1,1 +1,4 @@
 -- The laws of the elements.
+pub mod Sum
+pub mod Clmul
+pub mod Spread
