@@ -2,3 +2,4 @@
 pub mod Sum
 pub mod Clmul
 pub mod Spread
+pub mod Remainder

@@ -100,6 +100,10 @@ sum-double a b = mul-comm 2 (a ⊕ b) ∙ sum-shl a b 1 ∙ ap₂ _⊕_ (mul-com
 pub double-plus : (a x : ℕ) → x < 2 → 2 * a + x ≡ 2 * a ⊕ x
 double-plus a x h = ap (λ y. y + x) (mul-comm 2 a) ∙ sym (sum-shifted a 1 x h) ∙ ap (λ y. y ⊕ x) (mul-comm a 2)
 
+pub double-plus-sum : (a b x y : ℕ) → x < 2 → y < 2 → 2 * (a ⊕ b) + (x ⊕ y) ≡ (2 * a + x) ⊕ (2 * b + y)
+double-plus-sum a b x y hx hy =
+    rw (double-plus (a ⊕ b) (x ⊕ y) (sum-lt 1 x y hx hy), double-plus a x hx, double-plus b y hy, sum-double) (sum-middle _ _ _ _)
+
 -- the high digits and the low ones
 pub sum-split : (n k : ℕ) → n ≡ (n / 2 ^ k * 2 ^ k) ⊕ (n % 2 ^ k)
 sum-split n k = sym (split n k) ∙ sym (sum-shifted (n / 2 ^ k) k (n % 2 ^ k) (mod-lt n (pow-pos k)))
