@@ -3,3 +3,5 @@ pub mod Sum
 pub mod Clmul
 pub mod Spread
 pub mod Remainder
+pub mod Product
+pub mod Power
