@@ -5,3 +5,5 @@ pub mod Spread
 pub mod Remainder
 pub mod Product
 pub mod Power
+pub mod Linear
+pub mod Frobenius

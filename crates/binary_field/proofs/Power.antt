@@ -126,8 +126,7 @@ module _ (d : ℕ) (h : low d < 2 ^ d) where
 
   pub inverse-ones : (a : ℕ) → inverse d a ≡ square d (power d a (2 ^ (d - 1) - 1))
   unfolding inverse
-  inverse-ones a = ap (power d a) (even d h) ∙ power-even a (2 ^ (d - 1) - 1)
+  inverse-ones a = ap (power d a) even ∙ power-even a (2 ^ (d - 1) - 1)
     where
-      even : (e : ℕ) → low e < 2 ^ e → 2 ^ e - 2 ≡ 2 * (2 ^ (e - 1) - 1)
-      even zero g = absurd (omega (arith, Product.low-ge 0))
-      even (suc e) g = let p : suc e - 1 ≡ e = omega arith in rw p (omega arith)
+      even : 2 ^ d - 2 ≡ 2 * (2 ^ (d - 1) - 1)
+      even = let p : d ≡ suc (d - 1) = omega (arith, Product.degree-pos d h) in ap (λ n. 2 ^ n - 2) p ∙ (omega arith)

@@ -25,6 +25,10 @@ low-ge d = either (eqb d 61)
 pub one-lt : (d : ℕ) → low d < 2 ^ d → 1 < 2 ^ d
 one-lt d h = omega (arith, low-ge d)
 
+pub degree-pos : (d : ℕ) → low d < 2 ^ d → 0 < d
+degree-pos zero h = absurd (omega (arith, low-ge 0))
+degree-pos (suc d) h = omega arith
+
 pub product-comm : (d a b : ℕ) → product d a b ≡ product d b a
 unfolding product
 product-comm d a b = ap (remainder d (low d)) (Clmul.clmul-comm a b)
