@@ -7,3 +7,5 @@ pub mod Product
 pub mod Power
 pub mod Linear
 pub mod Frobenius
+pub mod Certificate
+pub mod Inverse
