@@ -9,3 +9,4 @@ pub mod Linear
 pub mod Frobenius
 pub mod Certificate
 pub mod Inverse
+pub mod Irreducible
