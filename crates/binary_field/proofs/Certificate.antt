@@ -1,8 +1,8 @@
 -- What is checked by computation of the degrees 5 and 61: squaring t d times gives t, and a list of d numbers undoes
 -- a² + a up to the last digit. The list holds, for each i below d, the value at t^i of an additive map L with
 -- L (t^2i + t^i) = t^i for i from 1 to d - 1, and L (1 + 1) = 0. So a² + a = 0 only for a = 0 and a = 1.
-use Prim.Native.Nat.{ℕ, zero, suc, _+_, _*_, _/_, _%_, _^_, _≤_, _<_}
-use mathlib.Core.Path.{_≡_, refl, sym, ap, ap₂, subst, _∙_}
+use Prim.Native.Nat.{ℕ, zero, suc, _%_, _^_, _<_}
+use mathlib.Core.Path.{_≡_, refl, sym, ap, subst, _∙_}
 use mathlib.Core.Bool.{Bool, true, false, _&&_}
 use mathlib.Core.List.{List, [], _∷_}
 use native.Mathlib.Decide.{decLt}
@@ -10,7 +10,7 @@ use native.Mathlib.Omega.{arith}
 use lib.Dec.{T, eqb, eqb→eq}
 use Rattle.binary_field.specs.Carryless.{_⊕_, digits-to, digits, clmul, reduce, remainder}
 use Rattle.binary_field.specs.Element.{Accepted, low, product, square, squarings}
-use Rattle.binary_field.proofs.Sum.{bit-lt, sum-self, sum-cancel, sum-odd, sum-middle}
+use Rattle.binary_field.proofs.Sum.{sum-self, sum-cancel, sum-odd, sum-middle}
 use Rattle.binary_field.proofs.Linear.{Additive, additive-zero, basis, combine, combine-additive}
 use Rattle.binary_field.proofs.Product
 

@@ -2,12 +2,12 @@
 -- through shifts; squaring is additive.
 use Prim.Native.Nat.{ℕ, zero, suc, _+_, _*_, _/_, _%_, _^_, _≤_, _<_}
 use mathlib.Core.Path.{_≡_, refl, sym, ap, ap₂, _∙_}
-use native.Mathlib.Nat.{le-refl, zero-mul, one-mul, mul-one, mul-zero, mul-assoc, mul-left-comm, mul-comm, pow-suc, not-suc-le-zero}
+use native.Mathlib.Nat.{le-refl, zero-mul, one-mul, mul-one, mul-zero, mul-left-comm, mul-comm, pow-suc, not-suc-le-zero}
 use native.Mathlib.Decide.{le-ind}
 use native.Mathlib.Omega.{arith}
 use lib.Arith.{bin-ind, half-le}
 use Rattle.binary_field.specs.Carryless.{_⊕_, digits-to, digits, clmul}
-use Rattle.binary_field.proofs.Sum.{bit-cases, bit-lt, sums, sum-assoc, sum-comm, sum-left-comm, sum-self, sum-self-left, sum-zero, zero-sum, sum-half, sum-odd, sum-double, double-plus, bit-mul-sum, bit-sum-mul, sum-middle}
+use Rattle.binary_field.proofs.Sum.{bit-cases, bit-lt, sums, sum-comm, sum-zero, zero-sum, sum-half, sum-odd, sum-double, double-plus, bit-mul-sum, bit-sum-mul, sum-middle}
 
 -- the law of Horner's rule: any number of digits to go serves that is not too small
 module _ (z : ℕ) (f : ℕ → ℕ → ℕ) where

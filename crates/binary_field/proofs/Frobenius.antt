@@ -1,11 +1,11 @@
 -- Where squaring t d times gives t, squaring any element d times gives it back. So every element has a square root, and only
 -- one.
-use Prim.Native.Nat.{ℕ, zero, suc, _+_, _-_, _*_, _/_, _%_, _^_, _≤_, _<_}
-use mathlib.Core.Path.{_≡_, refl, sym, ap, ap₂, _∙_}
+use Prim.Native.Nat.{ℕ, suc, _-_, _*_, _/_, _%_, _^_, _<_}
+use mathlib.Core.Path.{_≡_, sym, ap, ap₂, _∙_}
 use native.Mathlib.Numerals.{add-one}
 use native.Mathlib.Omega.{arith}
 use lib.Arith.{bin-ind}
-use Rattle.binary_field.specs.Carryless.{_⊕_, remainder}
+use Rattle.binary_field.specs.Carryless.{_⊕_}
 use Rattle.binary_field.specs.Element.{low, product, square, squarings, root}
 use Rattle.binary_field.proofs.Sum.{bit-cases, bit-lt}
 use Rattle.binary_field.proofs.Clmul.{digit-split}

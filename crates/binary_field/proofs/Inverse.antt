@@ -1,9 +1,9 @@
 -- Every element but 0 times its inverse is 1, for a certified degree. So a product is 0 only if a factor is.
 -- Nothing here rests on the inverse of 0.
-use Prim.Native.Nat.{ℕ, zero, suc, _+_, _-_, _*_, _/_, _%_, _^_, _≤_, _<_}
-use mathlib.Core.Path.{_≡_, refl, sym, ap, ap₂, _∙_}
+use Prim.Native.Nat.{ℕ, suc, _+_, _-_, _^_, _<_}
+use mathlib.Core.Path.{_≡_, refl, sym, ap, _∙_}
 use native.Mathlib.Omega.{arith}
-use Rattle.binary_field.specs.Element.{low, product, square, squarings, power, inverse}
+use Rattle.binary_field.specs.Element.{product, square, power, inverse}
 use Rattle.binary_field.proofs.Sum.{bit-cases}
 use Rattle.binary_field.proofs.Product
 use Rattle.binary_field.proofs.Power

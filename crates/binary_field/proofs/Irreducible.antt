@@ -1,13 +1,13 @@
 -- Both moduli are irreducible: a product of two polynomials over GF(2) that is the modulus has a factor 1.
 -- The degree of a product is the sum of the degrees.
-use Prim.Native.Nat.{ℕ, zero, suc, _+_, _-_, _*_, _/_, _%_, _^_, _≤_, _<_}
+use Prim.Native.Nat.{ℕ, zero, suc, _+_, _*_, _/_, _%_, _^_, _≤_, _<_}
 use mathlib.Core.Path.{_≡_, refl, sym, ap, ap₂, _∙_}
 use mathlib.Core.Logic.{_⊎_, inl, inr}
 use native.Mathlib.Nat.{div-one, zero-add, suc-add, zero-mul, one-mul, pow-succ', div-div-eq-div-mul, div-lt-iff-lt-mul, le-div-iff-mul-le, div-eq-of-lt}
 use native.Mathlib.Decide.{ℕ-discrete, decLt}
 use native.Mathlib.Omega.{arith}
 use lib.Arith.{bin-ind}
-use lib.Pow.{pow-pos, pow-mono, shr-shr}
+use lib.Pow.{pow-pos, pow-mono}
 use Rattle.binary_field.specs.Carryless.{_⊕_, clmul, remainder}
 use Rattle.binary_field.specs.Element.{Accepted, low, modulus, product}
 use Rattle.binary_field.proofs.Sum.{bit-cases, bit-lt, zero-sum, sum-half, sum-shr}

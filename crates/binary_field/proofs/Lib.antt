@@ -10,3 +10,5 @@ pub mod Frobenius
 pub mod Certificate
 pub mod Inverse
 pub mod Irreducible
+pub mod Chain
+pub mod Field

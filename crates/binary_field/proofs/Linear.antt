@@ -1,14 +1,14 @@
 -- Additive maps on polynomials over GF(2): two that agree on t^0 .. t^(d-1) agree below 2^d. The map given by the list of
 -- its values at t^0, t^1, .. is additive.
-use Prim.Native.Nat.{ℕ, zero, suc, _+_, _*_, _/_, _%_, _^_, _≤_, _<_}
-use mathlib.Core.Path.{_≡_, refl, sym, ap, ap₂, _∙_}
+use Prim.Native.Nat.{ℕ, zero, suc, _*_, _/_, _%_, _^_, _<_}
+use mathlib.Core.Path.{_≡_, sym, ap, ap₂, _∙_}
 use mathlib.Core.List.{List, [], _∷_}
 use native.Mathlib.Nat.{zero-mul, one-mul, mod-lt, le-refl, div-lt-iff-lt-mul}
 use native.Mathlib.Omega.{arith}
 use lib.Arith.{lt-one}
 use lib.Pow.{pow-pos}
 use Rattle.binary_field.specs.Carryless.{_⊕_}
-use Rattle.binary_field.proofs.Sum.{bit-cases, bit-lt, sum-self, sum-self-left, sum-zero, sum-half, sum-odd, sum-split, sum-middle, bit-sum-mul}
+use Rattle.binary_field.proofs.Sum.{bit-cases, bit-lt, sum-self, sum-zero, sum-half, sum-odd, sum-split, sum-middle, bit-sum-mul}
 
 abbrev pub Additive : (ℕ → ℕ) → Type 0
 Additive f = (a b : ℕ) → f (a ⊕ b) ≡ f a ⊕ f b

@@ -1,7 +1,7 @@
 -- Powers of elements, for every d with low d below 2^d: squaring k times is the power 2^k, additive and multiplicative;
 -- the laws of exponents. A power of an element is an element.
-use Prim.Native.Nat.{ℕ, zero, suc, _+_, _-_, _*_, _/_, _%_, _^_, _≤_, _<_}
-use mathlib.Core.Path.{_≡_, refl, sym, ap, ap₂, _∙_}
+use Prim.Native.Nat.{ℕ, zero, suc, _+_, _-_, _*_, _/_, _%_, _^_, _<_}
+use mathlib.Core.Path.{_≡_, refl, sym, ap, _∙_}
 use mathlib.Core.Bool.{cond}
 use native.Mathlib.Nat.{zero-add, suc-add, add-zero, one-mul, mul-comm, mul-assoc, pow-succ'}
 use native.Mathlib.Omega.{arith}

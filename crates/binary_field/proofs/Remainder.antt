@@ -1,15 +1,15 @@
 -- The remainder modulo t^d + low, for every d and every low below 2^d: below 2^d, additive, the identity below 2^d, and
 -- blind to the remainder taken of a factor. It is the remainder of a division, and the only one. `remainder-fold` is the
 -- rule of fast reduction: the digits above the d lowest, times low, are added to the d lowest.
-use Prim.Native.Nat.{ℕ, zero, suc, _+_, _*_, _/_, _%_, _^_, _≤_, _<_}
+use Prim.Native.Nat.{ℕ, suc, _+_, _*_, _/_, _%_, _^_, _<_}
 use mathlib.Core.Path.{_≡_, refl, sym, ap, ap₂, _∙_}
-use native.Mathlib.Nat.{zero-div, zero-mul, one-mul, add-zero, mod-lt, mod-eq-of-lt, div-eq-of-lt, div-self, mod-self, div-lt-iff-lt-mul, pow-suc}
+use native.Mathlib.Nat.{zero-div, zero-mul, one-mul, add-zero, mod-lt, div-eq-of-lt, div-self, mod-self, div-lt-iff-lt-mul}
 use native.Mathlib.Omega.{arith}
 use lib.Arith.{bin-ind}
 use lib.Pow.{pow-pos}
 use Rattle.binary_field.specs.Carryless.{_⊕_, digits-to, digits, clmul, reduce, remainder}
-use Rattle.binary_field.proofs.Sum.{bit-cases, bit-lt, sums, sum-assoc, sum-comm, sum-left-comm, sum-self, sum-self-left, sum-zero, zero-sum, sum-lt, sum-shr, sum-half, sum-odd, sum-double, sum-shifted, sum-split, double-plus, bit-mul-sum, bit-sum-mul, sum-middle, double-plus-sum}
-use Rattle.binary_field.proofs.Clmul.{digits-step, digit-split, clmul-step, zero-clmul, clmul-zero, clmul-comm, clmul-assoc, sum-clmul, double-clmul, bit-clmul, clmul-pow}
+use Rattle.binary_field.proofs.Sum.{bit-cases, bit-lt, sums, sum-assoc, sum-self, sum-zero, zero-sum, sum-lt, sum-shr, sum-half, sum-odd, sum-double, sum-shifted, sum-split, double-plus, bit-mul-sum, bit-sum-mul, sum-middle, double-plus-sum}
+use Rattle.binary_field.proofs.Clmul.{digits-step, digit-split, clmul-step, zero-clmul, clmul-zero, clmul-comm, sum-clmul, double-clmul, bit-clmul, clmul-pow}
 
 module _ (d low : ℕ) where
   reduce-zero : reduce d low 0 ≡ 0

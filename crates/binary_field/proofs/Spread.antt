@@ -1,6 +1,6 @@
 -- The square of a polynomial spreads its digits: bit i goes to bit 2i. Spreading is additive, and works on each run of
 -- digits apart, which is the rule of a table of spread bytes.
-use Prim.Native.Nat.{ℕ, zero, suc, _+_, _*_, _/_, _%_, _^_, _≤_, _<_}
+use Prim.Native.Nat.{ℕ, zero, suc, _+_, _*_, _/_, _%_, _^_, _<_}
 use mathlib.Core.Path.{_≡_, refl, sym, ap, ap₂, _∙_}
 use native.Mathlib.Nat.{mul-assoc, zero-lt-suc}
 use native.Mathlib.Omega.{arith}

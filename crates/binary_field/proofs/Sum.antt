@@ -1,6 +1,6 @@
 -- The sum _⊕_ of polynomials over GF(2): an abelian group in which every element is its own opposite, digit by digit,
 -- and passing through shifts. `sums` is the set for simp that sorts and cancels sums.
-use Prim.Native.Nat.{ℕ, zero, suc, _+_, _*_, _/_, _%_, _^_, _≤_, _<_}
+use Prim.Native.Nat.{ℕ, zero, suc, _+_, _*_, _/_, _%_, _^_, _<_}
 use mathlib.Core.Path.{_≡_, refl, sym, ap, ap₂, _∙_}
 use native.Mathlib.Nat.{mod-lt, add-zero, mul-comm, zero-mul, one-mul}
 use native.Mathlib.Omega.{arith}

@@ -1,7 +1,7 @@
 -- Elements of degree d: numbers below 2^d, polynomials over GF(2) modulo t^61 + t^5 + t^2 + t + 1 for d = 61
 -- and modulo t^5 + t^2 + 1 for d = 5 (document 01, 'The fields').
-use Prim.Native.Nat.{ℕ, zero, suc, _+_, _-_, _*_, _/_, _%_, _^_, _<_}
-use mathlib.Core.Bool.{Bool, true, false, cond, _||_}
+use Prim.Native.Nat.{ℕ, zero, suc, _+_, _-_, _%_, _^_, _<_}
+use mathlib.Core.Bool.{cond, _||_}
 use lib.Dec.{T, eqb}
 use Rattle.binary_field.specs.Carryless.{clmul, remainder, digits}
 
