@@ -10,3 +10,10 @@ pub mod Euclid
 pub mod Square
 pub mod Coefficients
 pub mod Expand
+pub mod Convolution
+pub mod ListCoefficients
+pub mod PolynomialRing
+pub mod ListDivision
+pub mod Polynomial
+pub mod OfList
+pub mod Example
