@@ -10,9 +10,9 @@ use native.Mathlib.Omega.{arith}
 use lib.Dec.{T, eqb, eqb→eq}
 use Rattle.binary_field.specs.Carryless.{_⊕_, digits-to, digits, clmul, reduce, remainder}
 use Rattle.binary_field.specs.Element.{Accepted, low, product, square, squarings}
-use Rattle.binary_field.proofs.Sum.{sum-self, sum-cancel, sum-odd, sum-middle}
+use Rattle.binary_field.proofs.Sums.{sum-self, sum-cancel, sum-odd, sum-middle}
 use Rattle.binary_field.proofs.Linear.{Additive, additive-zero, basis, combine, combine-additive}
-use Rattle.binary_field.proofs.Product
+use Rattle.binary_field.proofs.Products
 
 pub record Certified (d : ℕ) : Type 0 where
   pub fits : low d < 2 ^ d
@@ -72,7 +72,7 @@ unfolding _⊕_ digits-to digits clmul reduce remainder low product square squar
 certified-61 = record { fits = omega arith; fixed = refl; values = values-61; undo = undoes-at 61 values-61 61 tt }
 
 pub certified : (d : ℕ) → Accepted d → Certified d
-certified = Product.degree-cases Certified certified-5 certified-61
+certified = Products.degree-cases Certified certified-5 certified-61
 
 -- an element that is its own square is 0 or 1
 pub idempotent-lt : (d : ℕ) → Certified d → (a : ℕ) → a < 2 ^ d → square d a ≡ a → a < 2
@@ -92,7 +92,7 @@ idempotent-lt d c a ha e =
 
     undone-additive : Additive undone
     undone-additive x y =
-        ap (combine (c .values)) (ap (λ z. z ⊕ (x ⊕ y)) (Product.square-sum d (c .fits) x y) ∙ sum-middle _ _ _ _)
+        ap (combine (c .values)) (ap (λ z. z ⊕ (x ⊕ y)) (Products.square-sum d (c .fits) x y) ∙ sum-middle _ _ _ _)
         ∙ combine-additive (c .values) (square d x ⊕ x) (square d y ⊕ y)
 
     cleared-additive : Additive cleared

@@ -1,14 +1,14 @@
 -- The laws of the elements.
-pub mod Sum
+pub mod Sums
 pub mod Clmul
 pub mod Spread
 pub mod Remainder
-pub mod Product
+pub mod Products
 pub mod Power
 pub mod Linear
 pub mod Frobenius
 pub mod Certificate
-pub mod Inverse
+pub mod Inverses
 pub mod Irreducible
-pub mod Chain
+pub mod FastInverse
 pub mod Field

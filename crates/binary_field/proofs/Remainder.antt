@@ -8,7 +8,7 @@ use native.Mathlib.Omega.{arith}
 use lib.Arith.{bin-ind}
 use lib.Pow.{pow-pos}
 use Rattle.binary_field.specs.Carryless.{_⊕_, digits-to, digits, clmul, reduce, remainder}
-use Rattle.binary_field.proofs.Sum.{bit-cases, bit-lt, sums, sum-assoc, sum-self, sum-zero, zero-sum, sum-lt, sum-shr, sum-half, sum-odd, sum-double, sum-shifted, sum-split, double-plus, bit-mul-sum, bit-sum-mul, sum-middle, double-plus-sum}
+use Rattle.binary_field.proofs.Sums.{bit-cases, bit-lt, sums, sum-assoc, sum-self, sum-zero, zero-sum, sum-lt, sum-shr, sum-half, sum-odd, sum-double, sum-shifted, sum-split, double-plus, bit-mul-sum, bit-sum-mul, sum-middle, double-plus-sum}
 use Rattle.binary_field.proofs.Clmul.{digits-step, digit-split, clmul-step, zero-clmul, clmul-zero, clmul-comm, sum-clmul, double-clmul, bit-clmul, clmul-pow}
 
 module _ (d low : ℕ) where

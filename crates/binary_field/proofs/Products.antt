@@ -9,7 +9,7 @@ use lib.Dec.{T, eqb, eqb→eq}
 use lib.Pow.{pow-pos}
 use Rattle.binary_field.specs.Carryless.{_⊕_, clmul, spread, reduce, remainder}
 use Rattle.binary_field.specs.Element.{Accepted, low, product, square}
-use Rattle.binary_field.proofs.Sum.{bit-cases, bit-lt}
+use Rattle.binary_field.proofs.Sums.{bit-cases, bit-lt}
 use Rattle.binary_field.proofs.Clmul
 use Rattle.binary_field.proofs.Spread.{clmul-self}
 use Rattle.binary_field.proofs.Remainder
