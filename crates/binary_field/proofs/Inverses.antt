@@ -1,5 +1,5 @@
--- Every element but 0 times its inverse is 1, for a certified degree. So a product is 0 only if a factor is.
--- Nothing here rests on the inverse of 0.
+-- Every element but 0 times its inverse is 1, for a certified degree: the power 2^d - 1 of a is its own square, hence 0 or 1,
+-- and times a it is a. So a product is 0 only if a factor is. The inverse of 0 is 0, and nothing else rests on that.
 use Prim.Native.Nat.{ℕ, suc, _+_, _-_, _^_, _<_}
 use mathlib.Core.Path.{_≡_, refl, sym, ap, _∙_}
 use native.Mathlib.Omega.{arith}
