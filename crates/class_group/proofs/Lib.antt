@@ -3,3 +3,4 @@ pub mod Coordinate
 pub mod Ideal
 pub mod PairIdeal
 pub mod Reduction
+pub mod Composition
