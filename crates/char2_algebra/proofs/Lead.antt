@@ -10,6 +10,7 @@ use Rattle.char2_algebra.specs.Lead.{lead, Monic, monic-of}
 use Rattle.char2_algebra.proofs.Ring.{ring2, 𝟘-+, ·-comm, ·-assoc, ·-𝟘, 𝟘-·, ·-𝟙, 𝟙-·}
 use Rattle.char2_algebra.proofs.Degree.{coeff-nought, len-zero, len-nought, len-nonzero, nonzero-of-len, len-add-less, len-one, len-con, con-mul, con-nonzero, con-of-len, coeff-one, len-x, coeff-x-suc, is-nought}
 use Rattle.char2_algebra.proofs.Product.{len-mul, coeff-mul-top, len-con-mul, cancel-right, mul-nonzero, left-nonzero}
+use Rattle.char2_algebra.proofs.Divides.{divides-eq, divides-nought}
 use Rattle.char2_algebra.proofs.Division.{divides-len}
 
 module _ {K P : Type 0} {F : Field2 K} (A : Polynomials F P) where
@@ -128,8 +129,12 @@ module _ {K P : Type 0} {F : Field2 K} (A : Polynomials F P) where
   pub monic-of-nought : (p : P) → p ≡ 𝟘 → monic-of A p ≡ 𝟘
   monic-of-nought p e = len-zero A (monic-of A p) (len-monic-of p ∙ ap len e ∙ len-nought A)
 
-  pub monic-of-divides : (p : P) → ¬ (p ≡ 𝟘) → Divides R (monic-of A p) p
-  monic-of-divides p h = (con (lead A p), monic-of-factor p h)
+  pub monic-of-divides : (p : P) → Divides R (monic-of A p) p
+  monic-of-divides p = go (is-nought A p)
+    where
+      go : Dec (p ≡ 𝟘) → Divides R (monic-of A p) p
+      go (yes e) = divides-eq R (sym e) (divides-nought R (monic-of A p))
+      go (no h) = (con (lead A p), monic-of-factor p h)
 
   pub divides-monic-of : (p : P) → Divides R p (monic-of A p)
   unfolding monic-of

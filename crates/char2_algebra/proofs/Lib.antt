@@ -6,3 +6,4 @@ pub mod Product
 pub mod Divides
 pub mod Division
 pub mod Lead
+pub mod Euclid
