@@ -8,7 +8,7 @@ use Rattle.char2_algebra.specs.Polynomials.{Polynomials}
 use Rattle.char2_algebra.specs.Divides.{Divides}
 use Rattle.char2_algebra.specs.Lead.{lead, Monic, monic-of}
 use Rattle.char2_algebra.proofs.Ring.{ring2, 𝟘-+, ·-comm, ·-assoc, ·-𝟘, 𝟘-·, ·-𝟙, 𝟙-·}
-use Rattle.char2_algebra.proofs.Degree.{coeff-nought, len-zero, len-nought, len-nonzero, nonzero-of-len, len-add-less, len-one, len-con, con-mul, con-nonzero, con-of-len, coeff-one, len-x, coeff-x-suc, is-nought}
+use Rattle.char2_algebra.proofs.Degree.{coeff-nought, len-bound, len-is, len-zero, len-nought, len-nonzero, nonzero-of-len, len-add-less, len-one, len-con, con-mul, con-nonzero, con-of-len, coeff-one, len-x, coeff-x-suc, is-nought}
 use Rattle.char2_algebra.proofs.Product.{len-mul, coeff-mul-top, len-con-mul, cancel-right, mul-nonzero, left-nonzero}
 use Rattle.char2_algebra.proofs.Divides.{divides-eq, divides-nought}
 use Rattle.char2_algebra.proofs.Division.{divides-len}
@@ -89,6 +89,13 @@ module _ {K P : Type 0} {F : Field2 K} (A : Polynomials F P) where
   -- the highest coefficient of a monic polynomial is one
   pub monic-top : (p : P) (n : ℕ) → Monic A p → len p ≡ suc n → coeff p n ≡ 𝟏
   monic-top p n m e = sym (lead-is p n e) ∙ m
+
+  -- one at n and nought above: monic of length n + 1
+  pub len-by-top : (p : P) (n : ℕ) → coeff p n ≡ 𝟏 → ((i : ℕ) → n < i → coeff p i ≡ 𝟎) → len p ≡ suc n
+  len-by-top p n e h = len-is A p n (len-bound A p (suc n) h) (λ z. F .one≢nought (sym e ∙ z))
+
+  pub monic-by-top : (p : P) (n : ℕ) → coeff p n ≡ 𝟏 → ((i : ℕ) → n < i → coeff p i ≡ 𝟎) → Monic A p
+  monic-by-top p n e h = lead-is p n (len-by-top p n e h) ∙ e
 
   pub monic-constant : (p : P) → Monic A p → len p ≤ 1 → p ≡ 𝟙
   monic-constant p m h =

@@ -7,3 +7,4 @@ pub mod Divides
 pub mod Division
 pub mod Lead
 pub mod Euclid
+pub mod Square
