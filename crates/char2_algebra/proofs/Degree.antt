@@ -7,6 +7,7 @@ use native.Mathlib.Decide.{decLe}
 use Rattle.field_laws.specs.Ring.{Ring2}
 use Rattle.field_laws.specs.Field.{Field2}
 use Rattle.char2_algebra.specs.Polynomials.{Polynomials}
+use Rattle.char2_algebra.specs.Square.{tail}
 use Rattle.char2_algebra.proofs.Ring.{+-comm, +-𝟘, 𝟘-+, +-self, ·-comm, ·-𝟙, ·-𝟘, eq-of-sum, sum-of-eq}
 
 module _ {K P : Type 0} {F : Field2 K} (A : Polynomials F P) where
@@ -168,16 +169,13 @@ module _ {K P : Type 0} {F : Field2 K} (A : Polynomials F P) where
   unfolding is-nought
   polynomials-discrete p q = elim (is-nought (p + q)) [ yes e ↦ yes (eq-of-sum R p q e) | no h ↦ no (λ e. h (sum-of-eq R p q e)) ]
 
-  -- the polynomial without its lowest coefficient, divided by x
-  pub tail : P → P
-  tail p = quot p x
-
+  -- the tail: the polynomial without its lowest coefficient, divided by x
   rem-x : (p : P) → rem p x ≡ con (coeff p 0)
   rem-x p =
       con-of-len (rem p x) (let h : len (rem p x) < len x = A .rem-len p x x-nonzero in let e : len x ≡ 2 = len-x in omega arith)
       ∙ ap con (sym (𝟘-+ (F .ring) _) ∙ ap (λ z. z ⊕ coeff (rem p x) 0) (sym (A .coeff-x-mul (quot p x)) ∙ ap (λ z. coeff z 0) (·-comm R x (quot p x))) ∙ sym (A .coeff-add _ _ 0) ∙ ap (λ z. coeff z 0) (sym (A .division p x x-nonzero)))
 
-  pub split : (p : P) → p ≡ con (coeff p 0) + x · tail p
+  pub split : (p : P) → p ≡ con (coeff p 0) + x · tail A p
   unfolding tail
   split p = A .division p x x-nonzero ∙ ap₂ _+_ (·-comm R (quot p x) x) (rem-x p) ∙ +-comm R (x · quot p x) (con (coeff p 0))
 
@@ -187,8 +185,8 @@ module _ {K P : Type 0} {F : Field2 K} (A : Polynomials F P) where
   pub coeff-con-add-x-mul-suc : (a : K) (p : P) (i : ℕ) → coeff (con a + x · p) (suc i) ≡ coeff p i
   coeff-con-add-x-mul-suc a p i = A .coeff-add _ _ (suc i) ∙ ap₂ _⊕_ (A .coeff-con-suc a i) (A .coeff-x-mul-suc p i) ∙ 𝟘-+ (F .ring) (coeff p i)
 
-  pub coeff-tail : (p : P) (i : ℕ) → coeff (tail p) i ≡ coeff p (suc i)
-  coeff-tail p i = sym (coeff-con-add-x-mul-suc (coeff p 0) (tail p) i) ∙ ap (λ z. coeff z (suc i)) (sym (split p))
+  pub coeff-tail : (p : P) (i : ℕ) → coeff (tail A p) i ≡ coeff p (suc i)
+  coeff-tail p i = sym (coeff-con-add-x-mul-suc (coeff p 0) (tail A p) i) ∙ ap (λ z. coeff z (suc i)) (sym (split p))
 
-  pub len-tail : (p : P) (n : ℕ) → len p ≤ suc n → len (tail p) ≤ n
-  len-tail p n h = len-bound (tail p) n (λ i l. coeff-tail p i ∙ A .len-past p (suc i) (omega arith))
+  pub len-tail : (p : P) (n : ℕ) → len p ≤ suc n → len (tail A p) ≤ n
+  len-tail p n h = len-bound (tail A p) n (λ i l. coeff-tail p i ∙ A .len-past p (suc i) (omega arith))

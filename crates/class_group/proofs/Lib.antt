@@ -4,3 +4,6 @@ pub mod Ideal
 pub mod PairIdeal
 pub mod Reduction
 pub mod Composition
+pub mod Triple
+pub mod LiftCoefficients
+pub mod Rows
