@@ -97,6 +97,11 @@ module _ {P : Type 0} (R : Ring2 P) (f : P) where
   unfolding norm
   norm-constant p = simp (ring2, R)
 
+  -- v² + v + f is the norm of v + y
+  pub norm-value : (v : P) → norm (v, 𝟙) ≡ v · v + v + f
+  unfolding norm
+  norm-value v = simp (ring2, R)
+
   pub constant-mul : (c p q : P) → coordinate .mul (c, 𝟘) (p, q) ≡ (c · p, c · q)
   unfolding coordinate
   constant-mul c p q = λ i. (constant₀ R f c p q i, constant₁ R c p q i)

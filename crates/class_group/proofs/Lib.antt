@@ -7,3 +7,4 @@ pub mod Composition
 pub mod Triple
 pub mod LiftCoefficients
 pub mod Rows
+pub mod Norm
