@@ -1,1 +1,2 @@
 -- The theory of classes.
+pub mod NonSingular

@@ -5,3 +5,5 @@ pub mod Composition
 pub mod Reduction
 pub mod Operations
 pub mod Half
+pub mod Walk
+pub mod NonSingular
