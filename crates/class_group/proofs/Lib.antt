@@ -1,2 +1,3 @@
 -- The theory of classes.
 pub mod NonSingular
+pub mod Walk
