@@ -1,5 +1,6 @@
 -- Algebra in characteristic 2.
 pub mod Ring
+pub mod Solver
 pub mod Degree
 pub mod Product
 pub mod Divides

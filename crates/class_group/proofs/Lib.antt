@@ -1,3 +1,7 @@
 -- The theory of classes.
 pub mod NonSingular
 pub mod Walk
+pub mod Coordinate
+pub mod Ideal
+pub mod PairIdeal
+pub mod Reduction
