@@ -1,5 +1,6 @@
 -- The theory of classes.
 pub mod NonSingular
+pub mod SemiReduced
 pub mod Walk
 pub mod Coordinate
 pub mod Ideal
