@@ -2,7 +2,7 @@
 use mathlib.Core.Path.{_≡_, refl, sym, _∙_, ap, ap₂}
 use Rattle.field_laws.specs.Ring.{Ring2}
 use Rattle.char2_algebra.specs.Divides.{Divides}
-use Rattle.char2_algebra.proofs.Ring.{ring2, +-·, ·-comm, ·-assoc, 𝟙-·, 𝟘-·, +-cancel}
+use Rattle.char2_algebra.proofs.Ring.{ring2, +-·, ·-comm, ·-assoc, 𝟙-·, ·-𝟘, 𝟘-·, +-cancel}
 
 module _ {A : Type 0} (R : Ring2 A) where
   open Ring2 R using (add as _+_, mul as _·_, nought as 𝟘, one as 𝟙)
@@ -48,3 +48,9 @@ module _ {A : Type 0} (R : Ring2 A) where
     where
       shuffle : (q b s b' : A) → (q · b) · (s · b') ≡ (q · s) · (b · b')
       shuffle q b s b' = simp (ring2, R)
+
+  pub divides-by-eq : {b b' a : A} → b ≡ b' → Divides R b a → Divides R b' a
+  divides-by-eq e (q, h) = (q, h ∙ ap (λ z. q · z) e)
+
+  pub nought-divides : {a : A} → Divides R 𝟘 a → a ≡ 𝟘
+  nought-divides (q, h) = h ∙ ·-𝟘 R q

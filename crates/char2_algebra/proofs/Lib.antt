@@ -6,3 +6,5 @@ pub mod Product
 pub mod Divides
 pub mod Division
 pub mod Lead
+pub mod Euclid
+pub mod Square

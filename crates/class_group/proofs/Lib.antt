@@ -6,3 +6,6 @@ pub mod Coordinate
 pub mod Ideal
 pub mod PairIdeal
 pub mod Reduction
+pub mod Triple
+pub mod LiftCoefficients
+pub mod Rows
