@@ -112,7 +112,7 @@ module _ {K P : Type 0} {F : Field2 K} {A : Polynomials F P} (C : Curve A) where
           v-len = A .rem-len (v + 𝟙) (monic-of A w) n;
           divides =
               value-congruent (rem-divides A (monic-of A w) n (v + 𝟙))
-              (divides-eq R (sym cofactor-eq ∙ sym (value-one v)) (divides-mul-right R u (monic-of-divides A w cofactor-nonzero)));
+              (divides-eq R (sym cofactor-eq ∙ sym (value-one v)) (divides-mul-right R u (monic-of-divides A w)));
         }
 
     -- from length 7, 6, 5 to at most 5, 4, 4
