@@ -44,6 +44,12 @@ module _ {P : Type 0} (R : Ring2 P) where
   pub conj₁ : (p q : P) → p · q + q · (p + q) + q · q ≡ 𝟘
   conj₁ p q = simp (ring2, R)
 
+  pub constant₀ : (f c p q : P) → c · p + 𝟘 · q · f ≡ c · p
+  constant₀ f c p q = simp (ring2, R)
+
+  pub constant₁ : (c p q : P) → c · q + 𝟘 · p + 𝟘 · q ≡ c · q
+  constant₁ c p q = simp (ring2, R)
+
   pub norm-mul′ : (f p q p′ q′ : P) → (p · p′ + q · q′ · f) · (p · p′ + q · q′ · f)
       + (p · p′ + q · q′ · f) · (p · q′ + q · p′ + q · q′)
       + (p · q′ + q · p′ + q · q′) · (p · q′ + q · p′ + q · q′) · f
@@ -90,3 +96,12 @@ module _ {P : Type 0} (R : Ring2 P) (f : P) where
   pub norm-constant : (p : P) → norm (p, 𝟘) ≡ p · p
   unfolding norm
   norm-constant p = simp (ring2, R)
+
+  -- v² + v + f is the norm of v + y
+  pub norm-value : (v : P) → norm (v, 𝟙) ≡ v · v + v + f
+  unfolding norm
+  norm-value v = simp (ring2, R)
+
+  pub constant-mul : (c p q : P) → coordinate .mul (c, 𝟘) (p, q) ≡ (c · p, c · q)
+  unfolding coordinate
+  constant-mul c p q = λ i. (constant₀ R f c p q i, constant₁ R c p q i)

@@ -63,10 +63,14 @@ module _ {B : Type 0} (S : Ring2 B) where
       (product-assoc z
       (product-within (λ x t. product-comm x t) (λ x t. t) z (product-comm z h))))
 
+  -- an ideal with all products of an element of I and one of J holds the product of I and J
+  pub product-least : {I J M : B → Type 0} → Ideal M → ((a b : B) → I a → J b → M (a · b)) → Within (Product I J) M
+  product-least {M = M} m h z (none e) = subst M (sym e) (m .nought)
+  product-least {M = M} m h z (more a b c i j r e) = subst M (sym e) (m .sum (h a b i j) (product-least m h c r))
+
   -- the product of the whole ring with an ideal is the ideal
   pub product-whole : {I : B → Type 0} → Ideal I → Within (Product Whole I) I
-  product-whole {I} h z (none e) = subst I (sym e) (h .nought)
-  product-whole {I} h z (more a b c i j r e) = subst I (sym e) (h .sum (h .multiple a j) (product-whole h c r))
+  product-whole h = product-least h (λ a b w i. h .multiple a i)
 
   pub product-whole⁻¹ : {I : B → Type 0} → Within I (Product Whole I)
   product-whole⁻¹ {I} z h = subst (Product Whole I) (𝟙-· S z) (product-of 𝟙 z tt h)
@@ -160,12 +164,23 @@ module _ {B : Type 0} (S : Ring2 B) where
   abbrev pub Scaled : (α : B) (I : B → Type 0) → B → Type 0
   Scaled α I z = (a : B) × I a × (z ≡ α · a)
 
-  pub ~-scaled : {I : B → Type 0} (α : B) → ¬ (𝟙 ≡ 𝟘) → ¬ (α ≡ 𝟘) → Equivalent (Scaled α I) I
-  ~-scaled α p h = record {
+  pub scaled-ideal : {I : B → Type 0} (α : B) → Ideal I → Ideal (Scaled α I)
+  scaled-ideal α h = record {
+    nought = (𝟘, h .nought, sym (·-𝟘 S α));
+    sum = λ s t. (s .0 + t .0, h .sum (s .1) (t .1), ap₂ _+_ (s .2) (t .2) ∙ sym (S .mul-add α (s .0) (t .0)));
+    multiple = λ c s. (c · s .0, h .multiple c (s .1), ap (λ z. c · z) (s .2) ∙ ·-left-comm S c α (s .0));
+  }
+
+  -- I ~ J where I = α J
+  pub ~-of-scaled : {I J : B → Type 0} (α : B) → ¬ (𝟙 ≡ 𝟘) → ¬ (α ≡ 𝟘) → Within I (Scaled α J) → Within (Scaled α J) I → Equivalent I J
+  ~-of-scaled α one α≢𝟘 h k = record {
     α = 𝟙;
     β = α;
-    α≢𝟘 = p;
-    β≢𝟘 = h;
-    forth = λ z r. (r .0, r .1, 𝟙-· S z ∙ r .2);
-    back = λ a i. (α · a, (a, i, refl), sym (𝟙-· S (α · a)));
+    α≢𝟘 = one;
+    β≢𝟘 = α≢𝟘;
+    forth = λ z i. let r = h z i in (r .0, r .1, 𝟙-· S z ∙ r .2);
+    back = λ a j. (α · a, k (α · a) (a, j, refl), sym (𝟙-· S (α · a)));
   }
+
+  pub ~-scaled : {I : B → Type 0} (α : B) → ¬ (𝟙 ≡ 𝟘) → ¬ (α ≡ 𝟘) → Equivalent (Scaled α I) I
+  ~-scaled α one α≢𝟘 = ~-of-scaled α one α≢𝟘 (λ z i. i) (λ z i. i)

@@ -6,6 +6,8 @@ pub mod Coordinate
 pub mod Ideal
 pub mod PairIdeal
 pub mod Reduction
+pub mod Composition
 pub mod Triple
 pub mod LiftCoefficients
 pub mod Rows
+pub mod Norm

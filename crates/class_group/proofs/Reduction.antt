@@ -1,4 +1,4 @@
--- One reduction step keeps the class: if u w = v² + v + f, then w I(u, v) = (y + v) I(w, v + 1).
+-- One reduction step keeps the class: if v² + v + f = w u, then w I(u, v) = (y + v) I(w, v + 1).
 use mathlib.Core.Path.{_≡_, refl, sym, _∙_, ap}
 use Rattle.field_laws.specs.Ring.{Ring2}
 use Rattle.char2_algebra.proofs.Ring.{ring2, by, both, combine}
@@ -12,24 +12,24 @@ module _ {P : Type 0} (R : Ring2 P) where
 
   infixl 60 _+_
   infixl 70 _·_
-  forth-member : (v w q k : P) → k · (v + 𝟙) + q · w + k · (v + 𝟙) ≡ w · q
+  forth-member : (v w q k : P) → k · (v + 𝟙) + q · w + k · (v + 𝟙) ≡ q · w
   forth-member v w q k = simp (ring2, R)
 
-  forth₀ : (f u v w p q k : P) → u · w ≡ v · v + v + f → p + q · v ≡ u · k
+  forth₀ : (f u v w p q k : P) → v · v + v + f ≡ w · u → p + q · v ≡ k · u
       → w · p + 𝟘 · q · f ≡ v · (k · (v + 𝟙) + q · w) + 𝟙 · k · f
   forth₀ f u v w p q k on h = combine R _ _ (both R (by R k on) (by R w h)) (simp (ring2, R))
 
   forth₁ : (v w p q k : P) → w · q + 𝟘 · p + 𝟘 · q ≡ v · k + 𝟙 · (k · (v + 𝟙) + q · w) + 𝟙 · k
   forth₁ v w p q k = simp (ring2, R)
 
-  back-member : (u v q k : P) → q · u + k · v + k · v ≡ u · q
+  back-member : (u v q k : P) → q · u + k · v + k · v ≡ q · u
   back-member u v q k = simp (ring2, R)
 
-  back₀ : (f u v w p q k : P) → u · w ≡ v · v + v + f → p + q · (v + 𝟙) ≡ w · k
+  back₀ : (f u v w p q k : P) → v · v + v + f ≡ w · u → p + q · (v + 𝟙) ≡ k · w
       → v · p + 𝟙 · q · f ≡ w · (q · u + k · v) + 𝟘 · k · f
   back₀ f u v w p q k on h = combine R _ _ (both R (by R q on) (by R v h)) (simp (ring2, R))
 
-  back₁ : (u v w p q k : P) → p + q · (v + 𝟙) ≡ w · k → v · q + 𝟙 · p + 𝟙 · q ≡ w · k + 𝟘 · (q · u + k · v) + 𝟘 · k
+  back₁ : (u v w p q k : P) → p + q · (v + 𝟙) ≡ k · w → v · q + 𝟙 · p + 𝟙 · q ≡ w · k + 𝟘 · (q · u + k · v) + 𝟘 · k
   back₁ u v w p q k h = combine R _ _ (by R 𝟙 h) (simp (ring2, R))
 
 module _ {P : Type 0} (R : Ring2 P) (f : P) where
@@ -37,7 +37,7 @@ module _ {P : Type 0} (R : Ring2 P) (f : P) where
 
   infixl 60 _+_
   infixl 70 _·_
-  module _ (u v w : P) (on : u · w ≡ v · v + v + f) where
+  module _ (u v w : P) (on : v · v + v + f ≡ w · u) where
     step-forth : Carries (coordinate R f) (w, 𝟘) (v, 𝟙) (pair-ideal R u v) (pair-ideal R w (v + 𝟙))
     unfolding coordinate
     step-forth x h = (
