@@ -1,6 +1,8 @@
 -- The theory of classes.
 pub mod NonSingular
 pub mod SemiReduced
+pub mod Composed
+pub mod Closed
 pub mod Walk
 pub mod Coordinate
 pub mod Ideal
