@@ -12,7 +12,7 @@ use Rattle.char2_algebra.specs.Lead.{lead, Monic, monic-of}
 use Rattle.char2_algebra.specs.Euclid.{Bezout3, bezout3}
 use Rattle.char2_algebra.proofs.Ring.{ring2, ·-comm, ·-𝟘, ·-𝟙}
 use Rattle.char2_algebra.proofs.Degree.{one-nonzero}
-use Rattle.char2_algebra.proofs.Product.{len-mul, mul-nonzero, cancel-left, right-nonzero}
+use Rattle.char2_algebra.proofs.Product.{len-mul, mul-nonzero, cancel-left}
 use Rattle.char2_algebra.proofs.Divides.{divides-eq, divides-trans, one-divides}
 use Rattle.char2_algebra.proofs.Division.{quot-exact, quot-mul, rem-divides, divides-len}
 use Rattle.char2_algebra.proofs.Lead.{monic-nonzero, monic-mul, monic-cofactor, monic-of-monic, monic-of-divides, divides-monic-of, monic-antisym, monic-one, len-monic-of}
@@ -21,7 +21,7 @@ use Rattle.class_group.specs.Curve.{Curve}
 use Rattle.class_group.specs.Mumford.{Pair, Reduced, value}
 use Rattle.class_group.specs.Composition.{composed, compose, compose-double}
 use Rattle.class_group.specs.Reduction.{reduce}
-use Rattle.class_group.proofs.Composition.{Composed, numerator-divides, composed-divides}
+use Rattle.class_group.proofs.Composition.{Composed, numerator-divides, composed-divides, composed-nonzero as parts-nonzero}
 use Rattle.class_group.proofs.SemiReduced.{SemiReduced, semi-of-reduced, value-congruent, Ended, reduce-ended}
 
 module _ {K P : Type 0} {F : Field2 K} {A : Polynomials F P} (C : Curve A) where
@@ -114,7 +114,7 @@ module _ {K P : Type 0} {F : Field2 K} {A : Polynomials F P} (C : Curve A) where
     u-product-nonzero = mul-nonzero A u₁ u₂ (monic-nonzero A u₁ (r .u-monic)) (monic-nonzero A u₂ (s .u-monic))
 
     pub composed-nonzero : ¬ (composed C b D E .u ≡ 𝟘)
-    composed-nonzero = right-nonzero A (e · e) (composed C b D E .u) (λ z. u-product-nonzero (composed-u-divides ∙ z))
+    composed-nonzero = parts-nonzero R f (cancel-left A) composition
 
     pub composed-len : suc (len (composed C b D E .u)) ≤ len u₁ +ℕ len u₂
     composed-len =

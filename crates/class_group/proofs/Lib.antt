@@ -3,6 +3,9 @@ pub mod NonSingular
 pub mod SemiReduced
 pub mod Composed
 pub mod Closed
+pub mod Classes
+pub mod GroupLaws
+pub mod Adds
 pub mod Walk
 pub mod Coordinate
 pub mod Ideal

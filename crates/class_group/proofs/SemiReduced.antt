@@ -1,12 +1,10 @@
 -- Semi-reduced pairs: u monic, v shorter than u, u a divisor of v² + v + f; a reduced class is one with u of length at most 4.
--- The length of v² + v + f, which is never 0. A reduction step keeps a pair semi-reduced and takes u of length 7, 6, 5 to
--- length at most 5, 4, 4. So reduction ends in a reduced class after at most two steps.
-use Prim.Native.Nat.{ℕ, zero, suc, _+_ as _+ℕ_, _≤_, _<_, max}
+-- A reduction step keeps a pair semi-reduced (`step-semi`) and takes u of length 7, 6, 5 to length at most 5, 4, 4 (`step-len`). So
+-- reduction ends in a reduced class after at most two steps (`reduce-ended`). What steps keep, reduction keeps (`reduce-keeps`).
+use Prim.Native.Nat.{ℕ, zero, suc, _+_ as _+ℕ_, _≤_, _<_, _*_, max}
 use mathlib.Core.Path.{_≡_, refl, sym, _∙_, ap}
-use mathlib.Core.Bool.{Bool, true, false}
 use native.Mathlib.Omega.{arith}
 use native.Mathlib.Decide.{decLe}
-use lib.Dec.{ltb}
 use borrow.Author.Tests.{lt-ltb, le-ltb}
 use Rattle.field_laws.specs.Ring.{Ring2}
 use Rattle.field_laws.specs.Field.{Field2}
@@ -14,14 +12,14 @@ use Rattle.char2_algebra.specs.Polynomials.{Polynomials}
 use Rattle.char2_algebra.specs.Divides.{Divides}
 use Rattle.char2_algebra.specs.Lead.{Monic, monic-of}
 use Rattle.char2_algebra.proofs.Ring.{ring2, 𝟘-·}
-use Rattle.char2_algebra.proofs.Degree.{len-add, len-add-max, len-add-less, nonzero-of-len, len-nonzero}
-use Rattle.char2_algebra.proofs.Product.{len-mul-le, len-mul}
-use Rattle.char2_algebra.proofs.Divides.{divides-eq, divides-add, divides-mul-right, divides-trans}
+use Rattle.char2_algebra.proofs.Product.{len-mul}
+use Rattle.char2_algebra.proofs.Divides.{divides-eq, divides-add, divides-mul-right}
 use Rattle.char2_algebra.proofs.Division.{quot-exact, rem-divides}
 use Rattle.char2_algebra.proofs.Lead.{monic-nonzero, monic-of-monic, monic-of-divides, len-monic-of}
 use Rattle.class_group.specs.Curve.{Curve}
 use Rattle.class_group.specs.Mumford.{Pair, Reduced, value}
 use Rattle.class_group.specs.Reduction.{Counted, reduction-step, reduce-to, reduce}
+use Rattle.class_group.proofs.Norm.{value-len, value-nonzero}
 
 module _ {K P : Type 0} {F : Field2 K} {A : Polynomials F P} (C : Curve A) where
   open Polynomials A using (ring as R, len, quot, rem)
@@ -40,35 +38,6 @@ module _ {K P : Type 0} {F : Field2 K} {A : Polynomials F P} (C : Curve A) where
 
   pub reduced-of-semi : {D : Pair P} → SemiReduced D → len (D .u) ≤ 4 → Reduced C D
   reduced-of-semi s h = record { u-monic = s .u-monic; u-len = h; v-len = s .v-len; divides = s .divides }
-
-  -- the length of v² + v + f
-  pub value-len-short : (v : P) → len v ≤ 4 → len (value C v) ≡ 8
-  unfolding value
-  value-len-short v h =
-      let k : len (v · v) ≤ 7 = len-mul-le A 3 4 v v h h in
-      let l : len (v · v + v) ≤ 7 = len-add A (v · v) v 7 k (omega arith) in
-      let m : len f ≡ 8 = C .f-len in
-      len-add-less A (v · v + v) f (omega arith) ∙ m
-
-  pub value-len-long : (v : P) → 4 < len v → suc (len (value C v)) ≡ len v +ℕ len v
-  unfolding value
-  value-len-long v h =
-      let n : ¬ (v ≡ 𝟘) = nonzero-of-len A v (omega arith) in
-      let k : suc (len (v · v)) ≡ len v +ℕ len v = len-mul A v v n n in
-      let l : len (v + f) ≤ max (len v) (len f) = len-add-max A v f in
-      let m : len f ≡ 8 = C .f-len in
-      ap suc (ap len (turn v f) ∙ len-add-less A (v + f) (v · v) (omega arith)) ∙ k
-    where
-      turn : (v f : P) → v · v + v + f ≡ v + f + v · v
-      turn v f = simp (ring2, R)
-
-  pub value-nonzero : (v : P) → ¬ (value C v ≡ 𝟘)
-  value-nonzero v =
-      nonzero-of-len A (value C v)
-      (elim (decLe (len v) 4) [
-        | yes h ↦ (let l : len (value C v) ≡ 8 = value-len-short v h in omega arith)
-        | no h ↦ (let l : suc (len (value C v)) ≡ len v +ℕ len v = value-len-long v (omega arith) in omega arith)
-      ])
 
   -- v² + v + f depends on v modulo u only, and not on an added 1
   pub value-congruent : {u v v′ : P} → Divides R u (v + v′) → Divides R u (value C v) → Divides R u (value C v′)
@@ -96,7 +65,8 @@ module _ {K P : Type 0} {F : Field2 K} {A : Polynomials F P} (C : Curve A) where
     cofactor-eq = quot-exact A u u-nonzero (value C v) (s .divides)
 
     pub cofactor-nonzero : ¬ (quot (value C v) u ≡ 𝟘)
-    cofactor-nonzero e = value-nonzero v (cofactor-eq ∙ ap (λ z. z · u) e ∙ 𝟘-· R u)
+    unfolding value
+    cofactor-nonzero e = value-nonzero A f (C .f-len) v (cofactor-eq ∙ ap (λ z. z · u) e ∙ 𝟘-· R u)
 
     pub cofactor-len : suc (len (value C v)) ≡ len (quot (value C v) u) +ℕ len u
     cofactor-len = ap (λ z. suc (len z)) cofactor-eq ∙ len-mul A (quot (value C v) u) u cofactor-nonzero u-nonzero
@@ -117,15 +87,13 @@ module _ {K P : Type 0} {F : Field2 K} {A : Polynomials F P} (C : Curve A) where
 
     -- from length 7, 6, 5 to at most 5, 4, 4
     pub step-len : 4 < len u → len u ≤ 7 → (len (reduction-step C D .u) ≤ 5) × (len u ≤ 6 → len (reduction-step C D .u) ≤ 4)
-    unfolding reduction-step
+    unfolding reduction-step value
     step-len h k =
         let l : suc (len (value C v)) ≡ len (quot (value C v) u) +ℕ len u = cofactor-len in
         let m : len (monic-of A (quot (value C v) u)) ≡ len (quot (value C v) u) = len-monic-of A (quot (value C v) u) in
+        let n : suc (len (value C v)) ≡ max (2 * len v) 9 = value-len A f (C .f-len) v in
         let b : len v < len u = s .v-len in
-        elim (decLe (len v) 4) [
-          | yes t ↦ (let n : len (value C v) ≡ 8 = value-len-short v t in omega arith)
-          | no t ↦ (let n : suc (len (value C v)) ≡ len v +ℕ len v = value-len-long v (omega arith) in omega arith)
-        ]
+        omega arith
 
   -- the two cases of reduction
   reduce-stop : (n steps : ℕ) (D : Pair P) → len (D .u) ≤ 4 → reduce-to C (suc n) steps D ≡ record { class = D; steps = steps }
