@@ -7,7 +7,7 @@ use Rattle.char2_algebra.specs.Divides.{Divides}
 use Rattle.char2_algebra.proofs.Ring.{ring2, ·-𝟘, 𝟘-·, by, combine}
 use Rattle.class_group.proofs.Coordinate.{coordinate, constant-mul}
 use Rattle.class_group.proofs.Ideal.{Within, Product, product-of, product-sum, product-least, Scaled, scaled-ideal, Equivalent, ~-of-scaled}
-use Rattle.class_group.proofs.PairIdeal.{pair-ideal, pair-ideal-u, pair-ideal-y, pair-ideal-ideal}
+use Rattle.class_group.proofs.PairIdeal.{pair-ideal, pair-ideal-u, pair-ideal-y, pair-ideal-u₁, pair-ideal-y₁, pair-ideal-ideal}
 use Identities.{congruent-eq, cross-eq, cross-parts, on-eq, within₀, within₁, back₀, back₁, swap-bezout, swap-numerator, +-twice, double-bezout, double-part, double-numerator}
 pub mod Identities
 
@@ -145,10 +145,10 @@ module _ {P : Type 0} (R : Ring2 P) (f : P) where
           )
 
       four-products : (p q n : P) → p + q · v ≡ n · (d₁ · d₂)
-          → (e · p, e · q) ≡ S .add (S .mul (n · c · u₁, 𝟘) (𝟙 · u₂, 𝟘))
-          (S .add (S .mul ((n · d₂ + q · s₁) · u₁, 𝟘) (𝟙 · v₂, 𝟙))
-          (S .add (S .mul ((n · d₁ + q · s₂) · v₁, n · d₁ + q · s₂) (𝟙 · u₂, 𝟘))
-          (S .mul (q · s₃ · v₁, q · s₃) (𝟙 · v₂, 𝟙))))
+          → (e · p, e · q) ≡ S .add (S .mul (n · c · u₁, 𝟘) (u₂, 𝟘))
+          (S .add (S .mul ((n · d₂ + q · s₁) · u₁, 𝟘) (v₂, 𝟙))
+          (S .add (S .mul ((n · d₁ + q · s₂) · v₁, n · d₁ + q · s₂) (u₂, 𝟘))
+          (S .mul (q · s₃ · v₁, q · s₃) (v₂, 𝟙))))
       unfolding coordinate
       four-products p q n h = λ t. (
         back₀ R f u₁ v₁ u₂ v₂ e s₁ s₂ s₃ d₁ d₂ c v p q n (C .part₁) (C .part₂) (C .part₃) (C .v-is) h t,
@@ -169,8 +169,8 @@ module _ {P : Type 0} (R : Ring2 P) (f : P) where
           let n = t .1 .0 in
           let I = pair-ideal-u R f u₁ v₁ in
           let I′ = pair-ideal-y R f u₁ v₁ in
-          let J = pair-ideal-u R f u₂ v₂ 𝟙 in
-          let J′ = pair-ideal-y R f u₂ v₂ 𝟙 in
+          let J = pair-ideal-u₁ R f u₂ v₂ in
+          let J′ = pair-ideal-y₁ R f u₂ v₂ in
           subst (Product S (pair-ideal R u₁ v₁) (pair-ideal R u₂ v₂))
           (sym (t .2 ∙ constant-mul R f e p q ∙ four-products p q n (t .1 .1 ∙ ap (λ r. n · r) (C .u-is))))
           (product-sum S _ _ (product-of S _ _ (I (n · c)) J)

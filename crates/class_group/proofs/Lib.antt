@@ -16,3 +16,4 @@ pub mod Triple
 pub mod LiftCoefficients
 pub mod Rows
 pub mod Norm
+pub mod Uniqueness

@@ -53,7 +53,14 @@ module _ {P : Type 0} (R : Ring2 P) (f : P) where
   pub pair-ideal-divisor : (u u′ v : P) → Divides R u′ u → Within (coordinate R f) (pair-ideal R u v) (pair-ideal R u′ v)
   pair-ideal-divisor u u′ v d x h = (h .0 · d .0, h .1 ∙ ap (λ z. h .0 · z) (d .1) ∙ sym (R .mul-assoc (h .0) (d .0) u′))
 
-  -- the multiples of u, and those of y + v
+  -- u and y + v
+  pub pair-ideal-u₁ : (u v : P) → pair-ideal R u v (u, 𝟘)
+  pair-ideal-u₁ u v = (𝟙, simp (ring2, R))
+
+  pub pair-ideal-y₁ : (u v : P) → pair-ideal R u v (v, 𝟙)
+  pair-ideal-y₁ u v = (𝟘, simp (ring2, R))
+
+  -- their multiples
   pub pair-ideal-u : (u v a : P) → pair-ideal R u v (a · u, 𝟘)
   pair-ideal-u u v a = (a, simp (ring2, R))
 

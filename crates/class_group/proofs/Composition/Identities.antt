@@ -59,8 +59,8 @@ module _ {P : Type 0} (R : Ring2 P) where
   pub back₀ : (f u₁ v₁ u₂ v₂ e s₁ s₂ s₃ d₁ d₂ c v p q n : P) → u₁ ≡ d₁ · e → u₂ ≡ d₂ · e → v₁ + v₂ + 𝟙 ≡ c · e
       → e · v ≡ s₁ · u₁ · v₂ + s₂ · u₂ · v₁ + s₃ · (v₁ · v₂ + f) → p + q · v ≡ n · (d₁ · d₂)
       → e · p
-      ≡ n · c · u₁ · (𝟙 · u₂) + 𝟘 · 𝟘 · f + ((n · d₂ + q · s₁) · u₁ · (𝟙 · v₂) + 𝟘 · 𝟙 · f
-      + ((n · d₁ + q · s₂) · v₁ · (𝟙 · u₂) + (n · d₁ + q · s₂) · 𝟘 · f + (q · s₃ · v₁ · (𝟙 · v₂) + q · s₃ · 𝟙 · f)))
+      ≡ n · c · u₁ · u₂ + 𝟘 · 𝟘 · f + ((n · d₂ + q · s₁) · u₁ · v₂ + 𝟘 · 𝟙 · f
+      + ((n · d₁ + q · s₂) · v₁ · u₂ + (n · d₁ + q · s₂) · 𝟘 · f + (q · s₃ · v₁ · v₂ + q · s₃ · 𝟙 · f)))
   back₀ f u₁ v₁ u₂ v₂ e s₁ s₂ s₃ d₁ d₂ c v p q n part₁ part₂ part₃ numerator h =
       combine R _ _
       (both R (both R (both R (by R (n · (c · u₂ + d₂ · v₂)) part₁) (by R (n · d₁ · (c · e + v₁)) part₂)) (by R (n · d₁ · d₂ · e) part₃))
@@ -70,9 +70,9 @@ module _ {P : Type 0} (R : Ring2 P) where
   pub back₁ : (u₁ v₁ u₂ v₂ e s₁ s₂ s₃ d₁ d₂ c q n : P) → u₁ ≡ d₁ · e → u₂ ≡ d₂ · e
       → e ≡ s₁ · u₁ + s₂ · u₂ + s₃ · (v₁ + v₂ + 𝟙)
       → e · q
-      ≡ n · c · u₁ · 𝟘 + 𝟘 · (𝟙 · u₂) + 𝟘 · 𝟘 + ((n · d₂ + q · s₁) · u₁ · 𝟙 + 𝟘 · (𝟙 · v₂) + 𝟘 · 𝟙
-      + ((n · d₁ + q · s₂) · v₁ · 𝟘 + (n · d₁ + q · s₂) · (𝟙 · u₂) + (n · d₁ + q · s₂) · 𝟘
-      + (q · s₃ · v₁ · 𝟙 + q · s₃ · (𝟙 · v₂) + q · s₃ · 𝟙)))
+      ≡ n · c · u₁ · 𝟘 + 𝟘 · u₂ + 𝟘 · 𝟘 + ((n · d₂ + q · s₁) · u₁ · 𝟙 + 𝟘 · v₂ + 𝟘 · 𝟙
+      + ((n · d₁ + q · s₂) · v₁ · 𝟘 + (n · d₁ + q · s₂) · u₂ + (n · d₁ + q · s₂) · 𝟘
+      + (q · s₃ · v₁ · 𝟙 + q · s₃ · v₂ + q · s₃ · 𝟙)))
   back₁ u₁ v₁ u₂ v₂ e s₁ s₂ s₃ d₁ d₂ c q n part₁ part₂ bezout =
       combine R _ _ (both R (both R (by R (n · d₂) part₁) (by R (n · d₁) part₂)) (by R q bezout)) (simp (ring2, R))
 
