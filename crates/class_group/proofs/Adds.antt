@@ -1,26 +1,17 @@
 -- An operation on reduced classes that multiplies their ideals up to equivalence, however it computes (`Adds`): there is only one
 -- (`adds-unique`), and it makes the reduced classes a commutative group with [1, 0] and [u, v + 1] (`adds-group`).
-use Prim.Native.Nat.{ℕ, zero, suc, _≤_, _<_}
-use mathlib.Core.Path.{_≡_, refl, sym, _∙_, ap, subst}
-use native.Mathlib.Omega.{arith}
-use native.Mathlib.Decide.{decLe}
-use Rattle.field_laws.specs.Ring.{Ring2}
-use Rattle.field_laws.specs.Field.{Field2}
-use Rattle.char2_algebra.specs.Polynomials.{Polynomials}
-use Rattle.char2_algebra.specs.Divides.{Divides}
-use Rattle.char2_algebra.specs.Lead.{monic-of}
-use Rattle.char2_algebra.specs.Euclid.{Bezout3}
-use Rattle.char2_algebra.proofs.Ring.{ring2, ·-𝟙}
-use Rattle.char2_algebra.proofs.Degree.{len-zero, len-one}
-use Rattle.char2_algebra.proofs.Product.{mul-nonzero, cancel-left}
+use Prim.Native.Nat.{_≤_, _<_}
+use mathlib.Core.Path.{_≡_, sym, _∙_, ap}
+use native.Mathlib.{Omega.arith, Decide.decLe}
+use Rattle.field_laws.specs.{Ring.Ring2, Field.Field2}
+use Rattle.char2_algebra.specs.{Polynomials.Polynomials, Divides.Divides, Lead.monic-of, Euclid.Bezout3}
+use Rattle.char2_algebra.proofs.{Ring.ring2, Ring.·-𝟙, Degree.len-zero, Degree.len-one, Product.mul-nonzero, Product.cancel-left}
 use Rattle.char2_algebra.proofs.Divides.{divides-eq, divides-refl, one-divides, divides-nought}
 use Rattle.char2_algebra.proofs.Lead.{monic-constant, monic-nonzero, len-monic-of}
-use Rattle.class_group.specs.Curve.{Curve}
+use Rattle.class_group.specs.{Curve.Curve, Composition.composed, Group.CommutativeGroup}
 use Rattle.class_group.specs.Mumford.{Pair, Reduced, value, neutral, opposite}
-use Rattle.class_group.specs.Composition.{composed}
-use Rattle.class_group.specs.Group.{CommutativeGroup}
-use Rattle.class_group.proofs.Ideal.{Whole, Within, Product, Equivalent, ~-sym, ~-product, product-comm, product-assoc, product-assoc⁻¹, product-whole, product-whole⁻¹, product-within}
-use Rattle.class_group.proofs.PairIdeal.{pair-ideal-ideal, pair-ideal-one}
+use Rattle.class_group.proofs.Ideal.{Product, Equivalent, ~-sym, ~-product, product-comm, product-assoc, product-assoc⁻¹, product-whole, product-whole⁻¹, product-within}
+use Rattle.class_group.proofs.{PairIdeal.pair-ideal-ideal, PairIdeal.pair-ideal-one, Uniqueness.reduced-unique}
 use Rattle.class_group.proofs.SemiReduced.{SemiReduced, semi-of-reduced}
 use Rattle.class_group.proofs.Composed.{Combines, composed-monic, composed-semi, composed-u-divides}
 use Rattle.class_group.proofs.Closed.{opposite-long, opposite-short, opposite-reduced, neutral-reduced}
@@ -119,9 +110,29 @@ module _ {K P : Type 0} {F : Field2 K} {A : Polynomials F P} (C : Curve A) where
     pub closed : {D E : Pair P} → Reduced C D → Reduced C E → Reduced C (_⊕_ D E)
     pub class : {D E : Pair P} → Reduced C D → Reduced C E → ideal C D ⊗ ideal C E ~ ideal C (_⊕_ D E)
 
-  module _ (unique : (D E : Pair P) → Reduced C D → Reduced C E → ideal C D ~ ideal C E → D ≡ E) where
-    -- from equivalent products to equal sums
-    sums-equal : {_⊕_ _⊞_ : Pair P → Pair P → Pair P} → Adds _⊕_ → Adds _⊞_ → {D E D′ E′ : Pair P}
-        → Reduced C D → Reduced C E → Reduced C D′ → Reduced C E′ → ideal C D ⊗ ideal C E ~ ideal C D′ ⊗ ideal C E′ → _⊕_ D E ≡ _⊞_ D′ E′
-    sums-equal a b r s r′ s′ h =
-        unique _ _ (a .closed r s) (b .closed r′ s′) (transitive C (~-sym (functions C) (a .class r s)) (transitive C h (b .class r′ s′)))
+  -- equal sums from equivalent products
+  sums-equal : {_⊕_ _⊞_ : Pair P → Pair P → Pair P} → Adds _⊕_ → Adds _⊞_ → {D E D′ E′ : Pair P}
+      → Reduced C D → Reduced C E → Reduced C D′ → Reduced C E′ → ideal C D ⊗ ideal C E ~ ideal C D′ ⊗ ideal C E′ → _⊕_ D E ≡ _⊞_ D′ E′
+  sums-equal a b r s r′ s′ h =
+      reduced-unique C (a .closed r s) (b .closed r′ s′) (transitive C (~-sym (functions C) (a .class r s)) (transitive C h (b .class r′ s′)))
+
+  -- there is only one such operation
+  pub adds-unique : {_⊕_ _⊞_ : Pair P → Pair P → Pair P} → Adds _⊕_ → Adds _⊞_ → {D E : Pair P}
+      → Reduced C D → Reduced C E → _⊕_ D E ≡ _⊞_ D E
+  adds-unique a b r s = sums-equal a b r s r s (equal-class C (λ x h. h) (λ x h. h))
+
+  pub adds-group : {_⊕_ : Pair P → Pair P → Pair P} → Adds _⊕_ → CommutativeGroup (Reduced C) _⊕_ (neutral C) (opposite C)
+  adds-group a = record {
+    sum-closed = λ r s. a .closed r s;
+    neutral-closed = neutral-reduced C;
+    opposite-closed = λ r. opposite-reduced C r;
+    comm = λ r s. sums-equal a a r s s r comm-class;
+    assoc = λ r s t.
+        sums-equal a a (a .closed r s) t r (a .closed s t)
+        (transitive C (~-product (functions C) (~-sym (functions C) (a .class r s))) (transitive C assoc-class (right-class (a .class s t))));
+    sum-neutral = λ r.
+        reduced-unique C (a .closed r (neutral-reduced C)) r (transitive C (~-sym (functions C) (a .class r (neutral-reduced C))) (neutral-class r));
+    sum-opposite = λ r.
+        reduced-unique C (a .closed r (opposite-reduced C r)) (neutral-reduced C)
+        (transitive C (~-sym (functions C) (a .class r (opposite-reduced C r))) (opposite-class r));
+  }

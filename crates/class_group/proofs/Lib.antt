@@ -6,7 +6,9 @@ pub mod Closed
 pub mod Classes
 pub mod GroupLaws
 pub mod Adds
+pub mod Group
 pub mod Walk
+pub mod Register
 pub mod Coordinate
 pub mod Ideal
 pub mod PairIdeal
