@@ -1,6 +1,6 @@
 -- Division of polynomials with remainder: a multiple shorter than its divisor is nought, quotient and remainder are unique, the remainder is
 -- nought exactly for multiples, remainders of sums and products, exact quotients, decided divisibility.
-use Prim.Native.Nat.{ℕ, zero, suc, _≤_, _<_}
+use Prim.Native.Nat.{ℕ, zero, suc, _+_ as _+ℕ_, _≤_, _<_}
 use mathlib.Core.Path.{_≡_, refl, sym, _∙_, ap, ap₂}
 use mathlib.Core.HLevel.{Σ-prop-path}
 use native.Mathlib.Omega.{arith}
@@ -8,10 +8,10 @@ use Rattle.field_laws.specs.Ring.{Ring2}
 use Rattle.field_laws.specs.Field.{Field2}
 use Rattle.char2_algebra.specs.Polynomials.{Polynomials}
 use Rattle.char2_algebra.specs.Divides.{Divides}
-use Rattle.char2_algebra.proofs.Ring.{ring2, +-comm, +-𝟘, 𝟘-+, +-self, +-cancel, +-·, ·-comm, ·-assoc, ·-𝟘, 𝟘-·, eq-of-sum, sum-of-eq, by, both, combine}
-use Rattle.char2_algebra.proofs.Degree.{len-zero, len-nought, len-nonzero, nonzero-of-len, len-add, is-nought}
-use Rattle.char2_algebra.proofs.Product.{len-mul-monotone, cancel-left, cancel-right, right-nonzero, integral}
-use Rattle.char2_algebra.proofs.Divides.{divides-eq, divides-add, divides-right, divides-mul, divides-summand}
+use Rattle.char2_algebra.proofs.Ring.{ring2, +-comm, +-𝟘, 𝟘-+, ·-comm, 𝟘-·, eq-of-sum, sum-of-eq, by, both, combine}
+use Rattle.char2_algebra.proofs.Degree.{len-zero, len-nought, len-nonzero, nonzero-of-len, len-add, len-add-less, is-nought}
+use Rattle.char2_algebra.proofs.Product.{len-mul-monotone, cancel-left, cancel-right, len-mul, integral}
+use Rattle.char2_algebra.proofs.Divides.{divides-eq, divides-add, divides-right, divides-mul, divides-trans, divides-by-eq, nought-divides}
 
 -- identities of a few terms, over plain variables
 module _ {A : Type 0} (R : Ring2 A) where
@@ -19,6 +19,9 @@ module _ {A : Type 0} (R : Ring2 A) where
 
   infixl 60 _+_
   infixl 70 _·_
+  last-cancels : (a b : A) → a + b + b ≡ a
+  last-cancels a b = simp (ring2, R)
+
   difference : (b q r q' r' : A) → q · b + r ≡ q' · b + r' → r + r' ≡ (q + q') · b
   difference b q r q' r' h = combine R (r + r') ((q + q') · b) (by R (R .one) h) (simp (ring2, R))
 
@@ -84,10 +87,7 @@ module _ {K P : Type 0} {F : Field2 K} (A : Polynomials F P) where
 
   module _ (b : P) (h : ¬ (b ≡ 𝟘)) where
     pub rem-divides : (a : P) → Divides R b (a + rem a b)
-    rem-divides a = (quot a b, ap (λ z. z + rem a b) (A .division a b h) ∙ +-right-cancel (quot a b · b) (rem a b))
-      where
-        +-right-cancel : (p q : P) → p + q + q ≡ p
-        +-right-cancel p q = simp (ring2, R)
+    rem-divides a = (quot a b, ap (λ z. z + rem a b) (A .division a b h) ∙ last-cancels R (quot a b · b) (rem a b))
 
     pub rem-congruent : (a a' : P) → Divides R b (a + a') → rem a b ≡ rem a' b
     rem-congruent a a' (k, e) =
@@ -133,6 +133,34 @@ module _ {K P : Type 0} {F : Field2 K} (A : Polynomials F P) where
 
     pub rem-mul-rem : (a c : P) → rem (c · rem a b) b ≡ rem (c · a) b
     rem-mul-rem a c = sym (rem-congruent (c · a) (c · rem a b) (divides-eq R (A .ring .mul-add c a (rem a b)) (divides-mul R c (rem-divides a))))
+
+    -- the length of a quotient
+    pub len-quot : (a : P) → len b ≤ len a → suc (len a) ≡ len (quot a b) +ℕ len b
+    len-quot a l =
+        let r : len (rem a b) < len b = A .rem-len a b h in
+        let k : ¬ (quot a b ≡ 𝟘) = λ e. too-short (ap len (A .division a b h ∙ ap (λ z. z · b + rem a b) e ∙ ap (λ z. z + rem a b) (𝟘-· R b) ∙ 𝟘-+ R (rem a b))) in
+        let m : suc (len (quot a b · b)) ≡ len (quot a b) +ℕ len b = len-mul A (quot a b) b k h in
+        let q : 0 < len (quot a b) = len-nonzero A (quot a b) k in
+        let e : len a ≡ len (quot a b · b) = ap len (A .division a b h ∙ +-comm R (quot a b · b) (rem a b)) ∙ len-add-less A (rem a b) (quot a b · b) (omega arith) in
+        omega arith
+      where
+        too-short : ¬ (len a ≡ len (rem a b))
+        too-short e = let r : len (rem a b) < len b = A .rem-len a b h in omega arith
+
+    pub len-quot-exact : (a : P) → ¬ (a ≡ 𝟘) → Divides R b a → suc (len a) ≡ len (quot a b) +ℕ len b
+    len-quot-exact a k d = len-quot a (divides-len d k)
+
+    pub quot-exact-nonzero : (a : P) → ¬ (a ≡ 𝟘) → Divides R b a → ¬ (quot a b ≡ 𝟘)
+    quot-exact-nonzero a k d e = k (quot-exact a d ∙ ap (λ z. z · b) e ∙ 𝟘-· R b)
+
+    -- the remainder depends on the divisor up to a unit only
+    pub rem-associate : (b' a : P) → Divides R b b' → Divides R b' b → rem a b' ≡ rem a b
+    rem-associate b' a d d' =
+        let k : ¬ (b' ≡ 𝟘) = λ e. h (nought-divides R (divides-by-eq R e d')) in
+        let l : len b' ≤ len b = divides-len d' h in
+        let r : len (rem a b') < len b' = A .rem-len a b' k in
+        let c : Divides R b' (a + rem a b') = (quot a b', ap (λ z. z + rem a b') (A .division a b' k) ∙ last-cancels R (quot a b' · b') (rem a b')) in
+        sym (rem-congruent a (rem a b') (divides-trans R d c) ∙ rem-short (rem a b') b (omega arith))
 
     -- divisibility is decided by computing the remainder
     unfoldable pub divides-dec : (a : P) → Dec (Divides R b a)

@@ -1,6 +1,6 @@
 -- Euclid's rule: what it gives is a combination of the two (or three) polynomials, divides each of them, and is monic unless all are nought.
-use Prim.Native.Nat.{ℕ, zero, suc, _≤_, _<_}
-use mathlib.Core.Path.{_≡_, refl, sym, _∙_, ap, ap₂}
+use Prim.Native.Nat.{ℕ, zero, suc, _<_}
+use mathlib.Core.Path.{_≡_, refl, sym, _∙_, ap}
 use native.Mathlib.Omega.{arith}
 use Rattle.field_laws.specs.Ring.{Ring2}
 use Rattle.field_laws.specs.Field.{Field2}
@@ -8,8 +8,8 @@ use Rattle.char2_algebra.specs.Polynomials.{Polynomials}
 use Rattle.char2_algebra.specs.Divides.{Divides}
 use Rattle.char2_algebra.specs.Lead.{lead, Monic, monic-of}
 use Rattle.char2_algebra.specs.Euclid.{Bezout, Bezout3, bezout-to, bezout, bezout3}
-use Rattle.char2_algebra.proofs.Ring.{ring2, +-𝟘, +-comm, ·-assoc, 𝟘-·, by, both, combine}
-use Rattle.char2_algebra.proofs.Degree.{len-zero, len-nought, nonzero-of-len}
+use Rattle.char2_algebra.proofs.Ring.{ring2, +-𝟘, 𝟘-·, by, both, combine}
+use Rattle.char2_algebra.proofs.Degree.{len-zero, nonzero-of-len}
 use Rattle.char2_algebra.proofs.Divides.{divides-eq, divides-nought, divides-add, divides-mul, divides-trans, divides-by-eq, nought-divides}
 use Rattle.char2_algebra.proofs.Lead.{monic-of-monic, monic-of-divides, monic-nonzero, monic-antisym}
 

@@ -7,11 +7,11 @@ use Rattle.field_laws.specs.Field.{Field2}
 use Rattle.char2_algebra.specs.Polynomials.{Polynomials}
 use Rattle.char2_algebra.specs.Divides.{Divides}
 use Rattle.char2_algebra.specs.Lead.{lead, Monic, monic-of}
-use Rattle.char2_algebra.proofs.Ring.{ring2, 𝟘-+, ·-comm, ·-assoc, ·-𝟘, 𝟘-·, ·-𝟙, 𝟙-·}
-use Rattle.char2_algebra.proofs.Degree.{coeff-nought, len-bound, len-is, len-zero, len-nought, len-nonzero, nonzero-of-len, len-add-less, len-one, len-con, con-mul, con-nonzero, con-of-len, coeff-one, len-x, coeff-x-suc, is-nought}
-use Rattle.char2_algebra.proofs.Product.{len-mul, coeff-mul-top, len-con-mul, cancel-right, mul-nonzero, left-nonzero}
+use Rattle.char2_algebra.proofs.Ring.{𝟘-+, ·-comm, ·-assoc, ·-𝟘, 𝟘-·, ·-𝟙, 𝟙-·}
+use Rattle.char2_algebra.proofs.Degree.{coeff-nought, len-bound, len-is, len-zero, len-nought, len-nonzero, nonzero-of-len, len-add-less, len-one, len-con, con-mul, con-of-len, coeff-one, len-x, coeff-x-suc, is-nought}
+use Rattle.char2_algebra.proofs.Product.{len-mul, coeff-mul-top, len-con-mul}
 use Rattle.char2_algebra.proofs.Divides.{divides-eq, divides-nought}
-use Rattle.char2_algebra.proofs.Division.{divides-len}
+use Rattle.char2_algebra.proofs.Division.{divides-len, quot-exact, rem-associate}
 
 module _ {K P : Type 0} {F : Field2 K} (A : Polynomials F P) where
   open Polynomials A using (ring as R, coeff, con, x, len, quot, rem)
@@ -158,3 +158,15 @@ module _ {K P : Type 0} {F : Field2 K} (A : Polynomials F P) where
       let a : len p ≤ len q = divides-len A d k in
       let b : len q ≤ len p = divides-len A d' h in
       sym (𝟙-· R p) ∙ ap (λ z. z · p) (sym (monic-constant (d .0) s-monic (omega arith))) ∙ sym (d .1)
+
+  -- exact quotients of monic polynomials, and remainders by a polynomial made monic
+  pub quot-monic : (a b : P) → Monic A a → Monic A b → Divides R b a → Monic A (quot a b)
+  quot-monic a b m n d = monic-cofactor (quot a b) b (ap (lead A) (sym (quot-exact A b (monic-nonzero b n) a d)) ∙ m) n
+
+  pub rem-monic-of : (b a : P) → ¬ (b ≡ 𝟘) → rem a (monic-of A b) ≡ rem a b
+  rem-monic-of b a h = rem-associate A b h (monic-of A b) a (divides-monic-of b) (monic-of-divides b)
+
+  pub monic-of-fixed : (p : P) → Monic A p → monic-of A p ≡ p
+  monic-of-fixed p m =
+      let h : ¬ (p ≡ 𝟘) = monic-nonzero p m in
+      monic-antisym (monic-of A p) p (monic-of-monic p h) m (monic-of-divides p) (divides-monic-of p)

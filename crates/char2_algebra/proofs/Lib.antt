@@ -8,3 +8,12 @@ pub mod Division
 pub mod Lead
 pub mod Euclid
 pub mod Square
+pub mod Coefficients
+pub mod Expand
+pub mod Convolution
+pub mod ListCoefficients
+pub mod PolynomialRing
+pub mod ListDivision
+pub mod Polynomial
+pub mod OfList
+pub mod Example

@@ -1,7 +1,7 @@
 -- Squares of polynomials: their even coefficients are the squares of the coefficients, the odd ones are nought; a polynomial without odd
 -- powers is the square of `sqrt` of it, of half the degree, monic if it is; a square has one square root.
 use Prim.Native.Nat.{ℕ, zero, suc, _+_ as _+ℕ_, _≤_}
-use mathlib.Core.Path.{_≡_, refl, sym, _∙_, ap, ap₂}
+use mathlib.Core.Path.{_≡_, sym, _∙_, ap, ap₂, fun-ext}
 use native.Mathlib.Omega.{arith}
 use Rattle.field_laws.specs.Ring.{Ring2}
 use Rattle.field_laws.specs.Field.{Field2}
@@ -21,6 +21,12 @@ module _ {K : Type 0} (F : Field2 K) where
 
   infixl 60 _⊕_
   infixl 70 _⊙_
+  -- c₀², 0, c₁², 0, ..
+  abbrev pub squares : (ℕ → K) → ℕ → K
+  squares c zero = c 0 ⊙ c 0
+  squares c (suc zero) = 𝟎
+  squares c (suc (suc i)) = squares (λ j. c (suc j)) i
+
   -- an element has one square root
   pub field-square-injective : (a b : K) → a ⊙ a ≡ b ⊙ b → a ≡ b
   field-square-injective a b e = eq-of-sum (F .ring) a b (go (F .discrete (a ⊕ b) 𝟎))
@@ -58,6 +64,17 @@ module _ {K P : Type 0} {F : Field2 K} (A : Polynomials F P) where
       ∙ coeff-con-add-x-mul-suc A _ _ (suc (suc (i +ℕ i)))
       ∙ A .coeff-x-mul-suc _ (suc (i +ℕ i))
       ∙ coeff-square-odd i (tail A p)
+
+  -- both at once, by computing at numerals: a rule for `simp` beside `coefficients`
+  pub at-square : (i : ℕ) (p : P) → coeff (p · p) i ≡ squares F (coeff p) i
+  at-square zero p = coeff-square-even 0 p
+  at-square (suc zero) p = coeff-square-odd 0 p
+  at-square (suc (suc i)) p =
+      ap (λ z. coeff z (suc (suc i))) (split-square p)
+      ∙ coeff-con-add-x-mul-suc A _ _ (suc i)
+      ∙ A .coeff-x-mul-suc _ i
+      ∙ at-square i (tail A p)
+      ∙ ap (λ c. squares F c i) (fun-ext (coeff-tail A p))
 
   -- a square has one square root
   pub square-injective : (p q : P) → p · p ≡ q · q → p ≡ q

@@ -4,3 +4,4 @@ pub mod Divides
 pub mod Lead
 pub mod Euclid
 pub mod Square
+pub mod Polynomial

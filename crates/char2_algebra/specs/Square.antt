@@ -1,5 +1,5 @@
 -- The square root of a polynomial in which odd powers do not occur: the square roots of the even coefficients.
-use Prim.Native.Nat.{ℕ, zero, suc, _*_}
+use Prim.Native.Nat.{ℕ, zero, suc}
 use Rattle.field_laws.specs.Field.{Field2}
 use Rattle.char2_algebra.specs.Polynomials.{Polynomials}
 

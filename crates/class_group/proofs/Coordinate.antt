@@ -1,7 +1,7 @@
 -- The coordinate ring of y² + y = f over a commutative ring P of characteristic 2: pairs (p, q) for p + q y, with y² = y + f.
 -- It is a commutative ring of characteristic 2; the conjugate of (p, q) is (p + q, q); an element times its conjugate is its norm
 -- p² + p q + q² f; the norm is multiplicative.
-use mathlib.Core.Path.{_≡_, refl, sym, _∙_, ap, ap₂}
+use mathlib.Core.Path.{_≡_}
 use mathlib.Core.HLevel.{Σ-set}
 use Rattle.field_laws.specs.Ring.{Ring2}
 use Rattle.char2_algebra.proofs.Ring.{ring2}

@@ -4,7 +4,7 @@
 -- Equality of subsets is stated as two inclusions.
 use mathlib.Core.Path.{_≡_, refl, sym, _∙_, ap, ap₂, subst}
 use Rattle.field_laws.specs.Ring.{Ring2}
-use Rattle.char2_algebra.proofs.Ring.{ring2, 𝟘-+, +-·, ·-𝟘, 𝟘-·, 𝟙-·, ·-left-comm}
+use Rattle.char2_algebra.proofs.Ring.{𝟘-+, +-·, ·-𝟘, 𝟘-·, 𝟙-·, ·-left-comm}
 
 module _ {B : Type 0} (S : Ring2 B) where
   open Ring2 S using (add as _+_, mul as _·_, nought as 𝟘, one as 𝟙)

@@ -19,3 +19,5 @@ pub mod LiftCoefficients
 pub mod Rows
 pub mod Norm
 pub mod Uniqueness
+pub mod EvenRoot
+pub mod HalfChain

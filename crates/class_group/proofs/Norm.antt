@@ -1,8 +1,8 @@
 -- The length (degree plus one) of a norm, for f of degree 7: 2 deg p and 2 deg q + 7 are never equal, so the norm of p + q y has the
 -- larger of the two degrees. Hence a norm of degree at most 6 is that of a polynomial, a norm is nought only at nought, and the coordinate
 -- ring has no zero divisors.
-use Prim.Native.Nat.{ℕ, zero, suc, _≤_, _<_, max, _*_, _+_ as _+ℕ_}
-use mathlib.Core.Path.{_≡_, refl, sym, _∙_, ap}
+use Prim.Native.Nat.{suc, _≤_, max, _*_, _+_ as _+ℕ_}
+use mathlib.Core.Path.{_≡_, sym, _∙_, ap}
 use native.Mathlib.Omega.{arith}
 use native.Mathlib.Decide.{decLe}
 use Rattle.field_laws.specs.Ring.{Ring2}

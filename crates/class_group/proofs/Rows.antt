@@ -7,7 +7,7 @@ use Rattle.field_laws.specs.Ring.{Ring2}
 use Rattle.field_laws.specs.Field.{Field2}
 use Rattle.char2_algebra.specs.Polynomials.{Polynomials}
 use Rattle.char2_algebra.proofs.Ring.{ring2, ·-𝟘, by, both, combine}
-use Rattle.class_group.specs.Half.{quadratic}
+use Rattle.char2_algebra.proofs.Degree.{coeff-nought}
 use Rattle.class_group.proofs.LiftCoefficients.{lifted, lifted-one, lifted-three, lifted-past}
 
 -- p is even of degree 2m up to a factor: no odd power, nothing past 2m, and c times the highest coefficient is one.
@@ -220,6 +220,9 @@ module _ {K P : Type 0} {F : Field2 K} (A : Polynomials F P) where
     L-past (suc (suc (suc zero))) h = absurd (omega arith)
     L-past (suc (suc (suc (suc j)))) h =
         lifted-past A _ _ _ u w j ∙ stays-first 𝕂 _ _ _ _ _ (u-past _ (omega arith)) ∙ A .len-past w _ (omega arith)
+
+    pub first-lift-nonzero : ¬ (first-lift u w ≡ A .ring .nought)
+    first-lift-nonzero e = F .one≢nought (sym L-four ∙ ap (λ z. coeff z 4) e ∙ coeff-nought A 4)
 
     pub row-3-square : root (coeff L 1) ≡ 𝟘 → Even A 𝟙 2 L
     row-3-square e =

@@ -1,16 +1,12 @@
 -- Two reduced pairs with equivalent ideals are equal: α I(u, v) = β I(u′, v′) is cleared to g I(u, v) = k I(u′, v′) with g and k in P;
 -- then g and k differ by a unit, u and u′ divide each other and are monic, and v and v′ are congruent and short.
-use Prim.Native.Nat.{ℕ, _≤_, _<_}
+use Prim.Native.Nat.{_≤_, _<_}
 use mathlib.Core.Path.{_≡_, sym, _∙_, ap, subst}
-use Rattle.field_laws.specs.Ring.{Ring2}
-use Rattle.field_laws.specs.Field.{Field2}
-use Rattle.char2_algebra.specs.Polynomials.{Polynomials}
-use Rattle.char2_algebra.specs.Divides.{Divides}
-use Rattle.char2_algebra.specs.Lead.{Monic}
-use Rattle.char2_algebra.proofs.Ring.{·-𝟘}
-use Rattle.char2_algebra.proofs.Product.{integral, cancel-left}
-use Rattle.char2_algebra.proofs.Lead.{monic-nonzero, monic-antisym}
-use Rattle.char2_algebra.proofs.Division.{congruent-short}
+use Rattle.field_laws.specs.{Ring.Ring2, Field.Field2}
+use Rattle.char2_algebra.specs.{Polynomials.Polynomials, Divides.Divides, Lead.Monic}
+use Rattle.class_group.specs.{Curve.Curve, Mumford.Pair, Mumford.Reduced, Mumford.value}
+use Rattle.char2_algebra.proofs.{Ring.·-𝟘, Product.integral, Product.cancel-left}
+use Rattle.char2_algebra.proofs.{Lead.monic-nonzero, Lead.monic-antisym, Division.congruent-short}
 use Rattle.class_group.proofs.Coordinate.{coordinate, conj, norm, mul-conj, constant-mul}
 use Rattle.class_group.proofs.Ideal.{Carries, Equivalent}
 use Rattle.class_group.proofs.PairIdeal.{pair-ideal, pair-ideal-u₁, pair-ideal-y₁}
@@ -110,8 +106,20 @@ module _ {K P : Type 0} {F : Field2 K} (A : Polynomials F P) (f : P) (f-len : A 
       m′ : Multiple u′ v′ u v k g
       m′ = multiple u′ v′ u v k g g≢𝟘 (subst (λ t. Carries (S R f) (k, 𝟘) t (pair-ideal R u′ v′) (pair-ideal R u v)) γ≡g back)
 
-      pub unique-u : u ≡ u′
+      unique-u : u ≡ u′
       unique-u = monic-antisym A u u′ u-monic u′-monic (divides-u k≢𝟘 m′ m) (divides-u g≢𝟘 m m′)
 
-      pub unique-v : v ≡ v′
+      unique-v : v ≡ v′
       unique-v = congruent-short A u′ v v′ (divides-v g≢𝟘 m m′) (subst (λ t. len v < len t) unique-u v-len) v′-len
+
+      pub unique : (u ≡ u′) × (v ≡ v′)
+      unique = (unique-u, unique-v)
+
+-- in the words of reduced classes
+module _ {K P : Type 0} {F : Field2 K} {A : Polynomials F P} (C : Curve A) where
+  pub reduced-unique : {D E : Pair P} → Reduced C D → Reduced C E
+      → Equivalent (coordinate (A .ring) (C .f)) (pair-ideal (A .ring) (D .u) (D .v)) (pair-ideal (A .ring) (E .u) (E .v)) → D ≡ E
+  unfolding value
+  reduced-unique {D} {E} r s h =
+      let same = unique A (C .f) (C .f-len) (D .u) (D .v) (E .u) (E .v) (r .u-monic) (s .u-monic) (r .u-len) (s .u-len) (r .v-len) (s .v-len) (r .divides) (s .divides) h in
+      λ i. record { u = same .0 i; v = same .1 i }

@@ -48,32 +48,37 @@ module _ {K P : Type 0} {F : Field2 K} (A : Polynomials F P) where
       let k = quadratic (root (coeff (T .w) 5)) k1 (root (coeff (T .w) 1 +ₖ k1)) in
       halved 𝟙ₖ (step (lift k T))
 
-  -- degree 2: u = x² + u0 is a square; otherwise k2 = 1/√u1, k1 = √(w3/u1), k0 = √((w1 + k1)/u1)
-  unfoldable pub half-of-degree-2 : Triple P → Pair P
-  half-of-degree-2 T =
+  -- degree 2, u1 not nought: k2 = 1/√u1, k1 = √(w3/u1), k0 = √((w1 + k1)/u1)
+  unfoldable pub lifted-half-of-degree-2 : Triple P → Pair P
+  lifted-half-of-degree-2 T =
       let u1 = coeff (T .u) 1 in
-      elim (discrete u1 𝟘ₖ) [
-        | yes _ ↦ halved 𝟙ₖ T
-        | no _ ↦
-            (let i = inverse u1 in
-            let k1 = root (coeff (T .w) 3 ·ₖ i) in
-            let k = quadratic (root i) k1 (root ((coeff (T .w) 1 +ₖ k1) ·ₖ i)) in
-            halved u1 (step (lift k T)))
-      ]
+      let i = inverse u1 in
+      let k1 = root (coeff (T .w) 3 ·ₖ i) in
+      let k = quadratic (root i) k1 (root ((coeff (T .w) 1 +ₖ k1) ·ₖ i)) in
+      halved u1 (step (lift k T))
 
-  -- degree 3: after the lift by √w3 and a step the first polynomial is x⁴ + e2 x² + t² x + e0, a square where t = 0;
-  -- otherwise a lift by (x + q)/t with q = √(u1 + 1/t), and a step
+  -- degree 2: where u1 is nought, u is a square
+  unfoldable pub half-of-degree-2 : Triple P → Pair P
+  half-of-degree-2 T = elim (discrete (coeff (T .u) 1) 𝟘ₖ) [ yes _ ↦ halved 𝟙ₖ T | no _ ↦ lifted-half-of-degree-2 T ]
+
+  -- degree 3: the lift by √w3 and a step give the first polynomial x⁴ + e2 x² + t² x + e0
+  unfoldable pub stepped-of-degree-3 : Triple P → Triple P
+  stepped-of-degree-3 T = step (lift (quadratic 𝟘ₖ 𝟘ₖ (root (coeff (T .w) 3))) T)
+
+  -- where t is not nought: a lift by (x + q)/t with q = √(u1 + 1/t), u1 that of the class, and a step
+  unfoldable pub lifted-half-of-degree-3 : Triple P → Pair P
+  lifted-half-of-degree-3 T =
+      let S = stepped-of-degree-3 T in
+      let t = root (coeff (S .u) 1) in
+      let i = inverse t in
+      let q = root (coeff (T .u) 1 +ₖ i) in
+      halved (t ·ₖ t) (step (lift (quadratic 𝟘ₖ i (q ·ₖ i)) S))
+
+  -- where t is nought it is a square
   unfoldable pub half-of-degree-3 : Triple P → Pair P
   half-of-degree-3 T =
-      let S = step (lift (quadratic 𝟘ₖ 𝟘ₖ (root (coeff (T .w) 3))) T) in
-      let t = root (coeff (S .u) 1) in
-      elim (discrete t 𝟘ₖ) [
-        | yes _ ↦ halved 𝟙ₖ S
-        | no _ ↦
-            (let i = inverse t in
-            let q = root (coeff (T .u) 1 +ₖ i) in
-            halved (t ·ₖ t) (step (lift (quadratic 𝟘ₖ i (q ·ₖ i)) S)))
-      ]
+      let S = stepped-of-degree-3 T in
+      elim (discrete (root (coeff (S .u) 1)) 𝟘ₖ) [ yes _ ↦ halved 𝟙ₖ S | no _ ↦ lifted-half-of-degree-3 T ]
 
 module _ {K P : Type 0} {F : Field2 K} {A : Polynomials F P} (C : Curve A) where
   -- u, v and w = (v² + v + f) / u

@@ -1,13 +1,11 @@
 -- Where γ I(u, v) = k I(u′, v′) with k in P and deg u and deg u′ at most 3, γ lies in P: with γ u = k δ and k u′ = γ ε, the norms of
 -- δ and ε have degrees that sum up to twice deg u + deg u′, at most 12, so one of them is at most 6.
-use Prim.Native.Nat.{ℕ, suc, _≤_, _+_ as _+ℕ_}
+use Prim.Native.Nat.{suc, _≤_, _+_ as _+ℕ_}
 use mathlib.Core.Path.{_≡_, sym, _∙_, ap}
 use native.Mathlib.Omega.{arith}
 use native.Mathlib.Decide.{decLe}
-use Rattle.field_laws.specs.Ring.{Ring2}
-use Rattle.field_laws.specs.Field.{Field2}
-use Rattle.char2_algebra.specs.Polynomials.{Polynomials}
-use Rattle.char2_algebra.specs.Divides.{Divides}
+use Rattle.field_laws.specs.{Ring.Ring2, Field.Field2}
+use Rattle.char2_algebra.specs.{Polynomials.Polynomials, Divides.Divides}
 use Rattle.char2_algebra.proofs.Ring.{·-𝟘}
 use Rattle.char2_algebra.proofs.Product.{len-mul, mul-nonzero, square-nonzero, left-nonzero, right-nonzero, integral, cancel-left}
 use Rattle.class_group.proofs.Coordinate.{norm, norm-mul, norm-constant}
