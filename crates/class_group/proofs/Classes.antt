@@ -1,28 +1,13 @@
 -- Pairs and the classes of their ideals: reduction keeps the class of a semi-reduced pair (`reduce-class`), and the composition of two
 -- pairs, however e was found, has the class of the product of their ideals (`composed-class`).
-use mathlib.Core.Path.{_≡_}
-use Rattle.field_laws.specs.Ring.{Ring2}
-use Rattle.field_laws.specs.Field.{Field2}
-use Rattle.char2_algebra.specs.Polynomials.{Polynomials}
-use Rattle.char2_algebra.specs.Divides.{Divides}
-use Rattle.char2_algebra.specs.Lead.{monic-of}
-use Rattle.char2_algebra.specs.Euclid.{Bezout3}
-use Rattle.char2_algebra.proofs.Ring.{+-comm}
-use Rattle.char2_algebra.proofs.Divides.{divides-eq, divides-trans}
-use Rattle.char2_algebra.proofs.Degree.{one-nonzero}
-use Rattle.char2_algebra.proofs.Product.{cancel-left}
-use Rattle.char2_algebra.proofs.Division.{rem-divides}
-use Rattle.char2_algebra.proofs.Lead.{monic-of-divides, divides-monic-of, monic-of-nonzero}
-use Rattle.class_group.specs.Curve.{Curve}
-use Rattle.class_group.specs.Mumford.{Pair, value}
-use Rattle.class_group.specs.Composition.{composed}
-use Rattle.class_group.specs.Reduction.{reduction-step, reduce}
-use Rattle.class_group.proofs.Coordinate.{coordinate}
-use Rattle.class_group.proofs.Ideal.{Within, Product, Equivalent, ~-of-equal, ~-trans}
+use Rattle.field_laws.specs.{Ring.Ring2, Field.Field2}
+use Rattle.char2_algebra.specs.{Polynomials.Polynomials, Divides.Divides, Lead.monic-of, Euclid.Bezout3}
+use Rattle.char2_algebra.proofs.{Ring.+-comm, Degree.one-nonzero, Product.cancel-left, Division.rem-divides}
+use Rattle.char2_algebra.proofs.{Divides.divides-eq, Divides.divides-trans, Lead.monic-of-divides, Lead.divides-monic-of, Lead.monic-of-nonzero}
+use Rattle.class_group.specs.{Curve.Curve, Mumford.Pair, Mumford.value, Composition.composed, Reduction.reduction-step, Reduction.reduce}
+use Rattle.class_group.proofs.{Coordinate.coordinate, Norm.coordinate-domain, Norm.coordinate-one, Reduction.~-step, Composition.~-composed}
 use Rattle.class_group.proofs.PairIdeal.{pair-ideal, pair-ideal-modulo, pair-ideal-divisor}
-use Rattle.class_group.proofs.Norm.{coordinate-domain, coordinate-one}
-use Rattle.class_group.proofs.Reduction.{~-step}
-use Rattle.class_group.proofs.Composition.{~-composed}
+use Rattle.class_group.proofs.Ideal.{Within, Product, Equivalent, ~-of-equal, ~-trans}
 use Rattle.class_group.proofs.SemiReduced.{SemiReduced, cofactor-eq, cofactor-nonzero, reduce-keeps}
 use Rattle.class_group.proofs.Composed.{Combines, composed-monic, full-v, composition, composed-v}
 

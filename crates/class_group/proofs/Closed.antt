@@ -1,18 +1,14 @@
 -- The operations stay within the reduced classes: `neutral-reduced`, `opposite-reduced`, `sum-reduced`, `double-reduced`; a sum and a double
 -- take at most two reduction steps: `sum-steps`, `double-steps`.
 use Prim.Native.Nat.{ℕ, zero, suc, _≤_, _<_}
-use mathlib.Core.Path.{_≡_, refl, sym, _∙_, ap}
-use native.Mathlib.Omega.{arith}
-use native.Mathlib.Decide.{decLe}
+use mathlib.Core.Path.{_≡_, refl, sym}
+use native.Mathlib.{Omega.arith, Decide.decLe}
 use borrow.Author.Tests.{lt-ltb, le-ltb}
-use Rattle.field_laws.specs.Ring.{Ring2}
-use Rattle.field_laws.specs.Field.{Field2}
+use Rattle.field_laws.specs.{Ring.Ring2, Field.Field2}
 use Rattle.char2_algebra.specs.Polynomials.{Polynomials}
-use Rattle.char2_algebra.proofs.Degree.{len-add, len-one, len-nought}
-use Rattle.char2_algebra.proofs.Divides.{divides-eq, one-divides}
-use Rattle.char2_algebra.proofs.Lead.{monic-one}
+use Rattle.char2_algebra.proofs.{Degree.len-add, Degree.len-one, Degree.len-nought, Divides.divides-eq, Divides.one-divides, Lead.monic-one}
 use Rattle.class_group.specs.Curve.{Curve}
-use Rattle.class_group.specs.Mumford.{Pair, Reduced, value, neutral, opposite}
+use Rattle.class_group.specs.Mumford.{Pair, Reduced, neutral, opposite}
 use Rattle.class_group.specs.Operations.{counted-sum, counted-double, sum, double}
 use Rattle.class_group.proofs.SemiReduced.{value-one, Ended}
 use Rattle.class_group.proofs.Composed.{compose-is, compose-double-is, composed-reduces, bezout3-combines, unit-combines}

@@ -1,26 +1,17 @@
 -- The composition of two semi-reduced pairs, u made monic, is semi-reduced, however the coefficients of e were found; of two reduced
 -- classes it has u of degree at most 6, so its reduction ends in a reduced class after at most two steps (`composed-reduces`).
--- Cantor's composition by Euclid's rule and the composition of a double are cases of it (`compose-is`, `compose-double-is`).
-use Prim.Native.Nat.{ℕ, zero, suc, _+_ as _+ℕ_, _≤_, _<_}
-use mathlib.Core.Path.{_≡_, refl, sym, _∙_, ap, ap₂}
+-- Cantor's composition by Euclid's rule and the composition of a double are cases of it (`compose-is`, `compose-double-is`):
+-- `compose-semi`, `compose-len`, `compose-double-semi`, `compose-double-len`.
+use Prim.Native.Nat.{suc, _+_ as _+ℕ_, _≤_, _<_}
+use mathlib.Core.Path.{_≡_, sym, _∙_, ap, ap₂}
 use native.Mathlib.Omega.{arith}
-use Rattle.field_laws.specs.Ring.{Ring2}
-use Rattle.field_laws.specs.Field.{Field2}
-use Rattle.char2_algebra.specs.Polynomials.{Polynomials}
-use Rattle.char2_algebra.specs.Divides.{Divides}
-use Rattle.char2_algebra.specs.Lead.{lead, Monic, monic-of}
-use Rattle.char2_algebra.specs.Euclid.{Bezout3, bezout3}
+use Rattle.field_laws.specs.{Ring.Ring2, Field.Field2}
+use Rattle.char2_algebra.specs.{Polynomials.Polynomials, Divides.Divides, Lead.lead, Lead.Monic, Lead.monic-of, Euclid.Bezout3, Euclid.bezout3}
+use Rattle.char2_algebra.proofs.{Degree.one-nonzero, Product.len-mul, Product.mul-nonzero, Product.cancel-left, Divides.divides-trans, Divides.one-divides, Euclid.bezout3-is, Euclid.bezout3-monic}
 use Rattle.char2_algebra.proofs.Ring.{ring2, ·-comm, ·-𝟘, ·-𝟙}
-use Rattle.char2_algebra.proofs.Degree.{one-nonzero}
-use Rattle.char2_algebra.proofs.Product.{len-mul, mul-nonzero, cancel-left}
-use Rattle.char2_algebra.proofs.Divides.{divides-eq, divides-trans, one-divides}
 use Rattle.char2_algebra.proofs.Division.{quot-exact, quot-mul, rem-divides, divides-len}
 use Rattle.char2_algebra.proofs.Lead.{monic-nonzero, monic-mul, monic-cofactor, monic-of-monic, monic-of-divides, divides-monic-of, monic-antisym, monic-one, len-monic-of}
-use Rattle.char2_algebra.proofs.Euclid.{IsBezout3, bezout3-is, bezout3-monic}
-use Rattle.class_group.specs.Curve.{Curve}
-use Rattle.class_group.specs.Mumford.{Pair, Reduced, value}
-use Rattle.class_group.specs.Composition.{composed, compose, compose-double}
-use Rattle.class_group.specs.Reduction.{reduce}
+use Rattle.class_group.specs.{Curve.Curve, Mumford.Pair, Mumford.Reduced, Mumford.value, Composition.composed, Composition.compose, Composition.compose-double, Reduction.reduce}
 use Rattle.class_group.proofs.Composition.{Composed, numerator-divides, composed-divides, composed-nonzero as parts-nonzero}
 use Rattle.class_group.proofs.SemiReduced.{SemiReduced, semi-of-reduced, value-congruent, Ended, reduce-ended}
 
@@ -158,16 +149,17 @@ module _ {K P : Type 0} {F : Field2 K} {A : Polynomials F P} (C : Curve A) where
         }
 
   -- of two reduced classes, however e was found: u of degree at most 6
-  pub composed-reduces : {D E : Pair P} {b : Bezout3 P} → Reduced C D → Reduced C E → Combines D E b → Ended C 2 (reduce C (composed-monic b D E))
+  pub composed-monic-len : {D E : Pair P} {b : Bezout3 P} → Reduced C D → Reduced C E → Combines D E b → len (composed-monic b D E .u) ≤ 7
   unfolding composed-monic
-  composed-reduces {D} {E} {b} r s B =
-      let r′ = semi-of-reduced C r in
-      let s′ = semi-of-reduced C s in
-      let l : suc (len (composed C b D E .u)) ≤ len (D .u) +ℕ len (E .u) = composed-len r′ s′ B in
+  composed-monic-len {D} {E} {b} r s B =
+      let l : suc (len (composed C b D E .u)) ≤ len (D .u) +ℕ len (E .u) = composed-len (semi-of-reduced C r) (semi-of-reduced C s) B in
       let m : len (monic-of A (composed C b D E .u)) ≡ len (composed C b D E .u) = len-monic-of A (composed C b D E .u) in
       let h : len (D .u) ≤ 4 = r .u-len in
       let k : len (E .u) ≤ 4 = s .u-len in
-      reduce-ended C (composed-semi r′ s′ B) (omega arith)
+      omega arith
+
+  pub composed-reduces : {D E : Pair P} {b : Bezout3 P} → Reduced C D → Reduced C E → Combines D E b → Ended C 2 (reduce C (composed-monic b D E))
+  composed-reduces r s B = reduce-ended C (composed-semi (semi-of-reduced C r) (semi-of-reduced C s) B) (composed-monic-len r s B)
 
   -- Cantor's composition by Euclid's rule
   pub compose-is : {D E : Pair P} → Reduced C D → Reduced C E
@@ -211,3 +203,16 @@ module _ {K P : Type 0} {F : Field2 K} {A : Polynomials F P} (C : Curve A) where
   unfolding unit-bezout
   compose-double-is {D} r =
       compose-double-composed D ∙ sym (composed-monic-is (semi-of-reduced C r) (semi-of-reduced C r) (unit-combines D) (monic-one A))
+
+  -- demand 2: both compositions of reduced classes are semi-reduced, with u of degree at most 6
+  pub compose-semi : {D E : Pair P} → Reduced C D → Reduced C E → SemiReduced C (compose C D E)
+  compose-semi {D} {E} r s = rw (compose-is r s) (composed-semi (semi-of-reduced C r) (semi-of-reduced C s) (bezout3-combines D E))
+
+  pub compose-len : {D E : Pair P} → Reduced C D → Reduced C E → len (compose C D E .u) ≤ 7
+  compose-len {D} {E} r s = rw (compose-is r s) (composed-monic-len r s (bezout3-combines D E))
+
+  pub compose-double-semi : {D : Pair P} → Reduced C D → SemiReduced C (compose-double C D)
+  compose-double-semi {D} r = rw (compose-double-is r) (composed-semi (semi-of-reduced C r) (semi-of-reduced C r) (unit-combines D))
+
+  pub compose-double-len : {D : Pair P} → Reduced C D → len (compose-double C D .u) ≤ 7
+  compose-double-len {D} r = rw (compose-double-is r) (composed-monic-len r r (unit-combines D))

@@ -1,8 +1,7 @@
 -- The reduced classes are a commutative group under Cantor's sum (`classes`): `sum-comm`, `sum-assoc`, `sum-neutral`, `sum-opposite`,
 -- `opposite-opposite`. The sum does not depend on the coefficients by which e is combined, nor on e being monic (`sum-independent`).
 -- The double is the sum with itself (`double-sum`), only the neutral class doubles to it (`no-torsion`), and doubling is injective
--- (`double-injective`).
-use Prim.Native.Nat.{_≤_, _<_}
+-- (`double-injective`). A reduced class whose ideal is equivalent to the product is the sum (`sum-from-class`, `double-from-class`).
 use mathlib.Core.Path.{_≡_, sym, _∙_, ap}
 use native.Mathlib.{Omega.arith, Decide.decLe}
 use Rattle.field_laws.specs.{Ring.Ring2, Field.Field2}
@@ -11,13 +10,11 @@ use Rattle.char2_algebra.proofs.{Ring.ring2, Ring.by, Ring.combine, Degree.one-
 use Rattle.class_group.specs.{Curve.Curve, Composition.composed, Reduction.reduce, Group.CommutativeGroup}
 use Rattle.class_group.specs.Mumford.{Pair, Reduced, neutral, opposite}
 use Rattle.class_group.specs.Operations.{counted-sum, counted-double, sum, double}
-use Rattle.class_group.proofs.Ideal.{Product, Equivalent, ~-sym}
-use Rattle.class_group.proofs.{Uniqueness.reduced-unique, SemiReduced.semi-of-reduced}
-use Rattle.class_group.proofs.Composed.{Combines, composed-monic, composed-semi, composed-monic-is, composed-reduces, compose-is, compose-double-is, bezout3-combines, unit-combines}
-use Rattle.class_group.proofs.Closed.{opposite-long, opposite-reduced, neutral-reduced, sum-reduced, double-reduced}
-use Rattle.class_group.proofs.Classes.{functions, ideal, transitive, composed-class, reduce-class}
-use Rattle.class_group.proofs.Adds.{Adds, adds-group, short-is-neutral}
+use Rattle.class_group.proofs.{Ideal.Product, Ideal.Equivalent, Ideal.~-sym, Uniqueness.reduced-unique, SemiReduced.semi-of-reduced}
+use Rattle.class_group.proofs.{Closed.opposite-long, Closed.sum-reduced, Adds.Adds, Adds.adds-group, Adds.short-is-neutral}
 use Rattle.class_group.proofs.GroupLaws.{opposite-unique, opposite-opposite as group-opposite-opposite, doubling-injective}
+use Rattle.class_group.proofs.Composed.{Combines, composed-monic, composed-semi, composed-monic-is, composed-reduces, compose-is, compose-double-is, bezout3-combines, unit-combines}
+use Rattle.class_group.proofs.Classes.{functions, ideal, transitive, composed-class, reduce-class}
 
 module _ {K P : Type 0} {F : Field2 K} {A : Polynomials F P} (C : Curve A) where
   open Polynomials A using (ring as R, len)
@@ -78,6 +75,15 @@ module _ {K P : Type 0} {F : Field2 K} {A : Polynomials F P} (C : Curve A) where
   pub double-sum : {D : Pair P} → Reduced C D → double C D ≡ sum C D D
   unfolding double counted-double
   double-sum {D} r = ap (λ z. reduce C z .class) (compose-double-is C r) ∙ sum-independent r r (unit-combines C D)
+
+  -- a reduced class whose ideal is the product's, up to equivalence, is the sum; likewise for the double
+  pub sum-from-class : {D E G : Pair P} → Reduced C D → Reduced C E → Reduced C G
+      → Equivalent (functions C) (Product (functions C) (ideal C D) (ideal C E)) (ideal C G) → sum C D E ≡ G
+  sum-from-class r s t h = reduced-unique C (sum-reduced C r s) t (transitive C (~-sym (functions C) (sum-adds .class r s)) h)
+
+  pub double-from-class : {D G : Pair P} → Reduced C D → Reduced C G
+      → Equivalent (functions C) (Product (functions C) (ideal C D) (ideal C D)) (ideal C G) → double C D ≡ G
+  double-from-class r t h = double-sum r ∙ sum-from-class r r t h
 
   -- demand 3: only the neutral class doubles to it: [u, v] = [u, v + 1] forces u = 1
   pub no-torsion : {D : Pair P} → Reduced C D → sum C D D ≡ neutral C → D ≡ neutral C

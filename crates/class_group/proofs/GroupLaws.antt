@@ -1,6 +1,6 @@
 -- What follows from the laws of a commutative group: adding and taking away undo each other, opposites are unique, the opposite of an
 -- opposite, and doubling is injective where no element but the neutral one doubles to it.
-use mathlib.Core.Path.{_≡_, refl, sym, _∙_, ap, ap₂}
+use mathlib.Core.Path.{_≡_, sym, _∙_, ap, ap₂}
 use Rattle.class_group.specs.Group.{CommutativeGroup}
 
 module _ {X : Type 0} {Member : X → Type 0} {_+_ : X → X → X} {nought : X} {minus : X → X} (G : CommutativeGroup Member _+_ nought minus) where

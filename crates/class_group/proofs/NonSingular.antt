@@ -1,9 +1,7 @@
 -- No curve y² + y = f(x) has a singular point: the derivative of y² + y + f(x) by y is 1 everywhere, so at no point over any
 -- ring of characteristic 2 with 1 ≠ 0 do both partial derivatives vanish (document 01, 'Curves and classes').
-use mathlib.Core.Path.{_≡_, sym, _∙_}
-use mathlib.Core.List.{List, map}
-use Rattle.field_laws.specs.Ring.{Ring2}
-use Rattle.field_laws.specs.Field.{Field2}
+use mathlib.Core.{Path._≡_, Path.sym, Path._∙_, List.List}
+use Rattle.field_laws.specs.{Ring.Ring2, Field.Field2}
 use Rattle.char2_algebra.specs.Polynomials.{Polynomials}
 use Rattle.char2_algebra.proofs.Ring.{ring2}
 use Rattle.class_group.specs.Curve.{Curve}

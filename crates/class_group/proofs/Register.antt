@@ -1,20 +1,16 @@
 -- The register's rules undo each other, given what is asked of half (`Halves`: a reduced class whose double is the class given).
 -- `subtract-committed`: (2 S + D) - D is 2 S. `half-double`: the half of a double is the class. `half-unique`: there is no other half.
 -- `undo-commit`, `commit-undo`: an undo takes a commit back and a commit an undo. `undo-all`: undos over the reversed list take a whole
--- list of commits back. `backward-walk`: they meet the same seals in reverse order. `forward-reduced`, `backward-reduced`: all
+-- list of commits back; `undo-newest`: the newest part of it. `backward-walk`: they meet the same seals in reverse order. `forward-reduced`, `backward-reduced`: all
 -- these seals are reduced classes.
 use mathlib.Core.Path.{_≡_, refl, sym, _∙_, ap}
-use mathlib.Core.List.{List, reverse}
+use mathlib.Core.List.{List, _++_, reverse}
 use Rattle.field_laws.specs.Field.{Field2}
 use Rattle.char2_algebra.specs.Polynomials.{Polynomials}
-use Rattle.class_group.specs.{Curve.Curve, Half.half}
-use Rattle.class_group.specs.Mumford.{Pair, Reduced, opposite}
-use Rattle.class_group.specs.Operations.{sum, double}
+use Rattle.class_group.specs.{Curve.Curve, Half.half, Mumford.Pair, Mumford.Reduced, Mumford.opposite, Operations.sum, Operations.double}
 use Rattle.class_group.specs.Walk.{after, walk, commit, undo}
-use Rattle.class_group.proofs.Closed.{sum-reduced, double-reduced, opposite-reduced}
-use Rattle.class_group.proofs.Group.{classes, double-injective}
-use Rattle.class_group.proofs.GroupLaws.{add-subtract, subtract-add}
-use Rattle.class_group.proofs.Walk.{All, after-reverse, walk-reverse, walk-members}
+use Rattle.class_group.proofs.{Closed.sum-reduced, Closed.double-reduced, Closed.opposite-reduced, Group.classes, Group.double-injective, GroupLaws.add-subtract, GroupLaws.subtract-add}
+use Rattle.class_group.proofs.Walk.{All, Along, after-reverse, after-newest, walk-reverse, walk-members, along-members}
 
 module _ {K P : Type 0} {F : Field2 K} {A : Polynomials F P} (C : Curve A) where
   -- demand 3: (2 S + D) - D is 2 S
@@ -63,11 +59,20 @@ module _ {K P : Type 0} {F : Field2 K} {A : Polynomials F P} (C : Curve A) where
     pub backward-reduced : {S : Pair P} {Ds : List (Pair P)} → Reduced C S → All (Reduced C) Ds → All (Reduced C) (walk (undo C) S Ds)
     backward-reduced = walk-members (undo C) (λ _ _. undo-reduced)
 
-    -- demand 3: taking a list of commits back with the same classes, newest first, ends in the first seal ..
-    pub undo-all : {S : Pair P} {Ds : List (Pair P)} → Reduced C S → All (Reduced C) Ds → after (undo C) (after (commit C) S Ds) (reverse Ds) ≡ S
-    undo-all = after-reverse (commit C) (undo C) (λ _ _. commit-reduced) (λ _ _. undo-commit)
+    -- a list of commits of reduced classes is accepted from a reduced seal on
+    committing : {S : Pair P} {Ds : List (Pair P)} → Reduced C S → All (Reduced C) Ds → Along (commit C) (λ T D. Reduced C T × Reduced C D) S Ds
+    committing = along-members (commit C) (λ _ _. commit-reduced)
 
-    -- .. and meets the same seals, one after each class
+    -- demand 3: taking a list of commits back with the same classes, newest first, ends in the first seal,
+    pub undo-all : {S : Pair P} {Ds : List (Pair P)} → Reduced C S → All (Reduced C) Ds → after (undo C) (after (commit C) S Ds) (reverse Ds) ≡ S
+    undo-all s d = after-reverse (commit C) (undo C) (λ _ _ h. undo-commit (h .0) (h .1)) (committing s d)
+
+    -- taking the newest part back ends in the seal before it,
+    pub undo-newest : {S : Pair P} (Ds Es : List (Pair P)) → Reduced C S → All (Reduced C) (Ds ++ Es)
+        → after (undo C) (after (commit C) S (Ds ++ Es)) (reverse Es) ≡ after (commit C) S Ds
+    undo-newest Ds Es s d = after-newest (commit C) (undo C) (λ _ _ h. undo-commit (h .0) (h .1)) Ds Es (committing s d)
+
+    -- and the walk meets the same seals, one after each class
     pub backward-walk : {S : Pair P} {Ds : List (Pair P)} → Reduced C S → All (Reduced C) Ds
         → walk (undo C) (after (commit C) S Ds) (reverse Ds) ≡ reverse (walk (commit C) S Ds)
-    backward-walk = walk-reverse (commit C) (undo C) (λ _ _. commit-reduced) (λ _ _. undo-commit)
+    backward-walk s d = walk-reverse (commit C) (undo C) (λ _ _ h. undo-commit (h .0) (h .1)) (committing s d)

@@ -2,22 +2,14 @@
 -- A reduction step keeps a pair semi-reduced (`step-semi`) and takes u of length 7, 6, 5 to length at most 5, 4, 4 (`step-len`). So
 -- reduction ends in a reduced class after at most two steps (`reduce-ended`). What steps keep, reduction keeps (`reduce-keeps`).
 use Prim.Native.Nat.{ℕ, zero, suc, _+_ as _+ℕ_, _≤_, _<_, _*_, max}
-use mathlib.Core.Path.{_≡_, refl, sym, _∙_, ap}
-use native.Mathlib.Omega.{arith}
-use native.Mathlib.Decide.{decLe}
+use mathlib.Core.Path.{_≡_, sym, _∙_, ap}
+use native.Mathlib.{Omega.arith, Decide.decLe}
 use borrow.Author.Tests.{lt-ltb, le-ltb}
-use Rattle.field_laws.specs.Ring.{Ring2}
-use Rattle.field_laws.specs.Field.{Field2}
-use Rattle.char2_algebra.specs.Polynomials.{Polynomials}
-use Rattle.char2_algebra.specs.Divides.{Divides}
-use Rattle.char2_algebra.specs.Lead.{Monic, monic-of}
-use Rattle.char2_algebra.proofs.Ring.{ring2, 𝟘-·}
-use Rattle.char2_algebra.proofs.Product.{len-mul}
-use Rattle.char2_algebra.proofs.Divides.{divides-eq, divides-add, divides-mul-right}
-use Rattle.char2_algebra.proofs.Division.{quot-exact, rem-divides}
+use Rattle.field_laws.specs.{Ring.Ring2, Field.Field2}
+use Rattle.char2_algebra.specs.{Polynomials.Polynomials, Divides.Divides, Lead.Monic, Lead.monic-of}
+use Rattle.char2_algebra.proofs.{Ring.ring2, Ring.𝟘-·, Product.len-mul, Divides.divides-eq, Divides.divides-add, Divides.divides-mul-right, Division.quot-exact, Division.rem-divides}
 use Rattle.char2_algebra.proofs.Lead.{monic-nonzero, monic-of-monic, monic-of-divides, len-monic-of}
-use Rattle.class_group.specs.Curve.{Curve}
-use Rattle.class_group.specs.Mumford.{Pair, Reduced, value}
+use Rattle.class_group.specs.{Curve.Curve, Mumford.Pair, Mumford.Reduced, Mumford.value}
 use Rattle.class_group.specs.Reduction.{Counted, reduction-step, reduce-to, reduce}
 use Rattle.class_group.proofs.Norm.{value-len, value-nonzero}
 
