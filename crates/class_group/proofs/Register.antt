@@ -8,9 +8,9 @@ use mathlib.Core.List.{List, _++_, reverse}
 use Rattle.field_laws.specs.Field.{Field2}
 use Rattle.char2_algebra.specs.Polynomials.{Polynomials}
 use Rattle.class_group.specs.{Curve.Curve, Half.half, Mumford.Pair, Mumford.Reduced, Mumford.opposite, Operations.sum, Operations.double}
-use Rattle.class_group.specs.Walk.{after, walk, commit, undo}
+use Rattle.class_group.specs.Walk.{All, after, walk, commit, undo}
 use Rattle.class_group.proofs.{Closed.sum-reduced, Closed.double-reduced, Closed.opposite-reduced, Group.classes, Group.double-injective, GroupLaws.add-subtract, GroupLaws.subtract-add}
-use Rattle.class_group.proofs.Walk.{All, Along, after-reverse, after-newest, walk-reverse, walk-members, along-members}
+use Rattle.class_group.proofs.Walk.{Along, after-reverse, after-newest, walk-reverse, walk-members, along-members}
 
 module _ {K P : Type 0} {F : Field2 K} {A : Polynomials F P} (C : Curve A) where
   -- demand 3: (2 S + D) - D is 2 S

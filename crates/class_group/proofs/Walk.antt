@@ -3,12 +3,7 @@
 -- ends where that part began. `walk-reverse`: it meets the same states in reverse order. `walk-members`: all states are members.
 use mathlib.Core.Path.{_≡_, refl, sym, _∙_, ap}
 use mathlib.Core.List.{List, [], _∷_, _++_, reverse, reverse-cons}
-use Rattle.class_group.specs.Walk.{after, walk}
-
--- each element of a list is a member
-pub data All {X : Type 0} (Member : X → Type 0) : List X → Type 0 where
-  none : All Member []
-  more : {a : X} {l : List X} → Member a → All Member l → All Member (a ∷ l)
+use Rattle.class_group.specs.Walk.{All, none, more, after, walk}
 
 -- the rule is accepted at every step of a walk
 pub data Along {X Y : Type 0} (rule : X → Y → X) (Accepts : X → Y → Type 0) : X → List Y → Type 0 where

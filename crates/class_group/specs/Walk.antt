@@ -7,6 +7,11 @@ use Rattle.class_group.specs.Mumford.{Pair, opposite}
 use Rattle.class_group.specs.Operations.{sum, double}
 use Rattle.class_group.specs.Half.{half}
 
+-- each element of a list is a member
+pub data All {X : Type 0} (Member : X → Type 0) : List X → Type 0 where
+  none : All Member []
+  more : {a : X} {l : List X} → Member a → All Member l → All Member (a ∷ l)
+
 module _ {X Y : Type 0} (rule : X → Y → X) where
   -- what the rule leads to, applied once for each element of the list
   unfoldable pub after : X → List Y → X
