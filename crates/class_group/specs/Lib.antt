@@ -5,3 +5,6 @@ pub mod Composition
 pub mod Reduction
 pub mod Operations
 pub mod Half
+pub mod Group
+pub mod Walk
+pub mod NonSingular
