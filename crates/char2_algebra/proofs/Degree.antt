@@ -1,0 +1,192 @@
+-- Coefficients and length (degree plus one): of nought, of sums, of constants, of x and of multiples of x; decided equality; a polynomial as
+-- its lowest coefficient and x times the rest, its tail.
+use Prim.Native.Nat.{ℕ, zero, suc, _≤_, _<_, max}
+use mathlib.Core.Path.{_≡_, refl, sym, _∙_, ap, ap₂}
+use native.Mathlib.Omega.{arith}
+use native.Mathlib.Decide.{decLe}
+use Rattle.field_laws.specs.Ring.{Ring2}
+use Rattle.field_laws.specs.Field.{Field2}
+use Rattle.char2_algebra.specs.Polynomials.{Polynomials}
+use Rattle.char2_algebra.specs.Square.{tail}
+use Rattle.char2_algebra.proofs.Ring.{+-comm, +-𝟘, 𝟘-+, +-self, ·-comm, ·-𝟙, ·-𝟘, eq-of-sum, sum-of-eq}
+
+module _ {K P : Type 0} {F : Field2 K} (A : Polynomials F P) where
+  open Polynomials A using (ring as R, coeff, con, x, len, quot, rem)
+  open Ring2 (A .ring) using (add as _+_, mul as _·_, nought as 𝟘, one as 𝟙)
+  open Ring2 (F .ring) using (add as _⊕_, mul as _⊙_, nought as 𝟎, one as 𝟏)
+
+  infixl 60 _+_
+  infixl 70 _·_
+  infixl 60 _⊕_
+  infixl 70 _⊙_
+  pub coeff-nought : (i : ℕ) → coeff 𝟘 i ≡ 𝟎
+  coeff-nought i = ap (λ z. coeff z i) (sym (+-self R 𝟘)) ∙ A .coeff-add 𝟘 𝟘 i ∙ +-self (F .ring) (coeff 𝟘 i)
+
+  -- a polynomial is no longer than the place from which on its coefficients are nought
+  pub len-bound : (p : P) (n : ℕ) → ((i : ℕ) → n ≤ i → coeff p i ≡ 𝟎) → len p ≤ n
+  len-bound p n h = go (len p) refl
+    where
+      go : (k : ℕ) → len p ≡ k → len p ≤ n
+      go zero e = omega arith
+      go (suc k) e = elim (decLe (suc k) n) [ yes l ↦ omega arith | no m ↦ absurd (A .len-top p k e (h k (omega arith))) ]
+
+  pub len-zero : (p : P) → len p ≡ 0 → p ≡ 𝟘
+  len-zero p e = A .ext p 𝟘 (λ i. A .len-past p i (omega arith) ∙ sym (coeff-nought i))
+
+  pub len-nought : len 𝟘 ≡ 0
+  len-nought = let h : len 𝟘 ≤ 0 = len-bound 𝟘 0 (λ i _. coeff-nought i) in omega arith
+
+  pub len-nonzero : (p : P) → ¬ (p ≡ 𝟘) → 0 < len p
+  len-nonzero p h = elim (decLe 1 (len p)) [ yes l ↦ l | no m ↦ absurd (h (len-zero p (omega arith))) ]
+
+  pub nonzero-of-len : (p : P) → 0 < len p → ¬ (p ≡ 𝟘)
+  nonzero-of-len p h e = let k : len p ≡ 0 = ap len e ∙ len-nought in omega arith
+
+  -- the length is fixed by the highest coefficient that is not nought
+  pub len-is : (p : P) (n : ℕ) → len p ≤ suc n → ¬ (coeff p n ≡ 𝟎) → len p ≡ suc n
+  len-is p n h t = elim (decLe (len p) n) [ yes l ↦ absurd (t (A .len-past p n l)) | no m ↦ omega arith ]
+
+  -- sums
+  pub len-add : (p q : P) (n : ℕ) → len p ≤ n → len q ≤ n → len (p + q) ≤ n
+  len-add p q n h k =
+      len-bound (p + q) n (λ i l. A .coeff-add p q i ∙ ap₂ _⊕_ (A .len-past p i (omega arith)) (A .len-past q i (omega arith)) ∙ +-self (F .ring) 𝟎)
+
+  pub len-add-max : (p q : P) → len (p + q) ≤ max (len p) (len q)
+  len-add-max p q = len-add p q (max (len p) (len q)) (omega arith) (omega arith)
+
+  pub len-add-less : (p q : P) → len p < len q → len (p + q) ≡ len q
+  len-add-less p q h = go (len q) refl
+    where
+      go : (n : ℕ) → len q ≡ n → len (p + q) ≡ len q
+      go zero e = omega arith
+      go (suc n) e =
+          len-is
+          (p + q)
+          n
+          (len-add p q (suc n) (omega arith) (omega arith))
+          (λ z. A .len-top q n e (sym (𝟘-+ (F .ring) _) ∙ ap (λ a. a ⊕ coeff q n) (sym (A .len-past p n (omega arith))) ∙ sym (A .coeff-add p q n) ∙ z))
+          ∙ sym e
+
+  -- constants
+  pub len-con-le : (a : K) → len (con a) ≤ 1
+  len-con-le a = len-bound (con a) 1 go
+    where
+      go : (i : ℕ) → 1 ≤ i → coeff (con a) i ≡ 𝟎
+      go zero h = absurd (omega arith)
+      go (suc i) h = A .coeff-con-suc a i
+
+  pub len-con : (a : K) → ¬ (a ≡ 𝟎) → len (con a) ≡ 1
+  len-con a h = len-is (con a) 0 (len-con-le a) (λ e. h (sym (A .coeff-con a) ∙ e))
+
+  pub con-of-len : (p : P) → len p ≤ 1 → p ≡ con (coeff p 0)
+  con-of-len p h = A .ext p (con (coeff p 0)) go
+    where
+      go : (i : ℕ) → coeff p i ≡ coeff (con (coeff p 0)) i
+      go zero = sym (A .coeff-con (coeff p 0))
+      go (suc i) = A .len-past p (suc i) (omega arith) ∙ sym (A .coeff-con-suc (coeff p 0) i)
+
+  pub con-injective : (a b : K) → con a ≡ con b → a ≡ b
+  con-injective a b e = sym (A .coeff-con a) ∙ ap (λ p. coeff p 0) e ∙ A .coeff-con b
+
+  pub con-nought : con 𝟎 ≡ 𝟘
+  con-nought = A .ext (con 𝟎) 𝟘 go
+    where
+      go : (i : ℕ) → coeff (con 𝟎) i ≡ coeff 𝟘 i
+      go zero = A .coeff-con 𝟎 ∙ sym (coeff-nought 0)
+      go (suc i) = A .coeff-con-suc 𝟎 i ∙ sym (coeff-nought (suc i))
+
+  pub con-one : con 𝟏 ≡ 𝟙
+  con-one = sym (A .one-con)
+
+  pub con-add : (a b : K) → con (a ⊕ b) ≡ con a + con b
+  con-add a b = A .ext (con (a ⊕ b)) (con a + con b) go
+    where
+      go : (i : ℕ) → coeff (con (a ⊕ b)) i ≡ coeff (con a + con b) i
+      go zero = A .coeff-con (a ⊕ b) ∙ sym (A .coeff-add (con a) (con b) 0 ∙ ap₂ _⊕_ (A .coeff-con a) (A .coeff-con b))
+      go (suc i) =
+          A .coeff-con-suc (a ⊕ b) i
+          ∙ sym
+          (A .coeff-add (con a) (con b) (suc i) ∙ ap₂ _⊕_ (A .coeff-con-suc a i) (A .coeff-con-suc b i) ∙ +-self (F .ring) 𝟎)
+
+  pub con-mul : (a b : K) → con (a ⊙ b) ≡ con a · con b
+  con-mul a b = A .ext (con (a ⊙ b)) (con a · con b) go
+    where
+      go : (i : ℕ) → coeff (con (a ⊙ b)) i ≡ coeff (con a · con b) i
+      go zero = A .coeff-con (a ⊙ b) ∙ sym (A .coeff-con-mul a (con b) 0 ∙ ap (λ z. a ⊙ z) (A .coeff-con b))
+      go (suc i) = A .coeff-con-suc (a ⊙ b) i ∙ sym (A .coeff-con-mul a (con b) (suc i) ∙ ap (λ z. a ⊙ z) (A .coeff-con-suc b i) ∙ ·-𝟘 (F .ring) a)
+
+  pub con-nonzero : (a : K) → ¬ (a ≡ 𝟎) → ¬ (con a ≡ 𝟘)
+  con-nonzero a h e = h (con-injective a 𝟎 (e ∙ sym con-nought))
+
+  pub len-one : len 𝟙 ≡ 1
+  len-one = ap len (A .one-con) ∙ len-con 𝟏 (F .one≢nought)
+
+  pub one-nonzero : ¬ (𝟙 ≡ 𝟘)
+  one-nonzero = nonzero-of-len 𝟙 (let h : len 𝟙 ≡ 1 = len-one in omega arith)
+
+  -- x
+  pub coeff-x : coeff x 0 ≡ 𝟎
+  coeff-x = ap (λ p. coeff p 0) (sym (·-𝟙 R x)) ∙ A .coeff-x-mul 𝟙
+
+  pub coeff-x-suc : (i : ℕ) → coeff x (suc i) ≡ coeff 𝟙 i
+  coeff-x-suc i = ap (λ p. coeff p (suc i)) (sym (·-𝟙 R x)) ∙ A .coeff-x-mul-suc 𝟙 i
+
+  pub coeff-one : coeff 𝟙 0 ≡ 𝟏
+  coeff-one = ap (λ p. coeff p 0) (A .one-con) ∙ A .coeff-con 𝟏
+
+  pub coeff-one-suc : (i : ℕ) → coeff 𝟙 (suc i) ≡ 𝟎
+  coeff-one-suc i = ap (λ p. coeff p (suc i)) (A .one-con) ∙ A .coeff-con-suc 𝟏 i
+
+  pub len-x-mul-le : (p : P) (n : ℕ) → len p ≤ n → len (x · p) ≤ suc n
+  len-x-mul-le p n h = len-bound (x · p) (suc n) go
+    where
+      go : (i : ℕ) → suc n ≤ i → coeff (x · p) i ≡ 𝟎
+      go zero l = absurd (omega arith)
+      go (suc i) l = A .coeff-x-mul-suc p i ∙ A .len-past p i (omega arith)
+
+  pub len-x-mul : (p : P) → ¬ (p ≡ 𝟘) → len (x · p) ≡ suc (len p)
+  len-x-mul p h = go (len p) refl
+    where
+      go : (n : ℕ) → len p ≡ n → len (x · p) ≡ suc (len p)
+      go zero e = absurd (h (len-zero p e))
+      go (suc n) e = len-is (x · p) (suc n) (len-x-mul-le p (suc n) (omega arith)) (λ z. A .len-top p n e (sym (A .coeff-x-mul-suc p n) ∙ z)) ∙ ap suc (sym e)
+
+  pub len-x : len x ≡ 2
+  len-x = ap len (sym (·-𝟙 R x)) ∙ len-x-mul 𝟙 one-nonzero ∙ ap suc len-one
+
+  pub x-nonzero : ¬ (x ≡ 𝟘)
+  x-nonzero = nonzero-of-len x (let h : len x ≡ 2 = len-x in omega arith)
+
+  -- equality is decided by computing: p ≡ q where p + q has length 0
+  unfoldable pub is-nought : (p : P) → Dec (p ≡ 𝟘)
+  is-nought p = go (len p) refl
+    where
+      go : (n : ℕ) → len p ≡ n → Dec (p ≡ 𝟘)
+      go zero e = yes (len-zero p e)
+      go (suc n) e = no (nonzero-of-len p (omega arith))
+
+  unfoldable pub polynomials-discrete : Discrete P
+  unfolding is-nought
+  polynomials-discrete p q = elim (is-nought (p + q)) [ yes e ↦ yes (eq-of-sum R p q e) | no h ↦ no (λ e. h (sum-of-eq R p q e)) ]
+
+  -- the tail: the polynomial without its lowest coefficient, divided by x
+  rem-x : (p : P) → rem p x ≡ con (coeff p 0)
+  rem-x p =
+      con-of-len (rem p x) (let h : len (rem p x) < len x = A .rem-len p x x-nonzero in let e : len x ≡ 2 = len-x in omega arith)
+      ∙ ap con (sym (𝟘-+ (F .ring) _) ∙ ap (λ z. z ⊕ coeff (rem p x) 0) (sym (A .coeff-x-mul (quot p x)) ∙ ap (λ z. coeff z 0) (·-comm R x (quot p x))) ∙ sym (A .coeff-add _ _ 0) ∙ ap (λ z. coeff z 0) (sym (A .division p x x-nonzero)))
+
+  pub split : (p : P) → p ≡ con (coeff p 0) + x · tail A p
+  unfolding tail
+  split p = A .division p x x-nonzero ∙ ap₂ _+_ (·-comm R (quot p x) x) (rem-x p) ∙ +-comm R (x · quot p x) (con (coeff p 0))
+
+  pub coeff-con-add-x-mul : (a : K) (p : P) → coeff (con a + x · p) 0 ≡ a
+  coeff-con-add-x-mul a p = A .coeff-add _ _ 0 ∙ ap₂ _⊕_ (A .coeff-con a) (A .coeff-x-mul p) ∙ +-𝟘 (F .ring) a
+
+  pub coeff-con-add-x-mul-suc : (a : K) (p : P) (i : ℕ) → coeff (con a + x · p) (suc i) ≡ coeff p i
+  coeff-con-add-x-mul-suc a p i = A .coeff-add _ _ (suc i) ∙ ap₂ _⊕_ (A .coeff-con-suc a i) (A .coeff-x-mul-suc p i) ∙ 𝟘-+ (F .ring) (coeff p i)
+
+  pub coeff-tail : (p : P) (i : ℕ) → coeff (tail A p) i ≡ coeff p (suc i)
+  coeff-tail p i = sym (coeff-con-add-x-mul-suc (coeff p 0) (tail A p) i) ∙ ap (λ z. coeff z (suc i)) (sym (split p))
+
+  pub len-tail : (p : P) (n : ℕ) → len p ≤ suc n → len (tail A p) ≤ n
+  len-tail p n h = len-bound (tail A p) n (λ i l. coeff-tail p i ∙ A .len-past p (suc i) (omega arith))

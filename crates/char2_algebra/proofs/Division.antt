@@ -1,0 +1,177 @@
+-- Division of polynomials with remainder: a multiple shorter than its divisor is nought, quotient and remainder are unique, the remainder is
+-- nought exactly for multiples, remainders of sums and products, exact quotients, decided divisibility.
+use Prim.Native.Nat.{ℕ, zero, suc, _+_ as _+ℕ_, _≤_, _<_}
+use mathlib.Core.Path.{_≡_, refl, sym, _∙_, ap, ap₂}
+use mathlib.Core.HLevel.{Σ-prop-path}
+use native.Mathlib.Omega.{arith}
+use Rattle.field_laws.specs.Ring.{Ring2}
+use Rattle.field_laws.specs.Field.{Field2}
+use Rattle.char2_algebra.specs.Polynomials.{Polynomials}
+use Rattle.char2_algebra.specs.Divides.{Divides}
+use Rattle.char2_algebra.proofs.Ring.{ring2, +-comm, +-𝟘, 𝟘-+, ·-comm, 𝟘-·, eq-of-sum, sum-of-eq, by, both, combine}
+use Rattle.char2_algebra.proofs.Degree.{len-zero, len-nought, len-nonzero, nonzero-of-len, len-add, len-add-less, is-nought}
+use Rattle.char2_algebra.proofs.Product.{len-mul-monotone, cancel-left, cancel-right, len-mul, integral}
+use Rattle.char2_algebra.proofs.Divides.{divides-eq, divides-add, divides-right, divides-mul, divides-trans, divides-by-eq, nought-divides}
+
+-- identities of a few terms, over plain variables
+module _ {A : Type 0} (R : Ring2 A) where
+  open Ring2 R using (add as _+_, mul as _·_)
+
+  infixl 60 _+_
+  infixl 70 _·_
+  last-cancels : (a b : A) → a + b + b ≡ a
+  last-cancels a b = simp (ring2, R)
+
+  difference : (b q r q' r' : A) → q · b + r ≡ q' · b + r' → r + r' ≡ (q + q') · b
+  difference b q r q' r' h = combine R (r + r') ((q + q') · b) (by R (R .one) h) (simp (ring2, R))
+
+  sum-of-divisions : (b q r q' r' : A) → (q · b + r) + (q' · b + r') ≡ (q + q') · b + (r + r')
+  sum-of-divisions b q r q' r' = simp (ring2, R)
+
+  add-to-division : (b q r k : A) → (q · b + r) + k · b ≡ (q + k) · b + r
+  add-to-division b q r k = simp (ring2, R)
+
+  congruent-division : (b k a a' q r : A) → a + a' ≡ k · b → a ≡ q · b + r → a' ≡ (q + k) · b + r
+  congruent-division b k a a' q r h e = combine R a' ((q + k) · b + r) (both R (by R (R .one) h) (by R (R .one) e)) (simp (ring2, R))
+
+module _ {K P : Type 0} {F : Field2 K} (A : Polynomials F P) where
+  open Polynomials A using (ring as R, coeff, con, x, len, quot, rem)
+  open Ring2 (A .ring) using (add as _+_, mul as _·_, nought as 𝟘, one as 𝟙)
+
+  infixl 60 _+_
+  infixl 70 _·_
+  pub divides-len : {b a : P} → Divides R b a → ¬ (a ≡ 𝟘) → len b ≤ len a
+  divides-len {b} {a} (q, e) h =
+      let k : ¬ (q ≡ 𝟘) = λ d. h (e ∙ ap (λ z. z · b) d ∙ 𝟘-· R b) in
+      let l : len b ≤ len (b · q) = len-mul-monotone A b q k in
+      let m : len (b · q) ≡ len a = ap len (·-comm R b q ∙ sym e) in
+      omega arith
+
+  pub divides-short : {b a : P} → Divides R b a → len a < len b → a ≡ 𝟘
+  divides-short {b} {a} d h = elim (is-nought A a) [ yes e ↦ e | no k ↦ absurd (let l : len b ≤ len a = divides-len d k in omega arith) ]
+
+  pub congruent-short : (b a a' : P) → Divides R b (a + a') → len a < len b → len a' < len b → a ≡ a'
+  congruent-short b a a' d h k = eq-of-sum R a a' (divides-short d (go (len b) refl))
+    where
+      go : (n : ℕ) → len b ≡ n → len (a + a') < len b
+      go zero e = absurd (omega arith)
+      go (suc n) e = let l : len (a + a') ≤ n = len-add A a a' n (omega arith) (omega arith) in omega arith
+
+  divisor-nonzero : (b r : P) → len r < len b → ¬ (b ≡ 𝟘)
+  divisor-nonzero b r h = nonzero-of-len A b (omega arith)
+
+  pub remainder-unique : (b q r q' r' : P) → len r < len b → len r' < len b → q · b + r ≡ q' · b + r' → r ≡ r'
+  remainder-unique b q r q' r' h k e = congruent-short b r r' (q + q', difference R b q r q' r' e) h k
+
+  pub quotient-unique : (b q r q' r' : P) → len r < len b → len r' < len b → q · b + r ≡ q' · b + r' → q ≡ q'
+  quotient-unique b q r q' r' h k e =
+      eq-of-sum
+      R
+      q
+      q'
+      (integral A b (q + q') (divisor-nonzero b r h) (·-comm R b (q + q') ∙ sym (difference R b q r q' r' e) ∙ sum-of-eq R r r' (remainder-unique b q r q' r' h k e)))
+
+  -- what has the shape of a division is the division
+  pub rem-is : (a b q r : P) → len r < len b → a ≡ q · b + r → rem a b ≡ r
+  rem-is a b q r h e =
+      let k : ¬ (b ≡ 𝟘) = divisor-nonzero b r h in
+      remainder-unique b (quot a b) (rem a b) q r (A .rem-len a b k) h (sym (A .division a b k) ∙ e)
+
+  pub quot-is : (a b q r : P) → len r < len b → a ≡ q · b + r → quot a b ≡ q
+  quot-is a b q r h e =
+      let k : ¬ (b ≡ 𝟘) = divisor-nonzero b r h in
+      quotient-unique b (quot a b) (rem a b) q r (A .rem-len a b k) h (sym (A .division a b k) ∙ e)
+
+  pub rem-short : (a b : P) → len a < len b → rem a b ≡ a
+  rem-short a b h = rem-is a b 𝟘 a h (sym (𝟘-+ R a) ∙ ap (λ z. z + a) (sym (𝟘-· R b)))
+
+  module _ (b : P) (h : ¬ (b ≡ 𝟘)) where
+    pub rem-divides : (a : P) → Divides R b (a + rem a b)
+    rem-divides a = (quot a b, ap (λ z. z + rem a b) (A .division a b h) ∙ last-cancels R (quot a b · b) (rem a b))
+
+    pub rem-congruent : (a a' : P) → Divides R b (a + a') → rem a b ≡ rem a' b
+    rem-congruent a a' (k, e) =
+        sym (rem-is a' b (quot a b + k) (rem a b) (A .rem-len a b h) (congruent-division R b k a a' (quot a b) (rem a b) e (A .division a b h)))
+
+    pub congruent-of-rem : (a a' : P) → rem a b ≡ rem a' b → Divides R b (a + a')
+    congruent-of-rem a a' e = divides-eq R (join a a' (rem a b)) (divides-add R (rem-divides a) (divides-eq R (ap (λ z. a' + z) (sym e)) (rem-divides a')))
+      where
+        join : (p q r : P) → p + r + (q + r) ≡ p + q
+        join p q r = simp (ring2, R)
+
+    pub rem-of-divides : (a : P) → Divides R b a → rem a b ≡ 𝟘
+    rem-of-divides a (q, e) = rem-is a b q 𝟘 (let l : len 𝟘 ≡ 0 = len-nought A in let m : 0 < len b = len-nonzero A b h in omega arith) (e ∙ sym (+-𝟘 R (q · b)))
+
+    pub divides-of-rem : (a : P) → rem a b ≡ 𝟘 → Divides R b a
+    divides-of-rem a e = (quot a b, A .division a b h ∙ ap (λ z. quot a b · b + z) e ∙ +-𝟘 R (quot a b · b))
+
+    -- the exact quotient
+    pub quot-exact : (a : P) → Divides R b a → a ≡ quot a b · b
+    unfolding divides-of-rem
+    quot-exact a d = divides-of-rem a (rem-of-divides a d) .1
+
+    pub quot-mul : (q : P) → quot (q · b) b ≡ q
+    quot-mul q = cancel-right A b (quot (q · b) b) q h (sym (quot-exact (q · b) (divides-right R q b)))
+
+    pub rem-add : (a a' : P) → rem (a + a') b ≡ rem a b + rem a' b
+    rem-add a a' = rem-is (a + a') b (quot a b + quot a' b) (rem a b + rem a' b) (go (len b) refl) (ap₂ _+_ (A .division a b h) (A .division a' b h) ∙ sum-of-divisions R b (quot a b) (rem a b) (quot a' b) (rem a' b))
+      where
+        go : (n : ℕ) → len b ≡ n → len (rem a b + rem a' b) < len b
+        go zero e = absurd (h (len-zero A b e))
+        go (suc n) e =
+            let k : len (rem a b) < len b = A .rem-len a b h in
+            let k' : len (rem a' b) < len b = A .rem-len a' b h in
+            let l : len (rem a b + rem a' b) ≤ n = len-add A (rem a b) (rem a' b) n (omega arith) (omega arith) in
+            omega arith
+
+    pub rem-add-multiple : (a k : P) → rem (a + k · b) b ≡ rem a b
+    rem-add-multiple a k =
+        rem-is (a + k · b) b (quot a b + k) (rem a b) (A .rem-len a b h) (ap (λ z. z + k · b) (A .division a b h) ∙ add-to-division R b (quot a b) (rem a b) k)
+
+    pub rem-rem : (a : P) → rem (rem a b) b ≡ rem a b
+    rem-rem a = rem-short (rem a b) b (A .rem-len a b h)
+
+    pub rem-mul-rem : (a c : P) → rem (c · rem a b) b ≡ rem (c · a) b
+    rem-mul-rem a c = sym (rem-congruent (c · a) (c · rem a b) (divides-eq R (A .ring .mul-add c a (rem a b)) (divides-mul R c (rem-divides a))))
+
+    -- the length of a quotient
+    pub len-quot : (a : P) → len b ≤ len a → suc (len a) ≡ len (quot a b) +ℕ len b
+    len-quot a l =
+        let r : len (rem a b) < len b = A .rem-len a b h in
+        let k : ¬ (quot a b ≡ 𝟘) = λ e. too-short (ap len (A .division a b h ∙ ap (λ z. z · b + rem a b) e ∙ ap (λ z. z + rem a b) (𝟘-· R b) ∙ 𝟘-+ R (rem a b))) in
+        let m : suc (len (quot a b · b)) ≡ len (quot a b) +ℕ len b = len-mul A (quot a b) b k h in
+        let q : 0 < len (quot a b) = len-nonzero A (quot a b) k in
+        let e : len a ≡ len (quot a b · b) = ap len (A .division a b h ∙ +-comm R (quot a b · b) (rem a b)) ∙ len-add-less A (rem a b) (quot a b · b) (omega arith) in
+        omega arith
+      where
+        too-short : ¬ (len a ≡ len (rem a b))
+        too-short e = let r : len (rem a b) < len b = A .rem-len a b h in omega arith
+
+    pub len-quot-exact : (a : P) → ¬ (a ≡ 𝟘) → Divides R b a → suc (len a) ≡ len (quot a b) +ℕ len b
+    len-quot-exact a k d = len-quot a (divides-len d k)
+
+    pub quot-exact-nonzero : (a : P) → ¬ (a ≡ 𝟘) → Divides R b a → ¬ (quot a b ≡ 𝟘)
+    quot-exact-nonzero a k d e = k (quot-exact a d ∙ ap (λ z. z · b) e ∙ 𝟘-· R b)
+
+    -- the remainder depends on the divisor up to a unit only
+    pub rem-associate : (b' a : P) → Divides R b b' → Divides R b' b → rem a b' ≡ rem a b
+    rem-associate b' a d d' =
+        let k : ¬ (b' ≡ 𝟘) = λ e. h (nought-divides R (divides-by-eq R e d')) in
+        let l : len b' ≤ len b = divides-len d' h in
+        let r : len (rem a b') < len b' = A .rem-len a b' k in
+        let c : Divides R b' (a + rem a b') = (quot a b', ap (λ z. z + rem a b') (A .division a b' k) ∙ last-cancels R (quot a b' · b') (rem a b')) in
+        sym (rem-congruent a (rem a b') (divides-trans R d c) ∙ rem-short (rem a b') b (omega arith))
+
+    -- divisibility is decided by computing the remainder
+    unfoldable pub divides-dec : (a : P) → Dec (Divides R b a)
+    unfolding is-nought
+    divides-dec a = elim (is-nought A (rem a b)) [ yes e ↦ yes (divides-of-rem a e) | no n ↦ no (λ d. n (rem-of-divides a d)) ]
+
+    pub divides-prop : (a : P) → IsProp (Divides R b a)
+    divides-prop a (q, e) (s, k) = Σ-prop-path (λ z. A .ring .isSet a (z · b)) (cancel-right A b q s h (sym e ∙ k))
+
+  pub divides-cancel : {b a : P} (c : P) → ¬ (c ≡ 𝟘) → Divides R (c · b) (c · a) → Divides R b a
+  divides-cancel {b} {a} c h (q, e) = (q, cancel-left A c a (q · b) h (e ∙ swap q c b))
+    where
+      swap : (q c b : P) → q · (c · b) ≡ c · (q · b)
+      swap q c b = simp (ring2, R)

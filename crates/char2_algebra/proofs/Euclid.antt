@@ -1,0 +1,131 @@
+-- Euclid's rule: what it gives is a combination of the two (or three) polynomials, divides each of them, and is monic unless all are nought.
+use Prim.Native.Nat.{ℕ, zero, suc, _<_}
+use mathlib.Core.Path.{_≡_, refl, sym, _∙_, ap}
+use native.Mathlib.Omega.{arith}
+use Rattle.field_laws.specs.Ring.{Ring2}
+use Rattle.field_laws.specs.Field.{Field2}
+use Rattle.char2_algebra.specs.Polynomials.{Polynomials}
+use Rattle.char2_algebra.specs.Divides.{Divides}
+use Rattle.char2_algebra.specs.Lead.{lead, Monic, monic-of}
+use Rattle.char2_algebra.specs.Euclid.{Bezout, Bezout3, bezout-to, bezout, bezout3}
+use Rattle.char2_algebra.proofs.Ring.{ring2, +-𝟘, 𝟘-·, by, both, combine}
+use Rattle.char2_algebra.proofs.Degree.{len-zero, nonzero-of-len}
+use Rattle.char2_algebra.proofs.Divides.{divides-eq, divides-nought, divides-add, divides-mul, divides-trans, divides-by-eq, nought-divides}
+use Rattle.char2_algebra.proofs.Lead.{monic-of-monic, monic-of-divides, monic-nonzero, monic-antisym}
+
+-- from g = s b + t r and a = q b + r
+back-substitution : {A : Type 0} (R : Ring2 A) (a b g q r s t : A) → g ≡ R .add (R .mul s b) (R .mul t r) → a ≡ R .add (R .mul q b) r
+    → g ≡ R .add (R .mul t a) (R .mul (R .add s (R .mul t q)) b)
+back-substitution R a b g q r s t h e =
+    combine R g _ (both R (by R (R .one) h) (by R t e)) (simp (ring2, R))
+
+-- from g = s a + t b and e = s' g + t' c
+substitution : {A : Type 0} (R : Ring2 A) (a b c g e s t s' t' : A) → g ≡ R .add (R .mul s a) (R .mul t b) → e ≡ R .add (R .mul s' g) (R .mul t' c)
+    → e ≡ R .add (R .add (R .mul (R .mul s' s) a) (R .mul (R .mul s' t) b)) (R .mul t' c)
+substitution R a b c g e s t s' t' h k = combine R e _ (both R (by R s' h) (by R (R .one) k)) (simp (ring2, R))
+
+module _ {K P : Type 0} {F : Field2 K} (A : Polynomials F P) where
+  open Polynomials A using (ring as R, con, len, quot, rem)
+  open Ring2 (A .ring) using (add as _+_, mul as _·_, nought as 𝟘, one as 𝟙)
+
+  infixl 60 _+_
+  infixl 70 _·_
+  pub record IsBezout (a b : P) (B : Bezout P) : Type 0 where
+    pub combination : B .g ≡ B .s · a + B .t · b
+    pub divides-first : Divides R (B .g) a
+    pub divides-second : Divides R (B .g) b
+    pub monic : ¬ ((a ≡ 𝟘) × (b ≡ 𝟘)) → Monic A (B .g)
+
+  pub record IsBezout3 (a b c : P) (B : Bezout3 P) : Type 0 where
+    pub combination : B .e ≡ B .s1 · a + B .s2 · b + B .s3 · c
+    pub divides-first : Divides R (B .e) a
+    pub divides-second : Divides R (B .e) b
+    pub divides-third : Divides R (B .e) c
+    pub monic : ¬ ((a ≡ 𝟘) × (b ≡ 𝟘) × (c ≡ 𝟘)) → Monic A (B .e)
+
+  -- the two cases of the rule
+  bezout-stop : (n : ℕ) (a b : P) → len b ≡ 0 → bezout-to A (suc n) a b ≡ record { g = monic-of A a; s = con (F .inverse (lead A a)); t = 𝟘 }
+  unfolding bezout-to monic-of
+  bezout-stop n a b e = rw (e, bezout-to)
+
+  bezout-go : (n k : ℕ) (a b : P) → len b ≡ suc k → bezout-to A (suc n) a b
+      ≡ (let r = bezout-to A n b (rem a b) in record { g = r .g; s = r .t; t = r .s + r .t · quot a b })
+  unfolding bezout-to
+  bezout-go n k a b e = rw (e, bezout-to)
+
+  stop-is : (a b : P) → b ≡ 𝟘 → IsBezout a b (record { g = monic-of A a; s = con (F .inverse (lead A a)); t = 𝟘 })
+  unfolding monic-of
+  stop-is a b e = record {
+    combination = sym (ap (λ z. con (F .inverse (lead A a)) · a + z) (𝟘-· R b) ∙ +-𝟘 R _);
+    divides-first = monic-of-divides A a;
+    divides-second = divides-eq R (sym e) (divides-nought R _);
+    monic = λ h. monic-of-monic A a (λ d. h (d, e));
+  }
+
+  go-is : (a b : P) (r : Bezout P) → ¬ (b ≡ 𝟘) → IsBezout b (rem a b) r
+      → IsBezout a b (record { g = r .g; s = r .t; t = r .s + r .t · quot a b })
+  go-is a b r h i = record {
+    combination = back-substitution R a b (r .g) (quot a b) (rem a b) (r .s) (r .t) (i .combination) (A .division a b h);
+    divides-first = divides-eq R (sym (A .division a b h)) (divides-add R (divides-mul R (quot a b) (i .divides-first)) (i .divides-second));
+    divides-second = i .divides-first;
+    monic = λ _. i .monic (λ z. h (z .0));
+  }
+
+  bezout-to-is : (n : ℕ) (a b : P) → len b < n → IsBezout a b (bezout-to A n a b)
+  bezout-to-is zero a b h = absurd (omega arith)
+  bezout-to-is (suc n) a b h = go (bezout-to-is n b (rem a b)) (len b) refl
+    where
+      go : (len (rem a b) < n → IsBezout b (rem a b) (bezout-to A n b (rem a b))) → (k : ℕ) → len b ≡ k → IsBezout a b (bezout-to A (suc n) a b)
+      go ih zero e = rw (bezout-stop n a b e) (stop-is a b (len-zero A b e))
+      go ih (suc k) e =
+          let b-nonzero : ¬ (b ≡ 𝟘) = nonzero-of-len A b (omega arith) in
+          let l : len (rem a b) < len b = A .rem-len a b b-nonzero in
+          rw (bezout-go n k a b e) (go-is a b (bezout-to A n b (rem a b)) b-nonzero (ih (omega arith)))
+
+  -- Euclid's rule of two polynomials
+  pub bezout-is : (a b : P) → IsBezout a b (bezout A a b)
+  unfolding bezout
+  bezout-is a b = bezout-to-is (suc (len b)) a b (omega arith)
+
+  -- and of three
+  pub bezout3-is : (a b c : P) → IsBezout3 a b c (bezout3 A a b c)
+  unfolding bezout3
+  bezout3-is a b c =
+      let first : IsBezout a b (bezout A a b) = bezout-is a b in
+      let second : IsBezout (bezout A a b .g) c (bezout A (bezout A a b .g) c) = bezout-is (bezout A a b .g) c in
+      record {
+        combination = substitution R a b c _ _ _ _ _ _ (first .combination) (second .combination);
+        divides-first = divides-trans R (second .divides-first) (first .divides-first);
+        divides-second = divides-trans R (second .divides-first) (first .divides-second);
+        divides-third = second .divides-second;
+        monic = λ h. second .monic (λ z. h (nought-divides R (divides-by-eq R (z .0) (first .divides-first)), nought-divides R (divides-by-eq R (z .0) (first .divides-second)), z .1));
+      }
+
+  -- the greatest: every common divisor divides it
+  pub bezout-greatest : {a b d : P} {B : Bezout P} → IsBezout a b B → Divides R d a → Divides R d b → Divides R d (B .g)
+  bezout-greatest {B = B} i p q = divides-eq R (sym (i .combination)) (divides-add R (divides-mul R (B .s) p) (divides-mul R (B .t) q))
+
+  pub bezout3-greatest : {a b c d : P} {B : Bezout3 P} → IsBezout3 a b c B → Divides R d a → Divides R d b → Divides R d c → Divides R d (B .e)
+  bezout3-greatest {B = B} i p q r =
+      divides-eq
+      R
+      (sym (i .combination))
+      (divides-add R (divides-add R (divides-mul R (B .s1) p) (divides-mul R (B .s2) q)) (divides-mul R (B .s3) r))
+
+  -- it is the same however the coefficients were found
+  pub bezout3-unique : {a b c : P} {B B' : Bezout3 P} → ¬ ((a ≡ 𝟘) × (b ≡ 𝟘) × (c ≡ 𝟘)) → IsBezout3 a b c B → IsBezout3 a b c B' → B .e ≡ B' .e
+  bezout3-unique {B = B} {B' = B'} h i j =
+      monic-antisym
+      A
+      (B .e)
+      (B' .e)
+      (i .monic h)
+      (j .monic h)
+      (bezout3-greatest j (i .divides-first) (i .divides-second) (i .divides-third))
+      (bezout3-greatest i (j .divides-first) (j .divides-second) (j .divides-third))
+
+  pub bezout3-monic : {a b c : P} {B : Bezout3 P} → IsBezout3 a b c B → ¬ (a ≡ 𝟘) → Monic A (B .e)
+  bezout3-monic i h = i .monic (λ z. h (z .0))
+
+  pub bezout3-nonzero : {a b c : P} {B : Bezout3 P} → IsBezout3 a b c B → ¬ (a ≡ 𝟘) → ¬ (B .e ≡ 𝟘)
+  bezout3-nonzero {B = B} i h = monic-nonzero A (B .e) (bezout3-monic i h)

@@ -1,0 +1,172 @@
+-- Leading coefficients: of products and sums; monic polynomials, and polynomials made monic; monic divisors of each other are equal.
+use Prim.Native.Nat.{ℕ, zero, suc, _+_ as _+ℕ_, _≤_, _<_}
+use mathlib.Core.Path.{_≡_, refl, sym, _∙_, ap, ap₂}
+use native.Mathlib.Omega.{arith}
+use Rattle.field_laws.specs.Ring.{Ring2}
+use Rattle.field_laws.specs.Field.{Field2}
+use Rattle.char2_algebra.specs.Polynomials.{Polynomials}
+use Rattle.char2_algebra.specs.Divides.{Divides}
+use Rattle.char2_algebra.specs.Lead.{lead, Monic, monic-of}
+use Rattle.char2_algebra.proofs.Ring.{𝟘-+, ·-comm, ·-assoc, ·-𝟘, 𝟘-·, ·-𝟙, 𝟙-·}
+use Rattle.char2_algebra.proofs.Degree.{coeff-nought, len-bound, len-is, len-zero, len-nought, len-nonzero, nonzero-of-len, len-add-less, len-one, len-con, con-mul, con-of-len, coeff-one, len-x, coeff-x-suc, is-nought}
+use Rattle.char2_algebra.proofs.Product.{len-mul, coeff-mul-top, len-con-mul}
+use Rattle.char2_algebra.proofs.Divides.{divides-eq, divides-nought}
+use Rattle.char2_algebra.proofs.Division.{divides-len, quot-exact, rem-associate}
+
+module _ {K P : Type 0} {F : Field2 K} (A : Polynomials F P) where
+  open Polynomials A using (ring as R, coeff, con, x, len, quot, rem)
+  open Ring2 (A .ring) using (add as _+_, mul as _·_, nought as 𝟘, one as 𝟙)
+  open Ring2 (F .ring) using (add as _⊕_, mul as _⊙_, nought as 𝟎, one as 𝟏)
+
+  infixl 60 _+_
+  infixl 70 _·_
+  infixl 60 _⊕_
+  infixl 70 _⊙_
+  pub lead-is : (p : P) (n : ℕ) → len p ≡ suc n → lead A p ≡ coeff p n
+  unfolding lead
+  lead-is p n e = ap (coeff p) (omega arith)
+
+  pub lead-nought : lead A 𝟘 ≡ 𝟎
+  unfolding lead
+  lead-nought = coeff-nought A _
+
+  pub lead-nonzero : (p : P) → ¬ (p ≡ 𝟘) → ¬ (lead A p ≡ 𝟎)
+  lead-nonzero p h = go (len p) refl
+    where
+      go : (n : ℕ) → len p ≡ n → ¬ (lead A p ≡ 𝟎)
+      go zero e = absurd (h (len-zero A p e))
+      go (suc n) e = λ z. A .len-top p n e (sym (lead-is p n e) ∙ z)
+
+  pub lead-mul : (p q : P) → lead A (p · q) ≡ lead A p ⊙ lead A q
+  lead-mul p q = go (len p) (len q) refl refl
+    where
+      go : (m n : ℕ) → len p ≡ m → len q ≡ n → lead A (p · q) ≡ lead A p ⊙ lead A q
+      go zero n d e =
+          let p-is : p ≡ 𝟘 = len-zero A p d in
+          ap (lead A) (ap (λ z. z · q) p-is ∙ 𝟘-· R q) ∙ lead-nought ∙ sym (ap (λ z. z ⊙ lead A q) (ap (lead A) p-is ∙ lead-nought) ∙ 𝟘-· (F .ring) (lead A q))
+      go (suc m) zero d e =
+          let q-is : q ≡ 𝟘 = len-zero A q e in
+          ap (lead A) (ap (λ z. p · z) q-is ∙ ·-𝟘 R p) ∙ lead-nought ∙ sym (ap (λ z. lead A p ⊙ z) (ap (lead A) q-is ∙ lead-nought) ∙ ·-𝟘 (F .ring) (lead A p))
+      go (suc m) (suc n) d e =
+          let l : suc (len (p · q)) ≡ len p +ℕ len q = len-mul A p q (nonzero-of-len A p (omega arith)) (nonzero-of-len A q (omega arith)) in
+          lead-is (p · q) (m +ℕ n) (omega arith)
+          ∙ coeff-mul-top A m n p q (omega arith) (omega arith)
+          ∙ ap₂ _⊙_ (sym (lead-is p m d)) (sym (lead-is q n e))
+
+  pub lead-add-less : (p q : P) → len p < len q → lead A (p + q) ≡ lead A q
+  lead-add-less p q h = go (len q) refl
+    where
+      go : (n : ℕ) → len q ≡ n → lead A (p + q) ≡ lead A q
+      go zero e = absurd (omega arith)
+      go (suc n) e =
+          lead-is (p + q) n (len-add-less A p q h ∙ e)
+          ∙ A .coeff-add p q n
+          ∙ ap (λ z. z ⊕ coeff q n) (A .len-past p n (omega arith))
+          ∙ 𝟘-+ (F .ring) (coeff q n)
+          ∙ sym (lead-is q n e)
+
+  pub lead-con : (a : K) → ¬ (a ≡ 𝟎) → lead A (con a) ≡ a
+  lead-con a h = lead-is (con a) 0 (len-con A a h) ∙ A .coeff-con a
+
+  pub monic-one : Monic A 𝟙
+  monic-one = lead-is 𝟙 0 (len-one A) ∙ coeff-one A
+
+  pub monic-x : Monic A x
+  monic-x = lead-is x 1 (len-x A) ∙ coeff-x-suc A 0 ∙ coeff-one A
+
+  pub monic-nonzero : (p : P) → Monic A p → ¬ (p ≡ 𝟘)
+  monic-nonzero p m e = F .one≢nought (sym m ∙ ap (lead A) e ∙ lead-nought)
+
+  pub monic-mul : (p q : P) → Monic A p → Monic A q → Monic A (p · q)
+  monic-mul p q m n = lead-mul p q ∙ ap₂ _⊙_ m n ∙ ·-𝟙 (F .ring) 𝟏
+
+  pub monic-cofactor : (p q : P) → Monic A (p · q) → Monic A q → Monic A p
+  monic-cofactor p q m n = sym (·-𝟙 (F .ring) (lead A p)) ∙ ap (λ z. lead A p ⊙ z) (sym n) ∙ sym (lead-mul p q) ∙ m
+
+  pub monic-add-less : (p q : P) → len p < len q → Monic A q → Monic A (p + q)
+  monic-add-less p q h m = lead-add-less p q h ∙ m
+
+  -- the highest coefficient of a monic polynomial is one
+  pub monic-top : (p : P) (n : ℕ) → Monic A p → len p ≡ suc n → coeff p n ≡ 𝟏
+  monic-top p n m e = sym (lead-is p n e) ∙ m
+
+  -- one at n and nought above: monic of length n + 1
+  pub len-by-top : (p : P) (n : ℕ) → coeff p n ≡ 𝟏 → ((i : ℕ) → n < i → coeff p i ≡ 𝟎) → len p ≡ suc n
+  len-by-top p n e h = len-is A p n (len-bound A p (suc n) h) (λ z. F .one≢nought (sym e ∙ z))
+
+  pub monic-by-top : (p : P) (n : ℕ) → coeff p n ≡ 𝟏 → ((i : ℕ) → n < i → coeff p i ≡ 𝟎) → Monic A p
+  monic-by-top p n e h = lead-is p n (len-by-top p n e h) ∙ e
+
+  pub monic-constant : (p : P) → Monic A p → len p ≤ 1 → p ≡ 𝟙
+  monic-constant p m h =
+      let l : 0 < len p = len-nonzero A p (monic-nonzero p m) in
+      con-of-len A p h ∙ ap con (monic-top p 0 m (omega arith)) ∙ sym (A .one-con)
+
+  -- p made monic
+  pub monic-of-factor : (p : P) → ¬ (p ≡ 𝟘) → p ≡ con (lead A p) · monic-of A p
+  unfolding monic-of
+  monic-of-factor p h =
+      sym (𝟙-· R p)
+      ∙ ap (λ z. z · p) (A .one-con ∙ ap con (sym (F .mul-inverse (lead A p) (lead-nonzero p h))) ∙ con-mul A (lead A p) (F .inverse (lead A p)))
+      ∙ ·-assoc R (con (lead A p)) (con (F .inverse (lead A p))) p
+
+  inverse-nonzero : (a : K) → ¬ (a ≡ 𝟎) → ¬ (F .inverse a ≡ 𝟎)
+  inverse-nonzero a h e = F .one≢nought (sym (F .mul-inverse a h) ∙ ap (λ z. a ⊙ z) e ∙ ·-𝟘 (F .ring) a)
+
+  pub monic-of-monic : (p : P) → ¬ (p ≡ 𝟘) → Monic A (monic-of A p)
+  unfolding monic-of
+  monic-of-monic p h =
+      let k : ¬ (lead A p ≡ 𝟎) = lead-nonzero p h in
+      lead-mul (con (F .inverse (lead A p))) p
+      ∙ ap (λ z. z ⊙ lead A p) (lead-con (F .inverse (lead A p)) (inverse-nonzero (lead A p) k))
+      ∙ ·-comm (F .ring) (F .inverse (lead A p)) (lead A p)
+      ∙ F .mul-inverse (lead A p) k
+
+  pub len-monic-of : (p : P) → len (monic-of A p) ≡ len p
+  unfolding monic-of
+  len-monic-of p = go (is-nought A p)
+    where
+      go : Dec (p ≡ 𝟘) → len (con (F .inverse (lead A p)) · p) ≡ len p
+      go (yes e) = ap len (ap (λ z. con (F .inverse (lead A p)) · z) e ∙ ·-𝟘 R _ ∙ sym e)
+      go (no h) = len-con-mul A (F .inverse (lead A p)) p (inverse-nonzero (lead A p) (lead-nonzero p h))
+
+  pub monic-of-nonzero : (p : P) → ¬ (p ≡ 𝟘) → ¬ (monic-of A p ≡ 𝟘)
+  monic-of-nonzero p h = monic-nonzero (monic-of A p) (monic-of-monic p h)
+
+  pub monic-of-nought : (p : P) → p ≡ 𝟘 → monic-of A p ≡ 𝟘
+  monic-of-nought p e = len-zero A (monic-of A p) (len-monic-of p ∙ ap len e ∙ len-nought A)
+
+  pub monic-of-divides : (p : P) → Divides R (monic-of A p) p
+  monic-of-divides p = go (is-nought A p)
+    where
+      go : Dec (p ≡ 𝟘) → Divides R (monic-of A p) p
+      go (yes e) = divides-eq R (sym e) (divides-nought R (monic-of A p))
+      go (no h) = (con (lead A p), monic-of-factor p h)
+
+  pub divides-monic-of : (p : P) → Divides R p (monic-of A p)
+  unfolding monic-of
+  divides-monic-of p = (con (F .inverse (lead A p)), refl)
+
+  -- monic polynomials that divide each other are equal
+  pub monic-antisym : (p q : P) → Monic A p → Monic A q → Divides R p q → Divides R q p → p ≡ q
+  monic-antisym p q m n d d' =
+      let h : ¬ (p ≡ 𝟘) = monic-nonzero p m in
+      let k : ¬ (q ≡ 𝟘) = monic-nonzero q n in
+      let s-monic : Monic A (d .0) = monic-cofactor (d .0) p (sym (ap (lead A) (d .1)) ∙ n) m in
+      let l : suc (len (d .0 · p)) ≡ len (d .0) +ℕ len p = len-mul A (d .0) p (monic-nonzero (d .0) s-monic) h in
+      let e : len (d .0 · p) ≡ len q = ap len (sym (d .1)) in
+      let a : len p ≤ len q = divides-len A d k in
+      let b : len q ≤ len p = divides-len A d' h in
+      sym (𝟙-· R p) ∙ ap (λ z. z · p) (sym (monic-constant (d .0) s-monic (omega arith))) ∙ sym (d .1)
+
+  -- exact quotients of monic polynomials, and remainders by a polynomial made monic
+  pub quot-monic : (a b : P) → Monic A a → Monic A b → Divides R b a → Monic A (quot a b)
+  quot-monic a b m n d = monic-cofactor (quot a b) b (ap (lead A) (sym (quot-exact A b (monic-nonzero b n) a d)) ∙ m) n
+
+  pub rem-monic-of : (b a : P) → ¬ (b ≡ 𝟘) → rem a (monic-of A b) ≡ rem a b
+  rem-monic-of b a h = rem-associate A b h (monic-of A b) a (divides-monic-of b) (monic-of-divides b)
+
+  pub monic-of-fixed : (p : P) → Monic A p → monic-of A p ≡ p
+  monic-of-fixed p m =
+      let h : ¬ (p ≡ 𝟘) = monic-nonzero p m in
+      monic-antisym (monic-of A p) p (monic-of-monic p h) m (monic-of-divides p) (divides-monic-of p)

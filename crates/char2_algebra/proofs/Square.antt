@@ -1,0 +1,128 @@
+-- Squares of polynomials: their even coefficients are the squares of the coefficients, the odd ones are nought; a polynomial without odd
+-- powers is the square of `sqrt` of it, of half the degree, monic if it is; a square has one square root.
+use Prim.Native.Nat.{ℕ, zero, suc, _+_ as _+ℕ_, _≤_}
+use mathlib.Core.Path.{_≡_, sym, _∙_, ap, ap₂, fun-ext}
+use native.Mathlib.Omega.{arith}
+use Rattle.field_laws.specs.Ring.{Ring2}
+use Rattle.field_laws.specs.Field.{Field2}
+use Rattle.char2_algebra.specs.Polynomials.{Polynomials}
+use Rattle.char2_algebra.specs.Lead.{lead, Monic}
+use Rattle.char2_algebra.specs.Square.{tail, sqrt-to, sqrt}
+use Rattle.char2_algebra.proofs.Ring.{ring2, 𝟘-+, ·-𝟙, ·-𝟘, square-+, eq-of-sum, sum-of-eq}
+use Rattle.char2_algebra.proofs.Degree.{split, coeff-tail, len-tail, len-zero, con-mul, con-nought, coeff-con-add-x-mul, coeff-con-add-x-mul-suc, nonzero-of-len}
+use Rattle.char2_algebra.proofs.Product.{field-integral, square-nought, left-nonzero, len-square}
+use Rattle.char2_algebra.proofs.Lead.{lead-mul}
+
+square-of-split : {A : Type 0} (R : Ring2 A) (c x p : A) → R .mul (R .add c (R .mul x p)) (R .add c (R .mul x p)) ≡ R .add (R .mul c c) (R .mul x (R .mul x (R .mul p p)))
+square-of-split R c x p = simp (ring2, R)
+
+module _ {K : Type 0} (F : Field2 K) where
+  open Ring2 (F .ring) using (add as _⊕_, mul as _⊙_, nought as 𝟎, one as 𝟏)
+
+  infixl 60 _⊕_
+  infixl 70 _⊙_
+  -- c₀², 0, c₁², 0, ..
+  abbrev pub squares : (ℕ → K) → ℕ → K
+  squares c zero = c 0 ⊙ c 0
+  squares c (suc zero) = 𝟎
+  squares c (suc (suc i)) = squares (λ j. c (suc j)) i
+
+  -- an element has one square root
+  pub field-square-injective : (a b : K) → a ⊙ a ≡ b ⊙ b → a ≡ b
+  field-square-injective a b e = eq-of-sum (F .ring) a b (go (F .discrete (a ⊕ b) 𝟎))
+    where
+      go : Dec (a ⊕ b ≡ 𝟎) → a ⊕ b ≡ 𝟎
+      go (yes h) = h
+      go (no h) = field-integral F (a ⊕ b) (a ⊕ b) h (square-+ (F .ring) a b ∙ sum-of-eq (F .ring) (a ⊙ a) (b ⊙ b) e)
+
+module _ {K P : Type 0} {F : Field2 K} (A : Polynomials F P) where
+  open Polynomials A using (ring as R, coeff, con, x, len)
+  open Ring2 (A .ring) using (add as _+_, mul as _·_, nought as 𝟘, one as 𝟙)
+  open Ring2 (F .ring) using (add as _⊕_, mul as _⊙_, nought as 𝟎, one as 𝟏)
+
+  infixl 60 _+_
+  infixl 70 _·_
+  infixl 60 _⊕_
+  infixl 70 _⊙_
+  split-square : (p : P) → p · p ≡ con (coeff p 0 ⊙ coeff p 0) + x · (x · (tail A p · tail A p))
+  split-square p =
+      ap (λ z. z · z) (split A p) ∙ square-of-split R (con (coeff p 0)) x (tail A p) ∙ ap (λ z. z + x · (x · (tail A p · tail A p))) (sym (con-mul A (coeff p 0) (coeff p 0)))
+
+  pub coeff-square-even : (i : ℕ) (p : P) → coeff (p · p) (i +ℕ i) ≡ coeff p i ⊙ coeff p i
+  coeff-square-even zero p = ap (λ z. coeff z 0) (split-square p) ∙ coeff-con-add-x-mul A _ _
+  coeff-square-even (suc i) p =
+      ap₂ coeff (split-square p) (omega arith)
+      ∙ coeff-con-add-x-mul-suc A _ _ (suc (i +ℕ i))
+      ∙ A .coeff-x-mul-suc _ (i +ℕ i)
+      ∙ coeff-square-even i (tail A p)
+      ∙ ap₂ _⊙_ (coeff-tail A p i) (coeff-tail A p i)
+
+  pub coeff-square-odd : (i : ℕ) (p : P) → coeff (p · p) (suc (i +ℕ i)) ≡ 𝟎
+  coeff-square-odd zero p = ap (λ z. coeff z 1) (split-square p) ∙ coeff-con-add-x-mul-suc A _ _ 0 ∙ A .coeff-x-mul _
+  coeff-square-odd (suc i) p =
+      ap₂ coeff (split-square p) (omega arith)
+      ∙ coeff-con-add-x-mul-suc A _ _ (suc (suc (i +ℕ i)))
+      ∙ A .coeff-x-mul-suc _ (suc (i +ℕ i))
+      ∙ coeff-square-odd i (tail A p)
+
+  -- both at once, by computing at numerals: a rule for `simp` beside `coefficients`
+  pub at-square : (i : ℕ) (p : P) → coeff (p · p) i ≡ squares F (coeff p) i
+  at-square zero p = coeff-square-even 0 p
+  at-square (suc zero) p = coeff-square-odd 0 p
+  at-square (suc (suc i)) p =
+      ap (λ z. coeff z (suc (suc i))) (split-square p)
+      ∙ coeff-con-add-x-mul-suc A _ _ (suc i)
+      ∙ A .coeff-x-mul-suc _ i
+      ∙ at-square i (tail A p)
+      ∙ ap (λ c. squares F c i) (fun-ext (coeff-tail A p))
+
+  -- a square has one square root
+  pub square-injective : (p q : P) → p · p ≡ q · q → p ≡ q
+  square-injective p q e = eq-of-sum R p q (square-nought A (p + q) (square-+ R p q ∙ sum-of-eq R (p · p) (q · q) e))
+
+  even-tails : (p : P) → coeff p 1 ≡ 𝟎 → p ≡ con (coeff p 0) + x · (x · tail A (tail A p))
+  even-tails p e =
+      split A p
+      ∙ ap
+      (λ z. con (coeff p 0) + x · z)
+      (split A (tail A p)
+      ∙ ap (λ z. z + x · tail A (tail A p)) (ap con (coeff-tail A p 0 ∙ e) ∙ con-nought A)
+      ∙ 𝟘-+ R (x · tail A (tail A p)))
+
+  sqrt-to-square : (n : ℕ) (p : P) → len p ≤ n +ℕ n → ((i : ℕ) → coeff p (suc (i +ℕ i)) ≡ 𝟎) → sqrt-to A n p · sqrt-to A n p ≡ p
+  unfolding sqrt-to
+  sqrt-to-square zero p h odd = ·-𝟘 R 𝟘 ∙ sym (len-zero A p (omega arith))
+  sqrt-to-square (suc n) p h odd =
+      square-of-split R (con (F .root (coeff p 0))) x (sqrt-to A n (tail A (tail A p)))
+      ∙ ap₂
+      (λ y z. y + x · (x · z))
+      (sym (con-mul A (F .root (coeff p 0)) (F .root (coeff p 0))) ∙ ap con (F .root-square (coeff p 0)))
+      (sqrt-to-square n (tail A (tail A p)) (len-tail A (tail A p) (n +ℕ n) (len-tail A p (suc (n +ℕ n)) (omega arith))) (λ i. coeff-tail A (tail A p) (suc (i +ℕ i)) ∙ coeff-tail A p (suc (suc (i +ℕ i))) ∙ ap (coeff p) (omega arith) ∙ odd (suc i)))
+      ∙ sym (even-tails p (odd 0))
+
+  module _ (p : P) (odd : (i : ℕ) → coeff p (suc (i +ℕ i)) ≡ 𝟎) where
+    -- a polynomial without odd powers is a square
+    pub sqrt-square : sqrt A p · sqrt A p ≡ p
+    unfolding sqrt
+    sqrt-square = sqrt-to-square (len p) p (omega arith) odd
+
+    pub coeff-sqrt : (i : ℕ) → coeff (sqrt A p) i ⊙ coeff (sqrt A p) i ≡ coeff p (i +ℕ i)
+    coeff-sqrt i = sym (coeff-square-even i (sqrt A p)) ∙ ap (λ z. coeff z (i +ℕ i)) sqrt-square
+
+    pub sqrt-nonzero : ¬ (p ≡ 𝟘) → ¬ (sqrt A p ≡ 𝟘)
+    sqrt-nonzero h = left-nonzero A (sqrt A p) (sqrt A p) (λ e. h (sym sqrt-square ∙ e))
+
+    pub len-sqrt : ¬ (p ≡ 𝟘) → suc (len p) ≡ len (sqrt A p) +ℕ len (sqrt A p)
+    len-sqrt h = ap (λ z. suc (len z)) (sym sqrt-square) ∙ len-square A (sqrt A p) (sqrt-nonzero h)
+
+    pub len-sqrt-is : (m : ℕ) → len p ≡ suc (m +ℕ m) → len (sqrt A p) ≡ suc m
+    len-sqrt-is m e = let l : suc (len p) ≡ len (sqrt A p) +ℕ len (sqrt A p) = len-sqrt (nonzero-of-len A p (omega arith)) in omega arith
+
+    pub sqrt-monic : Monic A p → Monic A (sqrt A p)
+    sqrt-monic m = field-square-injective F (lead A (sqrt A p)) 𝟏 (sym (lead-mul A (sqrt A p) (sqrt A p)) ∙ ap (lead A) sqrt-square ∙ m ∙ sym (·-𝟙 (F .ring) 𝟏))
+
+  pub sqrt-of-square : (p : P) → sqrt A (p · p) ≡ p
+  sqrt-of-square p = square-injective (sqrt A (p · p)) p (sqrt-square (p · p) (λ i. coeff-square-odd i p))
+
+  pub sqrt-unique : (p q : P) → q · q ≡ p → sqrt A p ≡ q
+  sqrt-unique p q e = ap (sqrt A) (sym e) ∙ sqrt-of-square q

@@ -1,0 +1,52 @@
+-- Euclid's rule with coefficients: the greatest common divisor of two polynomials, and of three, as a combination of them.
+use Prim.Native.Nat.{ℕ, zero, suc}
+use Rattle.field_laws.specs.Ring.{Ring2}
+use Rattle.field_laws.specs.Field.{Field2}
+use Rattle.char2_algebra.specs.Polynomials.{Polynomials}
+use Rattle.char2_algebra.specs.Lead.{lead}
+
+-- g = s a + t b
+pub record Bezout (P : Type 0) : Type 0 where
+  pub g : P
+  pub s : P
+  pub t : P
+
+-- e = s1 a + s2 b + s3 c
+pub record Bezout3 (P : Type 0) : Type 0 where
+  pub e : P
+  pub s1 : P
+  pub s2 : P
+  pub s3 : P
+
+module _ {K P : Type 0} {F : Field2 K} (A : Polynomials F P) where
+  open Polynomials A using (ring, len, con, quot, rem)
+  open Ring2 ring using (add as _+_, mul as _·_, nought as 𝟘, one as 𝟙)
+
+  infixl 60 _+_
+  infixl 70 _·_
+  -- The rule calls itself on the remainder: from g = s b + t r and a = q b + r follows g = t a + (s + t q) b.
+  -- At b = 0 the divisor is a, made monic. The recursion is on a count of calls to go.
+  unfoldable pub bezout-to : ℕ → P → P → Bezout P
+  bezout-to zero a b = record { g = a; s = 𝟙; t = 𝟘 }
+  bezout-to (suc n) a b =
+      elim (len b) [
+        | zero ↦ (let c = con (F .inverse (lead A a)) in record { g = c · a; s = c; t = 𝟘 })
+        | suc m ↦
+            (let r = bezout-to n b (rem a b) in
+            record { g = r .g; s = r .t; t = r .s + r .t · quot a b })
+      ]
+
+  unfoldable pub bezout : P → P → Bezout P
+  bezout a b = bezout-to (suc (len b)) a b
+
+  -- of three: first of a and b, then of their divisor and c
+  unfoldable pub bezout3 : P → P → P → Bezout3 P
+  bezout3 a b c =
+      let first = bezout a b in
+      let second = bezout (first .g) c in
+      record {
+        e = second .g;
+        s1 = second .s · first .s;
+        s2 = second .s · first .t;
+        s3 = second .t;
+      }

@@ -1,0 +1,18 @@
+-- The leading coefficient, and polynomials made monic (document 01, "Curves and classes").
+use Prim.Native.Nat.{_-_}
+use mathlib.Core.Path.{_≡_}
+use Rattle.field_laws.specs.Field.{Field2}
+use Rattle.char2_algebra.specs.Polynomials.{Polynomials}
+
+module _ {K P : Type 0} {F : Field2 K} (A : Polynomials F P) where
+  -- the coefficient of the highest power; nought for the polynomial 0
+  unfoldable pub lead : P → K
+  lead p = A .coeff p (A .len p - 1)
+
+  -- the leading coefficient is one; the polynomial 0 is not monic
+  abbrev pub Monic : P → Type 0
+  Monic p = lead p ≡ F .ring .one
+
+  -- p divided by its leading coefficient
+  unfoldable pub monic-of : P → P
+  monic-of p = A .ring .mul (A .con (F .inverse (lead p))) p

@@ -1,0 +1,19 @@
+-- The square root of a polynomial in which odd powers do not occur: the square roots of the even coefficients.
+use Prim.Native.Nat.{ℕ, zero, suc}
+use Rattle.field_laws.specs.Field.{Field2}
+use Rattle.char2_algebra.specs.Polynomials.{Polynomials}
+
+module _ {K P : Type 0} {F : Field2 K} (A : Polynomials F P) where
+  open Polynomials A using (ring, coeff, len, con, x, quot)
+
+  -- p without its constant term, divided by x
+  unfoldable pub tail : P → P
+  tail p = quot p x
+
+  -- the first n square roots, the lowest power first: √p₀ + x (√p₂ + x (√p₄ + ..))
+  unfoldable pub sqrt-to : ℕ → P → P
+  sqrt-to zero p = ring .nought
+  sqrt-to (suc n) p = ring .add (con (F .root (coeff p 0))) (ring .mul x (sqrt-to n (tail (tail p))))
+
+  unfoldable pub sqrt : P → P
+  sqrt p = sqrt-to (len p) p

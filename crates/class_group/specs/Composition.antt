@@ -1,0 +1,32 @@
+-- Cantor's composition, in Koblitz's form for even characteristic (document 01, 'Curves and classes', Sum and Double).
+use Rattle.field_laws.specs.Ring.{Ring2}
+use Rattle.field_laws.specs.Field.{Field2}
+use Rattle.char2_algebra.specs.Polynomials.{Polynomials}
+use Rattle.char2_algebra.specs.Euclid.{Bezout3, bezout3}
+use Rattle.class_group.specs.Curve.{Curve}
+use Rattle.class_group.specs.Mumford.{Pair}
+
+module _ {K P : Type 0} {F : Field2 K} {A : Polynomials F P} (C : Curve A) where
+  open Polynomials A using (ring, quot, rem)
+  open Ring2 ring using (add as _+_, mul as _·_, one as 𝟙)
+  open Curve C using (f)
+
+  infixl 60 _+_
+  infixl 70 _·_
+  -- With e = s1 u1 + s2 u2 + s3 (v1 + v2 + 1): u = u1 u2 / e²,
+  -- v = (s1 u1 v2 + s2 u2 v1 + s3 (v1 v2 + f)) / e modulo u.
+  unfoldable pub composed : Bezout3 P → Pair P → Pair P → Pair P
+  composed b D E =
+      let u = quot (D .u · E .u) (b .e · b .e) in
+      let n = b .s1 · D .u · E .v + b .s2 · E .u · D .v + b .s3 · (D .v · E .v + f) in
+      record { u = u; v = rem (quot n (b .e)) u }
+
+  -- e is the greatest common divisor of u1, u2 and v1 + v2 + 1
+  unfoldable pub compose : Pair P → Pair P → Pair P
+  compose D E = composed (bezout3 A (D .u) (E .u) (D .v + E .v + 𝟙)) D E
+
+  -- for a double: u², with v² + f modulo u²
+  unfoldable pub compose-double : Pair P → Pair P
+  compose-double D =
+      let u = D .u · D .u in
+      record { u = u; v = rem (D .v · D .v + f) u }

@@ -1,0 +1,97 @@
+-- The half of a class, by rules on its coefficients, by degree (document 01, 'Curves and classes', Half).
+-- The rules need not be believed: proofs/Halving.antt shows that the half is the one reduced class whose double is the class given.
+-- A triple u, v, w with u w = v² + v + f is changed by lifts and steps, which keep its class, until the first polynomial is
+-- a constant times a square a²; the half is then [a, v modulo a].
+use Prim.Native.Nat.{ℕ, zero, suc}
+use Rattle.field_laws.specs.Ring.{Ring2}
+use Rattle.field_laws.specs.Field.{Field2}
+use Rattle.char2_algebra.specs.Polynomials.{Polynomials}
+use Rattle.char2_algebra.specs.Square.{sqrt}
+use Rattle.class_group.specs.Curve.{Curve}
+use Rattle.class_group.specs.Mumford.{Pair, value}
+
+pub record Triple (P : Type 0) : Type 0 where
+  pub u : P
+  pub v : P
+  pub w : P
+
+module _ {K P : Type 0} {F : Field2 K} (A : Polynomials F P) where
+  open Polynomials A using (ring, coeff, con, x, rem)
+  open Ring2 ring using (add as _+_, mul as _·_, one as 𝟙)
+  open Ring2 (F .ring) using (add as _+ₖ_, mul as _·ₖ_, nought as 𝟘ₖ, one as 𝟙ₖ)
+  open Field2 F using (root, inverse, discrete)
+
+  infixl 60 _+_
+  infixl 70 _·_
+  infixl 60 _+ₖ_
+  infixl 70 _·ₖ_
+  -- v becomes v + k u
+  unfoldable pub lift : P → Triple P → Triple P
+  lift k T = record { u = T .u; v = T .v + k · T .u; w = T .w + k + k · k · T .u }
+
+  -- a reduction step that does not reduce v: u and w change places
+  unfoldable pub step : Triple P → Triple P
+  step T = record { u = T .w; v = T .v + 𝟙; w = T .u }
+
+  -- c times the first polynomial is a², a monic
+  unfoldable pub halved : K → Triple P → Pair P
+  halved c T = let a = sqrt A (con c · T .u) in record { u = a; v = rem (T .v) a }
+
+  -- k2 x² + k1 x + k0
+  unfoldable pub quadratic : K → K → K → P
+  quadratic k2 k1 k0 = con k0 + x · (con k1 + x · con k2)
+
+  -- degree 1: with w of degree 6, k2 = √w5, k1 = √w3, k0 = √(w1 + k1)
+  unfoldable pub half-of-degree-1 : Triple P → Pair P
+  half-of-degree-1 T =
+      let k1 = root (coeff (T .w) 3) in
+      let k = quadratic (root (coeff (T .w) 5)) k1 (root (coeff (T .w) 1 +ₖ k1)) in
+      halved 𝟙ₖ (step (lift k T))
+
+  -- degree 2, u1 not nought: k2 = 1/√u1, k1 = √(w3/u1), k0 = √((w1 + k1)/u1)
+  unfoldable pub lifted-half-of-degree-2 : Triple P → Pair P
+  lifted-half-of-degree-2 T =
+      let u1 = coeff (T .u) 1 in
+      let i = inverse u1 in
+      let k1 = root (coeff (T .w) 3 ·ₖ i) in
+      let k = quadratic (root i) k1 (root ((coeff (T .w) 1 +ₖ k1) ·ₖ i)) in
+      halved u1 (step (lift k T))
+
+  -- degree 2: where u1 is nought, u is a square
+  unfoldable pub half-of-degree-2 : Triple P → Pair P
+  half-of-degree-2 T = elim (discrete (coeff (T .u) 1) 𝟘ₖ) [ yes _ ↦ halved 𝟙ₖ T | no _ ↦ lifted-half-of-degree-2 T ]
+
+  -- degree 3: the lift by √w3 and a step give the first polynomial x⁴ + e2 x² + t² x + e0
+  unfoldable pub stepped-of-degree-3 : Triple P → Triple P
+  stepped-of-degree-3 T = step (lift (quadratic 𝟘ₖ 𝟘ₖ (root (coeff (T .w) 3))) T)
+
+  -- where t is not nought: a lift by (x + q)/t with q = √(u1 + 1/t), u1 that of the class, and a step
+  unfoldable pub lifted-half-of-degree-3 : Triple P → Pair P
+  lifted-half-of-degree-3 T =
+      let S = stepped-of-degree-3 T in
+      let t = root (coeff (S .u) 1) in
+      let i = inverse t in
+      let q = root (coeff (T .u) 1 +ₖ i) in
+      halved (t ·ₖ t) (step (lift (quadratic 𝟘ₖ i (q ·ₖ i)) S))
+
+  -- where t is nought it is a square
+  unfoldable pub half-of-degree-3 : Triple P → Pair P
+  half-of-degree-3 T =
+      let S = stepped-of-degree-3 T in
+      elim (discrete (root (coeff (S .u) 1)) 𝟘ₖ) [ yes _ ↦ halved 𝟙ₖ S | no _ ↦ lifted-half-of-degree-3 T ]
+
+module _ {K P : Type 0} {F : Field2 K} {A : Polynomials F P} (C : Curve A) where
+  -- u, v and w = (v² + v + f) / u
+  unfoldable pub triple : Pair P → Triple P
+  triple D = record { u = D .u; v = D .v; w = A .quot (value C (D .v)) (D .u) }
+
+  -- by the length of u, its degree plus one; the neutral class is its own half
+  unfoldable pub half-by : ℕ → Pair P → Pair P
+  half-by zero D = D
+  half-by (suc zero) D = D
+  half-by (suc (suc zero)) D = half-of-degree-1 A (triple D)
+  half-by (suc (suc (suc zero))) D = half-of-degree-2 A (triple D)
+  half-by (suc (suc (suc (suc n)))) D = half-of-degree-3 A (triple D)
+
+  unfoldable pub half : Pair P → Pair P
+  half D = half-by (A .len (D .u)) D

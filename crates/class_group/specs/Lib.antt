@@ -1,0 +1,10 @@
+-- Reduced divisor classes on y² + y = f(x), f monic of degree 7 (document 01, 'Curves and classes').
+pub mod Curve
+pub mod Mumford
+pub mod Composition
+pub mod Reduction
+pub mod Operations
+pub mod Half
+pub mod Group
+pub mod Walk
+pub mod NonSingular

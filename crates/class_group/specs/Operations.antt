@@ -1,0 +1,21 @@
+-- Sum and double of classes: compose, then reduce (document 01, 'Curves and classes').
+use Rattle.field_laws.specs.Field.{Field2}
+use Rattle.char2_algebra.specs.Polynomials.{Polynomials}
+use Rattle.class_group.specs.Curve.{Curve}
+use Rattle.class_group.specs.Mumford.{Pair}
+use Rattle.class_group.specs.Composition.{compose, compose-double}
+use Rattle.class_group.specs.Reduction.{Counted, reduce}
+
+module _ {K P : Type 0} {F : Field2 K} {A : Polynomials F P} (C : Curve A) where
+  -- the class, with the number of reduction steps
+  unfoldable pub counted-sum : Pair P → Pair P → Counted P
+  counted-sum D E = reduce C (compose C D E)
+
+  unfoldable pub counted-double : Pair P → Counted P
+  counted-double D = reduce C (compose-double C D)
+
+  unfoldable pub sum : Pair P → Pair P → Pair P
+  sum D E = counted-sum D E .class
+
+  unfoldable pub double : Pair P → Pair P
+  double D = counted-double D .class

@@ -1,0 +1,161 @@
+//! Halves, found from the group and not by halving rules: three ways, each for the curves that it fits.
+//!
+//! - Any curve: a claimed half is one if it is a reduced class whose double is the class given (`is_half`). A case
+//!   for a half is so made from its answer, by doubling.
+//! - The bench field: the number n of classes is counted and odd, so the half is the multiple by (n + 1) / 2.
+//! - A curve with coefficients in GF(2), over either field: squaring every coefficient is a map F of the group that
+//!   satisfies F^6 + a1 F^5 + a2 F^4 + a3 F^3 + 2 a2 F^2 + 4 a1 F + 8 = 0, where the a are got from the numbers of
+//!   points over GF(2), GF(4) and GF(8). On these curves all a are even, so F^6 is twice a combination of smaller
+//!   powers, and a half is that combination after F^-6.
+
+use crate::bench_classes::all_classes;
+use crate::field::Field;
+use crate::jacobian::{Class, Curve};
+
+/// Is `claimed` the half of `class`?
+pub fn is_half(curve: &Curve, claimed: &Class, class: &Class) -> bool {
+    curve.is_member(claimed) && curve.double(claimed) == *class
+}
+
+/// Halves on a curve over the bench field, from the number of its classes.
+pub struct HalfByOrder<'a> {
+    curve: &'a Curve,
+    factor: u128,
+}
+
+impl HalfByOrder<'_> {
+    pub fn new(curve: &Curve) -> HalfByOrder<'_> {
+        let order = all_classes(curve).len() as u128;
+        assert!(order % 2 == 1, "there is no class of order 2");
+        HalfByOrder { curve, factor: (order + 1) / 2 }
+    }
+
+    pub fn half(&self, class: &Class) -> Class {
+        self.curve.multiple(self.factor, class)
+    }
+}
+
+/// Halves on a curve with coefficients in GF(2), from the equation of the squaring map.
+pub struct HalfByFrobenius<'a> {
+    curve: &'a Curve,
+    a: [i64; 3],
+}
+
+/// GF(2), GF(4) and GF(8).
+const SMALL_FIELDS: [Field; 3] =
+    [Field { degree: 1, modulus: 0b10 }, Field { degree: 2, modulus: 0b111 }, Field { degree: 3, modulus: 0b1011 }];
+
+/// The number of points, that at infinity included, over a small field.
+fn points(curve: &Curve, field: Field) -> i64 {
+    let elements = || 0..1u64 << field.degree;
+    let on_curve = |x, y| field.square(y) ^ y == curve.f.at(field, x);
+    1 + elements().map(|x| elements().filter(|&y| on_curve(x, y)).count() as i64).sum::<i64>()
+}
+
+impl HalfByFrobenius<'_> {
+    pub fn new(curve: &Curve) -> HalfByFrobenius<'_> {
+        assert!(curve.f.coefficients().iter().all(|&c| c < 2));
+        // Newton's identities, for the sums of powers of F's six eigenvalues: 2^k + 1 less the number of points
+        let sums = SMALL_FIELDS.map(|field| (1 << field.degree) + 1 - points(curve, field));
+        let a1 = -sums[0];
+        let a2 = -(sums[1] + a1 * sums[0]) / 2;
+        let a3 = -(sums[2] + a1 * sums[1] + a2 * sums[0]) / 3;
+        assert!([a1, a2, a3].iter().all(|a| a % 2 == 0), "there is no class of order 2");
+        HalfByFrobenius { curve, a: [a1, a2, a3] }
+    }
+
+    fn signed_multiple(&self, n: i64, class: &Class) -> Class {
+        let multiple = self.curve.multiple(n.unsigned_abs() as u128, class);
+        if n < 0 {
+            self.curve.opposite(&multiple)
+        } else {
+            multiple
+        }
+    }
+
+    /// -(a1/2 F^5 + a2/2 F^4 + a3/2 F^3 + a2 F^2 + 2 a1 F + 4) F^-6.
+    pub fn half(&self, class: &Class) -> Class {
+        let [a1, a2, a3] = self.a;
+        let mut power = class.clone();
+        let mut half = Class::neutral();
+        for factor in [a1 / 2, a2 / 2, a3 / 2, a2, 2 * a1, 4] {
+            power = power.map(|c| self.curve.field.square_root(c));
+            half = self.curve.sum(&half, &self.signed_multiple(-factor, &power));
+        }
+        half
+    }
+}
+
+#[cfg(test)]
+mod tests {
+    use super::*;
+    use crate::field::{BENCH, WIDE};
+    use crate::random::Random;
+
+    fn curves_over_two(field: Field) -> Vec<Curve> {
+        (0..8).map(|i| Curve::new(field, i & 1, i >> 1 & 1, i >> 2)).collect()
+    }
+
+    /// Examples 4 to 7 of document 01.
+    #[test]
+    fn examples() {
+        let class = |u: &[u64], v: &[u64]| Class::new(u.to_vec(), v.to_vec());
+        let on_b = [
+            class(&[1, 1], &[]),
+            class(&[1, 0, 1], &[1, 1]),
+            class(&[1, 0, 1, 1], &[]),
+            class(&[1, 1, 1, 1], &[0, 1]),
+        ];
+        for field in [BENCH, WIDE] {
+            let (a, b) = (Curve::new(field, 0, 0, 0), Curve::new(field, 0, 0, 1));
+            assert_eq!(HalfByFrobenius::new(&a).half(&Class::neutral()), Class::neutral());
+            for pair in on_b.windows(2) {
+                assert!(is_half(&b, &pair[0], &pair[1]));
+                assert!(!is_half(&b, &pair[1], &pair[0]));
+                assert_eq!(HalfByFrobenius::new(&b).half(&pair[1]), pair[0]);
+            }
+        }
+    }
+
+    /// Two ways to a half, and its double, on classes of every degree over the bench field.
+    #[test]
+    fn halves_on_the_bench_field() {
+        for curve in curves_over_two(BENCH) {
+            let (by_order, by_frobenius) = (HalfByOrder::new(&curve), HalfByFrobenius::new(&curve));
+            let classes = all_classes(&curve);
+            // the list starts with degree 0 and degree 1; the stride takes some of each other degree
+            for class in classes.iter().take(40).chain(classes.iter().skip(40).step_by(229)) {
+                let half = by_order.half(class);
+                assert!(is_half(&curve, &half, class));
+                assert_eq!(by_frobenius.half(class), half);
+            }
+        }
+    }
+
+    #[test]
+    fn halves_on_other_bench_curves() {
+        let mut random = Random::new(5);
+        for _ in 0..3 {
+            let curve = Curve::with_all(BENCH, [0; 7].map(|_: u64| random.element(BENCH)));
+            let by_order = HalfByOrder::new(&curve);
+            for class in all_classes(&curve).iter().step_by(311) {
+                assert!(is_half(&curve, &by_order.half(class), class));
+            }
+        }
+    }
+
+    #[test]
+    fn halves_on_the_wide_field() {
+        let mut random = Random::new(6);
+        for curve in curves_over_two(WIDE) {
+            let by_frobenius = HalfByFrobenius::new(&curve);
+            let mut class = Class::neutral();
+            for _ in 0..20 {
+                let point = curve.point(random.element(WIDE)).unwrap_or_else(Class::neutral);
+                class = curve.sum(&class, &point);
+                let half = by_frobenius.half(&class);
+                assert!(is_half(&curve, &half, &class));
+            }
+        }
+    }
+}

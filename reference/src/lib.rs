@@ -1,0 +1,19 @@
+//! A second implementation of document 01, written from its text alone and by other methods than the proved
+//! crates where there is a choice. Nothing here is proved: it makes the stored vectors and the cases that the
+//! proved crates are run on.
+//!
+//! - `field`: GF(2^d) as polynomials over GF(2); the checked calls on elements.
+//! - `polynomial`: polynomials in x over such a field.
+//! - `jacobian`: curves y^2 + y = f(x), reduced classes, Cantor's rule.
+//! - `halving`: halves found without halving rules.
+//! - `bench_classes`: every reduced class of a curve over the bench field.
+//! - `element_cases`: the cases that the program `element_trial` is run on, and the lines that it owes.
+//! - `random`: a small generator with a fixed seed, for cases that are the same in every run.
+
+pub mod bench_classes;
+pub mod element_cases;
+pub mod field;
+pub mod halving;
+pub mod jacobian;
+pub mod polynomial;
+pub mod random;

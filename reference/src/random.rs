@@ -1,0 +1,40 @@
+//! Numbers that look random and are the same in every run: splitmix64 from a fixed seed.
+
+use crate::field::Field;
+
+pub struct Random {
+    state: u64,
+}
+
+impl Random {
+    pub fn new(seed: u64) -> Random {
+        Random { state: seed }
+    }
+
+    pub fn number(&mut self) -> u64 {
+        self.state = self.state.wrapping_add(0x9e37_79b9_7f4a_7c15);
+        let mut z = self.state;
+        z = (z ^ z >> 30).wrapping_mul(0xbf58_476d_1ce4_e5b9);
+        z = (z ^ z >> 27).wrapping_mul(0x94d0_49bb_1331_11eb);
+        z ^ z >> 31
+    }
+
+    /// An element, drawn from the whole field.
+    pub fn element(&mut self, field: Field) -> u64 {
+        self.number() >> (64 - field.degree)
+    }
+}
+
+#[cfg(test)]
+mod tests {
+    use super::*;
+
+    /// The first three numbers from seed 1234567, as published with the generator.
+    #[test]
+    fn published_numbers() {
+        let mut random = Random::new(1234567);
+        assert_eq!(random.number(), 6457827717110365317);
+        assert_eq!(random.number(), 3203168211198807973);
+        assert_eq!(random.number(), 9817491932198370423);
+    }
+}
