@@ -1,23 +1,18 @@
--- The digits at even places as the code brings them together, and the square root that is made of them.
+-- The digits at even places: the code brings them together in ever longer runs; and a number is its digits at even places,
+-- spread, and those at odd places, spread and moved up by one. Both are equations of additive maps, tested at each power of t.
 use mathlib.Core.Path.{_≡_, refl, ap, ap₂, sym, _∙_, subst}
 use mathlib.Core.Bool.{Bool, true, false, _&&_}
-use Prim.Native.Nat.{ℕ, zero, suc, _+_, _-_, _*_, _/_, _%_, _^_, _<_, _≤_}
+use Prim.Native.Nat.{ℕ, zero, suc, _+_, _*_, _/_, _%_, _^_, _<_, _≤_}
 use native.Mathlib.Decide.{decLt}
 use native.Mathlib.Omega.{arith}
 use lib.Arith.{bin-ind}
 use lib.Dec.{T, eqb, eqb→eq}
-use lib.Bits.{bitXor, bitAnd, and-shr, and-mod}
-use Rattle.binary_field.specs.Carryless.{_⊕_, clmul, spread, reduce, remainder, digits, digits-to}
-use Rattle.binary_field.specs.Element.{Accepted, low, product, square, root}
+use lib.Bits.{bitAnd, and-shr, and-mod}
+use Rattle.binary_field.specs.Carryless.{_⊕_, spread, digits, digits-to}
 use Rattle.binary_field.specs.Spreading.{evens}
-use Rattle.binary_field.proofs.Sums.{bit-cases, bit-lt, same-digits, sum-half, sum-odd, sum-shr, sum-double, sum-lt, sum-middle, sum-self, zero-sum, double-plus-sum}
+use Rattle.binary_field.proofs.Sums.{bit-cases, bit-lt, same-digits, sum-half, sum-odd, sum-shr, sum-double, sum-middle, sum-self, zero-sum, double-plus-sum}
 use Rattle.binary_field.proofs.Linear.{Additive, basis}
 use Rattle.binary_field.proofs.Spread.{spread-sum}
-use Rattle.binary_field.proofs.Remainder.{remainder-sum, remainder-small, remainder-double, remainder-idem}
-use Rattle.binary_field.proofs.Products.{low-lt, product-lt, product-comm, two-product, square-lt, square-sum, square-product, square-spread}
-use Rattle.binary_field.proofs.Degrees.{digits-61}
-use Rattle.binary_field.proofs.Certificate.{certified}
-use Rattle.binary_field.proofs.Frobenius.{square-root, square-injective, root-lt}
 
 -- ---- two additive maps are equal below 2^d where a computed test finds them equal at t^0 .. t^(d-1)
 same : (ℕ → ℕ) → (ℕ → ℕ) → ℕ → Bool
@@ -90,53 +85,11 @@ unfolding parts
 parts-additive a b =
     rw (sum-half, evens-additive 32 a b, evens-additive 32 (a / 2) (b / 2), spread-sum, spread-sum, sum-double) (sum-middle _ _ _ _)
 
-evens-parts : (n : ℕ) → n < 2 ^ 64 → spread (evens 32 n) ⊕ 2 * spread (evens 32 (n / 2)) ≡ n
+pub evens-parts : (n : ℕ) → n < 2 ^ 64 → spread (evens 32 n) ⊕ 2 * spread (evens 32 (n / 2)) ≡ n
 unfolding same parts evens spread digits digits-to _⊕_
 evens-parts = basis parts (λ (n : ℕ). n) parts-additive (λ a b. refl) 64 (same-at parts (λ (n : ℕ). n) 64 tt)
 
-evens-le : (k n : ℕ) → evens k n ≤ n
+pub evens-le : (k n : ℕ) → evens k n ≤ n
 unfolding evens
 evens-le zero n = omega arith
 evens-le (suc k) n = omega (arith, evens-le k (n / 4))
-
--- ---- the square of what the code makes is the element
-module _ (d : ℕ) (hd : Accepted d) where
-  h : low d < 2 ^ d
-  h = low-lt d hd
-
-  double-square : (o : ℕ) → product d 2 (square d o) ≡ remainder d (low d) (2 * spread o)
-  double-square o =
-      ap (product d 2) (square-spread d o) ∙ two-product d h (remainder d (low d) (spread o))
-      ∙ remainder-double d (low d) (remainder d (low d) (spread o))
-      ∙ ap (λ (x : ℕ). reduce d (low d) (2 * x)) (remainder-idem d (low d) h (spread o)) ∙ sym (remainder-double d (low d) (spread o))
-
-  root-squared : (a s : ℕ) → a < 2 ^ d → square d s ≡ 2 → square d (evens 32 a ⊕ product d (evens 32 (a / 2)) s) ≡ a
-  root-squared a s ha e =
-      square-sum d h (evens 32 a) (product d (evens 32 (a / 2)) s)
-      ∙ ap₂ _⊕_ (square-spread d (evens 32 a))
-      (square-product d h (evens 32 (a / 2)) s ∙ ap (product d (square d (evens 32 (a / 2)))) e
-      ∙ product-comm d (square d (evens 32 (a / 2))) 2 ∙ double-square (evens 32 (a / 2)))
-      ∙ sym (remainder-sum d (low d) h (spread (evens 32 a)) (2 * spread (evens 32 (a / 2))))
-      ∙ ap (remainder d (low d)) (evens-parts a (omega (arith, digits-61 a d hd ha))) ∙ remainder-small d (low d) h a ha
-
-  -- and so what the code makes is the root
-  pub root-made : (a e o s p : ℕ) → a < 2 ^ d → square d s ≡ 2 → e ≡ evens 32 a → o ≡ evens 32 (a / 2) → p ≡ product d o s → bitXor e p ≡ root d a
-  unfolding _⊕_
-  root-made a e o s p ha hs ee eo ep =
-      let f = certified d hd .fixed in
-      rw (ep, ee, eo)
-      (square-injective d h f (evens 32 a ⊕ product d (evens 32 (a / 2)) s) (root d a)
-      (sum-lt d (evens 32 a) (product d (evens 32 (a / 2)) s) (omega (arith, evens-le 32 a)) (product-lt d h (evens 32 (a / 2)) s)) (root-lt d h f a ha)
-      (root-squared a s ha hs ∙ sym (square-root d h f a ha)))
-
-pub odd-below : (d a o : ℕ) → a < 2 ^ d → o ≡ evens 32 (a / 2) → o < 2 ^ d
-odd-below d a o ha e = omega (arith, evens-le 32 (a / 2))
-
--- the roots of t
-pub root-5 : square 5 0x1b ≡ 2
-unfolding square product remainder reduce clmul low digits digits-to _⊕_
-root-5 = refl
-
-pub root-61 : square 61 0x1fff_ffff_8000_001b ≡ 2
-unfolding square product remainder reduce clmul low digits digits-to _⊕_
-root-61 = refl

@@ -17,5 +17,7 @@ pub mod Field
 pub mod Replies
 pub mod Degrees
 pub mod Table
+pub mod Halves
 pub mod ChainSteps
 pub mod Evens
+pub mod Roots

@@ -7,9 +7,11 @@ use Prim.Native.Nat.{ℕ, zero, suc, _^_, _<_}
 use native.Mathlib.Omega.{arith}
 use lib.Dec.{T, eqb, ltb}
 use borrow.Author.Tests.{lt-ltb, ltb-true}
+use Rattle.binary_field.specs.declared.Answer.{Answer}
+use Rattle.binary_field.specs.declared.Answer.the-variants.{Element, Refused}
 use Rattle.binary_field.specs.Carryless.{_⊕_}
 use Rattle.binary_field.specs.Element.{Accepted, product, square, root, inverse}
-use Rattle.binary_field.specs.Answer.{Reply, element, refusal, below, due, answered, sum-reply, product-reply, square-reply, root-reply, inverse-reply}
+use Rattle.binary_field.specs.Answer.{Reply, element, refusal, reply, below, due, answered, sum-reply, product-reply, square-reply, root-reply, inverse-reply}
 
 refusal-of : (k v : ℕ) → (k ≡ 0 → ⊥) → refusal k ≡ answered k v
 unfolding answered
@@ -95,3 +97,15 @@ module _ (d a : ℕ) (hd : Accepted d) (ha : a < 2 ^ d) where
   pub inverse-element : inverse-reply d a ≡ element (inverse d a)
   unfolding inverse-reply answered
   inverse-element = rw none-one
+
+-- for a caller that takes the answer apart: its element is the one that the reply says, and it is no refusal
+pub element-is : {x : Answer} {n v : ℕ} → x ≡ Element n → reply x ≡ element v → n ≡ v
+element-is {x} {n} {v} e f =
+    let g : reply x ≡ element n = ap reply e in
+    cc
+
+pub no-refusal : {x : Answer} {k v : ℕ} → x ≡ Refused k → reply x ≡ element v → ⊥
+no-refusal {x} {k} {v} e f =
+    let g : reply x ≡ refusal k = ap reply e in
+    let z : _≡_ {A = ℕ} 0 1 = cc in
+    omega arith

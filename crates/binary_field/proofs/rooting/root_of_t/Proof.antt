@@ -2,7 +2,7 @@
 use mathlib.Core.Path.{_≡_, refl}
 use lib.Dec.{lit<}
 use Rattle.binary_field.proofs.Degrees.{other-degree}
-use Rattle.binary_field.proofs.Evens.{root-5, root-61}
+use Rattle.binary_field.proofs.Roots.{root-5, root-61}
 use Rattle.binary_field.proofs.rooting.root_of_t.Statement.{statement}
 use Rattle.binary_field.proofs.rooting.root_of_t.Tie as tie
 

@@ -6,7 +6,7 @@ use Rattle.binary_field.specs.Carryless.{remainder}
 use Rattle.binary_field.specs.Element.{low}
 use Rattle.binary_field.proofs.Products.{square-spread}
 use Rattle.binary_field.proofs.Spread.{spread-lt}
-use Rattle.binary_field.proofs.Table.{spread-words}
+use Rattle.binary_field.proofs.Halves.{spread-words}
 use Rattle.binary_field.proofs.squaring.square_of.Statement.{statement}
 use Rattle.binary_field.proofs.squaring.square_of.Tie as tie
 
