@@ -1,9 +1,9 @@
 -- Repeated squaring as the loop makes it, and the powers 2^k - 1 of an element, from which its inverse is made.
-use mathlib.Core.Path.{_≡_, refl, ap, ap₂, sym, _∙_}
-use Prim.Native.Nat.{ℕ, suc, _+_, _-_, _*_, _^_, _<_, _≤_}
+use mathlib.Core.Path.{_≡_, ap, ap₂, sym, _∙_}
+use Prim.Native.Nat.{ℕ, _+_, _-_, _^_, _<_, _≤_}
 use native.Mathlib.Numerals.{add-one}
 use native.Mathlib.Omega.{arith}
-use Rattle.binary_field.specs.Element.{Accepted, low, product, square, squarings, power, inverse}
+use Rattle.binary_field.specs.Element.{Accepted, product, square, squarings, power, inverse}
 use Rattle.binary_field.proofs.Products.{low-lt, product-lt, square-lt}
 use Rattle.binary_field.proofs.Power.{squarings-zero, squarings-suc, power-ones-add, power-ones-one, inverse-ones}
 

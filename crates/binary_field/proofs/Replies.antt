@@ -2,7 +2,7 @@
 -- where the degree is accepted and the numbers are in range.
 use mathlib.Core.Path.{_≡_, refl, ap, sym, _∙_}
 use mathlib.Core.Bool.{Bool, true, false, cond, _||_, _&&_}
-use mathlib.Core.List.{List, [], _∷_}
+use mathlib.Core.List.{[], _∷_}
 use Prim.Native.Nat.{ℕ, zero, suc, _^_, _<_}
 use native.Mathlib.Omega.{arith}
 use lib.Dec.{T, eqb, ltb}
@@ -11,7 +11,7 @@ use Rattle.binary_field.specs.declared.Answer.{Answer}
 use Rattle.binary_field.specs.declared.Answer.the-variants.{Element, Refused}
 use Rattle.binary_field.specs.Carryless.{_⊕_}
 use Rattle.binary_field.specs.Element.{Accepted, product, square, root, inverse}
-use Rattle.binary_field.specs.Answer.{Reply, element, refusal, reply, below, due, answered, sum-reply, product-reply, square-reply, root-reply, inverse-reply}
+use Rattle.binary_field.specs.Answer.{element, refusal, reply, below, due, answered, sum-reply, product-reply, square-reply, root-reply, inverse-reply}
 
 refusal-of : (k v : ℕ) → (k ≡ 0 → ⊥) → refusal k ≡ answered k v
 unfolding answered
@@ -78,25 +78,25 @@ module _ (d a : ℕ) (hd : Accepted d) (ha : a < 2 ^ d) where
   unfolding due below
   none-two b hb = rw (of-T (eqb d 5 || eqb d 61) hd, lt-ltb _ _ ha, lt-ltb _ _ hb)
 
-  pub sum-element : (b : ℕ) → b < 2 ^ d → sum-reply d a b ≡ element (a ⊕ b)
+  pub sum-replies : (b : ℕ) → b < 2 ^ d → sum-reply d a b ≡ element (a ⊕ b)
   unfolding sum-reply answered
-  sum-element b hb = rw (none-two b hb)
+  sum-replies b hb = rw (none-two b hb)
 
-  pub product-element : (b : ℕ) → b < 2 ^ d → product-reply d a b ≡ element (product d a b)
+  pub product-replies : (b : ℕ) → b < 2 ^ d → product-reply d a b ≡ element (product d a b)
   unfolding product-reply answered
-  product-element b hb = rw (none-two b hb)
+  product-replies b hb = rw (none-two b hb)
 
-  pub square-element : square-reply d a ≡ element (square d a)
+  pub square-replies : square-reply d a ≡ element (square d a)
   unfolding square-reply answered
-  square-element = rw none-one
+  square-replies = rw none-one
 
-  pub root-element : root-reply d a ≡ element (root d a)
+  pub root-replies : root-reply d a ≡ element (root d a)
   unfolding root-reply answered
-  root-element = rw none-one
+  root-replies = rw none-one
 
-  pub inverse-element : inverse-reply d a ≡ element (inverse d a)
+  pub inverse-replies : inverse-reply d a ≡ element (inverse d a)
   unfolding inverse-reply answered
-  inverse-element = rw none-one
+  inverse-replies = rw none-one
 
 -- for a caller that takes the answer apart: its element is the one that the reply says, and it is no refusal
 pub element-is : {x : Answer} {n v : ℕ} → x ≡ Element n → reply x ≡ element v → n ≡ v

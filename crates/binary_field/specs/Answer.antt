@@ -32,17 +32,24 @@ unfoldable pub answered : ℕ → ℕ → Reply
 answered zero v = element v
 answered (suc k) v = refusal (suc k)
 
+-- ---- the five calls
+
+-- the sum is bitwise exclusive or
 unfoldable pub sum-reply : ℕ → ℕ → ℕ → Reply
 sum-reply d a b = answered (due d (a ∷ b ∷ [])) (a ⊕ b)
 
+-- the product modulo the modulus of the degree
 unfoldable pub product-reply : ℕ → ℕ → ℕ → Reply
 product-reply d a b = answered (due d (a ∷ b ∷ [])) (product d a b)
 
+-- the square
 unfoldable pub square-reply : ℕ → ℕ → Reply
 square-reply d a = answered (due d (a ∷ [])) (square d a)
 
+-- the square root: every element has one
 unfoldable pub root-reply : ℕ → ℕ → Reply
 root-reply d a = answered (due d (a ∷ [])) (root d a)
 
+-- the inverse, which is 0 of 0
 unfoldable pub inverse-reply : ℕ → ℕ → Reply
 inverse-reply d a = answered (due d (a ∷ [])) (inverse d a)

@@ -1,6 +1,6 @@
-use mathlib.Core.Path.{_≡_, ap, sym}
+-- `refusal_due` meets its contract: the range is tested after the degree.
 use borrow.Author.Needs.{needs}
-use borrow.Author.Tests.{eq-eqb, ne-eqb}
+use borrow.Author.Tests.{ne-eqb}
 use Rattle.binary_field.specs.Answer.{due}
 use Rattle.binary_field.proofs.refusal_due.Statement.{statement}
 use Rattle.binary_field.proofs.refusal_due.Tie as tie

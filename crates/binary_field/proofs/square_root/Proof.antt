@@ -1,5 +1,5 @@
 -- `square_root` meets its contract.
-use mathlib.Core.Path.{_≡_, ap, _∙_}
+use mathlib.Core.Path.{ap, _∙_}
 use borrow.Author.Needs.{needs}
 use Rattle.binary_field.specs.Answer.{root-reply, element}
 use Rattle.binary_field.proofs.Replies.{refuses-one, replies-one, none-refused}

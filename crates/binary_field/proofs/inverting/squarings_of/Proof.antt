@@ -1,5 +1,5 @@
 -- `squarings_of` meets its contract: after i turns the loop holds a, squared i times.
-use mathlib.Core.Path.{_≡_, ap, _∙_, sym}
+use mathlib.Core.Path.{_≡_}
 use Prim.Native.Nat.{_≤_, _<_, _-_, _^_}
 use native.Mathlib.Omega.{arith}
 use Rattle.binary_field.specs.Element.{squarings}

@@ -1,5 +1,4 @@
 -- `root_of_t` meets its contract: the squares of the two constants are computed.
-use mathlib.Core.Path.{_≡_, refl}
 use lib.Dec.{lit<}
 use Rattle.binary_field.proofs.Degrees.{other-degree}
 use Rattle.binary_field.proofs.Roots.{root-5, root-61}

@@ -1,5 +1,5 @@
 -- `square_of` meets its contract: the square is the spread number, folded.
-use mathlib.Core.Path.{_≡_, ap, sym, _∙_}
+use mathlib.Core.Path.{ap, sym, _∙_}
 use borrow.Author.Needs.{needs}
 use lib.Bits.{mask-lt}
 use Rattle.binary_field.specs.Carryless.{remainder}
