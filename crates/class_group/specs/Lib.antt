@@ -5,3 +5,4 @@ pub mod Composition
 pub mod Reduction
 pub mod Operations
 pub mod Half
+pub mod Coefficients
