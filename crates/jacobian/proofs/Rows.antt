@@ -6,3 +6,6 @@ pub mod Fill
 pub mod Shift
 pub mod Roots
 pub mod Sums
+pub mod Lead
+pub mod Multiply
+pub mod Divide
