@@ -1,6 +1,6 @@
 -- What the element crate's calls answer, as numbers that stand for elements; and products with 0 and 1, which need no call.
 use Prim.Native.Nat.{ℕ, _<_, _^_}
-use mathlib.Core.Path.{_≡_, refl, sym, _∙_, ap, ap₂, subst}
+use mathlib.Core.Path.{_≡_, sym, _∙_, ap, ap₂}
 use Rattle.binary_field.specs.Carryless.{_⊕_}
 use Rattle.binary_field.specs.Element.{Accepted, product, square, root, inverse}
 use Rattle.binary_field.specs.Answer.{element, sum-reply, product-reply, square-reply, root-reply, inverse-reply}
