@@ -6,7 +6,9 @@ pub mod Fill
 pub mod Shift
 pub mod Roots
 pub mod Sums
+pub mod Squares
 pub mod Lead
+pub mod Monic
 pub mod Multiply
 pub mod Divide
 pub mod Answers

@@ -1,7 +1,8 @@
 -- `row::monic` meets its contract. The leading number becomes 1 without a product. Assumes nothing.
 use Prim.Native.Nat.{_-_}
 use native.Mathlib.Omega.{arith}
-use Rattle.jacobian.proofs.Rows.Lead.{length-pos, Leads, leads, low-range, monic-already, monic-made}
+use Rattle.jacobian.proofs.Rows.Lead.{length-pos, Leads, leads, low-range}
+use Rattle.jacobian.proofs.Rows.Monic.{monic-already, monic-made}
 use borrow.Author.Needs.{needs}
 use Rattle.jacobian.proofs.row.monic.Statement.{statement}
 use Rattle.jacobian.proofs.row.monic.Tie as tie

@@ -7,7 +7,7 @@ use Rattle.char2_algebra.specs.Square.{sqrt}
 use Rattle.jacobian.specs.Field.{𝔸, poly}
 use Rattle.jacobian.proofs.Rows.Length.{length-le}
 use Rattle.jacobian.proofs.Rows.Fill.{Filled, zeros-range, coeff-zeros, filled-start, filled-turn, filled-end}
-use Rattle.jacobian.proofs.Rows.Sums.{root-at, root-past}
+use Rattle.jacobian.proofs.Rows.Squares.{root-at, root-past}
 use Rattle.jacobian.proofs.row.root_row.Statement.{statement}
 use Rattle.jacobian.proofs.row.root_row.Tie as tie
 

@@ -5,7 +5,7 @@ use native.Mathlib.Omega.{arith}
 use lib.ListN.{replicate}
 use Rattle.jacobian.specs.Field.{𝔸, poly}
 use Rattle.jacobian.proofs.Rows.Fill.{Filled, zeros-range, coeff-zeros, filled-start, filled-turn, filled-skip, filled-to, filled-end}
-use Rattle.jacobian.proofs.Rows.Sums.{squared-at, squared-odd, squared-past}
+use Rattle.jacobian.proofs.Rows.Squares.{squared-at, squared-odd, squared-past}
 use Rattle.jacobian.proofs.row.square_row.Statement.{statement}
 use Rattle.jacobian.proofs.row.square_row.Tie as tie
 
