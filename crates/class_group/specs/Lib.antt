@@ -5,6 +5,7 @@ pub mod Composition
 pub mod Reduction
 pub mod Operations
 pub mod Half
+pub mod Coefficients
 pub mod Group
 pub mod Walk
 pub mod NonSingular

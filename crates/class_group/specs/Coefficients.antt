@@ -1,0 +1,33 @@
+-- The curve whose f has given coefficients below x^7.
+use Prim.Native.Nat.{ℕ, _<_}
+use mathlib.Core.Path.{_≡_, _∙_}
+use mathlib.Core.List.{List, [], _∷_}
+use lib.ListN.{List·getD-eq-default}
+use native.Mathlib.Omega.{arith}
+use Rattle.field_laws.specs.Field.{Field2}
+use Rattle.char2_algebra.specs.Polynomial.{Polynomial, of-list}
+use Rattle.char2_algebra.proofs.Polynomial.{polynomials}
+use Rattle.char2_algebra.proofs.OfList.{coeff-of}
+use Rattle.char2_algebra.proofs.Lead.{len-by-top, monic-by-top}
+use Rattle.class_group.specs.Curve.{Curve}
+
+module _ {K : Type 0} (F : Field2 K) (c : ℕ → K) where
+  -- c 0, .., c 6, and 1 at x^7
+  unfoldable pub monic-7 : Polynomial F
+  monic-7 = of-list F (c 0 ∷ c 1 ∷ c 2 ∷ c 3 ∷ c 4 ∷ c 5 ∷ c 6 ∷ F .ring .one ∷ [])
+
+  pub top : polynomials F .coeff monic-7 7 ≡ F .ring .one
+  unfolding monic-7
+  top = coeff-of F _ 7
+
+  pub past : (i : ℕ) → 7 < i → polynomials F .coeff monic-7 i ≡ F .ring .nought
+  unfolding monic-7
+  past i h = coeff-of F _ i ∙ List·getD-eq-default (c 0 ∷ c 1 ∷ c 2 ∷ c 3 ∷ c 4 ∷ c 5 ∷ c 6 ∷ F .ring .one ∷ []) (F .ring .nought) h
+
+  unfoldable pub curve-of : Curve (polynomials F)
+  curve-of =
+      record {
+        f = monic-7;
+        f-len = len-by-top (polynomials F) monic-7 7 top past;
+        f-monic = monic-by-top (polynomials F) monic-7 7 top past;
+      }

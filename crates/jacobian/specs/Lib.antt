@@ -1,0 +1,7 @@
+-- Classes by value: the polynomials that rows of numbers stand for, and what the calls answer.
+pub mod Field
+pub mod Row
+pub mod Bezout
+pub mod Core
+pub mod Curves
+pub mod Classes
