@@ -1,14 +1,16 @@
--- The laws of the elements.
-pub mod Sum
+-- The laws of the elements: polynomials over GF(2) and their remainders, products and powers of elements, the theorems of
+-- document 01, 'The fields', and the field record.
+pub mod Sums
 pub mod Clmul
 pub mod Spread
 pub mod Remainder
-pub mod Product
+pub mod Products
 pub mod Power
+pub mod FastInverse
 pub mod Linear
 pub mod Frobenius
 pub mod Certificate
-pub mod Inverse
+pub mod Inverses
 pub mod Irreducible
-pub mod Chain
+pub mod Theorems
 pub mod Field
