@@ -1,3 +1,4 @@
--- Lemmas on rows and classes by value.
+-- Classes by value: lemmas that belong to no one function.
+pub mod Rows
 pub mod Computing
 pub mod Examples
