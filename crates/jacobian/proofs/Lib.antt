@@ -1,0 +1,3 @@
+-- Lemmas on rows and classes by value.
+pub mod Threes
+pub mod Degrees
