@@ -1,3 +1,3 @@
--- Lemmas on rows and classes by value.
-pub mod Threes
-pub mod Degrees
+-- Classes by value: lemmas that belong to no one function.
+pub mod Rows
+pub mod ByValue

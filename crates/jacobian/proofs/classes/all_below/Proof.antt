@@ -7,7 +7,7 @@ use lib.ListN.{getD}
 use borrow.Author.Needs.{needs}
 use borrow.Author.Tests.{lt-ltb, le-ltb}
 use Rattle.jacobian.specs.Checks.{below}
-use Rattle.jacobian.proofs.Threes.{by-three}
+use Rattle.jacobian.proofs.ByValue.Threes.{by-three}
 use Rattle.jacobian.proofs.classes.all_below.Statement.{statement}
 use Rattle.jacobian.proofs.classes.all_below.Tie as tie
 

@@ -8,7 +8,7 @@ use lib.Dec.{eqb}
 use lib.ListN.{drop, getD, drop-of-length-le}
 use borrow.Author.Tests.{eq-eqb, ne-eqb}
 use Rattle.jacobian.specs.Checks.{blank}
-use Rattle.jacobian.proofs.Threes.{by-three, below-two, below-three, at-most-one, is-zero}
+use Rattle.jacobian.proofs.ByValue.Threes.{by-three, below-two, below-three, at-most-one, is-zero}
 use borrow.Author.Needs.{needs}
 use Rattle.jacobian.proofs.classes.blank_from.Statement.{statement}
 use Rattle.jacobian.proofs.classes.blank_from.Tie as tie

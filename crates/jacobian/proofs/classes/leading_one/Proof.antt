@@ -6,7 +6,7 @@ use native.Mathlib.Omega.{arith}
 use lib.ListN.{getD}
 use Rattle.jacobian.specs.Row.{filled}
 use Rattle.jacobian.specs.Classes.{Led}
-use Rattle.jacobian.proofs.Threes.{by-three, is-three}
+use Rattle.jacobian.proofs.ByValue.Threes.{by-three, is-three}
 use borrow.Author.Needs.{needs}
 use Rattle.jacobian.proofs.classes.leading_one.Statement.{statement}
 use Rattle.jacobian.proofs.classes.leading_one.Tie as tie

@@ -3,7 +3,7 @@ use mathlib.Core.Path.{_≡_, refl}
 use mathlib.Core.List.{List, [], _∷_}
 use lib.ListN.{getD}
 use Rattle.jacobian.specs.Row.{filled}
-use Rattle.jacobian.proofs.Threes.{by-three}
+use Rattle.jacobian.proofs.ByValue.Threes.{by-three}
 use borrow.Author.Needs.{needs}
 use Rattle.jacobian.proofs.classes.widened.Statement.{statement}
 use Rattle.jacobian.proofs.classes.widened.Tie as tie

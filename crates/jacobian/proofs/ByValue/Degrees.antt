@@ -1,11 +1,10 @@
 -- The accepted degrees: 5 and 61.
 use Prim.Native.Nat.{ℕ}
-use mathlib.Core.Path.{_≡_, refl, sym}
-use mathlib.Core.Bool.{Bool, true, false, cond, _||_}
+use mathlib.Core.Path.{_≡_, refl}
+use mathlib.Core.Bool.{Bool, true, false, _||_}
 use lib.Dec.{T, eqb}
-use borrow.Author.Tests.{eq-eqb, ne-eqb, eqb-true, eqb-false}
+use borrow.Author.Tests.{eqb-true}
 use Rattle.binary_field.specs.Element.{Accepted}
-use Rattle.jacobian.specs.Field.{degree-of}
 
 by-first : (x y : Bool) (P : Type 0) → T (x || y) → (x ≡ true → P) → (y ≡ true → P) → P
 by-first true y P t h k = h refl
@@ -18,7 +17,3 @@ by-degree P h k d t = by-first (eqb d 5) (eqb d 61) (P d) t (λ e. rw (eqb-true 
 
 pub is-five : {d : ℕ} → Accepted d → ¬ (d ≡ 61) → d ≡ 5
 is-five {d} t = by-degree (λ d. ¬ (d ≡ 61) → d ≡ 5) (λ _. refl) (λ n. absurd (n refl)) d t
-
-pub degree-is : (d : ℕ) → Accepted d → degree-of d ≡ d
-unfolding degree-of
-degree-is = by-degree (λ d. degree-of d ≡ d) refl refl
