@@ -14,7 +14,8 @@ use Rattle.class_group.specs.Operations.{counted-sum, counted-double, sum, doub
 use Rattle.class_group.specs.Half.{lift, step, halved, quadratic, half-of-degree-1, lifted-half-of-degree-2, half-of-degree-2, stepped-of-degree-3, lifted-half-of-degree-3, half-of-degree-3, triple, half-by, half}
 use Rattle.jacobian.specs.Field.{degree-of, accepted, F, 𝔸, el, poly}
 use Rattle.jacobian.specs.Curves.{f-row, curve-refusal, curve}
-use Rattle.jacobian.specs.Classes.{u-row, pair, numbers, class-of, blank-past, all-below, class-refusal}
+use Rattle.jacobian.specs.Checks.{unless, _then_, below, blank}
+use Rattle.jacobian.specs.Classes.{u-row, pair, numbers, class-of, class-refusal}
 
 unfoldable pub elements : Unit {0}
 unfolding degree-of accepted field element numbers-computing F el
@@ -33,7 +34,7 @@ unfolding lift step halved quadratic half-of-degree-1 lifted-half-of-degree-2 ha
 halving = tt
 
 unfoldable pub by-value : Unit {0}
-unfolding monic-7 curve-of f-row curve-refusal curve u-row pair numbers class-of blank-past all-below class-refusal
+unfolding monic-7 curve-of unless _then_ below blank f-row curve-refusal curve u-row pair numbers class-of class-refusal
 by-value = tt
 
 unfoldable pub computing : Unit {0}

@@ -2,11 +2,10 @@
 -- with those of the table.
 use Prim.Native.Nat.{ℕ}
 use mathlib.Core.Path.{_≡_, refl, ap₂}
-use mathlib.Core.Bool.{Bool, true, false, _&&_, _||_}
+use mathlib.Core.Bool.{Bool, true, false, _&&_}
 use mathlib.Core.List.{List, [], _∷_}
 use lib.Dec.{T, eqb, eqb→eq}
 use mir.Facts.{and-yes}
-use borrow.Author.Tests.{eqb-true}
 use Rattle.binary_field.specs.Element.{Accepted}
 use Rattle.binary_field.proofs.Field.{element-path}
 use Rattle.char2_algebra.proofs.PolynomialRing.{eq-of-coefficients}
@@ -20,6 +19,7 @@ use Rattle.jacobian.specs.Curves.{curve}
 use Rattle.jacobian.specs.Classes.{pair, class-refusal}
 use Rattle.jacobian.specs.Examples.{Example, twice-is, half-is, sum-is, on-and-not-on, On, Gives, Holds, All-hold, table}
 use Rattle.jacobian.proofs.Computing.{computing}
+use Rattle.jacobian.proofs.ByValue.Degrees.{by-degree}
 
 -- ---- the test of a row
 module _ (d : ℕ) where
@@ -95,15 +95,6 @@ all-hold [] t = tt
 all-hold (e ∷ es) t =
     let h = and-yes (test e) (test-all es) t in
     (test-holds e (h .0), all-hold es (h .1))
-
--- the degrees that are accepted
-by-degree : (P : ℕ → Type 0) → P 5 → P 61 → (d : ℕ) → Accepted d → P d
-by-degree P h k d ok = go (eqb d 5) (eqb d 61) refl refl ok
-  where
-    go : (a b : Bool) → eqb d 5 ≡ a → eqb d 61 ≡ b → T (a || b) → P d
-    go true b e f t = rw (eqb-true d 5 e) h
-    go false true e f t = rw (eqb-true d 61 f) k
-    go false false e f t = absurd t
 
 -- document 01, 'Twelve proved examples', over either field
 pub examples : (d : ℕ) → Accepted d → All-hold (table d)

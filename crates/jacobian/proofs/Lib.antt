@@ -2,3 +2,4 @@
 pub mod Rows
 pub mod Computing
 pub mod Examples
+pub mod ByValue
