@@ -3,3 +3,4 @@ pub mod Rows
 pub mod Computing
 pub mod Examples
 pub mod ByValue
+pub mod Representation
