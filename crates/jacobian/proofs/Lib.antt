@@ -1,6 +1,6 @@
 -- Classes by value: lemmas that belong to no one function.
 pub mod Rows
-pub mod Computing
-pub mod Examples
 pub mod ByValue
 pub mod Representation
+pub mod Computing
+pub mod Examples

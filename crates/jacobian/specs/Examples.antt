@@ -10,7 +10,8 @@ use Rattle.jacobian.specs.Field.{Poly}
 use Rattle.jacobian.specs.declared.Curve.{Curve}
 use Rattle.jacobian.specs.declared.Class.{Class}
 use Rattle.jacobian.specs.Curves.{curve}
-use Rattle.jacobian.specs.Classes.{pair, class-refusal}
+use Rattle.jacobian.specs.Classes.{pair}
+use Rattle.jacobian.specs.Answer.{Reply, accepted, refused, membership-answer, double-answer, half-answer, sum-answer}
 
 -- A row: on a curve, twice a class, the half of a class, or the sum of two is the class that comes last;
 -- a class is on the first curve and not on the second.
@@ -20,20 +21,16 @@ pub data Example : Type 0 where
   sum-is : Curve → Class → Class → Class → Example
   on-and-not-on : Curve → Curve → Class → Example
 
--- the class is on the curve: no check refuses it
-abbrev pub On : Curve → Class → Type 0
-On c a = class-refusal c a ≡ 0
+-- an operation's pair is the pair of the class r, and the call by value answers r
+abbrev pub Gives : (c : Curve) → Pair (Poly (c .degree)) → Reply → Class → Type 0
+Gives c D s r = (D ≡ pair (c .degree) r) × (s ≡ record { outcome = accepted; class = r })
 
--- the class of a pair is the class given, which is on the curve
-abbrev pub Gives : (c : Curve) → Pair (Poly (c .degree)) → Class → Type 0
-Gives c D r = On c r × (D ≡ pair (c .degree) r)
-
--- What a row says. 111 is the refusal where u does not divide v² + v + f.
+-- what a row says; 111 is the refusal where u does not divide v² + v + f
 abbrev pub Holds : Example → Type 0
-Holds (twice-is c a r) = On c a × Gives c (double (curve c) (pair (c .degree) a)) r
-Holds (half-is c a r) = On c a × Gives c (half (curve c) (pair (c .degree) a)) r
-Holds (sum-is c a b r) = On c a × On c b × Gives c (sum (curve c) (pair (c .degree) a) (pair (c .degree) b)) r
-Holds (on-and-not-on c e a) = On c a × (class-refusal e a ≡ 111)
+Holds (twice-is c a r) = Gives c (double (curve c) (pair (c .degree) a)) (double-answer c a) r
+Holds (half-is c a r) = Gives c (half (curve c) (pair (c .degree) a)) (half-answer c a) r
+Holds (sum-is c a b r) = Gives c (sum (curve c) (pair (c .degree) a) (pair (c .degree) b)) (sum-answer c a b) r
+Holds (on-and-not-on c e a) = (membership-answer c a ≡ accepted) × (membership-answer e a ≡ refused 111)
 
 abbrev pub All-hold : List Example → Type 0
 All-hold [] = Unit {0}
