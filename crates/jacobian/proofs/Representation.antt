@@ -5,7 +5,6 @@ use mathlib.Core.Path.{_≡_, sym, _∙_, ap}
 use mathlib.Core.Bool.{true}
 use mathlib.Core.List.{List}
 use native.Mathlib.Omega.{arith}
-use lib.ListN.{length}
 use Rattle.char2_algebra.specs.Divides.{Divides}
 use Rattle.char2_algebra.proofs.Degree.{len-zero, len-nought}
 use Rattle.char2_algebra.proofs.Lead.{monic-nonzero}
@@ -20,15 +19,10 @@ use Rattle.jacobian.specs.Curves.{curve-refusal, curve}
 use Rattle.jacobian.specs.Classes.{pair, class-of, class-refusal}
 use Rattle.jacobian.proofs.Rows.Elements.{degree-is, zero-lt}
 use Rattle.jacobian.proofs.ByValue.Checks.{curve-passes, class-passes, below-at}
-use Rattle.jacobian.proofs.Representation.Form.{Formed, u-len, u-monic, v-len, class-of-formed, class-of-is-formed, pair-class-of}
+use Rattle.jacobian.proofs.Representation.Form.{Three, Formed, u-len, u-monic, v-len, class-of-formed, class-of-is-formed, pair-class-of}
 use Rattle.jacobian.proofs.Representation.Unrefused.{at-below, passes-unrefused}
 pub mod Form
 pub mod Unrefused
-
--- the rows of a class have three numbers: every value of the code's type is so
-pub record Three (a : Class) : Type 0 where
-  pub u-three : length (a .u) ≡ 3
-  pub v-three : length (a .v) ≡ 3
 
 module _ (c : Curve) (ok : curve-refusal c ≡ 0) where
   bound-is : 2 ^ degree-of (c .degree) ≡ 2 ^ c .degree
@@ -45,8 +39,7 @@ module _ (c : Curve) (ok : curve-refusal c ≡ 0) where
   accepted-formed a three e =
       let p = class-passes c a e in
       record {
-        u-length = three .u-three;
-        v-length = three .v-three;
+        three = three;
         degree-le = p .low;
         u-blank = p .u-blank;
         v-blank = p .v-blank;

@@ -19,10 +19,14 @@ use Rattle.jacobian.specs.Classes.{u-row, pair, numbers, class-of}
 use Rattle.jacobian.proofs.Rows.Elements.{el-number, el-of, el-zero, el-one, zero-lt}
 use Rattle.jacobian.proofs.Rows.Coefficients.{coeff-poly, row-len-le}
 
+-- rows of three numbers, as in every value of the code's type
+pub record Three (a : Class) : Type 0 where
+  pub u-three : length (a .u) ≡ 3
+  pub v-three : length (a .v) ≡ 3
+
 -- the form of a class by value: rows of three numbers in range, 0 at and past the degree, which is at most 3
 pub record Formed (d : ℕ) (a : Class) : Type 0 where
-  pub u-length : length (a .u) ≡ 3
-  pub v-length : length (a .v) ≡ 3
+  pub three : Three a
   pub degree-le : a .degree ≤ 3
   pub u-blank : (i : ℕ) → a .degree ≤ i → getD (a .u) i 0 ≡ 0
   pub v-blank : (i : ℕ) → a .degree ≤ i → getD (a .v) i 0 ≡ 0
@@ -53,7 +57,7 @@ module _ (a : Class) (long : a .degree ≤ length (a .u)) where
 -- ---- the pair of a class
 module _ (d : ℕ) (a : Class) (h : Formed d a) where
   long : a .degree ≤ length (a .u)
-  long = let e : length (a .u) ≡ 3 = h .u-length in omega arith
+  long = let e : length (a .u) ≡ 3 = h .three .u-three in omega arith
 
   coeff-u-below : (i : ℕ) → i < a .degree → 𝔸 d .coeff (pair d a .u) i ≡ el d (getD (a .u) i 0)
   unfolding pair
@@ -128,15 +132,19 @@ module _ (d : ℕ) (a : Class) (h : Formed d a) where
       let D = pair d a in
       let n-is : 𝔸 d .len (D .u) - 1 ≡ a .degree = rw (u-len d a h) (omega arith) in
       let u-is : numbers d (a .degree) (D .u) ≡ a .u =
-      row-back (a .u) (D .u) (h .u-length) (h .u-range) (h .u-blank) (coeff-u-below d a h) in
+      row-back (a .u) (D .u) (h .three .u-three) (h .u-range) (h .u-blank) (coeff-u-below d a h) in
       let v-is : numbers d (a .degree) (D .v) ≡ a .v =
-      row-back (a .v) (D .v) (h .v-length) (h .v-range) (h .v-blank) (λ i _. coeff-v d a h i) in
+      row-back (a .v) (D .v) (h .three .v-three) (h .v-range) (h .v-blank) (λ i _. coeff-v d a h i) in
       ap (λ n. as-class n (numbers d n (D .u)) (numbers d n (D .v))) n-is ∙ ap₂ (as-class (a .degree)) u-is v-is
     where
       as-class : ℕ → List ℕ → List ℕ → Class
       as-class n u v = record { degree = n; u = u; v = v }
 
--- ---- the value of a reduced class
+-- ---- the value of a pair, and of a reduced class
+pub class-of-three : (d : ℕ) (D : Pair (Poly d)) → Three (class-of d D)
+unfolding class-of
+class-of-three d D = record { u-three = numbers-length d _ (D .u); v-three = numbers-length d _ (D .v) }
+
 module _ (d : ℕ) (C : Theory.Curve (𝔸 d)) (D : Pair (Poly d)) (h : Reduced C D) where
   degree-suc : 𝔸 d .len (D .u) ≡ suc (𝔸 d .len (D .u) - 1)
   degree-suc = let l : 𝔸 d .len (D .v) < 𝔸 d .len (D .u) = h .v-len in omega arith
@@ -149,8 +157,7 @@ module _ (d : ℕ) (C : Theory.Curve (𝔸 d)) (D : Pair (Poly d)) (h : Reduced 
   class-of-is-formed =
       let n = 𝔸 d .len (D .u) - 1 in
       record {
-        u-length = numbers-length d n (D .u);
-        v-length = numbers-length d n (D .v);
+        three = class-of-three d D;
         degree-le = degree-le-3;
         u-blank = numbers-past d n (D .u);
         v-blank = numbers-past d n (D .v);
