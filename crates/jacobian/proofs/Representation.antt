@@ -4,6 +4,7 @@ use Prim.Native.Nat.{ℕ, suc, _≤_, _^_}
 use mathlib.Core.Path.{_≡_, sym, _∙_, ap}
 use mathlib.Core.Bool.{true}
 use mathlib.Core.List.{List}
+use mathlib.Core.Logic.{_↔_}
 use native.Mathlib.Omega.{arith}
 use Rattle.char2_algebra.specs.Divides.{Divides}
 use Rattle.char2_algebra.proofs.Degree.{len-zero, len-nought}
@@ -96,3 +97,11 @@ module _ (c : Curve) (ok : curve-refusal c ≡ 0) where
   pub pair-injective : (a b : Class) → Three a → Three b → class-refusal c a ≡ 0 → class-refusal c b ≡ 0
       → pair (c .degree) a ≡ pair (c .degree) b → a ≡ b
   pair-injective a b p q h k e = sym (class-of-pair a p h) ∙ ap (class-of (c .degree)) e ∙ class-of-pair b q k
+
+  -- the values that are accepted are those of the reduced classes
+  pub accepted-iff : (a : Class) → Three a
+      → (class-refusal c a ≡ 0) ↔ ((D : Pair (Poly (c .degree))) × Reduced (curve c) D × (a ≡ class-of (c .degree) D))
+  accepted-iff a three = (
+    λ e. (pair (c .degree) a, accepted-reduced a three e, sym (class-of-pair a three e)),
+    λ t. rw (t .2) (class-of-accepted (t .0) (t .1)),
+  )
