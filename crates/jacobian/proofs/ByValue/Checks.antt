@@ -4,17 +4,18 @@ use mathlib.Core.Path.{_≡_, refl, sym, _∙_}
 use mathlib.Core.Bool.{Bool, true, false, cond, _&&_, _||_}
 use mathlib.Core.List.{List, [], _∷_}
 use native.Mathlib.Omega.{arith}
-use lib.Dec.{T, eqb, ltb, leb}
+use lib.Dec.{T, eqb, ltb, leb, lit≤}
 use lib.ListN.{getD, drop}
 use borrow.Author.Tests.{ltb-true, leb-true, eqb-true}
 use Rattle.binary_field.specs.Element.{Accepted}
 use Rattle.class_group.specs.Mumford.{value}
 use Rattle.jacobian.specs.Field.{𝔸}
 use Rattle.jacobian.specs.Checks.{unless, _then_, below, blank}
-use Rattle.jacobian.specs.Curves.{curve-refusal, curve}
+use Rattle.jacobian.specs.Curves.{curve-refusal, f-row, curve}
 use Rattle.jacobian.specs.Classes.{pair, class-refusal}
 use Rattle.jacobian.specs.declared.Curve.{Curve}
 use Rattle.jacobian.specs.declared.Class.{Class}
+use Rattle.jacobian.proofs.ByValue.Degrees.{by-degree}
 
 -- ---- one check, and one after the other
 pub then-zero : (m n : ℕ) → m then n ≡ 0 → (m ≡ 0) × (n ≡ 0)
@@ -54,16 +55,34 @@ blank-past (suc n) [] e i h = refl
 blank-past (suc n) (x ∷ r) e zero h = absurd (omega arith)
 blank-past (suc n) (x ∷ r) e (suc i) h = blank-past n r e i (omega arith)
 
+-- a row a0, a1, 0, a3, 0, 0, 0, 1
+eight : (P : ℕ → Type 0) {a b d : ℕ} → P a → P b → P 0 → P d → P 1 → (i : ℕ) → P (getD (a ∷ b ∷ 0 ∷ d ∷ 0 ∷ 0 ∷ 0 ∷ 1 ∷ []) i 0)
+eight P a b z d o zero = a
+eight P a b z d o (suc zero) = b
+eight P a b z d o (suc (suc zero)) = z
+eight P a b z d o (suc (suc (suc zero))) = d
+eight P a b z d o (suc (suc (suc (suc zero)))) = z
+eight P a b z d o (suc (suc (suc (suc (suc zero))))) = z
+eight P a b z d o (suc (suc (suc (suc (suc (suc zero)))))) = z
+eight P a b z d o (suc (suc (suc (suc (suc (suc (suc zero))))))) = o
+eight P a b z d o (suc (suc (suc (suc (suc (suc (suc (suc i)))))))) = z
+
 -- ---- a curve that no check refuses
 pub record CurvePasses (c : Curve) : Type 0 where
   pub accepted : Accepted (c .degree)
-  pub coefficients : below (2 ^ c .degree) (c .f3 ∷ c .f1 ∷ c .f0 ∷ []) ≡ true
+  pub f-below : (i : ℕ) → getD (f-row c) i 0 < 2 ^ c .degree
 
 pub curve-passes : (c : Curve) → curve-refusal c ≡ 0 → CurvePasses c
-unfolding curve-refusal
+unfolding curve-refusal f-row
 curve-passes c e =
     let h = then-zero _ _ e in
-    record { accepted = T-of (unless-zero _ 105 (h .0)); coefficients = unless-zero _ 106 (h .1) }
+    let ok : Accepted (c .degree) = T-of (unless-zero _ 105 (h .0)) in
+    let two : 2 ≤ 2 ^ c .degree = by-degree (λ d. 2 ≤ 2 ^ d) (lit≤ tt) (lit≤ tt) (c .degree) ok in
+    let at = below-at _ _ (omega arith) (unless-zero _ 106 (h .1)) in
+    record {
+      accepted = ok;
+      f-below = eight (λ n. n < 2 ^ c .degree) (at 2) (at 1) (omega arith) (at 0) (omega arith);
+    }
 
 -- ---- a class that no check refuses
 pub record ClassPasses (c : Curve) (a : Class) : Type 0 where
