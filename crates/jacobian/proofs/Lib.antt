@@ -1,2 +1,6 @@
 -- Classes by value: lemmas that belong to no one function.
 pub mod Rows
+pub mod ByValue
+pub mod Representation
+pub mod Computing
+pub mod Examples

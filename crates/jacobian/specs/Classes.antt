@@ -1,19 +1,24 @@
--- A class by value, and the pair that it stands for (document 01, 'Curves and classes', 'The register').
-use Prim.Native.Nat.{ℕ, _-_, _^_}
-use mathlib.Core.Bool.{Bool, true, cond, _&&_, _||_}
+-- A class by value, and the pair that it stands for (document 01, 'Curves and classes', 'The register', 'In checking order').
+use Prim.Native.Nat.{ℕ, _-_, _^_, _≤_}
+use mathlib.Core.Path.{_≡_}
+use mathlib.Core.Bool.{cond, _&&_}
 use mathlib.Core.List.{List, [], _∷_, _++_}
 use lib.Dec.{eqb, ltb, leb}
-use lib.ListN.{getD, set}
+use lib.ListN.{length, take, drop}
 use Rattle.class_group.specs.Mumford.{Pair, value}
-use Rattle.jacobian.specs.Field.{degree-of, Poly, 𝔸, poly}
+use Rattle.jacobian.specs.Field.{Poly, 𝔸, poly}
+use Rattle.jacobian.specs.Row.{filled}
+use Rattle.jacobian.specs.Checks.{unless, _then_, below, blank}
+use Rattle.jacobian.specs.Curves.{curve}
 use Rattle.jacobian.specs.declared.Curve.{Curve}
 use Rattle.jacobian.specs.declared.Class.{Class}
-use Rattle.jacobian.specs.Curves.{curve}
+use Rattle.jacobian.specs.declared.row.RowPair.{RowPair}
 
--- u with its leading 1, which is not in the row
+-- u, the lowest coefficient first, with its leading 1, which is not in the row of the class
 unfoldable pub u-row : Class → List ℕ
-u-row a = set (a .u ++ (0 ∷ [])) (a .degree) 1
+u-row a = take (a .degree) (a .u) ++ 1 ∷ []
 
+-- the pair [u, v]
 unfoldable pub pair : (d : ℕ) → Class → Pair (Poly d)
 pair d a = record { u = poly d (u-row a); v = poly d (a .v) }
 
@@ -30,26 +35,23 @@ class-of d D =
     let n = 𝔸 d .len (D .u) - 1 in
     record { degree = n; u = numbers d n (D .u); v = numbers d n (D .v) }
 
--- a number at or past the degree is 0
-unfoldable pub blank-past : ℕ → List ℕ → Bool
-blank-past n r = free 0 && free 1 && free 2
-  where
-    free : ℕ → Bool
-    free i = ltb i n || eqb (getD r i 0) 0
-
-unfoldable pub all-below : ℕ → List ℕ → Bool
-all-below m r = ltb (getD r 0 0) m && ltb (getD r 1 0) m && ltb (getD r 2 0) m
-
 -- 104 for a degree above 3 or a number other than 0 at or past the degree, then 110 for a number of 2^d or more,
 -- then 111 where u does not divide v² + v + f; 0 where the class is accepted
 unfoldable pub class-refusal : Curve → Class → ℕ
 class-refusal c a =
     let d = c .degree in
     let D = pair d a in
-    cond
-    (leb (a .degree) 3 && blank-past (a .degree) (a .u) && blank-past (a .degree) (a .v))
-    (cond
-    (all-below (2 ^ degree-of d) (a .u) && all-below (2 ^ degree-of d) (a .v))
-    (cond (eqb (𝔸 d .len (𝔸 d .rem (value (curve c) (D .v)) (D .u))) 0) 0 111)
-    110)
-    104
+    unless (leb (a .degree) 3 && blank (drop (a .degree) (a .u)) && blank (drop (a .degree) (a .v))) 104
+    then unless (below (2 ^ d) (a .u) && below (2 ^ d) (a .v)) 110
+    then unless (eqb (𝔸 d .len (𝔸 d .rem (value (curve c) (D .v)) (D .u))) 0) 111
+
+-- the first n numbers of a row that has as many, then 1
+pub record Led (n : ℕ) (r t : List ℕ) : Type 0 where
+  pub is : t ≡ filled (take n r ++ 1 ∷ [])
+  pub long : n ≤ length r
+
+-- the rows are the pair of the class
+pub record RowsOf (a : Class) (r : RowPair) : Type 0 where
+  pub u-is : r .u ≡ filled (u-row a)
+  pub v-is : r .v ≡ filled (a .v)
+  pub u-long : a .degree ≤ length (a .u)

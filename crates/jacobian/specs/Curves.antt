@@ -1,28 +1,27 @@
 -- A curve by value: which are refused, and the f of those that are not (document 01, 'Curves and classes', 'In checking order').
 -- Nothing else names the coefficients f3, f1 and f0.
 use Prim.Native.Nat.{ℕ, _^_}
-use mathlib.Core.Bool.{cond, _&&_, _||_}
+use mathlib.Core.Bool.{_||_}
 use mathlib.Core.List.{List, [], _∷_}
-use lib.Dec.{eqb, ltb}
+use lib.Dec.{eqb}
 use lib.ListN.{getD}
 use Rattle.class_group.specs.Curve as Theory
 use Rattle.class_group.specs.Coefficients.{curve-of}
 use Rattle.jacobian.specs.Field.{F, 𝔸, el}
+use Rattle.jacobian.specs.Checks.{unless, _then_, below}
 use Rattle.jacobian.specs.declared.Curve.{Curve}
+
+-- 106 for a degree other than 5 and 61, then 107 for a coefficient of 2^d or more; 0 where the curve is accepted
+unfoldable pub curve-refusal : Curve → ℕ
+curve-refusal c =
+    unless (eqb (c .degree) 5 || eqb (c .degree) 61) 106
+    then unless (below (2 ^ c .degree) (c .f3 ∷ c .f1 ∷ c .f0 ∷ [])) 107
 
 -- f, the lowest coefficient first: f0 + f1 x + f3 x^3 + x^7
 unfoldable pub f-row : Curve → List ℕ
 f-row c = c .f0 ∷ c .f1 ∷ 0 ∷ c .f3 ∷ 0 ∷ 0 ∷ 0 ∷ 1 ∷ []
 
--- 106 for a degree other than 5 and 61, then 107 for a coefficient of 2^d or more; 0 where the curve is accepted
-unfoldable pub curve-refusal : Curve → ℕ
-curve-refusal c =
-    cond
-    (eqb (c .degree) 5 || eqb (c .degree) 61)
-    (cond (ltb (c .f3) (2 ^ c .degree) && ltb (c .f1) (2 ^ c .degree) && ltb (c .f0) (2 ^ c .degree)) 0 107)
-    106
-
--- the curve of the theory
+-- the curve of the theory: y² + y = f
 unfoldable pub curve : (c : Curve) → Theory.Curve (𝔸 (c .degree))
 unfolding 𝔸
 curve c = curve-of (F (c .degree)) (λ i. el (c .degree) (getD (f-row c) i 0))

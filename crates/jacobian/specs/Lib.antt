@@ -3,5 +3,8 @@ pub mod Field
 pub mod Row
 pub mod Bezout
 pub mod Core
+pub mod Checks
 pub mod Curves
 pub mod Classes
+pub mod Examples
+pub mod Answer

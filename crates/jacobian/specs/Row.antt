@@ -1,8 +1,8 @@
 -- What the functions on numbers and rows promise: numbers in range that stand for elements and polynomials.
-use Prim.Native.Nat.{ℕ, zero, suc, _≤_, _<_, _^_}
+use Prim.Native.Nat.{ℕ, zero, suc, _-_, _≤_, _<_, _^_}
 use mathlib.Core.Path.{_≡_}
-use mathlib.Core.List.{List}
-use lib.ListN.{getD}
+use mathlib.Core.List.{List, _++_}
+use lib.ListN.{length, getD, replicate}
 use Rattle.class_group.specs.Mumford.{Pair}
 use Rattle.jacobian.specs.Field.{degree-of, K, Poly, 𝔸, el, poly}
 use Rattle.jacobian.specs.declared.row.RowPair.{RowPair}
@@ -20,6 +20,10 @@ InRange d r = (i : ℕ) → getD r i 0 < 2 ^ degree-of d
 pub record Stands (d : ℕ) (r : List ℕ) (p : Poly d) : Type 0 where
   pub in-range : InRange d r
   pub stands : poly d r ≡ p
+
+-- a row of twelve places: the numbers, and 0 after them
+unfoldable pub filled : List ℕ → List ℕ
+filled r = r ++ replicate (12 - length r) 0
 
 -- the degree plus one of the polynomial that a row stands for
 abbrev pub row-len : ℕ → List ℕ → ℕ

@@ -1,5 +1,10 @@
 // Reduced divisor classes on y² + y = f(x) over GF(2^5) and GF(2^61), by value.
+ghost use mathlib.Core.Path.{_≡_};
+ghost use Rattle.jacobian.specs.Answer.{neutral-class};
+
+mod classes;
 mod composition;
+mod curves;
 mod element;
 mod euclid;
 mod half;
@@ -30,7 +35,9 @@ pub struct ClassAnswer {
 }
 
 // The neutral class [1, 0].
-pub fn neutral() -> Class {
+pub fn neutral() -> Class
+    ensures { λ r. ⌜ r ≡ neutral-class ⌝ }
+{
     Class {
         degree: 0,
         u: [0, 0, 0],

@@ -1,0 +1,5 @@
+-- Curves and classes by value.
+pub mod Threes
+pub mod Degrees
+pub mod Checks
+pub mod Pairs

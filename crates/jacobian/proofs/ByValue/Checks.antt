@@ -1,0 +1,111 @@
+-- What the checks of a curve and a class show where none of them refuses.
+use Prim.Native.Nat.{ℕ, zero, suc, _^_, _≤_, _<_}
+use mathlib.Core.Path.{_≡_, refl, sym, _∙_}
+use mathlib.Core.Bool.{Bool, true, false, cond, _&&_, _||_}
+use mathlib.Core.List.{List, [], _∷_}
+use native.Mathlib.Omega.{arith}
+use lib.Dec.{T, eqb, ltb, leb, lit≤}
+use lib.ListN.{getD, drop}
+use borrow.Author.Tests.{ltb-true, leb-true, eqb-true}
+use Rattle.binary_field.specs.Element.{Accepted}
+use Rattle.class_group.specs.Mumford.{value}
+use Rattle.jacobian.specs.Field.{𝔸}
+use Rattle.jacobian.specs.Checks.{unless, _then_, below, blank}
+use Rattle.jacobian.specs.Curves.{curve-refusal, f-row, curve}
+use Rattle.jacobian.specs.Classes.{pair, class-refusal}
+use Rattle.jacobian.specs.declared.Curve.{Curve}
+use Rattle.jacobian.specs.declared.Class.{Class}
+use Rattle.jacobian.proofs.ByValue.Degrees.{by-degree}
+
+-- ---- one check, and one after the other
+pub then-zero : (m n : ℕ) → m then n ≡ 0 → (m ≡ 0) × (n ≡ 0)
+unfolding _then_
+then-zero zero n e = (refl, e)
+then-zero (suc m) n e = absurd (omega arith)
+
+pub unless-zero : (b : Bool) (n : ℕ) → unless b (suc n) ≡ 0 → b ≡ true
+unfolding unless
+unless-zero true n e = refl
+unless-zero false n e = absurd (omega arith)
+
+both : (x y : Bool) → (x && y) ≡ true → (x ≡ true) × (y ≡ true)
+both true y e = (refl, e)
+both false true e = (e, refl)
+both false false e = (e, e)
+
+T-of : {x : Bool} → x ≡ true → T x
+T-of e = rw e tt
+
+-- ---- rows
+pub below-at : (m : ℕ) (r : List ℕ) → 0 < m → below m r ≡ true → (i : ℕ) → getD r i 0 < m
+unfolding below
+below-at m [] h e i = h
+below-at m (n ∷ r) h e zero = ltb-true n m (both (ltb n m) (below m r) e .0)
+below-at m (n ∷ r) h e (suc i) = below-at m r h (both (ltb n m) (below m r) e .1) i
+
+blank-at : (r : List ℕ) → blank r ≡ true → (i : ℕ) → getD r i 0 ≡ 0
+unfolding blank
+blank-at [] e i = refl
+blank-at (n ∷ r) e zero = eqb-true n 0 (both (eqb n 0) (blank r) e .0)
+blank-at (n ∷ r) e (suc i) = blank-at r (both (eqb n 0) (blank r) e .1) i
+
+pub blank-past : (n : ℕ) (r : List ℕ) → blank (drop n r) ≡ true → (i : ℕ) → n ≤ i → getD r i 0 ≡ 0
+blank-past zero r e i h = blank-at r e i
+blank-past (suc n) [] e i h = refl
+blank-past (suc n) (x ∷ r) e zero h = absurd (omega arith)
+blank-past (suc n) (x ∷ r) e (suc i) h = blank-past n r e i (omega arith)
+
+-- a row a0, a1, 0, a3, 0, 0, 0, 1
+eight : (P : ℕ → Type 0) {a b d : ℕ} → P a → P b → P 0 → P d → P 1 → (i : ℕ) → P (getD (a ∷ b ∷ 0 ∷ d ∷ 0 ∷ 0 ∷ 0 ∷ 1 ∷ []) i 0)
+eight P a b z d o zero = a
+eight P a b z d o (suc zero) = b
+eight P a b z d o (suc (suc zero)) = z
+eight P a b z d o (suc (suc (suc zero))) = d
+eight P a b z d o (suc (suc (suc (suc zero)))) = z
+eight P a b z d o (suc (suc (suc (suc (suc zero))))) = z
+eight P a b z d o (suc (suc (suc (suc (suc (suc zero)))))) = z
+eight P a b z d o (suc (suc (suc (suc (suc (suc (suc zero))))))) = o
+eight P a b z d o (suc (suc (suc (suc (suc (suc (suc (suc i)))))))) = z
+
+-- ---- a curve that no check refuses
+pub record CurvePasses (c : Curve) : Type 0 where
+  pub accepted : Accepted (c .degree)
+  pub f-below : (i : ℕ) → getD (f-row c) i 0 < 2 ^ c .degree
+
+pub curve-passes : (c : Curve) → curve-refusal c ≡ 0 → CurvePasses c
+unfolding curve-refusal f-row
+curve-passes c e =
+    let h = then-zero _ _ e in
+    let ok : Accepted (c .degree) = T-of (unless-zero _ 105 (h .0)) in
+    let two : 2 ≤ 2 ^ c .degree = by-degree (λ d. 2 ≤ 2 ^ d) (lit≤ tt) (lit≤ tt) (c .degree) ok in
+    let at = below-at _ _ (omega arith) (unless-zero _ 106 (h .1)) in
+    record {
+      accepted = ok;
+      f-below = eight (λ n. n < 2 ^ c .degree) (at 2) (at 1) (omega arith) (at 0) (omega arith);
+    }
+
+-- ---- a class that no check refuses
+pub record ClassPasses (c : Curve) (a : Class) : Type 0 where
+  pub low : a .degree ≤ 3
+  pub u-blank : (i : ℕ) → a .degree ≤ i → getD (a .u) i 0 ≡ 0
+  pub v-blank : (i : ℕ) → a .degree ≤ i → getD (a .v) i 0 ≡ 0
+  pub u-below : below (2 ^ c .degree) (a .u) ≡ true
+  pub v-below : below (2 ^ c .degree) (a .v) ≡ true
+  pub divides : 𝔸 (c .degree) .len (𝔸 (c .degree) .rem (value (curve c) (pair (c .degree) a .v)) (pair (c .degree) a .u)) ≡ 0
+
+pub class-passes : (c : Curve) (a : Class) → class-refusal c a ≡ 0 → ClassPasses c a
+unfolding class-refusal
+class-passes c a e =
+    let h = then-zero _ _ e in
+    let k = then-zero _ _ (h .1) in
+    let shape = both _ _ (unless-zero _ 103 (h .0)) in
+    let degree = both _ _ (shape .0) in
+    let range = both _ _ (unless-zero _ 109 (k .0)) in
+    record {
+      low = leb-true _ _ (degree .0);
+      u-blank = blank-past (a .degree) (a .u) (degree .1);
+      v-blank = blank-past (a .degree) (a .v) (shape .1);
+      u-below = range .0;
+      v-below = range .1;
+      divides = eqb-true _ _ (unless-zero _ 110 (k .1));
+    }

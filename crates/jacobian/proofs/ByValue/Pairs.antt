@@ -1,0 +1,32 @@
+-- The class by value of a pair of rows.
+use Prim.Native.Nat.{ℕ, _-_, _<_}
+use mathlib.Core.Path.{_≡_, refl, sym, _∙_, ap}
+use mathlib.Core.Bool.{cond}
+use mathlib.Core.List.{List, [], _∷_}
+use lib.Dec.{ltb}
+use lib.ListN.{getD}
+use Rattle.jacobian.specs.Field.{𝔸, poly}
+use Rattle.jacobian.specs.Row.{InRange, row-len, rows-pair}
+use Rattle.jacobian.specs.Classes.{numbers, class-of}
+use Rattle.jacobian.specs.declared.Class.{Class}
+use Rattle.jacobian.specs.declared.row.RowPair.{RowPair}
+use Rattle.jacobian.proofs.Rows.Elements.{el-number}
+use Rattle.jacobian.proofs.Rows.Coefficients.{coeff-poly}
+
+-- the numbers of a row below place n, in a row of three
+abbrev pub first : ℕ → List ℕ → List ℕ
+first n r = cond (ltb 0 n) (getD r 0 0) 0 ∷ cond (ltb 1 n) (getD r 1 0) 0 ∷ cond (ltb 2 n) (getD r 2 0) 0 ∷ []
+
+module _ (d : ℕ) where
+  number-at : (r : List ℕ) → InRange d r → (i : ℕ) → (𝔸 d .coeff (poly d r) i) .0 ≡ getD r i 0
+  number-at r h i = ap (λ a. a .0) (coeff-poly d r i) ∙ el-number d (getD r i 0) (h i)
+
+  pub numbers-of : (n : ℕ) (r : List ℕ) → InRange d r → numbers d n (poly d r) ≡ first n r
+  unfolding numbers
+  numbers-of n r h = simp (number-at r h)
+
+  pub class-of-rows :
+      (a : RowPair) → InRange d (a .u) → InRange d (a .v)
+      → (n : ℕ) → row-len d (a .u) - 1 ≡ n → class-of d (rows-pair d a) ≡ record { degree = n; u = first n (a .u); v = first n (a .v) }
+  unfolding class-of rows-pair
+  class-of-rows a h k n e = simp (e, numbers-of n (a .u) h, numbers-of n (a .v) k)

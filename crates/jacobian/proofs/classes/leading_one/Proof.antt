@@ -1,0 +1,85 @@
+-- `leading_one` meets its contract, by the degree.
+use Prim.Native.Nat.{ℕ, _≤_}
+use mathlib.Core.Path.{_≡_, refl}
+use mathlib.Core.List.{List, [], _∷_}
+use native.Mathlib.Omega.{arith}
+use lib.ListN.{getD}
+use Rattle.jacobian.specs.Row.{filled}
+use Rattle.jacobian.specs.Classes.{Led}
+use Rattle.jacobian.proofs.ByValue.Threes.{by-three, is-three}
+use borrow.Author.Needs.{needs}
+use Rattle.jacobian.proofs.classes.leading_one.Statement.{statement}
+use Rattle.jacobian.proofs.classes.leading_one.Tie as tie
+
+returns : tie.Need-returns
+unfolding filled
+returns c =
+    let n = c .before .args .n in
+    by-three (λ r. n ≡ 0 → Led n r (1 ∷ 0 ∷ 0 ∷ 0 ∷ 0 ∷ 0 ∷ 0 ∷ 0 ∷ 0 ∷ 0 ∷ 0 ∷ 0 ∷ []))
+    (λ x y z e. record { is = rw e; long = omega arith })
+    (c .before .args .t2)
+    (c .before .good .1 .0 .1 .0 .1)
+    (c .if1 .taken)
+
+array-read-t7 : tie.Need-array-read-t7
+array-read-t7 c = search needs
+
+returns-2 : tie.Need-returns-2
+unfolding filled
+returns-2 c =
+    let n = c .before .before .args .n in
+    by-three (λ r. n ≡ 1 → Led n r (getD r 0 0 ∷ 1 ∷ 0 ∷ 0 ∷ 0 ∷ 0 ∷ 0 ∷ 0 ∷ 0 ∷ 0 ∷ 0 ∷ 0 ∷ []))
+    (λ x y z e. record { is = rw e; long = omega arith })
+    (c .before .before .args .t2)
+    (c .before .before .good .1 .0 .1 .0 .1)
+    (c .if2 .taken)
+
+array-read-t10 : tie.Need-array-read-t10
+array-read-t10 c = search needs
+
+array-read-t13 : tie.Need-array-read-t13
+array-read-t13 c = search needs
+
+returns-3 : tie.Need-returns-3
+unfolding filled
+returns-3 c =
+    let n = c .before .before .before .args .n in
+    by-three (λ r. n ≡ 2 → Led n r (getD r 0 0 ∷ getD r 1 0 ∷ 1 ∷ 0 ∷ 0 ∷ 0 ∷ 0 ∷ 0 ∷ 0 ∷ 0 ∷ 0 ∷ 0 ∷ []))
+    (λ x y z e. record { is = rw e; long = omega arith })
+    (c .before .before .before .args .t2)
+    (c .before .before .before .good .1 .0 .1 .0 .1)
+    (c .if3 .taken)
+
+array-read-t16 : tie.Need-array-read-t16
+array-read-t16 c = search needs
+
+array-read-t19 : tie.Need-array-read-t19
+array-read-t19 c = search needs
+
+array-read-t22 : tie.Need-array-read-t22
+array-read-t22 c = search needs
+
+returns-4 : tie.Need-returns-4
+unfolding filled
+returns-4 c =
+    let n = c .before .before .before .args .n in
+    by-three (λ r. n ≡ 3 → Led n r (getD r 0 0 ∷ getD r 1 0 ∷ getD r 2 0 ∷ 1 ∷ 0 ∷ 0 ∷ 0 ∷ 0 ∷ 0 ∷ 0 ∷ 0 ∷ 0 ∷ []))
+    (λ x y z e. record { is = rw e; long = omega arith })
+    (c .before .before .before .args .t2)
+    (c .before .before .before .good .1 .0 .1 .0 .1)
+    (is-three (c .before .before .before .pre) (c .before .before .if1 .left) (c .before .if2 .left) (c .if3 .left))
+
+pub leading-one-spec : {M : Type 1} → statement M
+leading-one-spec =
+    tie.close
+    (tie.spec
+    returns
+    array-read-t7
+    returns-2
+    array-read-t10
+    array-read-t13
+    returns-3
+    array-read-t16
+    array-read-t19
+    array-read-t22
+    returns-4)

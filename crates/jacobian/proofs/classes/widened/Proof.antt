@@ -1,0 +1,27 @@
+-- `widened` meets its contract.
+use mathlib.Core.Path.{_≡_, refl}
+use mathlib.Core.List.{List, [], _∷_}
+use lib.ListN.{getD}
+use Rattle.jacobian.specs.Row.{filled}
+use Rattle.jacobian.proofs.ByValue.Threes.{by-three}
+use borrow.Author.Needs.{needs}
+use Rattle.jacobian.proofs.classes.widened.Statement.{statement}
+use Rattle.jacobian.proofs.classes.widened.Tie as tie
+
+array-read-t5 : tie.Need-array-read-t5
+array-read-t5 c = search needs
+
+array-read-t8 : tie.Need-array-read-t8
+array-read-t8 c = search needs
+
+array-read-t11 : tie.Need-array-read-t11
+array-read-t11 c = search needs
+
+returns : tie.Need-returns
+unfolding filled
+returns c =
+    by-three (λ r. getD r 0 0 ∷ getD r 1 0 ∷ getD r 2 0 ∷ 0 ∷ 0 ∷ 0 ∷ 0 ∷ 0 ∷ 0 ∷ 0 ∷ 0 ∷ 0 ∷ [] ≡ filled r) (λ x y z. refl) (c .args .t1)
+    (c .good .0 .1 .0 .1)
+
+pub widened-spec : {M : Type 1} → statement M
+widened-spec = tie.close (tie.spec array-read-t5 array-read-t8 array-read-t11 returns)

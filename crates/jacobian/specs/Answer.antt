@@ -1,0 +1,69 @@
+-- What the calls on classes by value answer, refusals included (document 01, 'Curves and classes', 'The register', 'In checking order').
+use Prim.Native.Nat.{ℕ, zero, suc}
+use mathlib.Core.List.{[], _∷_}
+use Rattle.class_group.specs.Mumford.{Pair, opposite}
+use Rattle.class_group.specs.Reduction.{Counted}
+use Rattle.class_group.specs.Operations.{sum, double, counted-sum, counted-double}
+use Rattle.class_group.specs.Half.{half}
+use Rattle.jacobian.specs.Field.{Poly}
+use Rattle.jacobian.specs.Checks.{_then_}
+use Rattle.jacobian.specs.Curves.{curve-refusal, curve}
+use Rattle.jacobian.specs.Classes.{pair, class-of, class-refusal}
+use Rattle.jacobian.specs.declared.Curve.{Curve}
+use Rattle.jacobian.specs.declared.Class.{Class}
+use Rattle.jacobian.specs.declared.Outcome.{Outcome}
+use Rattle.jacobian.specs.declared.Outcome.the-variants.{Accepted, Refused}
+use Rattle.jacobian.specs.declared.ClassAnswer.{ClassAnswer}
+
+-- an outcome is acceptance or a refusal with its number
+pub data Verdict : Type 0 where
+  accepted : Verdict
+  refused : ℕ → Verdict
+
+-- what each case of the code's outcome says
+abbrev pub verdict : Outcome → Verdict
+verdict Accepted = accepted
+verdict (Refused n) = refused n
+
+-- the refusal that is due to a call on one class, and to a call on two: 0 where none is
+unfoldable pub refusal : Curve → Class → ℕ
+refusal c a = curve-refusal c then class-refusal c a
+
+unfoldable pub refusal-of-two : Curve → Class → Class → ℕ
+refusal-of-two c a b = curve-refusal c then class-refusal c a then class-refusal c b
+
+unfoldable pub verdict-of : ℕ → Verdict
+verdict-of zero = accepted
+verdict-of (suc n) = refused (suc n)
+
+-- [1, 0] by value
+unfoldable pub neutral-class : Class
+neutral-class = record { degree = 0; u = 0 ∷ 0 ∷ 0 ∷ []; v = 0 ∷ 0 ∷ 0 ∷ [] }
+
+-- the answer of a call that gives a class
+pub record Reply : Type 0 where
+  pub outcome : Verdict
+  pub class : Class
+
+abbrev pub reply : ClassAnswer → Reply
+reply r = record { outcome = verdict (r .outcome); class = r .class }
+
+-- the class where no refusal is due, and else the refusal with the neutral class
+unfoldable pub answered : (d : ℕ) → ℕ → Pair (Poly d) → Reply
+answered d zero D = record { outcome = accepted; class = class-of d D }
+answered d (suc n) D = record { outcome = refused (suc n); class = neutral-class }
+
+unfoldable pub membership-answer : Curve → Class → Verdict
+membership-answer c a = verdict-of (refusal c a)
+
+unfoldable pub opposite-answer : Curve → Class → Reply
+opposite-answer c a = let d = c .degree in answered d (refusal c a) (opposite (curve c) (pair d a))
+
+unfoldable pub double-answer : Curve → Class → Reply
+double-answer c a = let d = c .degree in answered d (refusal c a) (double (curve c) (pair d a))
+
+unfoldable pub half-answer : Curve → Class → Reply
+half-answer c a = let d = c .degree in answered d (refusal c a) (half (curve c) (pair d a))
+
+unfoldable pub sum-answer : Curve → Class → Class → Reply
+sum-answer c a b = let d = c .degree in answered d (refusal-of-two c a b) (sum (curve c) (pair d a) (pair d b))

@@ -1,0 +1,25 @@
+-- How a call's checks are said (document 01, 'In checking order'): one after the other, and the first that fails gives the refusal's number.
+use Prim.Native.Nat.{ℕ, zero, suc}
+use mathlib.Core.Bool.{Bool, true, cond, _&&_}
+use mathlib.Core.List.{List, [], _∷_}
+use lib.Dec.{eqb, ltb}
+
+infixr 20 _then_
+-- the refusal with number n, unless the test holds; 0 is no refusal
+unfoldable pub unless : Bool → ℕ → ℕ
+unless holds n = cond holds 0 n
+
+-- the refusal that is due first
+unfoldable pub _then_ : ℕ → ℕ → ℕ
+_then_ zero m = m
+_then_ (suc n) m = suc n
+
+-- every number is below m
+unfoldable pub below : ℕ → List ℕ → Bool
+below m [] = true
+below m (n ∷ ns) = ltb n m && below m ns
+
+-- every number is 0
+unfoldable pub blank : List ℕ → Bool
+blank [] = true
+blank (n ∷ ns) = eqb n 0 && blank ns
