@@ -10,8 +10,8 @@ use Rattle.char2_algebra.specs.Lead.{lead, Monic, monic-of}
 use Rattle.char2_algebra.specs.Euclid.{Bezout, Bezout3, bezout-to, bezout, bezout3}
 use Rattle.char2_algebra.proofs.Ring.{ring2, +-𝟘, 𝟘-·, by, both, combine}
 use Rattle.char2_algebra.proofs.Degree.{len-zero, nonzero-of-len}
-use Rattle.char2_algebra.proofs.Divides.{divides-eq, divides-nought, divides-add, divides-mul, divides-trans, divides-by-eq, nought-divides}
-use Rattle.char2_algebra.proofs.Lead.{monic-of-monic, monic-of-divides, monic-nonzero, monic-antisym}
+use Rattle.char2_algebra.proofs.Divides.{divides-eq, divides-nought, divides-add, divides-mul, divides-trans, divides-by-eq, nought-divides, one-divides}
+use Rattle.char2_algebra.proofs.Lead.{monic-of-monic, monic-of-divides, monic-nonzero, monic-antisym, monic-one}
 
 -- from g = s b + t r and a = q b + r
 back-substitution : {A : Type 0} (R : Ring2 A) (a b g q r s t : A) → g ≡ R .add (R .mul s b) (R .mul t r) → a ≡ R .add (R .mul q b) r
@@ -87,19 +87,31 @@ module _ {K P : Type 0} {F : Field2 K} (A : Polynomials F P) where
   unfolding bezout
   bezout-is a b = bezout-to-is (suc (len b)) a b (omega arith)
 
-  -- and of three
+  -- of three: of two of them first, then of their divisor and the third
+  pub bezout-twice : {a b c : P} {B B' : Bezout P} → IsBezout a b B → IsBezout (B .g) c B'
+      → IsBezout3 a b c (record { e = B' .g; s1 = B' .s · B .s; s2 = B' .s · B .t; s3 = B' .t })
+  bezout-twice {a} {b} {c} first second = record {
+    combination = substitution R a b c _ _ _ _ _ _ (first .combination) (second .combination);
+    divides-first = divides-trans R (second .divides-first) (first .divides-first);
+    divides-second = divides-trans R (second .divides-first) (first .divides-second);
+    divides-third = second .divides-second;
+    monic = λ h. second .monic (λ z. h (nought-divides R (divides-by-eq R (z .0) (first .divides-first)), nought-divides R (divides-by-eq R (z .0) (first .divides-second)), z .1));
+  }
+
   pub bezout3-is : (a b c : P) → IsBezout3 a b c (bezout3 A a b c)
   unfolding bezout3
-  bezout3-is a b c =
-      let first : IsBezout a b (bezout A a b) = bezout-is a b in
-      let second : IsBezout (bezout A a b .g) c (bezout A (bezout A a b .g) c) = bezout-is (bezout A a b .g) c in
-      record {
-        combination = substitution R a b c _ _ _ _ _ _ (first .combination) (second .combination);
-        divides-first = divides-trans R (second .divides-first) (first .divides-first);
-        divides-second = divides-trans R (second .divides-first) (first .divides-second);
-        divides-third = second .divides-second;
-        monic = λ h. second .monic (λ z. h (nought-divides R (divides-by-eq R (z .0) (first .divides-first)), nought-divides R (divides-by-eq R (z .0) (first .divides-second)), z .1));
-      }
+  bezout3-is a b c = bezout-twice (bezout-is a b) (bezout-is (bezout A a b .g) c)
+
+  -- where the divisor of two is 1, the third is not needed
+  pub bezout-coprime : {a b : P} {B : Bezout P} (c : P) → IsBezout a b B → B .g ≡ 𝟙
+      → IsBezout3 a b c (record { e = B .g; s1 = B .s; s2 = B .t; s3 = 𝟘 })
+  bezout-coprime {a} {b} {B} c i e = record {
+    combination = i .combination ∙ sym (ap (λ z. B .s · a + B .t · b + z) (𝟘-· R c) ∙ +-𝟘 R _);
+    divides-first = i .divides-first;
+    divides-second = i .divides-second;
+    divides-third = divides-by-eq R (sym e) (one-divides R c);
+    monic = λ _. ap (lead A) e ∙ monic-one A;
+  }
 
   -- the greatest: every common divisor divides it
   pub bezout-greatest : {a b d : P} {B : Bezout P} → IsBezout a b B → Divides R d a → Divides R d b → Divides R d (B .g)
