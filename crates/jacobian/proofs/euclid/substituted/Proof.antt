@@ -1,0 +1,28 @@
+-- `substituted`: the coefficients that one step of Euclid's rule gives.
+use mathlib.Core.Path.{refl, _∙_, ap}
+use borrow.Author.Needs.{needs}
+use Rattle.jacobian.specs.Field.{𝔸, poly}
+use Rattle.jacobian.proofs.euclid.substituted.Statement.{statement}
+use Rattle.jacobian.proofs.euclid.substituted.Tie as tie
+
+multiply-requires : tie.Need-multiply-requires
+multiply-requires c κs = search needs
+
+add-rows-requires : tie.Need-add-rows-requires
+add-rows-requires c κs = search needs
+
+returns : tie.Need-returns
+returns c =
+    let s = c .before .before .before .before .before in
+    let d = s .args .d in
+    record {
+      g-is = refl;
+      s-is = refl;
+      t-stands = record {
+        in-range = c .add-rows .ensures .in-range;
+        stands = c .add-rows .ensures .stands ∙ ap (𝔸 d .ring .add (poly d (s .args .r .s))) (c .before .multiply .ensures .stands);
+      };
+    }
+
+pub substituted-spec : {M : Type 1} → statement M
+substituted-spec = tie.close (tie.spec multiply-requires add-rows-requires returns)
