@@ -1,0 +1,2 @@
+-- Classes by value: lemmas that belong to no one function.
+pub mod Rows
