@@ -1,2 +1,5 @@
 -- Classes by value: lemmas that belong to no one function.
 pub mod Rows
+pub mod ReductionSteps
+pub mod ReductionRows
+pub mod DoubleRows
