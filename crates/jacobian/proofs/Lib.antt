@@ -1,3 +1,6 @@
 -- Classes by value: lemmas that belong to no one function.
 pub mod Rows
 pub mod Bezout
+pub mod ReductionSteps
+pub mod ReductionRows
+pub mod DoubleRows

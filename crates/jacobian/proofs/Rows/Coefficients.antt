@@ -26,6 +26,9 @@ module _ (d : ℕ) where
   pub self-stands : (r : List ℕ) → InRange d r → Stands d r (poly d r)
   self-stands r h = record { in-range = h; stands = refl }
 
+  pub stands-eq : {r : List ℕ} {p q : Poly d} → p ≡ q → Stands d r p → Stands d r q
+  stands-eq e s = record { in-range = s .in-range; stands = s .stands ∙ e }
+
   -- the length of the polynomial
   pub row-len-le : (r : List ℕ) (n : ℕ) → ((i : ℕ) → n ≤ i → getD r i 0 ≡ 0) → row-len d r ≤ n
   row-len-le r n h = len-bound (𝔸 d) (poly d r) n (λ i k. coeff-poly r i ∙ ap (el d) (h i k) ∙ el-zero d)
