@@ -4,3 +4,4 @@ pub mod Bezout
 pub mod ReductionSteps
 pub mod ReductionRows
 pub mod DoubleRows
+pub mod ComposeRows

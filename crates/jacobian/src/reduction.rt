@@ -31,7 +31,7 @@ struct Squared {
 }
 
 // (v² + v + f) / u.
-fn cofactor(d: u8, f: [u64; 12], a: RowPair) -> [u64; 12]
+pub(crate) fn cofactor(d: u8, f: [u64; 12], a: RowPair) -> [u64; 12]
     requires { ⌜ Accepted d × SemiReducedRows d f a ⌝ }
     ensures { λ r. ⌜ CofactorRow d f a r ⌝ }
 {
