@@ -22,3 +22,4 @@ pub mod LiftCoefficients
 pub mod Rows
 pub mod EvenRoot
 pub mod HalfChain
+pub mod Halving

@@ -1,13 +1,12 @@
 -- The polynomial that a row stands for, by its coefficients: the i-th is the element of the i-th number. Length from the noughts at the end.
-use Prim.Native.Nat.{ℕ, zero, suc, _≤_, _<_, _^_}
+use Prim.Native.Nat.{ℕ, suc, _≤_}
 use mathlib.Core.Path.{_≡_, refl, sym, _∙_, ap}
 use mathlib.Core.List.{List, map}
 use native.Mathlib.Omega.{arith}
-use native.Mathlib.Decide.{decLe}
 use lib.ListN.{length, getD, List·getD-map, List·getD-eq-default}
 use Rattle.char2_algebra.proofs.OfList.{coeff-of}
 use Rattle.char2_algebra.proofs.Degree.{len-bound, len-is}
-use Rattle.jacobian.specs.Field.{degree-of, K, F, Poly, 𝔸, el, poly}
+use Rattle.jacobian.specs.Field.{F, Poly, 𝔸, el, poly}
 use Rattle.jacobian.specs.Row.{InRange, Stands, row-len}
 use Rattle.jacobian.proofs.Rows.Elements.{el-zero, zero-of-nought, el-nonzero}
 

@@ -1,17 +1,17 @@
 -- The leading number of a row that stands for no 0: where it stands, the row without it, and the row made monic.
-use Prim.Native.Nat.{ℕ, suc, _-_, _≤_, _<_, _^_}
-use mathlib.Core.Path.{_≡_, refl, sym, _∙_, ap, ap₂}
+use Prim.Native.Nat.{ℕ, suc, _-_, _≤_, _<_}
+use mathlib.Core.Path.{_≡_, sym, _∙_, ap, ap₂}
 use mathlib.Core.List.{List}
 use native.Mathlib.Omega.{arith}
 use native.Mathlib.Decide.{ℕ-discrete}
-use lib.ListN.{length, getD, set, length-set, List·getD-eq-default}
+use lib.ListN.{length, getD, set}
 use lib.Seq.{getD-set-same, getD-set-other}
 use Rattle.field_laws.specs.Ring.{Ring2}
-use Rattle.char2_algebra.specs.Lead.{lead, monic-of, Monic}
+use Rattle.char2_algebra.specs.Lead.{lead, monic-of}
 use Rattle.char2_algebra.proofs.Ring.{ring2, 𝟘-+, ·-𝟘, ·-comm}
 use Rattle.char2_algebra.proofs.Degree.{len-nonzero, con-mul}
 use Rattle.char2_algebra.proofs.Lead.{lead-is, monic-of-fixed}
-use Rattle.jacobian.specs.Field.{degree-of, K, F, Poly, 𝔸, el, poly}
+use Rattle.jacobian.specs.Field.{F, Poly, 𝔸, el, poly}
 use Rattle.jacobian.specs.Row.{Is, InRange, Stands, row-len, x-power}
 use Rattle.jacobian.proofs.Rows.Elements.{zero-lt, one-lt, el-zero, el-one, el-nonzero}
 use Rattle.jacobian.proofs.Rows.Coefficients.{coeff-poly, row-len-le, row-len-length, zero-past, top-nonzero, self-stands, stands-eq}

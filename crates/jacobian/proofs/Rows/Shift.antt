@@ -3,13 +3,13 @@ use Prim.Native.Nat.{ℕ, zero, suc, _+_, _≤_, _<_}
 use mathlib.Core.Path.{_≡_, refl, sym, _∙_, ap, ap₂}
 use mathlib.Core.List.{List}
 use native.Mathlib.Omega.{arith}
-use native.Mathlib.Decide.{decLe, ℕ-discrete}
+use native.Mathlib.Decide.{ℕ-discrete}
 use lib.ListN.{length, getD, set}
 use lib.Seq.{getD-set-same, getD-set-other}
-use Rattle.char2_algebra.proofs.Ring.{+-𝟘, 𝟘-+, +-cancel, +-comm, ·-𝟙, 𝟙-·, ·-𝟘, ·-assoc}
-use Rattle.char2_algebra.proofs.Degree.{coeff-one, coeff-one-suc, coeff-nought}
+use Rattle.char2_algebra.proofs.Ring.{+-𝟘, 𝟘-+, ·-𝟙, 𝟙-·, ·-𝟘, ·-assoc}
+use Rattle.char2_algebra.proofs.Degree.{coeff-one, coeff-one-suc}
 use Rattle.jacobian.specs.Field.{K, F, Poly, 𝔸, el, poly}
-use Rattle.jacobian.specs.Row.{InRange, x-power}
+use Rattle.jacobian.specs.Row.{x-power}
 use Rattle.jacobian.proofs.Rows.Elements.{el-zero}
 use Rattle.jacobian.proofs.Rows.Coefficients.{coeff-poly, poly-is}
 

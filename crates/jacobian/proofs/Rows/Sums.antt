@@ -1,6 +1,6 @@
 -- Coefficients of what the row functions compute, in the words of their loops: a + c x^s b, c a, the square, the square root.
 use Prim.Native.Nat.{ℕ, zero, suc, _+_, _≤_, _<_}
-use mathlib.Core.Path.{_≡_, refl, sym, _∙_, ap, ap₂}
+use mathlib.Core.Path.{_≡_, sym, _∙_, ap, ap₂}
 use mathlib.Core.List.{List}
 use native.Mathlib.Omega.{arith}
 use lib.ListN.{getD}
@@ -12,7 +12,7 @@ use Rattle.char2_algebra.proofs.Degree.{len-zero, len-nought, con-nought, con-o
 use Rattle.char2_algebra.proofs.Product.{len-mul-le}
 use Rattle.char2_algebra.proofs.Square.{coeff-square-even, coeff-square-odd}
 use Rattle.jacobian.specs.Field.{K, F, Poly, 𝔸, el, poly}
-use Rattle.jacobian.specs.Row.{Is, InRange, x-power}
+use Rattle.jacobian.specs.Row.{Is, x-power}
 use Rattle.jacobian.proofs.Rows.Elements.{el-zero, el-one, is-eq}
 use Rattle.jacobian.proofs.Rows.Coefficients.{coeff-poly}
 use Rattle.jacobian.proofs.Rows.Roots.{root-nought, coeff-of-sqrt}

@@ -9,11 +9,6 @@ use Rattle.jacobian.proofs.Rows.Coefficients.{stands-eq, self-stands}
 use Rattle.jacobian.proofs.Rows.Sums.{multiple-nought, added-below, added-turn, added-past}
 use Rattle.jacobian.proofs.row.add_multiple.Statement.{statement}
 use Rattle.jacobian.proofs.row.add_multiple.Tie as tie
-use Rattle.jacobian.proofs.row.add_multiple.Reads as reads
-use Rattle.jacobian.proofs.row.add_multiple.Lts as lts
-use Rattle.jacobian.proofs.element.plus.Reads as plus-reads
-use Rattle.jacobian.proofs.element.times.Reads as times-reads
-use Rattle.jacobian.proofs.row.length.Reads as length-reads
 
 abbrev Inv-loop : tie.InvT-loop
 Inv-loop d c shift b n r₀ i₀ r i =

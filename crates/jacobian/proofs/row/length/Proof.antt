@@ -1,8 +1,6 @@
 -- `row::length` meets its contract. The invariant: the numbers from n on are 0. Assumes nothing.
-use Prim.Native.Nat.{ℕ, _≤_}
-use mathlib.Core.Path.{_≡_}
+use Prim.Native.Nat.{_≤_}
 use native.Mathlib.Omega.{arith}
-use lib.ListN.{getD}
 use Rattle.jacobian.proofs.Rows.Length.{Blank, blank-start, blank-less, blank-length, blank-none}
 use Rattle.jacobian.proofs.row.length.Statement.{statement}
 use Rattle.jacobian.proofs.row.length.Tie as tie

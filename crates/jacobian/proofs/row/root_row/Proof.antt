@@ -1,5 +1,5 @@
 -- `row::root_row` meets its contract. The invariant: the numbers below i are those of the square root, the others 0. Assumes nothing.
-use Prim.Native.Nat.{_+_, _-_, _≤_}
+use Prim.Native.Nat.{_-_, _≤_}
 use mathlib.Core.Path.{refl, sym, _∙_}
 use native.Mathlib.Omega.{arith}
 use lib.ListN.{replicate}
@@ -10,10 +10,6 @@ use Rattle.jacobian.proofs.Rows.Fill.{Filled, zeros-range, coeff-zeros,
 use Rattle.jacobian.proofs.Rows.Sums.{root-at, root-past}
 use Rattle.jacobian.proofs.row.root_row.Statement.{statement}
 use Rattle.jacobian.proofs.row.root_row.Tie as tie
-use Rattle.jacobian.proofs.row.root_row.Reads as reads
-use Rattle.jacobian.proofs.row.root_row.Lts as lts
-use Rattle.jacobian.proofs.element.root_of.Reads as root-of-reads
-use Rattle.jacobian.proofs.row.length.Reads as length-reads
 
 abbrev Inv-loop : tie.InvT-loop
 Inv-loop d a n r₀ i₀ r i =
@@ -22,11 +18,9 @@ Inv-loop d a n r₀ i₀ r i =
 abbrev μ-loop : tie.MeasureT-loop
 μ-loop d a n r₀ i₀ r i = n - i
 
--- src/row.rt:125:9
 length-requires : tie.Need-length-requires Inv-loop μ-loop
 length-requires c κs = tt
 
--- src/row.rt:128:5
 loop-holds : tie.Need-loop-holds Inv-loop μ-loop
 loop-holds c = (
   omega arith,
@@ -34,48 +28,37 @@ loop-holds c = (
   filled-start refl (zeros-range _ 12) (λ i h. absurd (omega arith)),
 )
 
--- src/row.rt:128:11
 add-loop : tie.Need-add-loop Inv-loop μ-loop
 add-loop c = omega arith
 
--- src/row.rt:129:29
 add-root-of : tie.Need-add-root-of Inv-loop μ-loop
 add-root-of c = omega arith
 
--- src/row.rt:129:27
 mul-root-of : tie.Need-mul-root-of Inv-loop μ-loop
 mul-root-of c = omega arith
 
--- src/row.rt:129:27
 array-read-root-of : tie.Need-array-read-root-of Inv-loop μ-loop
 array-read-root-of c = omega arith
 
--- src/row.rt:129:16
 root-of-requires : tie.Need-root-of-requires Inv-loop μ-loop
 root-of-requires c κs = let pre = c .before .before .before .pre in (pre .0, pre .1 _)
 
--- src/row.rt:129:9
 mul-r : tie.Need-mul-r Inv-loop μ-loop
 mul-r c = omega arith
 
--- src/row.rt:129:9
 array-write-r : tie.Need-array-write-r Inv-loop μ-loop
 array-write-r c = omega arith
 
--- src/row.rt:130:9
 add-i : tie.Need-add-i Inv-loop μ-loop
 add-i c = omega arith
 
--- src/row.rt:128:5
 loop-less : tie.Need-loop-less Inv-loop μ-loop
 loop-less c = omega arith
 
--- src/row.rt:128:5
 loop-again : tie.Need-loop-again Inv-loop μ-loop
 loop-again c =
     (omega arith, omega arith, filled-turn (c .before .before .loop .inv .2) (omega arith) (root-at _ _ _ (c .root-of .ensures)))
 
--- src/row.rt:121:1
 returns : tie.Need-returns Inv-loop μ-loop
 returns c =
     let len = c .before .before .length .ensures _ (c .before .before .before .pre .1) in

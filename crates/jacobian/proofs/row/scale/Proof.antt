@@ -7,10 +7,6 @@ use Rattle.jacobian.proofs.Rows.Fill.{Filled, filled-start, filled-turn
 use Rattle.jacobian.proofs.Rows.Sums.{scaled-at, scaled-past}
 use Rattle.jacobian.proofs.row.scale.Statement.{statement}
 use Rattle.jacobian.proofs.row.scale.Tie as tie
-use Rattle.jacobian.proofs.row.scale.Reads as reads
-use Rattle.jacobian.proofs.row.scale.Lts as lts
-use Rattle.jacobian.proofs.element.times.Reads as times-reads
-use Rattle.jacobian.proofs.row.length.Reads as length-reads
 
 abbrev Inv-loop : tie.InvT-loop
 Inv-loop d c a n r₀ i₀ r i = (i ≤ n) × (n ≤ 12) × Filled d r i (𝔸 d .ring .mul (𝔸 d .con (el d c)) (poly d a)) (poly d a)

@@ -8,10 +8,6 @@ use Rattle.jacobian.proofs.Rows.Fill.{Filled, zeros-range, coeff-zeros,
 use Rattle.jacobian.proofs.Rows.Sums.{squared-at, squared-odd, squared-past}
 use Rattle.jacobian.proofs.row.square_row.Statement.{statement}
 use Rattle.jacobian.proofs.row.square_row.Tie as tie
-use Rattle.jacobian.proofs.row.square_row.Reads as reads
-use Rattle.jacobian.proofs.row.square_row.Lts as lts
-use Rattle.jacobian.proofs.element.squared.Reads as squared-reads
-use Rattle.jacobian.proofs.row.length.Reads as length-reads
 
 abbrev Inv-loop : tie.InvT-loop
 Inv-loop d a n r₀ i₀ r i =
@@ -20,50 +16,39 @@ Inv-loop d a n r₀ i₀ r i =
 abbrev μ-loop : tie.MeasureT-loop
 μ-loop d a n r₀ i₀ r i = n - i
 
--- src/row.rt:83:9
 length-requires : tie.Need-length-requires Inv-loop μ-loop
 length-requires c κs = tt
 
--- src/row.rt:86:5
 loop-holds : tie.Need-loop-holds Inv-loop μ-loop
 loop-holds c =
     let len = c .length .ensures _ (c .before .pre .1) in
     let room = c .before .pre .2 in
     (omega arith, omega arith, filled-start refl (zeros-range _ 12) (λ i h. absurd (omega arith)))
 
--- src/row.rt:87:31
 mul-squared : tie.Need-mul-squared Inv-loop μ-loop
 mul-squared c = omega arith
 
--- src/row.rt:87:31
 array-read-squared : tie.Need-array-read-squared Inv-loop μ-loop
 array-read-squared c = omega arith
 
--- src/row.rt:87:20
 squared-requires : tie.Need-squared-requires Inv-loop μ-loop
 squared-requires c κs = let pre = c .before .before .before .pre in (pre .0, pre .1 (c .before .loop .i))
 
--- src/row.rt:87:11
 add-r : tie.Need-add-r Inv-loop μ-loop
 add-r c = omega arith
 
--- src/row.rt:87:9
 mul-r : tie.Need-mul-r Inv-loop μ-loop
 mul-r c = omega arith
 
--- src/row.rt:87:9
 array-write-r : tie.Need-array-write-r Inv-loop μ-loop
 array-write-r c = omega arith
 
--- src/row.rt:88:9
 add-i : tie.Need-add-i Inv-loop μ-loop
 add-i c = omega arith
 
--- src/row.rt:86:5
 loop-less : tie.Need-loop-less Inv-loop μ-loop
 loop-less c = omega arith
 
--- src/row.rt:86:5
 loop-again : tie.Need-loop-again Inv-loop μ-loop
 loop-again c = (
   omega arith,
@@ -71,7 +56,6 @@ loop-again c = (
   filled-to (omega arith) (filled-skip (filled-turn (c .before .before .loop .inv .2) (omega arith) (squared-at _ _ _ (c .squared .ensures))) (coeff-zeros _ 12 _ ∙ sym (squared-odd _ _ _))),
 )
 
--- src/row.rt:79:1
 returns : tie.Need-returns Inv-loop μ-loop
 returns c =
     let len = c .before .before .length .ensures _ (c .before .before .before .pre .1) in
