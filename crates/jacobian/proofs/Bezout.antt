@@ -1,21 +1,22 @@
--- Extended Euclid on rows: constants as rows, the leading coefficient's inverse, and what holds of the rows where the rule stops
--- (`nought-rows`, `blank-rows`, `constant-rows`) and of one step back from the remainder (`step-rows`).
-use Prim.Native.Nat.{ℕ, zero, suc, max, _+_, _-_, _≤_, _<_, _^_}
-use mathlib.Core.Path.{_≡_, refl, sym, _∙_, ap, ap₂, subst}
-use mathlib.Core.List.{List, [], _∷_}
+-- Extended Euclid on rows: constants as rows, and what holds of the rows where the rule stops (`nought-rows`, `blank-rows`,
+-- `constant-rows`) and of one step back from the remainder (`step-rows`).
+use Prim.Native.Nat.{ℕ, zero, suc, max, _≤_, _<_, _^_}
+use mathlib.Core.Path.{_≡_, sym, _∙_, ap, ap₂, subst}
+use mathlib.Core.List.{List, _∷_}
 use native.Mathlib.Omega.{arith}
-use lib.ListN.{getD}
+use lib.ListN.{getD, replicate}
 use Rattle.field_laws.specs.{Ring.Ring2, Field.Field2}
-use Rattle.char2_algebra.specs.{Polynomials.Polynomials, Lead.lead, Lead.monic-of, Euclid.Bezout}
-use Rattle.char2_algebra.proofs.{Degree.len-nought, Degree.len-zero, Degree.len-con-le, Degree.con-nought, Degree.con-one, Degree.nonzero-of-len, Lead.lead-nonzero, Lead.monic-of-nought, Division.len-quot-le}
-use Rattle.char2_algebra.proofs.Ring.{·-𝟙, 𝟙-·, 𝟘-·, +-self}
+use Rattle.char2_algebra.specs.{Polynomials.Polynomials, Lead.lead, Lead.monic-of}
+use Rattle.char2_algebra.proofs.{Degree.len-nought, Degree.len-zero, Degree.len-con-le, Degree.con-nought, Degree.con-one, Division.len-quot-le}
+use Rattle.char2_algebra.proofs.Ring.{𝟘-·, +-self}
 use Rattle.char2_algebra.proofs.Euclid.{IsBezout, bezout-nought-is, bezout-constant-is, bezout-step-is, len-substituted}
 use Rattle.jacobian.specs.Field.{degree-of, K, F, Poly, 𝔸, el, poly}
-use Rattle.jacobian.specs.Row.{Is, InRange, Stands, row-len}
+use Rattle.jacobian.specs.Row.{Is, Stands, row-len}
 use Rattle.jacobian.specs.Bezout.{BezoutRows, Substituted}
 use Rattle.jacobian.specs.declared.euclid.Combination.{Combination}
-use Rattle.jacobian.proofs.Rows.Elements.{zero-lt, one-lt, el-zero, el-one, is-eq}
-use Rattle.jacobian.proofs.Rows.Coefficients.{coeff-poly, stands-by}
+use Rattle.jacobian.proofs.Rows.Elements.{el-zero, el-one}
+use Rattle.jacobian.proofs.Rows.Coefficients.{stands-by, stands-eq}
+use Rattle.jacobian.proofs.Rows.Fill.{zeros-at, zeros-range}
 
 -- the divisor of 0 and 0 is 0
 module _ {K P : Type 0} {F : Field2 K} (A : Polynomials F P) where
@@ -29,62 +30,24 @@ module _ {K P : Type 0} {F : Field2 K} (A : Polynomials F P) where
     monic = λ n. absurd (n (h, k));
   }
 
--- a row of zeros
-pub record Blank (r : List ℕ) : Type 0 where
-  pub zeros : (i : ℕ) → getD r i 0 ≡ 0
-
-blank-nil : Blank []
-blank-nil = record { zeros = go }
-  where
-    go : (i : ℕ) → getD {A = ℕ} [] i 0 ≡ 0
-    go zero = refl
-    go (suc i) = refl
-
-blank-cons : {r : List ℕ} → Blank r → Blank (0 ∷ r)
-blank-cons {r} b = record { zeros = go }
-  where
-    go : (i : ℕ) → getD (0 ∷ r) i 0 ≡ 0
-    go zero = refl
-    go (suc i) = b .zeros i
-
 module _ (d : ℕ) where
-  first-stands : (c : ℕ) {r : List ℕ} → c < 2 ^ degree-of d → Blank r → Stands d (c ∷ r) (𝔸 d .con (el d c))
-  first-stands c {r} h b = stands-by d (c ∷ r) (𝔸 d .con (el d c)) range coefficient
+  -- a constant is the row of it and zeros
+  pub constant-stands : (c : ℕ) → c < 2 ^ degree-of d → Stands d (c ∷ replicate 11 0) (𝔸 d .con (el d c))
+  constant-stands c h = stands-by d (c ∷ replicate 11 0) (𝔸 d .con (el d c)) range coefficient
     where
-      range : (i : ℕ) → getD (c ∷ r) i 0 < 2 ^ degree-of d
+      range : (i : ℕ) → getD (c ∷ replicate 11 0) i 0 < 2 ^ degree-of d
       range zero = h
-      range (suc i) = rw (b .zeros i) (zero-lt d)
+      range (suc i) = zeros-range d 11 i
 
-      coefficient : (i : ℕ) → el d (getD (c ∷ r) i 0) ≡ 𝔸 d .coeff (𝔸 d .con (el d c)) i
+      coefficient : (i : ℕ) → el d (getD (c ∷ replicate 11 0) i 0) ≡ 𝔸 d .coeff (𝔸 d .con (el d c)) i
       coefficient zero = sym (𝔸 d .coeff-con (el d c))
-      coefficient (suc i) = ap (el d) (b .zeros i) ∙ el-zero d ∙ sym (𝔸 d .coeff-con-suc (el d c) i)
-
-  pub constant-stands : (c : ℕ) → c < 2 ^ degree-of d → Stands d (c ∷ 0 ∷ 0 ∷ 0 ∷ 0 ∷ 0 ∷ 0 ∷ 0 ∷ 0 ∷ 0 ∷ 0 ∷ 0 ∷ []) (𝔸 d .con (el d c))
-  constant-stands c h = first-stands c h (blank-cons (blank-cons (blank-cons (blank-cons (blank-cons (blank-cons (blank-cons (blank-cons (blank-cons (blank-cons (blank-cons blank-nil)))))))))))
+      coefficient (suc i) = ap (el d) (zeros-at 11 i) ∙ el-zero d ∙ sym (𝔸 d .coeff-con-suc (el d c) i)
 
   pub zero-stands : {r : List ℕ} → Stands d r (𝔸 d .con (el d 0)) → Stands d r (𝔸 d .ring .nought)
-  zero-stands s = record { in-range = s .in-range; stands = s .stands ∙ ap (𝔸 d .con) (el-zero d) ∙ con-nought (𝔸 d) }
+  zero-stands s = stands-eq d (ap (𝔸 d .con) (el-zero d) ∙ con-nought (𝔸 d)) s
 
   pub one-stands : {r : List ℕ} → Stands d r (𝔸 d .con (el d 1)) → Stands d r (𝔸 d .ring .one)
-  one-stands s = record { in-range = s .in-range; stands = s .stands ∙ ap (𝔸 d .con) (el-one d) ∙ con-one (𝔸 d) }
-
-  -- the leading coefficient is the last number below the length
-  pub lead-at : (a : List ℕ) (n : ℕ) → n ≡ row-len d a → lead (𝔸 d) (poly d a) ≡ el d (getD a (n - 1) 0)
-  unfolding lead
-  lead-at a n e = ap (λ k. 𝔸 d .coeff (poly d a) (k - 1)) (sym e) ∙ coeff-poly d a (n - 1)
-
-  pub top-nonzero : (a : List ℕ) (n : ℕ) → n ≡ row-len d a → ¬ (poly d a ≡ 𝔸 d .ring .nought) → ¬ (getD a (n - 1) 0 ≡ 0)
-  top-nonzero a n e h z = lead-nonzero (𝔸 d) (poly d a) h (lead-at a n e ∙ ap (el d) z ∙ el-zero d)
-
-  inverse-one : F d .inverse (F d .ring .one) ≡ F d .ring .one
-  inverse-one = sym (𝟙-· (F d .ring) (F d .inverse (F d .ring .one))) ∙ F d .mul-inverse (F d .ring .one) (F d .one≢nought)
-
-  pub lead-one : (a : List ℕ) (n : ℕ) → n ≡ row-len d a → getD a (n - 1) 0 ≡ 1 → Is d 1 (F d .inverse (lead (𝔸 d) (poly d a)))
-  lead-one a n e z =
-      record { in-range = one-lt d; stands = el-one d ∙ sym (ap (F d .inverse) (lead-at a n e ∙ ap (el d) z ∙ el-one d) ∙ inverse-one) }
-
-  pub lead-other : (a : List ℕ) (n : ℕ) {r : ℕ} → n ≡ row-len d a → Is d r (F d .inverse (el d (getD a (n - 1) 0))) → Is d r (F d .inverse (lead (𝔸 d) (poly d a)))
-  lead-other a n e s = is-eq d (ap (F d .inverse) (sym (lead-at a n e))) s
+  one-stands s = stands-eq d (ap (𝔸 d .con) (el-one d) ∙ con-one (𝔸 d)) s
 
   pub stands-len : {r : List ℕ} {p : Poly d} → Stands d r p → row-len d r ≡ 𝔸 d .len p
   stands-len s = ap (𝔸 d .len) (s .stands)
@@ -112,8 +75,8 @@ module _ (d : ℕ) where
       let l : 𝔸 d .len (𝔸 d .con (F d .inverse (lead (𝔸 d) (poly d a)))) ≤ 1 = len-con-le (𝔸 d) _ in
       let m : 𝔸 d .len (𝔸 d .ring .nought) ≡ 0 = len-nought (𝔸 d) in
       bezout-rows a b _ _ _ _
-      (record { in-range = G .in-range; stands = G .stands ∙ ap (λ z. 𝔸 d .ring .mul z (poly d a)) k })
-      (record { in-range = S .in-range; stands = S .stands ∙ k })
+      (stands-eq d (ap (λ z. 𝔸 d .ring .mul z (poly d a)) k) G)
+      (stands-eq d k S)
       T′ (bezout-nought-is (𝔸 d) (poly d a) (poly d b) (len-zero (𝔸 d) (poly d b) e)) (omega arith) (omega arith)
 
   pub blank-rows : (a : List ℕ) {z : List ℕ} → Stands d z (𝔸 d .con (el d 0)) → row-len d a ≡ 0 → (b : List ℕ) → row-len d b ≡ 0
@@ -130,7 +93,7 @@ module _ (d : ℕ) where
       let l : 𝔸 d .len (𝔸 d .con (F d .inverse (lead (𝔸 d) (poly d b)))) ≤ 1 = len-con-le (𝔸 d) _ in
       let m : 𝔸 d .len (𝔸 d .ring .nought) ≡ 0 = len-nought (𝔸 d) in
       bezout-rows a b _ _ _ _ (one-stands G) (zero-stands S)
-      (record { in-range = T .in-range; stands = T .stands ∙ ap (𝔸 d .con) (C .stands) })
+      (stands-eq d (ap (𝔸 d .con) (C .stands)) T)
       (bezout-constant-is (𝔸 d) (poly d a) (poly d b) e) (omega arith) (omega arith)
 
   -- one step back
@@ -148,7 +111,7 @@ module _ (d : ℕ) where
         bezout-rows a b c′ (poly d (c .g)) (poly d (c .t)) _
         (record { in-range = rw (S .g-is) (B .g-range); stands = ap (poly d) (S .g-is) })
         (record { in-range = rw (S .s-is) (B .t-range); stands = ap (poly d) (S .s-is) })
-        (record { in-range = S .t-stands .in-range; stands = S .t-stands .stands ∙ ap (λ z. 𝔸 d .ring .add (poly d (c .s)) (𝔸 d .ring .mul (poly d (c .t)) z)) (Q .stands) })
+        (stands-eq d (ap (λ z. 𝔸 d .ring .add (poly d (c .s)) (𝔸 d .ring .mul (poly d (c .t)) z)) (Q .stands)) (S .t-stands))
         (bezout-step-is (𝔸 d) (poly d a) (poly d b) _ h i)
         (B .t-len)
         (len-substituted (𝔸 d) (poly d a) (poly d b) (poly d (c .s)) (poly d (c .t)) h l (B .t-len))

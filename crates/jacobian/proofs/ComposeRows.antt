@@ -1,16 +1,16 @@
 -- Composition by rows: what the functions of a composition require of each other, and what they promise.
-use Prim.Native.Nat.{ℕ, suc, max, _+_ as _+ℕ_, _*_, _≤_, _<_}
-use mathlib.Core.Path.{_≡_, refl, sym, _∙_, ap, ap₂, subst}
+use Prim.Native.Nat.{ℕ, suc, _+_ as _+ℕ_, _≤_, _<_}
+use mathlib.Core.Path.{_≡_, sym, _∙_, ap, ap₂, subst}
 use mathlib.Core.List.{List}
 use native.Mathlib.Omega.{arith}
 use Rattle.field_laws.specs.Ring.{Ring2}
-use Rattle.char2_algebra.specs.{Polynomials.Polynomials, Divides.Divides, Euclid.Bezout}
+use Rattle.char2_algebra.specs.{Polynomials.Polynomials, Divides.Divides}
 use Rattle.char2_algebra.proofs.{Degree.len-add, Degree.len-one, Product.mul-nonzero, Product.len-mul-le, Lead.monic-nonzero, Divides.divides-trans}
 use Rattle.char2_algebra.proofs.{Division.divides-len, Division.len-quot-le, Division.quot-exact-nonzero, Euclid.IsBezout}
 use Rattle.class_group.specs.Curve as Theory
-use Rattle.class_group.specs.{Mumford.Pair, Mumford.value, Composition.compose}
+use Rattle.class_group.specs.{Mumford.value, Composition.compose}
 use Rattle.class_group.proofs.{Norm.value-len, Joined.joined, Joined.compose-coprime, Joined.compose-common}
-use Rattle.jacobian.specs.{Field.𝔸, Field.el, Field.Poly, Field.poly, Row.InRange, Row.Stands, Row.StandsPair, Row.rows-pair, Row.row-len}
+use Rattle.jacobian.specs.{Field.𝔸, Field.el, Field.Poly, Field.poly, Row.Stands, Row.StandsPair, Row.rows-pair, Row.row-len}
 use Rattle.jacobian.specs.{Bezout.BezoutRows, Core.OnCurve, Core.ReducedRows, Cofactor.CofactorRow}
 use Rattle.jacobian.specs.declared.{row.RowPair.RowPair, euclid.Combination.Combination}
 use Rattle.jacobian.proofs.{Rows.Coefficients.stands-eq, Bezout.stands-len, Bezout.one-stands, ReductionRows.reduced-on, DoubleRows.reduced-len}

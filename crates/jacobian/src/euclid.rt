@@ -29,22 +29,18 @@ pub(crate) fn constant(d: u8, c: u64) -> [u64; 12]
     [c, 0, 0, 0, 0, 0, 0, 0, 0, 0, 0, 0]
 }
 
-// The inverse of the leading coefficient; nothing is inverted where it is 1.
+// The inverse of the leading coefficient.
 fn lead_inverse(d: u8, a: [u64; 12]) -> u64
-    requires { ⌜ Accepted d × InRange d a × (row-len d a ≤ 12) × ¬ (poly d a ≡ 𝔸 d .ring .nought) ⌝ }
+    requires { ⌜ Accepted d × InRange d a × ¬ (poly d a ≡ 𝔸 d .ring .nought) ⌝ }
     ensures { λ r. ⌜ Is d r (F d .inverse (lead (𝔸 d) (poly d a))) ⌝ }
 {
-    let n = length(a);
-    let x = a[n - 1];
-    if x == 1 {
-        return 1;
-    }
-    inverted(d, x)
+    let top = length(a) - 1;
+    inverted(d, a[top])
 }
 
 // The divisor of a and 0: a made monic.
 fn bezout_nought(d: u8, a: [u64; 12]) -> Combination
-    requires { ⌜ Accepted d × InRange d a × (row-len d a ≤ 12) ⌝ }
+    requires { ⌜ Accepted d × InRange d a ⌝ }
     ensures { λ r. ⌜ ((b : List ℕ) → row-len d b ≡ 0 → BezoutRows d a b r) ⌝ }
 {
     let zero = constant(d, 0);

@@ -1,5 +1,4 @@
 -- `compose_common`: e is a divisor of u1 and u2, all products fit a row, and the joined pair is the composition.
-use Prim.Native.Nat.{_≤_}
 use native.Mathlib.Omega.{arith}
 use borrow.Author.Needs.{needs}
 use Rattle.jacobian.proofs.Rows.Elements.{one-lt}

@@ -1,5 +1,4 @@
 -- `compose_rows`: where the divisor of u1 and u2 is 1, the composition by the coefficient of u1 alone.
-use mathlib.Core.Path.{sym, _∙_}
 use native.Mathlib.Omega.{arith}
 use borrow.Author.Needs.{needs}
 use Rattle.jacobian.proofs.DoubleRows.{reduced-len}

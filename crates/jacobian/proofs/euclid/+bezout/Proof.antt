@@ -1,5 +1,5 @@
 -- `bezout`, which calls itself on the remainder. The measure is the length of b, that is, its degree and one.
-use Prim.Native.Nat.{ℕ, _≤_, _<_}
+use Prim.Native.Nat.{ℕ, _<_}
 use mathlib.Core.Path.{_≡_, sym, _∙_, subst}
 use native.Mathlib.Omega.{arith}
 use Rattle.char2_algebra.proofs.Degree.{nonzero-of-len}
@@ -55,7 +55,7 @@ found t c = c .length .ensures (c .before .args .d) (c .before .pre .1 .2)
 bezout-nought-requires : (t : ℕ) → lts.Need-bezout-nought-requires (callees t) (given t) bezout.Post
 bezout-nought-requires t c κs =
     let pre = c .before .before .pre .1 in
-    (pre .0, pre .1, omega (arith, pre .3))
+    (pre .0, pre .1)
 
 returns : (t : ℕ) → lts.Need-returns (callees t) (given t) bezout.Post
 returns t c = c .bezout-nought .ensures (c .before .before .before .args .b) (sym (found t (c .before .before)) ∙ c .before .if1 .taken)

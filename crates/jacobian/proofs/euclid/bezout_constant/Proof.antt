@@ -19,7 +19,6 @@ lead-inverse-requires c κs =
     let s = c .before .before in (
       s .pre .0,
       s .pre .1,
-      omega (arith, s .pre .2),
       nonzero-of-len (𝔸 (s .args .d)) (poly (s .args .d) (s .args .b)) (omega (arith, s .pre .2)),
     )
 

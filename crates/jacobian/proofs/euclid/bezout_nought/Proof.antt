@@ -26,7 +26,6 @@ lead-inverse-requires c κs =
     let e = c .before .length .ensures (s .args .d) (s .pre .1) in (
       s .pre .0,
       s .pre .1,
-      s .pre .2,
       nonzero-of-len (𝔸 (s .args .d)) (poly (s .args .d) (s .args .a)) (omega (arith, e, c .if1 .left)),
     )
 

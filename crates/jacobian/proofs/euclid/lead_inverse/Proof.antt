@@ -1,46 +1,34 @@
--- `lead_inverse`: the last number below the length is the leading coefficient; it is not 0, and 1 is its own inverse.
-use Prim.Native.Nat.{ℕ, _≤_}
-use mathlib.Core.Path.{_≡_}
+-- `lead_inverse`: the last number below the length is the leading coefficient, and not 0.
+use Prim.Native.Nat.{_-_}
+use mathlib.Core.Path.{sym, ap}
 use native.Mathlib.Omega.{arith}
 use borrow.Author.Needs.{needs}
-use Rattle.char2_algebra.proofs.Degree.{len-nonzero}
-use Rattle.jacobian.specs.Field.{𝔸, poly}
-use Rattle.jacobian.specs.Row.{InRange, row-len}
-use Rattle.jacobian.proofs.Bezout.{top-nonzero, lead-one, lead-other}
+use Rattle.jacobian.specs.Field.{F}
+use Rattle.jacobian.proofs.Rows.Elements.{is-eq}
+use Rattle.jacobian.proofs.Rows.Lead.{length-pos, Leads, leads, lead-row}
 use Rattle.jacobian.proofs.euclid.lead_inverse.Statement.{statement}
 use Rattle.jacobian.proofs.euclid.lead_inverse.Tie as tie
 
 length-requires : tie.Need-length-requires
 length-requires c κs = search needs
 
--- the length that was found is that of the polynomial, at least 1 and at most 12
-found : (c : tie.After-length) → c .length .result ≡ row-len (c .before .args .d) (c .before .args .t2)
-found c = c .length .ensures (c .before .args .d) (c .before .pre .1)
+sub-top : tie.Need-sub-top
+sub-top c = length-pos _ _ (c .length .ensures _ (c .before .pre .1)) (c .before .pre .2)
 
-sub-x : tie.Need-sub-x
-sub-x c = omega (arith, found c, len-nonzero (𝔸 (c .before .args .d)) (poly (c .before .args .d) (c .before .args .t2)) (c .before .pre .3))
+at-top : (c : tie.After-length) → Leads (c .before .args .d) (c .before .args .t2) (c .length .result - 1)
+at-top c = leads _ _ (c .before .good .1 .0 .1 .0 .1) (c .before .pre .1) (c .length .ensures _ (c .before .pre .1)) (c .before .pre .2)
 
-mul-x : tie.Need-mul-x
-mul-x c = omega (arith, found c, c .before .pre .2)
+mul-inverted : tie.Need-mul-inverted
+mul-inverted c = omega (arith, at-top c .top-lt)
 
-array-read-x : tie.Need-array-read-x
-array-read-x c = omega (arith, found c, c .before .pre .2)
-
-returns : tie.Need-returns
-returns c = let s = c .before .before in lead-one (s .args .d) (s .args .t2) (c .before .length .result) (found (c .before)) (c .if1 .taken)
+array-read-inverted : tie.Need-array-read-inverted
+array-read-inverted c = omega (arith, at-top c .top-lt)
 
 inverted-requires : tie.Need-inverted-requires
-inverted-requires c κs =
-    let s = c .before .before in (
-      s .pre .0,
-      s .pre .1 _,
-      top-nonzero (s .args .d) (s .args .t2) (c .before .length .result) (found (c .before)) (s .pre .3),
-    )
+inverted-requires c κs = let s = at-top c in (c .before .pre .0, s .range _, s .nonzero)
 
-returns-2 : tie.Need-returns-2
-returns-2 c =
-    let s = c .before .before .before in
-    lead-other (s .args .d) (s .args .t2) (c .before .before .length .result) (found (c .before .before)) (c .inverted .ensures)
+returns : tie.Need-returns
+returns c = let a = c .before .before .args in is-eq (a .d) (ap (F (a .d) .inverse) (sym (lead-row (at-top (c .before))))) (c .inverted .ensures)
 
 pub lead-inverse-spec : {M : Type 1} → statement M
-lead-inverse-spec = tie.close (tie.spec length-requires sub-x mul-x array-read-x returns inverted-requires returns-2)
+lead-inverse-spec = tie.close (tie.spec length-requires sub-top mul-inverted array-read-inverted inverted-requires returns)

@@ -1,7 +1,8 @@
 -- `substituted`: the coefficients that one step of Euclid's rule gives.
-use mathlib.Core.Path.{refl, _∙_, ap}
+use mathlib.Core.Path.{refl, ap}
 use borrow.Author.Needs.{needs}
 use Rattle.jacobian.specs.Field.{𝔸, poly}
+use Rattle.jacobian.proofs.Rows.Coefficients.{stands-eq}
 use Rattle.jacobian.proofs.euclid.substituted.Statement.{statement}
 use Rattle.jacobian.proofs.euclid.substituted.Tie as tie
 
@@ -18,10 +19,7 @@ returns c =
     record {
       g-is = refl;
       s-is = refl;
-      t-stands = record {
-        in-range = c .add-rows .ensures .in-range;
-        stands = c .add-rows .ensures .stands ∙ ap (𝔸 d .ring .add (poly d (s .args .r .s))) (c .before .multiply .ensures .stands);
-      };
+      t-stands = stands-eq d (ap (𝔸 d .ring .add (poly d (s .args .r .s))) (c .before .multiply .ensures .stands)) (c .add-rows .ensures);
     }
 
 pub substituted-spec : {M : Type 1} → statement M
