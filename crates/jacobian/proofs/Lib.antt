@@ -4,3 +4,8 @@ pub mod ByValue
 pub mod Representation
 pub mod Computing
 pub mod Examples
+pub mod Bezout
+pub mod ReductionSteps
+pub mod ReductionRows
+pub mod DoubleRows
+pub mod ComposeRows
