@@ -3,3 +3,4 @@ pub mod Rows
 pub mod ReductionSteps
 pub mod ReductionRows
 pub mod DoubleRows
+pub mod QuotientRows
