@@ -21,3 +21,4 @@ pub mod LiftCoefficients
 pub mod Rows
 pub mod EvenRoot
 pub mod HalfChain
+pub mod Halving

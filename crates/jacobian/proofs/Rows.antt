@@ -9,3 +9,4 @@ pub mod Sums
 pub mod Lead
 pub mod Multiply
 pub mod Divide
+pub mod Answers

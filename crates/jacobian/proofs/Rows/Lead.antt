@@ -85,9 +85,9 @@ module _ {d : ℕ} {r : List ℕ} {top : ℕ} (s : Leads d r top) where
       let h : top < length t = (let k : top < 12 = s .top-lt in omega arith) in
       let i-is : el d i ≡ F d .inverse (lead (𝔸 d) (poly d r)) = e .stands ∙ ap (F d .inverse) (sym lead-row) in
       let one-is : F d .ring .mul (el d i) (el d (getD r top 0)) ≡ F d .ring .one =
-          ap (λ y. F d .ring .mul y (el d (getD r top 0))) (e .stands) ∙ ·-comm (F d .ring) _ _ ∙ F d .mul-inverse (el d (getD r top 0)) lead-nonzero in
+      ap (λ y. F d .ring .mul y (el d (getD r top 0))) (e .stands) ∙ ·-comm (F d .ring) _ _ ∙ F d .mul-inverse (el d (getD r top 0)) lead-nonzero in
       let t-top : el d (getD t top 0) ≡ F d .ring .nought =
-          sym (coeff-poly d t top) ∙ ap (λ y. 𝔸 d .coeff y top) (u .stands) ∙ 𝔸 d .coeff-con-mul (el d i) (poly d (set r top 0)) top ∙ ap (F d .ring .mul (el d i)) (coeff-poly d (set r top 0) top ∙ ap (el d) low-top ∙ el-zero d) ∙ ·-𝟘 (F d .ring) (el d i) in
+      sym (coeff-poly d t top) ∙ ap (λ y. 𝔸 d .coeff y top) (u .stands) ∙ 𝔸 d .coeff-con-mul (el d i) (poly d (set r top 0)) top ∙ ap (F d .ring .mul (el d i)) (coeff-poly d (set r top 0) top ∙ ap (el d) low-top ∙ el-zero d) ∙ ·-𝟘 (F d .ring) (el d i) in
       record {
         in-range = range-set d t top 1 h (u .in-range) (one-lt d);
         stands =

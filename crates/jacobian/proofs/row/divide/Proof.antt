@@ -1,3 +1,10 @@
+-- `row::divide` meets its contract. The invariant: a = q b + r, and r has no numbers from k on. Assumes nothing.
+use Prim.Native.Nat.{_-_, _≤_}
+use native.Mathlib.Omega.{arith}
+use Rattle.jacobian.specs.Field.{poly}
+use Rattle.jacobian.proofs.Rows.Length.{length-le}
+use Rattle.jacobian.proofs.Rows.Lead.{length-pos, Leads, leads, low-range, low-len}
+use Rattle.jacobian.proofs.Rows.Divide.{IsDivisor, divisor, Dividing, dividing-start, struck-range, dividing-turn, quotient-stands, remainder-stands}
 use Rattle.jacobian.proofs.row.divide.Statement.{statement}
 use Rattle.jacobian.proofs.row.divide.Tie as tie
 use Rattle.jacobian.proofs.row.divide.Reads as reads
@@ -8,98 +15,122 @@ use Rattle.jacobian.proofs.row.add_multiple.Reads as add-multiple-reads
 use Rattle.jacobian.proofs.row.length.Reads as length-reads
 
 abbrev Inv-loop : tie.InvT-loop
-Inv-loop d top inverse low q₀ r₀ k₀ q r k = ?
+Inv-loop d top inverse low q₀ r₀ k₀ q r k = (k ≤ 12) × Dividing d low top inverse (poly d r₀) q r k
 
 abbrev μ-loop : tie.MeasureT-loop
-μ-loop d top inverse low q₀ r₀ k₀ q r k = ?
+μ-loop d top inverse low q₀ r₀ k₀ q r k = k
 
 -- src/row.rt:121:15
 length-requires : tie.Need-length-requires Inv-loop μ-loop
-length-requires c κs = ?
+length-requires c κs = tt
 
 -- src/row.rt:121:15
 sub-top : tie.Need-sub-top Inv-loop μ-loop
-sub-top c = ?
+sub-top c = length-pos _ _ (c .length .ensures _ (c .before .pre .2)) (c .before .pre .3)
 
 -- src/row.rt:122:31
+-- the leading number of b stands at top
+at-top : (c : tie.After-length Inv-loop μ-loop) → Leads (c .before .args .d) (c .before .args .t3) (c .length .result - 1)
+at-top c = leads _ _ (c .before .good .1 .1 .0 .1 .0 .1) (c .before .pre .2) (c .length .ensures _ (c .before .pre .2)) (c .before .pre .3)
+
 mul-inverted : tie.Need-mul-inverted Inv-loop μ-loop
-mul-inverted c = ?
+mul-inverted c = let s = at-top (c) in omega (arith, s .top-lt)
 
 -- src/row.rt:122:31
 array-read-inverted : tie.Need-array-read-inverted Inv-loop μ-loop
-array-read-inverted c = ?
+array-read-inverted c = let s = at-top (c) in omega (arith, s .top-lt)
 
 -- src/row.rt:122:9
 inverted-requires : tie.Need-inverted-requires Inv-loop μ-loop
-inverted-requires c κs = ?
+inverted-requires c κs = let s = at-top c in (c .before .pre .0, s .range _, s .nonzero)
 
 -- src/row.rt:124:5
 mul-low : tie.Need-mul-low Inv-loop μ-loop
-mul-low c = ?
+mul-low c = let s = at-top (c .before) in omega (arith, s .top-lt)
 
 -- src/row.rt:124:5
 array-write-low : tie.Need-array-write-low Inv-loop μ-loop
-array-write-low c = ?
+array-write-low c = let s = at-top (c .before) in omega (arith, s .top-lt)
 
 -- src/row.rt:127:9
 length-requires-2 : tie.Need-length-requires-2 Inv-loop μ-loop
-length-requires-2 c κs = ?
+length-requires-2 c κs = tt
 
 -- src/row.rt:128:5
 loop-holds : tie.Need-loop-holds Inv-loop μ-loop
-loop-holds c = ?
+loop-holds c =
+    let pre = c .before .before .before .pre in
+    let size = c .before .before .before .good .1 .0 .1 .0 .1 in
+    let len = c .length2 .ensures _ (pre .1) in
+    (length-le _ _ len size, dividing-start size (pre .1) len)
 
 -- src/row.rt:129:9
 sub-k : tie.Need-sub-k Inv-loop μ-loop
-sub-k c = ?
+sub-k c = omega arith
 
 -- src/row.rt:130:26
 mul-times : tie.Need-mul-times Inv-loop μ-loop
-mul-times c = ?
+mul-times c = omega arith
 
 -- src/row.rt:130:26
 array-read-times : tie.Need-array-read-times Inv-loop μ-loop
-array-read-times c = ?
+array-read-times c = omega arith
 
 -- src/row.rt:130:13
 times-requires : tie.Need-times-requires Inv-loop μ-loop
-times-requires c κs = ?
+times-requires c κs =
+    (c .before .before .before .before .before .pre .0, c .before .loop .inv .1 .r-range _, c .before .before .before .inverted .ensures .in-range)
 
 -- src/row.rt:131:17
 sub-s : tie.Need-sub-s Inv-loop μ-loop
-sub-s c = ?
+sub-s c = omega arith
 
 -- src/row.rt:132:9
 mul-q : tie.Need-mul-q Inv-loop μ-loop
-mul-q c = ?
+mul-q c = omega arith
 
 -- src/row.rt:132:9
 array-write-q : tie.Need-array-write-q Inv-loop μ-loop
-array-write-q c = ?
+array-write-q c = omega arith
 
 -- src/row.rt:133:9
 mul-r : tie.Need-mul-r Inv-loop μ-loop
-mul-r c = ?
+mul-r c = omega arith
 
 -- src/row.rt:133:9
 array-write-r : tie.Need-array-write-r Inv-loop μ-loop
-array-write-r c = ?
+array-write-r c = omega arith
 
 -- src/row.rt:134:13
 add-multiple-requires : tie.Need-add-multiple-requires Inv-loop μ-loop
-add-multiple-requires c κs = ?
+add-multiple-requires c κs =
+    let s = at-top (c .before .before .before .before .before) in
+    let v = c .before .before .loop .inv .1 in (
+      c .before .before .before .before .before .before .pre .0,
+      struck-range v (c .before .loop-test .taken) (c .before .before .loop .inv .0),
+      c .times .ensures .in-range,
+      low-range s,
+      omega (arith, low-len s, c .before .before .loop .inv .0, c .before .loop-test .taken),
+    )
 
 -- src/row.rt:128:5
 loop-less : tie.Need-loop-less Inv-loop μ-loop
-loop-less c = ?
+loop-less c = omega arith
 
 -- src/row.rt:128:5
 loop-again : tie.Need-loop-again Inv-loop μ-loop
-loop-again c = ?
+loop-again c =
+    let at = c .before .before .before .before .before .before in
+    let v = c .before .before .before .loop .inv in
+    (omega arith, dividing-turn (v .1) (c .before .before .loop-test .taken) (v .0) (low-len (at-top at)) (c .before .times .ensures) (c .add-multiple .ensures) (c .add-multiple .ok .1 .0 .1))
 
 -- src/row.rt:117:1
 returns : tie.Need-returns Inv-loop μ-loop
-returns c = ?
+returns c =
+    let at = at-top (c .before .before .before .before) in
+    let w = divisor at (c .before .before .before .inverted .ensures) in
+    let v = c .before .loop .inv .1 in
+    (quotient-stands v w (c .loop-test .left) (at .len), remainder-stands v w (c .loop-test .left) (at .len))
 
 pub divide-spec : {M : Type 1} → statement M
 divide-spec =
