@@ -1,16 +1,16 @@
 -- The quotient alone, coefficient by coefficient. A coefficient of a product by partial sums (`Partial`), and the quotient from the top
 -- (`Divided`): from k on a + q b has no coefficient, and q none below k less the degree of b.
-use Prim.Native.Nat.{ℕ, zero, suc, _+_, _-_, _≤_, _<_, _^_}
+use Prim.Native.Nat.{ℕ, zero, suc, _+_, _-_, _≤_, _<_}
 use mathlib.Core.Path.{_≡_, refl, sym, _∙_, ap, ap₂}
 use mathlib.Core.List.{List}
 use native.Mathlib.{Omega.arith, Decide.decLe, Decide.ℕ-discrete}
 use lib.{ListN.length, ListN.getD, ListN.set, ListN.replicate, ListN.length-set, Seq.getD-set-other}
 use Rattle.field_laws.specs.{Ring.Ring2, Field.Field2}
 use Rattle.char2_algebra.specs.{Polynomials.Polynomials, Lead.Monic, Square.tail}
-use Rattle.char2_algebra.proofs.Ring.{ring2, +-𝟘, 𝟘-+, 𝟘-·, 𝟙-·, ·-𝟘, ·-𝟙}
+use Rattle.char2_algebra.proofs.Ring.{ring2, +-𝟘, 𝟘-+, 𝟘-·, ·-𝟘, ·-𝟙}
 use Rattle.char2_algebra.proofs.{Degree.coeff-nought, Degree.coeff-tail, Degree.len-bound, Product.coeff-mul-zero, Product.coeff-mul-suc, Division.quot-is, Lead.monic-top}
-use Rattle.jacobian.specs.{Field.K, Field.F, Field.Poly, Field.𝔸, Field.degree-of, Field.el, Field.poly, Row.Is, Row.InRange, Row.Stands, Row.row-len, Row.x-power}
-use Rattle.jacobian.proofs.Rows.{Elements.el-zero, Elements.el-one, Elements.zero-is, Elements.self-is, Elements.is-eq, Coefficients.coeff-poly, Fill.range-set, Fill.zeros-at, Fill.zeros-range, Fill.coeff-zeros}
+use Rattle.jacobian.specs.{Field.K, Field.F, Field.Poly, Field.𝔸, Field.el, Field.poly, Row.Is, Row.InRange, Row.Stands, Row.row-len, Row.x-power}
+use Rattle.jacobian.proofs.Rows.{Elements.el-zero, Elements.zero-is, Elements.is-eq, Coefficients.coeff-poly, Fill.range-set, Fill.zeros-at, Fill.zeros-range, Fill.coeff-zeros}
 use Rattle.jacobian.proofs.Rows.Shift.{coeff-shift, coeff-shift-past, monomial-at, monomial-off, poly-set-zero}
 
 -- a coefficient of a product depends on no higher coefficient of a factor
@@ -37,13 +37,6 @@ module _ (d : ℕ) where
   infixl 70 _·_
   infixl 60 _⊕_
   infixl 70 _⊙_
-  -- a product by 0 and by 1
-  pub by-zero : (a b : ℕ) → a ≡ 0 → Is d 0 (el d a ⊙ el d b)
-  by-zero a b e = is-eq d (sym (ap (λ z. z ⊙ el d b) (ap (el d) e ∙ el-zero d) ∙ 𝟘-· (F d .ring) (el d b))) (zero-is d)
-
-  pub by-one : (a b : ℕ) → a ≡ 1 → b < 2 ^ degree-of d → Is d b (el d a ⊙ el d b)
-  by-one a b e h = is-eq d (sym (ap (λ z. z ⊙ el d b) (ap (el d) e ∙ el-one d) ∙ 𝟙-· (F d .ring) (el d b))) (self-is d b h)
-
   -- the sum of the terms of q b at x^k that come from the coefficients of q below j
   pub record Partial (q b : List ℕ) (k j sum : ℕ) : Type 0 where
     pub part : Poly d

@@ -1,28 +1,14 @@
 // The quotient alone: where a division is exact, or its remainder is not wanted, half of its products are spared.
-ghost use Prim.Native.Nat.{ℕ, _<_, _^_};
+ghost use Prim.Native.Nat.{ℕ, _<_};
 ghost use mathlib.Core.Path.{_≡_};
 ghost use lib.ListN.{getD};
 ghost use Rattle.binary_field.specs.Element.{Accepted};
 ghost use Rattle.char2_algebra.specs.Lead.{Monic};
-ghost use Rattle.jacobian.specs.Field.{degree-of, F, 𝔸, el, poly};
+ghost use Rattle.jacobian.specs.Field.{𝔸, poly};
 ghost use Rattle.jacobian.specs.Row.{Is, InRange, Stands};
 use crate::element::plus;
 use crate::element::times;
 use crate::row::length;
-
-// The product of two numbers, made only where the first is neither 0 nor 1.
-fn product(d: u8, a: u64, b: u64) -> u64
-    requires { ⌜ Accepted d × (a < 2 ^ degree-of d) × (b < 2 ^ degree-of d) ⌝ }
-    ensures { λ r. ⌜ Is d r (F d .ring .mul (el d a) (el d b)) ⌝ }
-{
-    if a == 0 {
-        return 0;
-    }
-    if a == 1 {
-        return b;
-    }
-    times(d, a, b)
-}
 
 // The coefficient of x^k in q b, where q has no coefficient below x^from.
 fn product_at(d: u8, q: [u64; 12], b: [u64; 12], from: usize, k: usize) -> u64
@@ -33,7 +19,7 @@ fn product_at(d: u8, q: [u64; 12], b: [u64; 12], from: usize, k: usize) -> u64
     let mut j = from;
     while j <= k {
         let i = k - j;
-        let term = product(d, q[j], b[i]);
+        let term = times(d, q[j], b[i]);
         sum = plus(d, sum, term);
         j += 1;
     }
