@@ -9,3 +9,4 @@ pub mod ReductionSteps
 pub mod ReductionRows
 pub mod DoubleRows
 pub mod ComposeRows
+pub mod QuotientRows

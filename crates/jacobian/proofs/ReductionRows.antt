@@ -13,28 +13,23 @@ use Rattle.class_group.specs.{Mumford.Pair, Mumford.Reduced, Mumford.value, Red
 use Rattle.class_group.proofs.SemiReduced.{SemiReduced, cofactor-nonzero, step-semi, step-len}
 use Rattle.jacobian.specs.{Field.𝔸, Field.Poly, Field.poly, Field.el, Field.degree-of, Row.InRange, Row.Stands, Row.StandsPair, Row.rows-pair, Row.row-len}
 use Rattle.jacobian.specs.{Core.OnCurve, Core.ReducedRows, Core.SemiReducedRows, Core.StandsCounted, Cofactor.CofactorRow, declared.row.RowPair.RowPair}
-use Rattle.jacobian.proofs.Rows.{Elements.el-zero, Elements.el-one, Elements.zero-lt, Elements.one-lt, Coefficients.stands-by}
+use Rattle.jacobian.proofs.Rows.{Elements.el-zero, Elements.el-one, Elements.zero-lt, Elements.one-lt, Coefficients.stands-by, Fill.zeros-at}
 use Rattle.jacobian.proofs.ReductionSteps.{reduce-none, reduce-once, reduce-twice}
 
 -- the row of the polynomial 1
 abbrev pub one-row : List ℕ
 one-row = 1 ∷ replicate 11 0
 
-zeros : (n i : ℕ) → getD {A = ℕ} (replicate n 0) i 0 ≡ 0
-zeros zero i = refl
-zeros (suc n) zero = refl
-zeros (suc n) (suc i) = zeros n i
-
 pub one-stands : (d : ℕ) → Stands d one-row (𝔸 d .ring .one)
 one-stands d = stands-by d one-row (𝔸 d .ring .one) range number
   where
     range : InRange d one-row
     range zero = one-lt d
-    range (suc i) = subst (λ n. n < 2 ^ degree-of d) (sym (zeros 11 i)) (zero-lt d)
+    range (suc i) = subst (λ n. n < 2 ^ degree-of d) (sym (zeros-at 11 i)) (zero-lt d)
 
     number : (i : ℕ) → el d (getD one-row i 0) ≡ 𝔸 d .coeff (𝔸 d .ring .one) i
     number zero = el-one d ∙ sym (coeff-one (𝔸 d))
-    number (suc i) = ap (el d) (zeros 11 i) ∙ el-zero d ∙ sym (coeff-one-suc (𝔸 d) i)
+    number (suc i) = ap (el d) (zeros-at 11 i) ∙ el-zero d ∙ sym (coeff-one-suc (𝔸 d) i)
 
 module _ (d : ℕ) where
   open Polynomials (𝔸 d) using (ring as R, len, quot, rem)

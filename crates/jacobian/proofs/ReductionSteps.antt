@@ -3,14 +3,13 @@
 use Prim.Native.Nat.{ℕ, zero, suc, _≤_, _<_, _+_ as _+ℕ_, _*_, max}
 use mathlib.Core.Path.{_≡_, refl, _∙_, ap}
 use native.Mathlib.Omega.{arith}
-use borrow.Author.Tests.{lt-ltb, le-ltb}
 use Rattle.field_laws.specs.{Ring.Ring2, Field.Field2}
 use Rattle.char2_algebra.specs.Polynomials.{Polynomials}
 use Rattle.char2_algebra.proofs.Ring.{ring2, by, both, combine}
 use Rattle.char2_algebra.proofs.{Degree.len-add-less, Degree.nonzero-of-len, Product.len-mul-le, Product.len-square, Product.mul-nonzero, Division.quot-mul, Division.len-quot, Lead.monic-nonzero}
 use Rattle.class_group.specs.{Curve.Curve, Mumford.Pair, Mumford.Reduced, Mumford.value}
 use Rattle.class_group.specs.Reduction.{reduction-step, reduce-to, reduce}
-use Rattle.class_group.proofs.SemiReduced.{SemiReduced, semi-of-reduced, cofactor-eq, cofactor-len, step-semi, step-len}
+use Rattle.class_group.proofs.SemiReduced.{SemiReduced, semi-of-reduced, cofactor-eq, cofactor-len, step-semi, step-len, reduce-stop, reduce-go}
 use Rattle.class_group.proofs.Norm.{value-len}
 
 module _ {B : Type 0} (R : Ring2 B) where
@@ -31,15 +30,11 @@ module _ {K P : Type 0} {F : Field2 K} {A : Polynomials F P} (C : Curve A) where
 
   infixl 60 _+_
   infixl 70 _·_
-  -- the two cases of reduction, whatever the count of steps that are enough
+  -- no step is made, whatever the count of steps that are enough
   stop : (n steps : ℕ) (D : Pair P) → len (D .u) ≤ 4 → reduce-to C n steps D ≡ record { class = D; steps = steps }
   unfolding reduce-to
   stop zero steps D h = refl
-  stop (suc n) steps D h = rw (le-ltb 4 (len (D .u)) h, reduce-to)
-
-  go : (n steps : ℕ) (D : Pair P) → 4 < len (D .u) → reduce-to C (suc n) steps D ≡ reduce-to C n (suc steps) (reduction-step C D)
-  unfolding reduce-to
-  go n steps D h = rw (lt-ltb 4 (len (D .u)) h, reduce-to)
+  stop (suc n) steps D h = reduce-stop C n steps D h
 
   pub reduce-none : (D : Pair P) → len (D .u) ≤ 4 → reduce C D ≡ record { class = D; steps = 0 }
   unfolding reduce
@@ -47,7 +42,7 @@ module _ {K P : Type 0} {F : Field2 K} {A : Polynomials F P} (C : Curve A) where
 
   once-to : (n : ℕ) (D : Pair P) → 0 < n → 4 < len (D .u) → len (reduction-step C D .u) ≤ 4 → reduce-to C n 0 D ≡ record { class = reduction-step C D; steps = 1 }
   once-to zero D p h k = absurd (omega arith)
-  once-to (suc n) D p h k = go n 0 D h ∙ stop n 1 (reduction-step C D) k
+  once-to (suc n) D p h k = reduce-go C n 0 D h ∙ stop n 1 (reduction-step C D) k
 
   pub reduce-once : (D : Pair P) → 4 < len (D .u) → len (reduction-step C D .u) ≤ 4 → reduce C D ≡ record { class = reduction-step C D; steps = 1 }
   unfolding reduce
@@ -61,7 +56,7 @@ module _ {K P : Type 0} {F : Field2 K} {A : Polynomials F P} (C : Curve A) where
       → reduce-to C n 0 D ≡ record { class = reduction-step C (reduction-step C D); steps = 2 }
   twice-to zero D p h k l = absurd (omega arith)
   twice-to (suc zero) D p h k l = absurd (omega arith)
-  twice-to (suc (suc n)) D p h k l = go (suc n) 0 D h ∙ go n 1 (reduction-step C D) k ∙ stop n 2 (reduction-step C (reduction-step C D)) l
+  twice-to (suc (suc n)) D p h k l = reduce-go C (suc n) 0 D h ∙ reduce-go C n 1 (reduction-step C D) k ∙ stop n 2 (reduction-step C (reduction-step C D)) l
 
   -- of degree 6 the first step leads to at most 4, and the second to at most 3
   pub reduce-twice : (D : Pair P)

@@ -8,6 +8,7 @@ mod curves;
 mod element;
 mod euclid;
 mod half;
+mod quotient;
 mod reduction;
 mod row;
 

@@ -1,4 +1,4 @@
-// Cantor's reduction, and the double. The cofactor w = (v² + v + f) / u is found by a division once for each step, and for a double
+// Cantor's reduction, and the double. The cofactor w = (v² + v + f) / u is found once for each step, by an exact division, and for a double
 // from that of the class by squares, so that a double divides no polynomial of degree 10.
 ghost use Prim.Native.Nat.{_<_};
 ghost use Rattle.binary_field.specs.Element.{Accepted};
@@ -9,6 +9,7 @@ ghost use Rattle.jacobian.specs.Field.{𝔸};
 ghost use Rattle.jacobian.specs.Row.{StandsPair, rows-pair, row-len};
 ghost use Rattle.jacobian.specs.Core.{OnCurve, ReducedRows, SemiReducedRows, StandsCounted};
 ghost use Rattle.jacobian.specs.Cofactor.{CofactorRow, SquaredRows};
+use crate::quotient::quotient;
 use crate::row::RowPair;
 use crate::row::add_rows;
 use crate::row::divide;
@@ -40,8 +41,7 @@ pub(crate) fn cofactor(d: u8, f: [u64; 12], a: RowPair) -> [u64; 12]
     let square = square_row(d, v);
     let sum = add_rows(d, square, v);
     let value = add_rows(d, sum, f);
-    let division = divide(d, value, u);
-    division.quotient
+    quotient(d, value, u)
 }
 
 // One reduction step, with w at hand.

@@ -1,7 +1,5 @@
 -- `cofactor` promises (v² + v + f) / u: the sums and the quotient that the rows stand for.
 use native.Mathlib.Omega.{arith}
-use Rattle.char2_algebra.proofs.Lead.{monic-nonzero}
-use Rattle.jacobian.specs.Field.{𝔸}
 use Rattle.jacobian.proofs.ReductionRows.{cofactor-row}
 use Rattle.jacobian.proofs.reduction.cofactor.Statement.{statement}
 use Rattle.jacobian.proofs.reduction.cofactor.Tie as tie
@@ -15,18 +13,18 @@ add-rows-requires c κs = let p = c .before .before .before .pre in (p .0, c .sq
 add-rows-requires-2 : tie.Need-add-rows-requires-2
 add-rows-requires-2 c κs = let p = c .before .before .before .before .pre in (p .0, c .add-rows .ensures .in-range, p .1 .on-curve .in-range)
 
-divide-requires : tie.Need-divide-requires
-divide-requires c κs = let p = c .before .before .before .before .before .pre in (p .0, c .add-rows2 .ensures .in-range, p .1 .u-range, monic-nonzero (𝔸 _) _ (p .1 .u-monic))
+quotient-requires : tie.Need-quotient-requires
+quotient-requires c κs = let p = c .before .before .before .before .before .pre in (p .0, c .add-rows2 .ensures .in-range, p .1 .u-range, p .1 .u-monic)
 
 returns : tie.Need-returns
 returns c =
     cofactor-row
     _
-    (c .before .before .before .before .before .before .before .args .a)
-    (c .before .before .before .before .square-row .ensures)
-    (c .before .before .before .add-rows .ensures)
-    (c .before .before .add-rows2 .ensures)
-    (c .before .divide .ensures .0)
+    (c .before .before .before .before .before .before .args .a)
+    (c .before .before .before .square-row .ensures)
+    (c .before .before .add-rows .ensures)
+    (c .before .add-rows2 .ensures)
+    (c .quotient .ensures)
 
 pub cofactor-spec : {M : Type 1} → statement M
-cofactor-spec = tie.close (tie.spec square-row-requires add-rows-requires add-rows-requires-2 divide-requires returns)
+cofactor-spec = tie.close (tie.spec square-row-requires add-rows-requires add-rows-requires-2 quotient-requires returns)
