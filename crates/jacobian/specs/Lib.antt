@@ -5,3 +5,4 @@ pub mod Bezout
 pub mod Core
 pub mod Curves
 pub mod Classes
+pub mod Halving

@@ -1,0 +1,4 @@
+-- The halving rule in the words in which it is computed.
+pub mod Squares
+pub mod Degrees12
+pub mod Degree3
