@@ -1,11 +1,91 @@
 // The half of a class, by rules on its coefficients, by degree.
+ghost use Prim.Native.Nat.{_+_, _≤_, _<_, _^_};
+ghost use mathlib.Core.Path.{_≡_};
 ghost use Rattle.binary_field.specs.Element.{Accepted};
+ghost use Rattle.char2_algebra.specs.Square.{sqrt};
 ghost use Rattle.class_group.specs.Curve.{Curve as TheoryCurve};
-ghost use Rattle.class_group.specs.Half.{half};
-ghost use Rattle.jacobian.specs.Field.{𝔸, poly};
-ghost use Rattle.jacobian.specs.Row.{StandsPair, rows-pair};
+ghost use Rattle.class_group.specs.Half.{quadratic, triple, half, half-of-degree-1, half-of-degree-2, half-of-degree-3};
+ghost use Rattle.class_group.proofs.Rows.{first-lift};
+ghost use Rattle.jacobian.specs.Field.{degree-of, 𝔸, el, poly};
+ghost use Rattle.jacobian.specs.Row.{InRange, Stands, StandsPair, row-len, rows-pair};
 ghost use Rattle.jacobian.specs.Core.{OnCurve, ReducedRows};
-use crate::row::RowPair;
+ghost use Rattle.jacobian.specs.Halving.{HalvingRows, even-quartic, root-pair, rows-triple};
+use crate::element::{inverted, plus, root_of, times};
+use crate::row::{RowPair, add_multiple, add_rows, divide, length, multiply, root_row, scale, square_row};
+
+// k2 x² + k1 x + k0.
+fn quadratic_row(d: u8, k2: u64, k1: u64, k0: u64) -> [u64; 12]
+    requires { ⌜ (k2 < 2 ^ degree-of d) × (k1 < 2 ^ degree-of d) × (k0 < 2 ^ degree-of d) ⌝ }
+    ensures { λ r. ⌜ Stands d r (quadratic (𝔸 d) (el d k2) (el d k1) (el d k0)) ⌝ }
+{
+    [k0, k1, k2, 0, 0, 0, 0, 0, 0, 0, 0, 0]
+}
+
+// m2 x⁴ + m1 x² + m0.
+fn quartic_row(d: u8, m2: u64, m1: u64, m0: u64) -> [u64; 12]
+    requires { ⌜ (m2 < 2 ^ degree-of d) × (m1 < 2 ^ degree-of d) × (m0 < 2 ^ degree-of d) ⌝ }
+    ensures { λ r. ⌜ Stands d r (even-quartic (𝔸 d) (el d m2) (el d m1) (el d m0)) ⌝ }
+{
+    [m0, 0, m1, 0, m2, 0, 0, 0, 0, 0, 0, 0]
+}
+
+// a + k b, a short k whose coefficients are mostly 0 or 1.
+fn add_product(d: u8, a: [u64; 12], k: [u64; 12], b: [u64; 12]) -> [u64; 12]
+    requires { ⌜ Accepted d × InRange d a × InRange d k × InRange d b × (row-len d k + row-len d b ≤ 13) ⌝ }
+    ensures { λ r. ⌜ Stands d r (𝔸 d .ring .add (poly d a) (𝔸 d .ring .mul (poly d k) (poly d b))) ⌝ }
+{
+    let p = multiply(d, k, b);
+    add_rows(d, a, p)
+}
+
+// w + k + m u: the third polynomial of a lift, where m stands for k².
+fn lifted_row(d: u8, w: [u64; 12], k: [u64; 12], m: [u64; 12], u: [u64; 12]) -> [u64; 12]
+    requires { ⌜ Accepted d × InRange d w × InRange d k × InRange d m × InRange d u × (row-len d m + row-len d u ≤ 13) ⌝ }
+    ensures { λ r. ⌜ Stands d r (𝔸 d .ring .add (𝔸 d .ring .add (poly d w) (poly d k)) (𝔸 d .ring .mul (poly d m) (poly d u))) ⌝ }
+{
+    let s = add_rows(d, w, k);
+    add_product(d, s, m, u)
+}
+
+// v + k u + 1: the second polynomial after a lift and a step.
+fn stepped_row(d: u8, v: [u64; 12], k: [u64; 12], u: [u64; 12]) -> [u64; 12]
+    requires { ⌜ Accepted d × InRange d v × InRange d k × InRange d u × (row-len d k + row-len d u ≤ 13) ⌝ }
+    ensures { λ r. ⌜ Stands d r (𝔸 d .ring .add (𝔸 d .ring .add (poly d v) (𝔸 d .ring .mul (poly d k) (poly d u))) (𝔸 d .ring .one)) ⌝ }
+{
+    let s = add_product(d, v, k, u);
+    let one = quadratic_row(d, 0, 0, 1);
+    add_rows(d, s, one)
+}
+
+// [a, v modulo a] for a square p = a².
+fn root_pair(d: u8, p: [u64; 12], v: [u64; 12]) -> RowPair
+    requires { ⌜ Accepted d × InRange d p × InRange d v × ¬ (sqrt (𝔸 d) (poly d p) ≡ 𝔸 d .ring .nought) ⌝ }
+    ensures { λ r. ⌜ StandsPair d r (root-pair (𝔸 d) (poly d p) (poly d v)) ⌝ }
+{
+    let a = root_row(d, p);
+    let s = divide(d, v, a);
+    let rest = s.remainder;
+    RowPair { u: a, v: rest }
+}
+
+// Degree 1: a lift by k2 = √w5, k1 = √w3, k0 = √(w1 + k1), and a step.
+fn half_of_degree_1(d: u8, u: [u64; 12], v: [u64; 12], w: [u64; 12]) -> RowPair
+    requires { ⌜ Accepted d × HalvingRows d 2 u v w ⌝ }
+    ensures { λ r. ⌜ StandsPair d r (half-of-degree-1 (𝔸 d) (rows-triple d u v w)) ⌝ }
+{
+    let w5 = w[5];
+    let w3 = w[3];
+    let w1 = w[1];
+    let k2 = root_of(d, w5);
+    let k1 = root_of(d, w3);
+    let s = plus(d, w1, k1);
+    let k0 = root_of(d, s);
+    let k = quadratic_row(d, k2, k1, k0);
+    let m = quartic_row(d, w5, w3, s);
+    let p = lifted_row(d, w, k, m, u);
+    let q = stepped_row(d, v, k, u);
+    root_pair(d, p, q)
+}
 
 // The half of a reduced pair.
 pub(crate) fn half_rows(d: u8, f: [u64; 12], a: RowPair) -> RowPair

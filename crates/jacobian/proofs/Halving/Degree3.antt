@@ -10,7 +10,7 @@ use Rattle.char2_algebra.specs.Polynomials.{Polynomials}
 use Rattle.char2_algebra.specs.Lead.{Monic}
 use Rattle.char2_algebra.specs.Square.{sqrt}
 use Rattle.char2_algebra.proofs.Ring.{ring2, by, both, combine, +-𝟘, ·-𝟘, 𝟘-·, ·-𝟙, 𝟙-·}
-use Rattle.char2_algebra.proofs.Degree.{len-add, len-bound, len-con-le, con-nought, con-one}
+use Rattle.char2_algebra.proofs.Degree.{len-add, len-bound, len-con-le}
 use Rattle.char2_algebra.proofs.Product.{len-mul-le}
 use Rattle.char2_algebra.proofs.Division.{rem-is}
 use Rattle.char2_algebra.proofs.Lead.{monic-top, monic-nonzero}
@@ -19,7 +19,7 @@ use Rattle.class_group.specs.Half.{Triple, lift, step, halved, quadratic, half-
 use Rattle.class_group.proofs.Rows.{row-3, row-3-square, first-lift, second-lift}
 use Rattle.class_group.proofs.EvenRoot.{MonicRoot, even-root}
 use Rattle.jacobian.specs.Halving.{even-quartic, root-pair}
-use Rattle.jacobian.proofs.Halving.Squares.{quartic-is, quadratic-is, square-of, square-of-one, one-times, one-square, halved-pair, root-nonzero}
+use Rattle.jacobian.proofs.Halving.Squares.{quartic-is, quadratic-is, square-of, square-of-one, one-times, one-square, constant, halved-pair, root-nonzero}
 
 module _ {B : Type 0} (R : Ring2 B) where
   open Ring2 R using (add as _⊞_, mul as _·_, nought as 𝟘, one as 𝟙)
@@ -69,15 +69,6 @@ module _ {K P : Type 0} {F : Field2 K} (A : Polynomials F P) where
   first-lift-is u w =
       sym (one-times A _)
       ∙ square-of-one A _ _ u w (quartic-is A 𝟙ₖ _ _ _ _ _ _ (zero-square 𝟙ₖ) (zero-square 𝟙ₖ) (one-square A _ _ (F .root-square _)))
-
-  constant : (c : K) → quadratic A 𝟘ₖ 𝟘ₖ c ≡ con c
-  unfolding quadratic
-  constant c =
-      ap₂ (λ y z. con c ⊞ x · (y ⊞ x · z)) (con-nought A) (con-nought A)
-      ∙ ap (λ z. con c ⊞ x · (𝟘 ⊞ z)) (·-𝟘 ring x)
-      ∙ ap (λ z. con c ⊞ x · z) (+-𝟘 ring 𝟘)
-      ∙ ap (λ z. con c ⊞ z) (·-𝟘 ring x)
-      ∙ +-𝟘 ring (con c)
 
   -- monic polynomials of the same length
   monic-sum : (p q : P) (n : ℕ) → len p ≡ suc n → len q ≡ suc n → Monic A p → Monic A q → len (p ⊞ q) ≤ n
@@ -181,7 +172,7 @@ module _ {K P : Type 0} {F : Field2 K} (A : Polynomials F P) where
 
         v-is : rem (T .v ⊞ quadratic A 𝟘ₖ 𝟘ₖ r · T .u ⊞ 𝟙 ⊞ k · L ⊞ 𝟙) a ≡ v-3
         v-is =
-            ap (λ z. rem (T .v ⊞ z · T .u ⊞ 𝟙 ⊞ k · L ⊞ 𝟙) a) (constant r)
+            ap (λ z. rem (T .v ⊞ z · T .u ⊞ 𝟙 ⊞ k · L ⊞ 𝟙) a) (constant A r)
             ∙ rem-is A _ a (con i · y · quot L a ⊞ con i · quot (y · rem L a) a ⊞ con r) v-3 short
             (remainder-identity ring (T .v) (con r) (T .u) k L a (con i) y (rem L a) (quot L a) (quot (y · rem L a) a) (rem (y · rem L a) a) k-is (A .division L a a-nonzero) (A .division (y · rem L a) a a-nonzero))
           where

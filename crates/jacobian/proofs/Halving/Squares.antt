@@ -5,10 +5,10 @@ use mathlib.Core.Path.{_≡_, refl, sym, _∙_, ap, ap₂}
 use Rattle.field_laws.specs.Ring.{Ring2}
 use Rattle.field_laws.specs.Field.{Field2}
 use Rattle.char2_algebra.specs.Polynomials.{Polynomials}
-use Rattle.char2_algebra.proofs.Ring.{ring2, by, both, combine, 𝟙-·}
+use Rattle.char2_algebra.proofs.Ring.{ring2, by, both, combine, +-𝟘, ·-𝟘, 𝟙-·}
 use Rattle.char2_algebra.specs.Lead.{Monic}
 use Rattle.char2_algebra.specs.Square.{sqrt}
-use Rattle.char2_algebra.proofs.Degree.{con-mul, con-one}
+use Rattle.char2_algebra.proofs.Degree.{con-mul, con-one, con-nought}
 use Rattle.char2_algebra.proofs.Lead.{monic-nonzero}
 use Rattle.class_group.proofs.Rows.{Even}
 use Rattle.class_group.proofs.EvenRoot.{even-root}
@@ -46,6 +46,15 @@ module _ {K P : Type 0} {F : Field2 K} (A : Polynomials F P) where
   infixl 70 _·ₖ_
   con-square : (c k m : K) → c ·ₖ (k ·ₖ k) ≡ m → con c · (con k · con k) ≡ con m
   con-square c k m e = ap (λ z. con c · z) (sym (con-mul A k k)) ∙ sym (con-mul A c (k ·ₖ k)) ∙ ap con e
+
+  pub constant : (c : K) → quadratic A 𝟘ₖ 𝟘ₖ c ≡ con c
+  unfolding quadratic
+  constant c =
+      ap₂ (λ y z. con c ⊞ x · (y ⊞ x · z)) (con-nought A) (con-nought A)
+      ∙ ap (λ z. con c ⊞ x · (𝟘 ⊞ z)) (·-𝟘 ring x)
+      ∙ ap (λ z. con c ⊞ x · z) (+-𝟘 ring 𝟘)
+      ∙ ap (λ z. con c ⊞ z) (·-𝟘 ring x)
+      ∙ +-𝟘 ring (con c)
 
   -- c k² for k = k2 x² + k1 x + k0
   pub quartic-is :
