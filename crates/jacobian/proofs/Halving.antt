@@ -3,3 +3,4 @@ pub mod Rows
 pub mod Squares
 pub mod Degrees12
 pub mod Degree3
+pub mod Computed1

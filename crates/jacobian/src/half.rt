@@ -10,8 +10,19 @@ ghost use Rattle.jacobian.specs.Field.{degree-of, 𝔸, el, poly};
 ghost use Rattle.jacobian.specs.Row.{InRange, Stands, StandsPair, row-len, rows-pair};
 ghost use Rattle.jacobian.specs.Core.{OnCurve, ReducedRows};
 ghost use Rattle.jacobian.specs.Halving.{HalvingRows, even-quartic, root-pair, rows-triple};
-use crate::element::{inverted, plus, root_of, times};
-use crate::row::{RowPair, add_multiple, add_rows, divide, length, multiply, root_row, scale, square_row};
+use crate::element::inverted;
+use crate::element::plus;
+use crate::element::root_of;
+use crate::element::times;
+use crate::row::RowPair;
+use crate::row::add_multiple;
+use crate::row::add_rows;
+use crate::row::divide;
+use crate::row::length;
+use crate::row::multiply;
+use crate::row::root_row;
+use crate::row::scale;
+use crate::row::square_row;
 
 // k2 x² + k1 x + k0.
 fn quadratic_row(d: u8, k2: u64, k1: u64, k0: u64) -> [u64; 12]

@@ -35,10 +35,10 @@ module _ {K P : Type 0} {F : Field2 K} (A : Polynomials F P) where
   infixl 70 _·ₖ_
   -- degree 1
   module _ (T : Triple P) where
-    abbrev k-1 : P
+    abbrev pub k-1 : P
     k-1 = quadratic A (root (coeff (T .w) 5)) (root (coeff (T .w) 3)) (root (coeff (T .w) 1 +ₖ root (coeff (T .w) 3)))
 
-    abbrev m-1 : P
+    abbrev pub m-1 : P
     m-1 = even-quartic A (coeff (T .w) 5) (coeff (T .w) 3) (coeff (T .w) 1 +ₖ root (coeff (T .w) 3))
 
     pub square-1 : con 𝟙ₖ · (T .w ⊞ k-1 ⊞ k-1 · k-1 · T .u) ≡ T .w ⊞ k-1 ⊞ m-1 · T .u
@@ -91,10 +91,10 @@ module _ {K P : Type 0} {F : Field2 K} (A : Polynomials F P) where
     abbrev k1 : K
     k1 = root (coeff (T .w) 3 ·ₖ i)
 
-    abbrev k-2 : P
+    abbrev pub k-2 : P
     k-2 = quadratic A (root i) k1 (root ((coeff (T .w) 1 +ₖ k1) ·ₖ i))
 
-    abbrev m-2 : P
+    abbrev pub m-2 : P
     m-2 = even-quartic A 𝟙ₖ (coeff (T .w) 3) (coeff (T .w) 1 +ₖ k1)
 
     pub square-2 : con u1 · (T .w ⊞ k-2 ⊞ k-2 · k-2 · T .u) ≡ con u1 · T .w ⊞ con u1 · k-2 ⊞ m-2 · T .u

@@ -1,7 +1,8 @@
 -- Rows and pairs of rows that stand for equal polynomials, and the rows of k2 x² + k1 x + k0 and of m2 x⁴ + m1 x² + m0, written out.
-use Prim.Native.Nat.{ℕ, zero, suc, _≤_, _<_, _^_}
-use mathlib.Core.Path.{_≡_, refl, sym, _∙_, ap, ap₂}
+use Prim.Native.Nat.{ℕ, zero, suc, _+_, _≤_, _<_, _^_}
+use mathlib.Core.Path.{_≡_, refl, sym, _∙_, ap, ap₂, subst}
 use mathlib.Core.List.{List, [], _∷_, map}
+use native.Mathlib.Omega.{arith}
 use Rattle.field_laws.specs.Ring.{Ring2}
 use Rattle.char2_algebra.specs.Square.{sqrt}
 use Rattle.char2_algebra.proofs.Ring.{+-𝟘, ·-𝟘}
@@ -9,12 +10,12 @@ use Rattle.char2_algebra.proofs.Degree.{con-nought, con-one}
 use Rattle.char2_algebra.proofs.OfList.{of-nil, of-cons}
 use Rattle.class_group.specs.Mumford.{Pair}
 use Rattle.class_group.specs.Half.{quadratic}
-use Rattle.jacobian.specs.Field.{degree-of, F, Poly, 𝔸, el, poly}
-use Rattle.jacobian.specs.Row.{InRange, Stands, StandsPair}
+use Rattle.jacobian.specs.Field.{degree-of, K, F, Poly, 𝔸, el, poly}
+use Rattle.jacobian.specs.Row.{InRange, Stands, StandsPair, row-len}
 use Rattle.jacobian.specs.declared.row.RowPair.{RowPair}
 use Rattle.jacobian.specs.Halving.{even-quartic, root-pair}
 use Rattle.jacobian.proofs.Rows.Elements.{el-zero, el-one, zero-lt}
-use Rattle.jacobian.proofs.Halving.Squares.{constant}
+use Rattle.jacobian.proofs.Halving.Squares.{constant, quadratic-len, quartic-len}
 
 module _ (d : ℕ) where
   open Ring2 (𝔸 d .ring) using (add as _⊞_, mul as _·_, nought as 𝟘)
@@ -89,3 +90,13 @@ module _ (d : ℕ) where
       → StandsPair d (record { u = a; v = b }) (root-pair (𝔸 d) p v)
   unfolding root-pair
   root-pair-stands p v s t = record { u-stands = s; v-stands = stands-eq (ap (𝔸 d .rem v) (s .stands)) t }
+
+  -- a product with a short row fits
+  row-short : {r : List ℕ} (p : Poly d) (n : ℕ) → 𝔸 d .len p ≤ n → Stands d r p → row-len d r ≤ n
+  row-short p n h s = subst (λ z. 𝔸 d .len z ≤ n) (sym (s .stands)) h
+
+  pub quadratic-fits : {k : List ℕ} (a b c : K d) (u : List ℕ) → Stands d k (quadratic (𝔸 d) a b c) → row-len d u ≤ 5 → row-len d k + row-len d u ≤ 13
+  quadratic-fits a b c u s h = omega (arith, row-short (quadratic (𝔸 d) a b c) 3 (quadratic-len (𝔸 d) a b c) s)
+
+  pub quartic-fits : {m : List ℕ} (a b c : K d) (u : List ℕ) → Stands d m (even-quartic (𝔸 d) a b c) → row-len d u ≤ 5 → row-len d m + row-len d u ≤ 13
+  quartic-fits a b c u s h = omega (arith, row-short (even-quartic (𝔸 d) a b c) 5 (quartic-len (𝔸 d) a b c) s)

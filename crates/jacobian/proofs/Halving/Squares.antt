@@ -2,13 +2,14 @@
 -- even powers alone, so that no coefficient is squared or divided.
 use Prim.Native.Nat.{ℕ, suc, _≤_, _<_, _+_}
 use mathlib.Core.Path.{_≡_, refl, sym, _∙_, ap, ap₂}
+use native.Mathlib.Omega.{arith}
 use Rattle.field_laws.specs.Ring.{Ring2}
 use Rattle.field_laws.specs.Field.{Field2}
 use Rattle.char2_algebra.specs.Polynomials.{Polynomials}
 use Rattle.char2_algebra.proofs.Ring.{ring2, by, both, combine, +-𝟘, ·-𝟘, 𝟙-·}
 use Rattle.char2_algebra.specs.Lead.{Monic}
 use Rattle.char2_algebra.specs.Square.{sqrt}
-use Rattle.char2_algebra.proofs.Degree.{con-mul, con-one, con-nought}
+use Rattle.char2_algebra.proofs.Degree.{con-mul, con-one, con-nought, len-add, len-con-le, len-x-mul-le}
 use Rattle.char2_algebra.proofs.Lead.{monic-nonzero}
 use Rattle.class_group.proofs.Rows.{Even}
 use Rattle.class_group.proofs.EvenRoot.{even-root}
@@ -102,3 +103,15 @@ module _ {K P : Type 0} {F : Field2 K} (A : Polynomials F P) where
   -- c p is the square of a monic a, so that it can be divided by a
   pub root-nonzero : (c : K) (m : ℕ) (p q : P) → Even A c m p → con c · p ≡ q → ¬ (sqrt A q ≡ 𝟘)
   root-nonzero c m p q e h z = monic-nonzero A _ (even-root A c m p e .monic) (ap (sqrt A) h ∙ z)
+
+  pub quadratic-len : (k2 k1 k0 : K) → len (quadratic A k2 k1 k0) ≤ 3
+  unfolding quadratic
+  quadratic-len k2 k1 k0 =
+      len-add A _ _ 3 (omega (arith, len-con-le A k0))
+      (len-x-mul-le A _ 2 (len-add A _ _ 2 (omega (arith, len-con-le A k1)) (len-x-mul-le A _ 1 (len-con-le A k2))))
+
+  pub quartic-len : (m2 m1 m0 : K) → len (even-quartic A m2 m1 m0) ≤ 5
+  unfolding even-quartic
+  quartic-len m2 m1 m0 =
+      len-add A _ _ 5 (omega (arith, len-con-le A m0))
+      (len-x-mul-le A _ 4 (len-x-mul-le A _ 3 (len-add A _ _ 3 (omega (arith, len-con-le A m1)) (len-x-mul-le A _ 2 (len-x-mul-le A _ 1 (len-con-le A m2))))))
