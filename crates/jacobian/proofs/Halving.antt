@@ -4,3 +4,7 @@ pub mod Squares
 pub mod Degrees12
 pub mod Degree3
 pub mod Computed1
+pub mod Computed2
+pub mod Computed3
+pub mod Lifted3
+pub mod Class

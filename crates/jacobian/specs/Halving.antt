@@ -8,12 +8,12 @@ use Rattle.char2_algebra.specs.Polynomials.{Polynomials}
 use Rattle.char2_algebra.specs.Lead.{Monic}
 use Rattle.char2_algebra.specs.Square.{sqrt}
 use Rattle.class_group.specs.Mumford.{Pair}
-use Rattle.class_group.specs.Half.{Triple}
+use Rattle.class_group.specs.Half.{Triple, quadratic}
 use Rattle.jacobian.specs.Field.{Poly, 𝔸, poly}
 use Rattle.jacobian.specs.Row.{InRange, row-len}
 
 module _ {K P : Type 0} {F : Field2 K} (A : Polynomials F P) where
-  open Polynomials A using (ring, con, x, rem)
+  open Polynomials A using (ring, coeff, con, x, rem)
   open Ring2 ring using (add as _⊞_, mul as _·_)
 
   infixl 60 _⊞_
@@ -25,6 +25,16 @@ module _ {K P : Type 0} {F : Field2 K} (A : Polynomials F P) where
   -- [√p, v modulo √p]
   unfoldable pub root-pair : P → P → Pair P
   root-pair p v = let a = sqrt A p in record { u = a; v = rem v a }
+
+  -- degree 3, the square after the second lift: t² u + t x + t q + (x² + g) s, where t² is the coefficient of x in s
+  unfoldable pub second-square : P → P → K → K → K → P
+  second-square u s t q g =
+      con (coeff s 1) · u ⊞ quadratic A (F .ring .nought) t (F .ring .mul t q) ⊞ even-quartic (F .ring .nought) (F .ring .one) g · s
+
+  -- degree 3, the second polynomial of the half: v + r (u + a) + i z, where z is (x + q) s modulo a
+  unfoldable pub second-remainder : P → P → P → P → K → K → K → P
+  second-remainder u v s a r i q =
+      v ⊞ con r · (u ⊞ a) ⊞ con i · rem (quadratic A (F .ring .nought) (F .ring .one) q · rem s a) a
 
 -- the triple that three rows stand for
 unfoldable pub rows-triple : (d : ℕ) → List ℕ → List ℕ → List ℕ → Triple (Poly d)

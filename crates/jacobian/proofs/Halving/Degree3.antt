@@ -18,7 +18,7 @@ use Rattle.class_group.specs.Mumford.{Pair}
 use Rattle.class_group.specs.Half.{Triple, lift, step, halved, quadratic, half-of-degree-3, stepped-of-degree-3, lifted-half-of-degree-3}
 use Rattle.class_group.proofs.Rows.{row-3, row-3-square, first-lift, second-lift}
 use Rattle.class_group.proofs.EvenRoot.{MonicRoot, even-root}
-use Rattle.jacobian.specs.Halving.{even-quartic, root-pair}
+use Rattle.jacobian.specs.Halving.{even-quartic, root-pair, second-square, second-remainder}
 use Rattle.jacobian.proofs.Halving.Squares.{quartic-is, quadratic-is, square-of, square-of-one, one-times, one-square, constant, halved-pair, root-nonzero}
 
 module _ {B : Type 0} (R : Ring2 B) where
@@ -69,6 +69,12 @@ module _ {K P : Type 0} {F : Field2 K} (A : Polynomials F P) where
   first-lift-is u w =
       sym (one-times A _)
       ∙ square-of-one A _ _ u w (quartic-is A 𝟙ₖ _ _ _ _ _ _ (zero-square 𝟙ₖ) (zero-square 𝟙ₖ) (one-square A _ _ (F .root-square _)))
+
+  pub first-lift-len : (u w : P) → len u ≤ 5 → len w ≤ 5 → len (first-lift A u w) ≤ 5
+  unfolding first-lift
+  first-lift-len u w hu hw =
+      subst (λ k. len (w ⊞ k ⊞ k · k · u) ≤ 5) (sym (constant A (root (coeff w 3))))
+      (len-add A _ _ 5 (len-add A w _ 5 hw (omega (arith, len-con-le A (root (coeff w 3))))) (len-mul-le A 0 5 _ u (len-mul-le A 0 1 _ _ (len-con-le A _) (len-con-le A _)) hu))
 
   -- monic polynomials of the same length
   monic-sum : (p q : P) (n : ℕ) → len p ≡ suc n → len q ≡ suc n → Monic A p → Monic A q → len (p ⊞ q) ≤ n
@@ -133,9 +139,10 @@ module _ {K P : Type 0} {F : Field2 K} (A : Polynomials F P) where
 
       -- t² u + t x + t q + (x² + q²) L
       abbrev pub square : P
-      square = con (coeff L 1) · T .u ⊞ quadratic A 𝟘ₖ t (t ·ₖ q) ⊞ even-quartic A 𝟘ₖ 𝟙ₖ (coeff (T .u) 1 +ₖ i) · L
+      square = second-square A (T .u) L t q (coeff (T .u) 1 +ₖ i)
 
       square-is : con (t ·ₖ t) · M ≡ square
+      unfolding second-square
       square-is =
           square-of A (t ·ₖ t) k _ L (T .u)
           (quartic-is A (t ·ₖ t) _ _ _ _ _ _ (zero-square _) (scaled-one (F .ring) t i inverts) (scaled-root (F .ring) t i q _ inverts (F .root-square _)))
@@ -152,7 +159,7 @@ module _ {K P : Type 0} {F : Field2 K} (A : Polynomials F P) where
 
       -- the second polynomial of the half
       abbrev pub v-3 : P
-      v-3 = T .v ⊞ con r · (T .u ⊞ a) ⊞ con i · rem (quadratic A 𝟘ₖ 𝟙ₖ q · rem L a) a
+      v-3 = second-remainder A (T .u) (T .v) L a r i q
 
       module _ (u-len : len (T .u) ≡ 4) (u-monic : Monic A (T .u)) (w-len : len (T .w) ≡ 5) (w-monic : Monic A (T .w)) (v-len : len (T .v) < 4) where
         a-root : MonicRoot A (t ·ₖ t) 3 M (sqrt A (con (t ·ₖ t) · M))
@@ -171,6 +178,7 @@ module _ {K P : Type 0} {F : Field2 K} (A : Polynomials F P) where
         a-nonzero = monic-nonzero A a a-monic
 
         v-is : rem (T .v ⊞ quadratic A 𝟘ₖ 𝟘ₖ r · T .u ⊞ 𝟙 ⊞ k · L ⊞ 𝟙) a ≡ v-3
+        unfolding second-remainder
         v-is =
             ap (λ z. rem (T .v ⊞ z · T .u ⊞ 𝟙 ⊞ k · L ⊞ 𝟙) a) (constant A r)
             ∙ rem-is A _ a (con i · y · quot L a ⊞ con i · quot (y · rem L a) a ⊞ con r) v-3 short

@@ -78,9 +78,18 @@ module _ (d : ℕ) where
     quartic-stands = cons-stands hc (zero-stands (cons-stands hb (zero-stands (last-stands ha seven-zeros))))
 
   -- the row of 1
-  pub one-row : quadratic (𝔸 d) (el d 0) (el d 0) (el d 1) ≡ 𝔸 d .ring .one
+  one-row : quadratic (𝔸 d) (el d 0) (el d 0) (el d 1) ≡ 𝔸 d .ring .one
   one-row =
       ap₂ (λ y z. quadratic (𝔸 d) y y z) (el-zero d) (el-one d) ∙ constant (𝔸 d) (F d .ring .one) ∙ con-one (𝔸 d)
+
+  -- p + 1
+  pub stepped-stands :
+      (p : Poly d) {s one o : List ℕ}
+      → Stands d s p
+      → Stands d one (quadratic (𝔸 d) (el d 0) (el d 0) (el d 1))
+      → Stands d o (poly d s ⊞ poly d one)
+      → Stands d o (p ⊞ 𝔸 d .ring .one)
+  stepped-stands p hs h1 = stands-eq (ap₂ _⊞_ (hs .stands) (h1 .stands ∙ one-row))
 
   -- a root, and the remainder by it
   pub root-pair-stands :

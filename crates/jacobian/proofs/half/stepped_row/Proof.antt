@@ -1,7 +1,5 @@
-use mathlib.Core.Path.{_∙_, ap₂}
-use Rattle.jacobian.specs.Field.{𝔸}
 use Rattle.jacobian.proofs.Rows.Elements.{zero-lt, one-lt}
-use Rattle.jacobian.proofs.Halving.Rows.{stands-eq, one-row}
+use Rattle.jacobian.proofs.Halving.Rows.{stepped-stands}
 use borrow.Author.Needs.{needs}
 use Rattle.jacobian.proofs.half.stepped_row.Statement.{statement}
 use Rattle.jacobian.proofs.half.stepped_row.Tie as tie
@@ -16,9 +14,7 @@ add-rows-requires : tie.Need-add-rows-requires
 add-rows-requires c κs = search needs
 
 returns : tie.Need-returns
-returns c =
-    let d = c .before .before .before .args .d in
-    stands-eq d (ap₂ (𝔸 d .ring .add) (c .before .before .add-product .ensures .stands) (c .before .quadratic-row .ensures .stands ∙ one-row d)) (c .add-rows .ensures)
+returns c = stepped-stands _ _ (c .before .before .add-product .ensures) (c .before .quadratic-row .ensures) (c .add-rows .ensures)
 
 pub stepped-row-spec : {M : Type 1} → statement M
 stepped-row-spec =
