@@ -8,9 +8,9 @@ use lib.Dec.{eqb}
 use lib.Arith.{bin-ind}
 use Rattle.binary_field.specs.Carryless.{digits-to, digits, spread, remainder}
 use Rattle.binary_field.specs.Element.{low, product, square, squarings, power, inverse}
-use Rattle.binary_field.proofs.Sum.{bit-cases, bit-lt}
+use Rattle.binary_field.proofs.Sums.{bit-cases, bit-lt}
 use Rattle.binary_field.proofs.Clmul.{digits-step}
-use Rattle.binary_field.proofs.Product
+use Rattle.binary_field.proofs.Products
 use Rattle.binary_field.proofs.Power
 
 -- squared k times, by spreading
@@ -21,7 +21,7 @@ spreadings d (suc k) a = remainder d (low d) (spread (spreadings d k a))
 pub spreadings-squarings : (d k a : ℕ) → spreadings d k a ≡ squarings d k a
 unfolding spreadings squarings
 spreadings-squarings d zero a = refl
-spreadings-squarings d (suc k) a = ap (λ x. remainder d (low d) (spread x)) (spreadings-squarings d k a) ∙ sym (Product.square-spread d (squarings d k a))
+spreadings-squarings d (suc k) a = ap (λ x. remainder d (low d) (spread x)) (spreadings-squarings d k a) ∙ sym (Products.square-spread d (squarings d k a))
 
 -- the power 2^k - 1
 unfoldable pub chain-turn : ℕ → ℕ → ℕ → ℕ → ℕ
@@ -39,7 +39,7 @@ chain-inverse d a = spreadings d 1 (chain d a (d - 1))
 module _ (d : ℕ) (h : low d < 2 ^ d) (a : ℕ) (ha : a < 2 ^ d) where
   turn-zero : chain-turn d a 0 1 ≡ 1
   unfolding chain-turn spreadings
-  turn-zero = Product.product-one d h 1 (Product.one-lt d h)
+  turn-zero = Products.product-one d h 1 (Products.one-lt d h)
 
   doubled : (k : ℕ) → product d (spreadings d k (power d a (2 ^ k - 1))) (power d a (2 ^ k - 1)) ≡ power d a (2 ^ (k + k) - 1)
   doubled k = rw (spreadings-squarings, ← Power.power-ones-add d h a k k)

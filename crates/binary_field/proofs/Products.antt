@@ -9,18 +9,18 @@ use lib.Dec.{T, eqb, eqb→eq}
 use lib.Pow.{pow-pos}
 use Rattle.binary_field.specs.Carryless.{_⊕_, clmul, spread, reduce, remainder}
 use Rattle.binary_field.specs.Element.{Accepted, low, product, square}
-use Rattle.binary_field.proofs.Sum.{bit-cases, bit-lt}
+use Rattle.binary_field.proofs.Sums.{bit-cases, bit-lt}
 use Rattle.binary_field.proofs.Clmul
 use Rattle.binary_field.proofs.Spread.{clmul-self}
 use Rattle.binary_field.proofs.Remainder
 
-pub low-ge : (d : ℕ) → 5 ≤ low d
+pub low-ge : (d : ℕ) → 2 ≤ low d
 unfolding low
-low-ge d = either (eqb d 61)
+low-ge d = either (eqb d 61) _ _ (omega arith) (omega arith)
   where
-    either : (b : Bool) → 5 ≤ cond b 39 5
-    either true = omega arith
-    either false = omega arith
+    either : (b : Bool) (x y : ℕ) → 2 ≤ x → 2 ≤ y → 2 ≤ cond b x y
+    either true x y hx hy = hx
+    either false x y hx hy = hy
 
 pub one-lt : (d : ℕ) → low d < 2 ^ d → 1 < 2 ^ d
 one-lt d h = omega (arith, low-ge d)
