@@ -9,3 +9,4 @@ pub mod Curves
 pub mod Classes
 pub mod Examples
 pub mod Answer
+pub mod Halving
