@@ -1,8 +1,0 @@
-use Rattle.jacobian.proofs.half.half_rows.Statement.{statement}
-use Rattle.jacobian.proofs.half.half_rows.Tie as tie
-
-returns : tie.Need-returns
-returns c = ?
-
-pub half-rows-spec : {M : Type 1} → statement M
-half-rows-spec = tie.close (tie.spec returns)
