@@ -1,13 +1,23 @@
--- The theory of classes.
+-- The theory of classes: the coordinate ring and its ideals; composition, reduction, uniqueness; closure and the group; walks; halving.
+pub mod NonSingular
 pub mod Coordinate
 pub mod Ideal
 pub mod PairIdeal
+pub mod Norm
 pub mod Reduction
 pub mod Composition
+pub mod Uniqueness
+pub mod SemiReduced
+pub mod Composed
+pub mod Closed
+pub mod Classes
+pub mod GroupLaws
+pub mod Adds
+pub mod Group
+pub mod Walk
+pub mod Register
 pub mod Triple
 pub mod LiftCoefficients
 pub mod Rows
-pub mod Norm
-pub mod Uniqueness
 pub mod EvenRoot
 pub mod HalfChain

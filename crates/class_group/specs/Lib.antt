@@ -6,3 +6,6 @@ pub mod Reduction
 pub mod Operations
 pub mod Half
 pub mod Coefficients
+pub mod Group
+pub mod Walk
+pub mod NonSingular
