@@ -2,4 +2,8 @@
 pub mod Threes
 pub mod Degrees
 pub mod Checks
+pub mod Filled
 pub mod Pairs
+pub mod Passing
+pub mod Answers
+pub mod Opposite

@@ -10,4 +10,4 @@ pub mod ReductionRows
 pub mod DoubleRows
 pub mod ComposeRows
 pub mod QuotientRows
-pub mod Halving
+pub mod HalfRows

@@ -30,7 +30,7 @@ unfoldable pub refusal : Curve → Class → ℕ
 refusal c a = curve-refusal c then class-refusal c a
 
 unfoldable pub refusal-of-two : Curve → Class → Class → ℕ
-refusal-of-two c a b = curve-refusal c then class-refusal c a then class-refusal c b
+refusal-of-two c a b = refusal c a then class-refusal c b
 
 unfoldable pub verdict-of : ℕ → Verdict
 verdict-of zero = accepted
@@ -48,10 +48,14 @@ pub record Reply : Type 0 where
 abbrev pub reply : ClassAnswer → Reply
 reply r = record { outcome = verdict (r .outcome); class = r .class }
 
--- the class where no refusal is due, and else the refusal with the neutral class
+-- a refusal comes with the neutral class
+unfoldable pub refusal-reply : ℕ → Reply
+refusal-reply n = record { outcome = refused n; class = neutral-class }
+
+-- the class where no refusal is due
 unfoldable pub answered : (d : ℕ) → ℕ → Pair (Poly d) → Reply
 answered d zero D = record { outcome = accepted; class = class-of d D }
-answered d (suc n) D = record { outcome = refused (suc n); class = neutral-class }
+answered d (suc n) D = refusal-reply (suc n)
 
 unfoldable pub membership-answer : Curve → Class → Verdict
 membership-answer c a = verdict-of (refusal c a)

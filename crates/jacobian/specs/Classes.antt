@@ -35,15 +35,20 @@ class-of d D =
     let n = 𝔸 d .len (D .u) - 1 in
     record { degree = n; u = numbers d n (D .u); v = numbers d n (D .v) }
 
--- 104 for a degree above 3 or a number other than 0 at or past the degree, then 110 for a number of 2^d or more,
--- then 111 where u does not divide v² + v + f; 0 where the class is accepted
+-- 104 for a degree above 3 or a number other than 0 at or past the degree
+unfoldable pub shape-refusal : Class → ℕ
+shape-refusal a = unless (leb (a .degree) 3 && blank (drop (a .degree) (a .u)) && blank (drop (a .degree) (a .v))) 104
+
+-- 110 for a number of 2^d or more
+unfoldable pub range-refusal : ℕ → Class → ℕ
+range-refusal d a = unless (below (2 ^ d) (a .u) && below (2 ^ d) (a .v)) 110
+
+-- 104, then 110, then 111 where u does not divide v² + v + f; 0 where the class is accepted
 unfoldable pub class-refusal : Curve → Class → ℕ
 class-refusal c a =
     let d = c .degree in
     let D = pair d a in
-    unless (leb (a .degree) 3 && blank (drop (a .degree) (a .u)) && blank (drop (a .degree) (a .v))) 104
-    then unless (below (2 ^ d) (a .u) && below (2 ^ d) (a .v)) 110
-    then unless (eqb (𝔸 d .len (𝔸 d .rem (value (curve c) (D .v)) (D .u))) 0) 111
+    shape-refusal a then range-refusal d a then unless (eqb (𝔸 d .len (𝔸 d .rem (value (curve c) (D .v)) (D .u))) 0) 111
 
 -- the first n numbers of a row that has as many, then 1
 pub record Led (n : ℕ) (r t : List ℕ) : Type 0 where

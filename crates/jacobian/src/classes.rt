@@ -12,7 +12,7 @@ ghost use Rattle.jacobian.specs.Row.{InRange, StandsPair, filled, row-le
 ghost use Rattle.jacobian.specs.Core.{OnCurve};
 ghost use Rattle.jacobian.specs.Checks.{below, blank};
 ghost use Rattle.jacobian.specs.Curves.{curve-refusal, f-row};
-ghost use Rattle.jacobian.specs.Classes.{Led, RowsOf, class-of, class-refusal};
+ghost use Rattle.jacobian.specs.Classes.{Led, RowsOf, class-of, shape-refusal, range-refusal, class-refusal};
 use crate::Class;
 use crate::Curve;
 use crate::curves;
@@ -92,7 +92,7 @@ pub(crate) fn to_rows(a: Class) -> RowPair
 
 // The class of a pair.
 pub(crate) fn from_rows(a: RowPair) -> Class
-    ensures { λ r. ⌜ ((d : ℕ) → InRange d (a .u) → InRange d (a .v) → row-len d (a .u) ≤ 4 → r ≡ class-of d (rows-pair d a)) ⌝ }
+    ensures { λ r. ⌜ ((d : ℕ) → InRange d (a .u) → InRange d (a .v) → r ≡ class-of d (rows-pair d a)) ⌝ }
 {
     let u = a.u;
     let v = a.v;
@@ -115,8 +115,93 @@ pub(crate) fn from_rows(a: RowPair) -> Class
         };
     }
     Class {
-        degree: 3,
+        degree: (n - 1) as u64,
         u: [u[0], u[1], u[2]],
         v: [v[0], v[1], v[2]],
     }
+}
+
+// Does u divide v² + v + f?
+fn divides(d: u8, f: [u64; 12], a: RowPair) -> bool
+    requires { ⌜ Accepted d × InRange d f × InRange d (a .u) × InRange d (a .v) × (row-len d (a .v) ≤ 6) × ¬ (poly d (a .u) ≡ 𝔸 d .ring .nought) ⌝ }
+    ensures { λ t. ⌜ ((C : TheoryCurve (𝔸 d)) → OnCurve d f C → t ≡ eqb (𝔸 d .len (𝔸 d .rem (value C (rows-pair d a .v)) (rows-pair d a .u))) 0) ⌝ }
+{
+    let u = a.u;
+    let v = a.v;
+    let square = row::square_row(d, v);
+    let left = row::add_rows(d, square, v);
+    let all = row::add_rows(d, left, f);
+    let division = row::divide(d, all, u);
+    let rest = division.remainder;
+    row::length(rest) == 0
+}
+
+// 104 for a degree above 3 or a number other than 0 at or past the degree, else 0.
+fn shape_due(a: Class) -> u32
+    ensures { λ r. ⌜ r ≡ shape-refusal a ⌝ }
+{
+    let u = a.u;
+    let v = a.v;
+    if a.degree > 3 {
+        return 104;
+    }
+    if !blank_from(a.degree, u) {
+        return 104;
+    }
+    if !blank_from(a.degree, v) {
+        return 104;
+    }
+    0
+}
+
+// 110 for a number of 2^d or more, else 0.
+fn range_due(d: u8, a: Class) -> u32
+    requires { ⌜ Accepted d ⌝ }
+    ensures { λ r. ⌜ r ≡ range-refusal d a ⌝ }
+{
+    let u = a.u;
+    let v = a.v;
+    let m = curves::bound(d);
+    if !all_below(m, u) {
+        return 110;
+    }
+    if !all_below(m, v) {
+        return 110;
+    }
+    0
+}
+
+// The refusal that is due to a class, and 0 where none is.
+pub(crate) fn class_due(c: Curve, f: [u64; 12], a: Class) -> u32
+    requires { ⌜ (curve-refusal c ≡ 0) × (f ≡ filled (f-row c)) ⌝ }
+    ensures { λ r. ⌜ r ≡ class-refusal c a ⌝ }
+{
+    let shape = shape_due(a);
+    if shape != 0 {
+        return shape;
+    }
+    let range = range_due(c.degree, a);
+    if range != 0 {
+        return range;
+    }
+    let rows = to_rows(a);
+    if divides(c.degree, f, rows) {
+        return 0;
+    }
+    111
+}
+
+// The opposite of a pair.
+pub(crate) fn opposite_rows(d: u8, a: RowPair) -> RowPair
+    requires { ⌜ Accepted d × InRange d (a .u) × InRange d (a .v) ⌝ }
+    ensures { λ r. ⌜ ((C : TheoryCurve (𝔸 d)) → StandsPair d r (opposite C (rows-pair d a))) ⌝ }
+{
+    let u = a.u;
+    let v = a.v;
+    if row::length(u) < 2 {
+        return a;
+    }
+    let one = [1, 0, 0, 0, 0, 0, 0, 0, 0, 0, 0, 0];
+    let w = row::add_rows(d, v, one);
+    RowPair { u: u, v: w }
 }

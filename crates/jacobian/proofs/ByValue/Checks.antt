@@ -6,13 +6,14 @@ use mathlib.Core.List.{List, [], _∷_}
 use native.Mathlib.Omega.{arith}
 use lib.Dec.{T, eqb, ltb, leb, lit≤}
 use lib.ListN.{getD, drop}
+use lib.Pow.{pow-pos}
 use borrow.Author.Tests.{ltb-true, leb-true, eqb-true}
 use Rattle.binary_field.specs.Element.{Accepted}
 use Rattle.class_group.specs.Mumford.{value}
 use Rattle.jacobian.specs.Field.{𝔸}
 use Rattle.jacobian.specs.Checks.{unless, _then_, below, blank}
 use Rattle.jacobian.specs.Curves.{curve-refusal, f-row, curve}
-use Rattle.jacobian.specs.Classes.{pair, class-refusal}
+use Rattle.jacobian.specs.Classes.{pair, shape-refusal, range-refusal, class-refusal}
 use Rattle.jacobian.specs.declared.Curve.{Curve}
 use Rattle.jacobian.specs.declared.Class.{Class}
 use Rattle.jacobian.proofs.ByValue.Degrees.{by-degree}
@@ -22,6 +23,16 @@ pub then-zero : (m n : ℕ) → m then n ≡ 0 → (m ≡ 0) × (n ≡ 0)
 unfolding _then_
 then-zero zero n e = (refl, e)
 then-zero (suc m) n e = absurd (omega arith)
+
+pub first-due : {m n : ℕ} (k : ℕ) → n ≡ m → ¬ (n ≡ 0) → n ≡ m then k
+unfolding _then_
+first-due {m = zero} k e h = absurd (h e)
+first-due {m = suc m} k e h = e
+
+pub next-due : {m n k l : ℕ} → n ≡ m → n ≡ 0 → k ≡ l → k ≡ m then l
+unfolding _then_
+next-due {m = zero} e z h = h
+next-due {m = suc m} e z h = absurd (omega arith)
 
 pub unless-zero : (b : Bool) (n : ℕ) → unless b (suc n) ≡ 0 → b ≡ true
 unfolding unless
@@ -85,27 +96,44 @@ curve-passes c e =
     }
 
 -- ---- a class that no check refuses
-pub record ClassPasses (c : Curve) (a : Class) : Type 0 where
+pub record ShapePasses (a : Class) : Type 0 where
   pub low : a .degree ≤ 3
   pub u-blank : (i : ℕ) → a .degree ≤ i → getD (a .u) i 0 ≡ 0
   pub v-blank : (i : ℕ) → a .degree ≤ i → getD (a .v) i 0 ≡ 0
-  pub u-below : below (2 ^ c .degree) (a .u) ≡ true
-  pub v-below : below (2 ^ c .degree) (a .v) ≡ true
+
+pub record RangePasses (d : ℕ) (a : Class) : Type 0 where
+  pub u-below : (i : ℕ) → getD (a .u) i 0 < 2 ^ d
+  pub v-below : (i : ℕ) → getD (a .v) i 0 < 2 ^ d
+
+pub record ClassPasses (c : Curve) (a : Class) : Type 0 where
+  pub shape : ShapePasses a
+  pub range : RangePasses (c .degree) a
   pub divides : 𝔸 (c .degree) .len (𝔸 (c .degree) .rem (value (curve c) (pair (c .degree) a .v)) (pair (c .degree) a .u)) ≡ 0
+
+pub shape-passes : (a : Class) → shape-refusal a ≡ 0 → ShapePasses a
+unfolding shape-refusal
+shape-passes a e =
+    let shape = both _ _ (unless-zero _ 103 e) in
+    let degree = both _ _ (shape .0) in
+    record {
+      low = leb-true _ _ (degree .0);
+      u-blank = blank-past (a .degree) (a .u) (degree .1);
+      v-blank = blank-past (a .degree) (a .v) (shape .1);
+    }
+
+pub range-passes : (d : ℕ) (a : Class) → range-refusal d a ≡ 0 → RangePasses d a
+unfolding range-refusal
+range-passes d a e =
+    let range = both _ _ (unless-zero _ 109 e) in
+    record { u-below = below-at (2 ^ d) (a .u) (pow-pos d) (range .0); v-below = below-at (2 ^ d) (a .v) (pow-pos d) (range .1) }
 
 pub class-passes : (c : Curve) (a : Class) → class-refusal c a ≡ 0 → ClassPasses c a
 unfolding class-refusal
 class-passes c a e =
     let h = then-zero _ _ e in
     let k = then-zero _ _ (h .1) in
-    let shape = both _ _ (unless-zero _ 103 (h .0)) in
-    let degree = both _ _ (shape .0) in
-    let range = both _ _ (unless-zero _ 109 (k .0)) in
     record {
-      low = leb-true _ _ (degree .0);
-      u-blank = blank-past (a .degree) (a .u) (degree .1);
-      v-blank = blank-past (a .degree) (a .v) (shape .1);
-      u-below = range .0;
-      v-below = range .1;
+      shape = shape-passes a (h .0);
+      range = range-passes (c .degree) a (k .0);
       divides = eqb-true _ _ (unless-zero _ 110 (k .1));
     }

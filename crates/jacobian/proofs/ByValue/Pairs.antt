@@ -1,12 +1,15 @@
 -- The class by value of a pair of rows.
-use Prim.Native.Nat.{ℕ, _-_, _<_}
-use mathlib.Core.Path.{_≡_, refl, sym, _∙_, ap}
+use Prim.Native.Nat.{ℕ, _-_, _≤_, _<_}
+use mathlib.Core.Path.{_≡_, refl, sym, _∙_, ap, ap₂}
 use mathlib.Core.Bool.{cond}
 use mathlib.Core.List.{List, [], _∷_}
+use native.Mathlib.Omega.{arith}
 use lib.Dec.{ltb}
 use lib.ListN.{getD}
-use Rattle.jacobian.specs.Field.{𝔸, poly}
-use Rattle.jacobian.specs.Row.{InRange, row-len, rows-pair}
+use borrow.Author.Tests.{lt-ltb}
+use Rattle.class_group.specs.Mumford.{Pair}
+use Rattle.jacobian.specs.Field.{Poly, 𝔸, poly}
+use Rattle.jacobian.specs.Row.{InRange, StandsPair, row-len, rows-pair}
 use Rattle.jacobian.specs.Classes.{numbers, class-of}
 use Rattle.jacobian.specs.declared.Class.{Class}
 use Rattle.jacobian.specs.declared.row.RowPair.{RowPair}
@@ -16,6 +19,9 @@ use Rattle.jacobian.proofs.Rows.Coefficients.{coeff-poly}
 -- the numbers of a row below place n, in a row of three
 abbrev pub first : ℕ → List ℕ → List ℕ
 first n r = cond (ltb 0 n) (getD r 0 0) 0 ∷ cond (ltb 1 n) (getD r 1 0) 0 ∷ cond (ltb 2 n) (getD r 2 0) 0 ∷ []
+
+pub first-three : (n : ℕ) (r : List ℕ) → 3 ≤ n → first n r ≡ getD r 0 0 ∷ getD r 1 0 ∷ getD r 2 0 ∷ []
+first-three n r h = simp (lt-ltb 0 n (omega arith), lt-ltb 1 n (omega arith), lt-ltb 2 n (omega arith))
 
 module _ (d : ℕ) where
   number-at : (r : List ℕ) → InRange d r → (i : ℕ) → (𝔸 d .coeff (poly d r) i) .0 ≡ getD r i 0
@@ -30,3 +36,11 @@ module _ (d : ℕ) where
       → (n : ℕ) → row-len d (a .u) - 1 ≡ n → class-of d (rows-pair d a) ≡ record { degree = n; u = first n (a .u); v = first n (a .v) }
   unfolding class-of rows-pair
   class-of-rows a h k n e = simp (e, numbers-of n (a .u) h, numbers-of n (a .v) k)
+
+  -- rows that stand for a pair: the class of the rows is that of the pair
+  pub stands-class :
+      {r : RowPair} {D : Pair (Poly d)} {k : Class} → StandsPair d r D
+      → (InRange d (r .u) → InRange d (r .v) → k ≡ class-of d (rows-pair d r)) → k ≡ class-of d D
+  unfolding rows-pair
+  stands-class s h =
+      h (s .u-stands .in-range) (s .v-stands .in-range) ∙ ap₂ (λ (x y : Poly d). class-of d (record { u = x; v = y })) (s .u-stands .stands) (s .v-stands .stands)

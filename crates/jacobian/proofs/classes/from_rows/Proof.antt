@@ -1,8 +1,11 @@
 -- `from_rows` meets its contract, by the length of u.
-use mathlib.Core.Path.{_≡_, sym, _∙_}
+use mathlib.Core.Path.{_≡_, refl, sym, _∙_, ap, ap₂}
+use mathlib.Core.List.{List}
+use Prim.Native.Nat.{ℕ, _-_, _≤_}
 use native.Mathlib.Omega.{arith}
+use Rattle.jacobian.specs.declared.Class.{Class}
 use Rattle.jacobian.specs.Answer.{neutral-class}
-use Rattle.jacobian.proofs.ByValue.Pairs.{class-of-rows}
+use Rattle.jacobian.proofs.ByValue.Pairs.{first-three, class-of-rows}
 use borrow.Author.Needs.{needs}
 use Rattle.jacobian.proofs.classes.from_rows.Statement.{statement}
 use Rattle.jacobian.proofs.classes.from_rows.Tie as tie
@@ -16,7 +19,7 @@ neutral-requires c κs = search needs
 returns : tie.Need-returns
 unfolding neutral-class
 returns c =
-    λ d hu hv low.
+    λ d hu hv.
     let e = c .before .before .length .ensures d hu in
     c .neutral .ensures ∙ sym (class-of-rows d (c .before .before .before .before .before .args .a) hu hv 0 (omega arith))
 
@@ -28,7 +31,7 @@ array-read-t13 c = search needs
 
 returns-2 : tie.Need-returns-2
 returns-2 c =
-    λ d hu hv low.
+    λ d hu hv.
     let e = c .before .before .length .ensures d hu in
     sym (class-of-rows d (c .before .before .before .before .before .args .a) hu hv 1 (omega arith))
 
@@ -46,33 +49,41 @@ array-read-t27 c = search needs
 
 returns-3 : tie.Need-returns-3
 returns-3 c =
-    λ d hu hv low.
+    λ d hu hv.
     let e = c .before .before .before .length .ensures d hu in
     sym (class-of-rows d (c .before .before .before .before .before .before .args .a) hu hv 2 (omega arith))
 
-array-read-t31 : tie.Need-array-read-t31
-array-read-t31 c = search needs
+sub-t29 : tie.Need-sub-t29
+sub-t29 c = search needs
 
-array-read-t34 : tie.Need-array-read-t34
-array-read-t34 c = search needs
+array-read-t33 : tie.Need-array-read-t33
+array-read-t33 c = search needs
 
-array-read-t37 : tie.Need-array-read-t37
-array-read-t37 c = search needs
+array-read-t36 : tie.Need-array-read-t36
+array-read-t36 c = search needs
 
-array-read-t41 : tie.Need-array-read-t41
-array-read-t41 c = search needs
+array-read-t39 : tie.Need-array-read-t39
+array-read-t39 c = search needs
 
-array-read-t44 : tie.Need-array-read-t44
-array-read-t44 c = search needs
+array-read-t43 : tie.Need-array-read-t43
+array-read-t43 c = search needs
 
-array-read-t47 : tie.Need-array-read-t47
-array-read-t47 c = search needs
+array-read-t46 : tie.Need-array-read-t46
+array-read-t46 c = search needs
+
+array-read-t49 : tie.Need-array-read-t49
+array-read-t49 c = search needs
 
 returns-4 : tie.Need-returns-4
 returns-4 c =
-    λ d hu hv low.
+    λ d hu hv.
     let e = c .before .before .before .length .ensures d hu in
-    sym (class-of-rows d (c .before .before .before .before .before .before .args .a) hu hv 3 (omega arith))
+    let n = c .before .before .before .length .result in
+    let long : 3 ≤ n - 1 = omega arith in
+    let a = c .before .before .before .before .before .before .args .a in
+    sym
+    (class-of-rows d a hu hv (n - 1) (omega arith)
+    ∙ ap₂ (λ (x y : List ℕ). record { degree = n - 1; u = x; v = y }) (first-three (n - 1) (a .u) long) (first-three (n - 1) (a .v) long))
 
 pub from-rows-spec : {M : Type 1} → statement M
 from-rows-spec =
@@ -89,10 +100,11 @@ from-rows-spec =
     array-read-t24
     array-read-t27
     returns-3
-    array-read-t31
-    array-read-t34
-    array-read-t37
-    array-read-t41
-    array-read-t44
-    array-read-t47
+    sub-t29
+    array-read-t33
+    array-read-t36
+    array-read-t39
+    array-read-t43
+    array-read-t46
+    array-read-t49
     returns-4)

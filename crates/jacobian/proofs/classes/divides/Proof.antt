@@ -1,0 +1,48 @@
+-- `divides` meets its contract.
+use mathlib.Core.Path.{_≡_, _∙_, ap}
+use lib.Dec.{eqb}
+use Rattle.jacobian.specs.Field.{𝔸, poly}
+use Rattle.jacobian.specs.Row.{rows-pair}
+use Rattle.jacobian.proofs.ByValue.Passing.{value-stands}
+use borrow.Author.Needs.{needs}
+use Rattle.jacobian.proofs.classes.divides.Statement.{statement}
+use Rattle.jacobian.proofs.classes.divides.Tie as tie
+
+square-row-requires : tie.Need-square-row-requires
+square-row-requires c κs = search needs
+
+add-rows-requires : tie.Need-add-rows-requires
+add-rows-requires c κs = search needs
+
+add-rows-requires-2 : tie.Need-add-rows-requires-2
+add-rows-requires-2 c κs = search needs
+
+divide-requires : tie.Need-divide-requires
+divide-requires c κs = search needs
+
+length-requires : tie.Need-length-requires
+length-requires c κs = search needs
+
+returns : tie.Need-returns
+unfolding rows-pair
+returns c =
+    λ C on.
+    let s = c .before .before .before .before .before .before .before .before in
+    let d = s .args .d in
+    let division = c .before .before .divide .ensures .1 in
+    let all =
+    value-stands d (s .args .a .v) on (c .before .before .before .before .before .square-row .ensures) (c .before .before .before .before .add-rows .ensures)
+    (c .before .before .before .add-rows2 .ensures) in
+    ap (λ n. eqb n 0)
+    (c .length .ensures d (division .in-range) ∙ ap (𝔸 d .len) (division .stands ∙ ap (λ z. 𝔸 d .rem z (poly d (s .args .a .u))) all))
+
+pub divides-spec : {M : Type 1} → statement M
+divides-spec =
+    tie.close
+    (tie.spec
+    square-row-requires
+    add-rows-requires
+    add-rows-requires-2
+    divide-requires
+    length-requires
+    returns)

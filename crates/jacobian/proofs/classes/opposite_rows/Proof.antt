@@ -1,0 +1,38 @@
+-- `opposite_rows` meets its contract: the neutral class is its own opposite.
+use Prim.Native.Nat.{_≤_, _<_}
+use mathlib.Core.Path.{_≡_, sym, _∙_}
+use native.Mathlib.Omega.{arith}
+use Rattle.jacobian.specs.Row.{row-len, filled}
+use Rattle.jacobian.proofs.ByValue.Opposite.{one-range, opposite-short, opposite-long}
+use borrow.Author.Needs.{needs}
+use Rattle.jacobian.proofs.classes.opposite_rows.Statement.{statement}
+use Rattle.jacobian.proofs.classes.opposite_rows.Tie as tie
+
+length-requires : tie.Need-length-requires
+length-requires c κs = search needs
+
+returns : tie.Need-returns
+returns c =
+    λ C.
+    let s = c .before .before .before .before in
+    let d = s .args .d in
+    let e = c .before .length .ensures d (s .pre .1) in
+    opposite-short d C (s .args .a) (s .pre .1) (s .pre .2) (omega arith)
+
+add-rows-requires : tie.Need-add-rows-requires
+unfolding filled
+add-rows-requires c κs =
+    let s = c .before .before .before .before in
+    (s .pre .0, s .pre .2, one-range (s .args .d))
+
+returns-2 : tie.Need-returns-2
+unfolding filled
+returns-2 c =
+    λ C.
+    let s = c .before .before .before .before .before in
+    let d = s .args .d in
+    let e = c .before .before .length .ensures d (s .pre .1) in
+    opposite-long d C (s .args .a) (s .pre .1) (s .pre .2) (omega arith) (c .add-rows .ensures)
+
+pub opposite-rows-spec : {M : Type 1} → statement M
+opposite-rows-spec = tie.close (tie.spec length-requires returns add-rows-requires returns-2)

@@ -1,0 +1,46 @@
+-- `range_due` meets its contract: each return by the tests that led to it.
+use Prim.Native.Nat.{ℕ}
+use mathlib.Core.Path.{_≡_, sym, _∙_, ap}
+use borrow.Author.Tests.{not-true, not-false}
+use Rattle.jacobian.specs.Checks.{unless, below}
+use Rattle.jacobian.specs.Classes.{range-refusal}
+use borrow.Author.Needs.{needs}
+use Rattle.jacobian.proofs.classes.range_due.Statement.{statement}
+use Rattle.jacobian.proofs.classes.range_due.Tie as tie
+
+bound-requires : tie.Need-bound-requires
+bound-requires c κs = search needs
+
+all-below-requires : tie.Need-all-below-requires
+all-below-requires c κs = search needs
+
+returns : tie.Need-returns
+unfolding range-refusal unless
+returns c =
+    simp (← (c .before .before .bound .ensures), sym (c .before .all-below .ensures) ∙ not-true _ (c .if1 .taken))
+
+all-below-requires-2 : tie.Need-all-below-requires-2
+all-below-requires-2 c κs = search needs
+
+returns-2 : tie.Need-returns-2
+unfolding range-refusal unless
+returns-2 c =
+    simp (
+      ← (c .before .before .before .before .bound .ensures),
+      sym (c .before .before .before .all-below .ensures) ∙ not-false _ (c .before .before .if1 .left),
+      sym (c .before .all-below2 .ensures) ∙ not-true _ (c .if2 .taken),
+    )
+
+returns-3 : tie.Need-returns-3
+unfolding range-refusal unless
+returns-3 c =
+    simp (
+      ← (c .before .before .before .before .bound .ensures),
+      sym (c .before .before .before .all-below .ensures) ∙ not-false _ (c .before .before .if1 .left),
+      sym (c .before .all-below2 .ensures) ∙ not-false _ (c .if2 .left),
+    )
+
+pub range-due-spec : {M : Type 1} → statement M
+range-due-spec =
+    tie.close
+    (tie.spec bound-requires all-below-requires returns all-below-requires-2 returns-2 returns-3)

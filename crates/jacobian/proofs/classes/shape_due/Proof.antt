@@ -1,0 +1,46 @@
+-- `shape_due` meets its contract: each return by the tests that led to it.
+use mathlib.Core.Path.{_≡_, sym, _∙_}
+use borrow.Author.Tests.{le-leb, lt-leb, not-true, not-false}
+use Rattle.jacobian.specs.Checks.{unless}
+use Rattle.jacobian.specs.Classes.{shape-refusal}
+use borrow.Author.Needs.{needs}
+use Rattle.jacobian.proofs.classes.shape_due.Statement.{statement}
+use Rattle.jacobian.proofs.classes.shape_due.Tie as tie
+
+returns : tie.Need-returns
+unfolding shape-refusal unless
+returns c = simp (lt-leb _ _ (c .if1 .taken))
+
+blank-from-requires : tie.Need-blank-from-requires
+blank-from-requires c κs = search needs
+
+returns-2 : tie.Need-returns-2
+unfolding shape-refusal unless
+returns-2 c =
+    simp (le-leb _ _ (c .before .before .if1 .left), sym (c .before .blank-from .ensures) ∙ not-true _ (c .if2 .taken))
+
+blank-from-requires-2 : tie.Need-blank-from-requires-2
+blank-from-requires-2 c κs = search needs
+
+returns-3 : tie.Need-returns-3
+unfolding shape-refusal unless
+returns-3 c =
+    simp (
+      le-leb _ _ (c .before .before .before .before .if1 .left),
+      sym (c .before .before .before .blank-from .ensures) ∙ not-false _ (c .before .before .if2 .left),
+      sym (c .before .blank-from2 .ensures) ∙ not-true _ (c .if3 .taken),
+    )
+
+returns-4 : tie.Need-returns-4
+unfolding shape-refusal unless
+returns-4 c =
+    simp (
+      le-leb _ _ (c .before .before .before .before .if1 .left),
+      sym (c .before .before .before .blank-from .ensures) ∙ not-false _ (c .before .before .if2 .left),
+      sym (c .before .blank-from2 .ensures) ∙ not-false _ (c .if3 .left),
+    )
+
+pub shape-due-spec : {M : Type 1} → statement M
+shape-due-spec =
+    tie.close
+    (tie.spec returns blank-from-requires returns-2 blank-from-requires-2 returns-3 returns-4)

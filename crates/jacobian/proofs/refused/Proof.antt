@@ -1,0 +1,17 @@
+-- `refused` meets its contract.
+use mathlib.Core.Path.{_≡_, ap}
+use Rattle.jacobian.specs.declared.Class.{Class}
+use Rattle.jacobian.specs.Answer.{refused, refusal-reply, Reply}
+use borrow.Author.Needs.{needs}
+use Rattle.jacobian.proofs.refused.Statement.{statement}
+use Rattle.jacobian.proofs.refused.Tie as tie
+
+neutral-requires : tie.Need-neutral-requires
+neutral-requires c κs = search needs
+
+returns : tie.Need-returns
+unfolding refusal-reply
+returns c = ap (λ (k : Class). record { outcome = refused (c .before .args .n); class = k }) (c .neutral .ensures)
+
+pub refused-spec : {M : Type 1} → statement M
+refused-spec = tie.close (tie.spec neutral-requires returns)
