@@ -1,6 +1,6 @@
 use Rattle.jacobian.proofs.Rows.Elements.{zero-lt}
 use Rattle.jacobian.proofs.Halving.Rows.{quartic-fits}
-use Rattle.jacobian.proofs.Halving.Computed3.{first-lift-stands}
+use Rattle.jacobian.proofs.Halving.Parts3.{first-lift-stands}
 use borrow.Author.Needs.{needs}
 use Rattle.jacobian.proofs.half.first_lift.Statement.{statement}
 use Rattle.jacobian.proofs.half.first_lift.Tie as tie

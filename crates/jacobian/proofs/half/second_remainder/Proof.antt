@@ -1,7 +1,7 @@
 use native.Mathlib.Omega.{arith}
 use Rattle.jacobian.proofs.Rows.Elements.{zero-lt, one-lt}
 use Rattle.jacobian.proofs.Halving.Rows.{quadratic-fits}
-use Rattle.jacobian.proofs.Halving.Computed3.{divisor-nonzero, remainder-len, sum-len, second-remainder-stands}
+use Rattle.jacobian.proofs.Halving.Parts3.{divisor-nonzero, remainder-len, sum-len, second-remainder-stands}
 use borrow.Author.Needs.{needs}
 use Rattle.jacobian.proofs.half.second_remainder.Statement.{statement}
 use Rattle.jacobian.proofs.half.second_remainder.Tie as tie

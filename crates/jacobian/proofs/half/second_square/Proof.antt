@@ -1,6 +1,6 @@
 use Rattle.jacobian.proofs.Rows.Elements.{zero-lt, one-lt}
 use Rattle.jacobian.proofs.Halving.Rows.{quartic-fits}
-use Rattle.jacobian.proofs.Halving.Computed3.{second-square-stands}
+use Rattle.jacobian.proofs.Halving.Parts3.{second-square-stands}
 use borrow.Author.Needs.{needs}
 use Rattle.jacobian.proofs.half.second_square.Statement.{statement}
 use Rattle.jacobian.proofs.half.second_square.Tie as tie
