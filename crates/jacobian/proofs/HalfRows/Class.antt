@@ -4,18 +4,12 @@ use mathlib.Core.Path.{_≡_, refl, sym, _∙_, ap, ap₂, subst}
 use mathlib.Core.List.{List}
 use native.Mathlib.Omega.{arith}
 use Rattle.char2_algebra.specs.Lead.{Monic}
-use Rattle.char2_algebra.proofs.Degree.{nonzero-of-len}
-use Rattle.char2_algebra.proofs.Division.{len-quot-exact}
-use Rattle.char2_algebra.proofs.Lead.{monic-nonzero, quot-monic}
+use Rattle.char2_algebra.proofs.{Degree.nonzero-of-len, Division.len-quot-exact, Lead.monic-nonzero, Lead.quot-monic}
 use Rattle.class_group.specs.Curve as Theory
-use Rattle.class_group.specs.Mumford.{Pair, value}
-use Rattle.class_group.specs.Half.{Triple, triple, half, half-by, half-of-degree-1, half-of-degree-2, half-of-degree-3}
+use Rattle.class_group.specs.{Mumford.value, Half.triple, Half.half, Half.half-by, Half.half-of-degree-1, Half.half-of-degree-2, Half.half-of-degree-3}
 use Rattle.class_group.proofs.HalfChain.{value-len, value-monic}
-use Rattle.jacobian.specs.Field.{Poly, 𝔸, poly}
-use Rattle.jacobian.specs.Row.{Stands, StandsPair, row-len, rows-pair}
-use Rattle.jacobian.specs.Core.{OnCurve, ReducedRows}
-use Rattle.jacobian.specs.declared.row.RowPair.{RowPair}
-use Rattle.jacobian.specs.Halving.{HalvingRows, rows-triple}
+use Rattle.jacobian.specs.{Field.𝔸, Field.poly, Row.Stands, Row.StandsPair, Row.row-len, Row.rows-pair, Core.OnCurve, Core.ReducedRows}
+use Rattle.jacobian.specs.{declared.row.RowPair.RowPair, Halving.HalvingRows, Halving.rows-triple}
 use Rattle.jacobian.proofs.HalfRows.Rows.{stands-eq, pair-eq}
 
 module _ (d : ℕ) (f : List ℕ) (a : RowPair) where

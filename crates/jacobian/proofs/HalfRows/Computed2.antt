@@ -1,20 +1,17 @@
 -- What the calls in the half of degree 2 promise, and what follows of the pair that they lead to.
-use Prim.Native.Nat.{ℕ, _≤_, _<_, _+_}
-use mathlib.Core.Path.{_≡_, refl, sym, _∙_, ap, ap₂}
+use Prim.Native.Nat.{ℕ}
+use mathlib.Core.Path.{_≡_, sym, _∙_, ap, ap₂}
 use mathlib.Core.List.{List}
 use native.Mathlib.Omega.{arith}
 use lib.ListN.{getD}
 use Rattle.field_laws.specs.Ring.{Ring2}
 use Rattle.char2_algebra.specs.Square.{sqrt}
 use Rattle.class_group.specs.Half.{Triple, quadratic, half-of-degree-2}
-use Rattle.jacobian.specs.Field.{F, Poly, 𝔸, el, poly}
-use Rattle.jacobian.specs.Row.{Is, Stands, StandsPair, row-len}
-use Rattle.jacobian.specs.declared.row.RowPair.{RowPair}
-use Rattle.jacobian.specs.Halving.{HalvingRows, even-quartic, root-pair, rows-triple}
-use Rattle.jacobian.proofs.Rows.Elements.{el-zero, el-one, el-nonzero}
-use Rattle.jacobian.proofs.Rows.Coefficients.{coeff-poly}
-use Rattle.jacobian.proofs.HalfRows.Rows.{pair-eq}
-use Rattle.jacobian.proofs.HalfRows.Degrees12.{pair-2-square, nonzero-2-square, pair-2, nonzero-2, k-2, m-2}
+use Rattle.jacobian.specs.{Field.F, Field.Poly, Field.𝔸, Field.el, Field.poly, Row.Is, Row.Stands, Row.StandsPair, declared.row.RowPair.RowPair}
+use Rattle.jacobian.specs.{Halving.HalvingRows, Halving.even-quartic, Halving.root-pair, Halving.rows-triple}
+use Rattle.jacobian.proofs.{Rows.Elements.el-zero, Rows.Elements.el-one, Rows.Elements.el-nonzero, Rows.Coefficients.coeff-poly}
+use Rattle.jacobian.proofs.{Halving.Rows.pair-eq, Halving.Degrees12.pair-2-square, Halving.Degrees12.nonzero-2-square, Halving.Degrees12.pair-2}
+use Rattle.jacobian.proofs.{Halving.Degrees12.nonzero-2, Halving.Degrees12.k-2, Halving.Degrees12.m-2}
 
 module _ (d : ℕ) (u v w : List ℕ) where
   open Ring2 (𝔸 d .ring) using (add as _⊞_, mul as _·_, nought as 𝟘, one as 𝟙)

@@ -1,20 +1,16 @@
 -- What the calls in the half of degree 3 promise where there is a second lift, and what follows of the pair that they lead to.
-use Prim.Native.Nat.{ℕ, _≤_, _<_}
+use Prim.Native.Nat.{ℕ}
 use mathlib.Core.Path.{_≡_, sym, _∙_, ap, ap₂}
 use mathlib.Core.List.{List}
-use native.Mathlib.Omega.{arith}
 use lib.ListN.{getD}
 use Rattle.char2_algebra.specs.Square.{sqrt}
 use Rattle.class_group.specs.Half.{Triple, half-of-degree-3}
 use Rattle.class_group.proofs.Rows.{first-lift}
-use Rattle.jacobian.specs.Field.{K, F, Poly, 𝔸, el, poly}
-use Rattle.jacobian.specs.Row.{Is, Stands, StandsPair, row-len}
-use Rattle.jacobian.specs.Halving.{second-square, second-remainder, rows-triple}
-use Rattle.jacobian.proofs.Rows.Elements.{el-nonzero}
-use Rattle.jacobian.proofs.Rows.Coefficients.{coeff-poly}
-use Rattle.jacobian.proofs.HalfRows.Rows.{stands-eq, pair-eq}
-use Rattle.jacobian.proofs.HalfRows.Degree3.{pair-3, a-len}
-use Rattle.jacobian.proofs.HalfRows.Computed3.{Computed3, w-five, r-path, t-path}
+use Rattle.jacobian.specs.{Field.K, Field.F, Field.Poly, Field.𝔸, Field.el, Field.poly, Row.Is, Row.Stands, Row.StandsPair, Row.row-len}
+use Rattle.jacobian.specs.{Halving.second-square, Halving.second-remainder, Halving.rows-triple}
+use Rattle.jacobian.proofs.{Rows.Elements.el-nonzero, Rows.Coefficients.coeff-poly, Halving.Rows.stands-eq, Halving.Rows.pair-eq}
+use Rattle.jacobian.proofs.{Halving.Degree3.pair-3, Halving.Degree3.a-len, Halving.Computed3.Computed3, Halving.Computed3.w-five}
+use Rattle.jacobian.proofs.{Halving.Computed3.r-path, Halving.Computed3.t-path}
 
 module _ (d : ℕ) (u v w : List ℕ) where
   pub record Lifted3 (r : ℕ) (s : List ℕ) (t i g q : ℕ) (p a : List ℕ) : Type 0 where
