@@ -9,8 +9,8 @@ use Rattle.char2_algebra.specs.Square.{sqrt}
 use Rattle.class_group.specs.Half.{Triple, quadratic, half-of-degree-1}
 use Rattle.jacobian.specs.{Field.F, Field.Poly, Field.𝔸, Field.el, Field.poly, Row.Is, Row.Stands, Row.StandsPair, declared.row.RowPair.RowPair}
 use Rattle.jacobian.specs.{Halving.HalvingRows, Halving.even-quartic, Halving.root-pair, Halving.rows-triple}
-use Rattle.jacobian.proofs.{Rows.Coefficients.coeff-poly, Halving.Rows.pair-eq, Halving.Degrees12.pair-1, Halving.Degrees12.nonzero-1}
-use Rattle.jacobian.proofs.{Halving.Degrees12.k-1, Halving.Degrees12.m-1}
+use Rattle.jacobian.proofs.{Rows.Coefficients.coeff-poly, HalfRows.Rows.pair-eq, HalfRows.Degrees12.pair-1, HalfRows.Degrees12.nonzero-1}
+use Rattle.jacobian.proofs.{HalfRows.Degrees12.k-1, HalfRows.Degrees12.m-1}
 
 module _ (d : ℕ) (u v w : List ℕ) where
   open Ring2 (𝔸 d .ring) using (add as _⊞_, mul as _·_, nought as 𝟘, one as 𝟙)

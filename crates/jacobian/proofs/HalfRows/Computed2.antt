@@ -10,8 +10,8 @@ use Rattle.class_group.specs.Half.{Triple, quadratic, half-of-degree-2}
 use Rattle.jacobian.specs.{Field.F, Field.Poly, Field.𝔸, Field.el, Field.poly, Row.Is, Row.Stands, Row.StandsPair, declared.row.RowPair.RowPair}
 use Rattle.jacobian.specs.{Halving.HalvingRows, Halving.even-quartic, Halving.root-pair, Halving.rows-triple}
 use Rattle.jacobian.proofs.{Rows.Elements.el-zero, Rows.Elements.el-one, Rows.Elements.el-nonzero, Rows.Coefficients.coeff-poly}
-use Rattle.jacobian.proofs.{Halving.Rows.pair-eq, Halving.Degrees12.pair-2-square, Halving.Degrees12.nonzero-2-square, Halving.Degrees12.pair-2}
-use Rattle.jacobian.proofs.{Halving.Degrees12.nonzero-2, Halving.Degrees12.k-2, Halving.Degrees12.m-2}
+use Rattle.jacobian.proofs.{HalfRows.Rows.pair-eq, HalfRows.Degrees12.pair-2-square, HalfRows.Degrees12.nonzero-2-square, HalfRows.Degrees12.pair-2}
+use Rattle.jacobian.proofs.{HalfRows.Degrees12.nonzero-2, HalfRows.Degrees12.k-2, HalfRows.Degrees12.m-2}
 
 module _ (d : ℕ) (u v w : List ℕ) where
   open Ring2 (𝔸 d .ring) using (add as _⊞_, mul as _·_, nought as 𝟘, one as 𝟙)

@@ -10,8 +10,8 @@ use Rattle.class_group.specs.Half.{Triple, quadratic, half-of-degree-3}
 use Rattle.class_group.proofs.Rows.{first-lift}
 use Rattle.jacobian.specs.{Field.F, Field.Poly, Field.𝔸, Field.el, Field.poly, Row.Is, Row.Stands, Row.StandsPair, Row.row-len}
 use Rattle.jacobian.specs.{declared.row.RowPair.RowPair, Halving.HalvingRows, Halving.root-pair, Halving.rows-triple}
-use Rattle.jacobian.proofs.{Rows.Elements.el-zero, Rows.Coefficients.coeff-poly, Halving.Rows.pair-eq, Halving.Degree3.first-lift-len}
-use Rattle.jacobian.proofs.{Halving.Degree3.pair-3-square, Halving.Degree3.nonzero-3-square}
+use Rattle.jacobian.proofs.{Rows.Elements.el-zero, Rows.Coefficients.coeff-poly, HalfRows.Rows.pair-eq, HalfRows.Degree3.first-lift-len}
+use Rattle.jacobian.proofs.{HalfRows.Degree3.pair-3-square, HalfRows.Degree3.nonzero-3-square}
 
 module _ (d : ℕ) (u v w : List ℕ) where
   open Ring2 (𝔸 d .ring) using (add as _⊞_, mul as _·_, nought as 𝟘, one as 𝟙)

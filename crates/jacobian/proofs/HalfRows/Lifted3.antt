@@ -8,9 +8,9 @@ use Rattle.class_group.specs.Half.{Triple, half-of-degree-3}
 use Rattle.class_group.proofs.Rows.{first-lift}
 use Rattle.jacobian.specs.{Field.K, Field.F, Field.Poly, Field.𝔸, Field.el, Field.poly, Row.Is, Row.Stands, Row.StandsPair, Row.row-len}
 use Rattle.jacobian.specs.{Halving.second-square, Halving.second-remainder, Halving.rows-triple}
-use Rattle.jacobian.proofs.{Rows.Elements.el-nonzero, Rows.Coefficients.coeff-poly, Halving.Rows.stands-eq, Halving.Rows.pair-eq}
-use Rattle.jacobian.proofs.{Halving.Degree3.pair-3, Halving.Degree3.a-len, Halving.Computed3.Computed3, Halving.Computed3.w-five}
-use Rattle.jacobian.proofs.{Halving.Computed3.r-path, Halving.Computed3.t-path}
+use Rattle.jacobian.proofs.{Rows.Elements.el-nonzero, Rows.Coefficients.coeff-poly, HalfRows.Rows.stands-eq, HalfRows.Rows.pair-eq}
+use Rattle.jacobian.proofs.{HalfRows.Degree3.pair-3, HalfRows.Degree3.a-len, HalfRows.Computed3.Computed3, HalfRows.Computed3.w-five}
+use Rattle.jacobian.proofs.{HalfRows.Computed3.r-path, HalfRows.Computed3.t-path}
 
 module _ (d : ℕ) (u v w : List ℕ) where
   pub record Lifted3 (r : ℕ) (s : List ℕ) (t i g q : ℕ) (p a : List ℕ) : Type 0 where

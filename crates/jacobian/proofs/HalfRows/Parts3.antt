@@ -10,8 +10,8 @@ use Rattle.class_group.specs.Half.{quadratic}
 use Rattle.class_group.proofs.Rows.{first-lift}
 use Rattle.jacobian.specs.{Field.K, Field.F, Field.Poly, Field.𝔸, Field.el, Field.poly, Row.Is, Row.Stands, Row.row-len, Row.x-power}
 use Rattle.jacobian.specs.{Halving.even-quartic, Halving.second-square, Halving.second-remainder}
-use Rattle.jacobian.proofs.{Rows.Elements.el-zero, Rows.Elements.el-one, Rows.Coefficients.coeff-poly, Halving.Rows.stands-eq}
-use Rattle.jacobian.proofs.{Halving.Degree3.first-lift-is}
+use Rattle.jacobian.proofs.{Rows.Elements.el-zero, Rows.Elements.el-one, Rows.Coefficients.coeff-poly, HalfRows.Rows.stands-eq}
+use Rattle.jacobian.proofs.{HalfRows.Degree3.first-lift-is}
 
 module _ (d : ℕ) where
   open Ring2 (𝔸 d .ring) using (add as _⊞_, mul as _·_, nought as 𝟘, one as 𝟙)

@@ -9,8 +9,8 @@ use Rattle.char2_algebra.proofs.{Ring.+-𝟘, Ring.·-𝟘, Degree.con-nought, 
 use Rattle.class_group.specs.{Mumford.Pair, Half.quadratic}
 use Rattle.jacobian.specs.{Field.degree-of, Field.K, Field.F, Field.Poly, Field.𝔸, Field.el, Field.poly, Row.InRange, Row.Stands, Row.StandsPair}
 use Rattle.jacobian.specs.{Row.row-len, declared.row.RowPair.RowPair, Halving.even-quartic, Halving.root-pair}
-use Rattle.jacobian.proofs.{Rows.Elements.el-zero, Rows.Elements.el-one, Rows.Elements.zero-lt, Halving.Squares.constant}
-use Rattle.jacobian.proofs.{Halving.Squares.quadratic-len, Halving.Squares.quartic-len}
+use Rattle.jacobian.proofs.{Rows.Elements.el-zero, Rows.Elements.el-one, Rows.Elements.zero-lt, HalfRows.Squares.constant}
+use Rattle.jacobian.proofs.{HalfRows.Squares.quadratic-len, HalfRows.Squares.quartic-len}
 
 module _ (d : ℕ) where
   open Ring2 (𝔸 d .ring) using (add as _⊞_, mul as _·_, nought as 𝟘)
