@@ -11,3 +11,4 @@ pub mod DoubleRows
 pub mod ComposeRows
 pub mod QuotientRows
 pub mod HalfRows
+pub mod Calls
