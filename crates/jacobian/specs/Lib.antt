@@ -3,6 +3,7 @@ pub mod Field
 pub mod Row
 pub mod Bezout
 pub mod Core
+pub mod Cofactor
 pub mod Curves
 pub mod Classes
 pub mod Halving

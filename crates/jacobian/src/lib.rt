@@ -3,6 +3,7 @@ mod composition;
 mod element;
 mod euclid;
 mod half;
+mod quotient;
 mod reduction;
 mod row;
 
