@@ -41,7 +41,7 @@ fn quartic_row(d: u8, m2: u64, m1: u64, m0: u64) -> [u64; 12]
     [m0, 0, m1, 0, m2, 0, 0, 0, 0, 0, 0, 0]
 }
 
-// a + k b, a short k whose coefficients are mostly 0 or 1.
+// a + k b, for a short k: no product where a coefficient is 0 or 1.
 fn add_product(d: u8, a: [u64; 12], k: [u64; 12], b: [u64; 12]) -> [u64; 12]
     requires { ⌜ Accepted d × InRange d a × InRange d k × InRange d b × (row-len d k + row-len d b ≤ 13) ⌝ }
     ensures { λ r. ⌜ Stands d r (𝔸 d .ring .add (poly d a) (𝔸 d .ring .mul (poly d k) (poly d b))) ⌝ }

@@ -1,3 +1,4 @@
+-- `quartic_row` meets its contract: the row is written out.
 use Rattle.jacobian.proofs.Halving.Rows.{quartic-stands}
 use Rattle.jacobian.proofs.half.quartic_row.Statement.{statement}
 use Rattle.jacobian.proofs.half.quartic_row.Tie as tie
