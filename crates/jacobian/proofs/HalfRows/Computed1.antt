@@ -9,7 +9,7 @@ use Rattle.char2_algebra.specs.Square.{sqrt}
 use Rattle.class_group.specs.Half.{Triple, quadratic, half-of-degree-1}
 use Rattle.jacobian.specs.{Field.F, Field.Poly, Field.𝔸, Field.el, Field.poly, Row.Is, Row.Stands, Row.StandsPair, declared.row.RowPair.RowPair}
 use Rattle.jacobian.specs.{Halving.HalvingRows, Halving.even-quartic, Halving.root-pair, Halving.rows-triple}
-use Rattle.jacobian.proofs.{Rows.Coefficients.coeff-poly, HalfRows.Rows.pair-eq, HalfRows.Degrees12.pair-1, HalfRows.Degrees12.nonzero-1}
+use Rattle.jacobian.proofs.{Rows.Coefficients.coeff-poly, HalfRows.Rows.stands-pair-eq, HalfRows.Degrees12.pair-1, HalfRows.Degrees12.nonzero-1}
 use Rattle.jacobian.proofs.{HalfRows.Degrees12.k-1, HalfRows.Degrees12.m-1}
 
 module _ (d : ℕ) (u v w : List ℕ) where
@@ -58,4 +58,4 @@ module _ (d : ℕ) (u v w : List ℕ) where
 
     pub result-1 : {r : RowPair} → StandsPair d r (root-pair (𝔸 d) (poly d p) (poly d q)) → StandsPair d r (half-of-degree-1 (𝔸 d) (rows-triple d u v w))
     unfolding rows-triple
-    result-1 = pair-eq d (ap₂ (root-pair (𝔸 d)) p-path q-path ∙ sym (pair-1 (𝔸 d) T))
+    result-1 = stands-pair-eq d (ap₂ (root-pair (𝔸 d)) p-path q-path ∙ sym (pair-1 (𝔸 d) T))

@@ -10,7 +10,7 @@ use Rattle.class_group.specs.Half.{Triple, quadratic, half-of-degree-3}
 use Rattle.class_group.proofs.Rows.{first-lift}
 use Rattle.jacobian.specs.{Field.F, Field.Poly, Field.𝔸, Field.el, Field.poly, Row.Is, Row.Stands, Row.StandsPair, Row.row-len}
 use Rattle.jacobian.specs.{declared.row.RowPair.RowPair, Halving.HalvingRows, Halving.root-pair, Halving.rows-triple}
-use Rattle.jacobian.proofs.{Rows.Elements.el-zero, Rows.Coefficients.coeff-poly, HalfRows.Rows.pair-eq, HalfRows.Degree3.first-lift-len}
+use Rattle.jacobian.proofs.{Rows.Elements.el-zero, Rows.Coefficients.coeff-poly, HalfRows.Rows.stands-pair-eq, HalfRows.Degree3.first-lift-len}
 use Rattle.jacobian.proofs.{HalfRows.Degree3.pair-3-square, HalfRows.Degree3.nonzero-3-square}
 
 module _ (d : ℕ) (u v w : List ℕ) where
@@ -62,6 +62,6 @@ module _ (d : ℕ) (u v w : List ℕ) where
           → StandsPair d p (half-of-degree-3 (𝔸 d) (rows-triple d u v w))
       unfolding rows-triple
       result-3-square hk ho =
-          pair-eq d
+          stands-pair-eq d
           (ap₂ (root-pair (𝔸 d)) (c .s-is .stands) (ho .stands ∙ ap (λ k. poly d v ⊞ k · poly d u ⊞ 𝟙) (hk .stands ∙ λ j. quadratic (𝔸 d) (el-zero d j) (el-zero d j) (r-path j)))
           ∙ sym (pair-3-square (𝔸 d) T t-zero))

@@ -20,8 +20,8 @@ module _ (d : ℕ) where
   pub stands-eq : {r : List ℕ} {p q : Poly d} → p ≡ q → Stands d r p → Stands d r q
   stands-eq e s = record { in-range = s .in-range; stands = s .stands ∙ e }
 
-  pub pair-eq : {r : RowPair} {D E : Pair (Poly d)} → D ≡ E → StandsPair d r D → StandsPair d r E
-  pair-eq e s = record { u-stands = stands-eq (ap (λ D. D .u) e) (s .u-stands); v-stands = stands-eq (ap (λ D. D .v) e) (s .v-stands) }
+  pub stands-pair-eq : {r : RowPair} {D E : Pair (Poly d)} → D ≡ E → StandsPair d r D → StandsPair d r E
+  stands-pair-eq e s = record { u-stands = stands-eq (ap (λ D. D .u) e) (s .u-stands); v-stands = stands-eq (ap (λ D. D .v) e) (s .v-stands) }
 
   range-nil : InRange d []
   range-nil i = zero-lt d

@@ -1,3 +1,4 @@
+-- `first_lift` meets its contract: the square of √w3 is w3, so no coefficient is squared.
 use Rattle.jacobian.proofs.Rows.Elements.{zero-lt}
 use Rattle.jacobian.proofs.HalfRows.Rows.{quartic-fits}
 use Rattle.jacobian.proofs.HalfRows.Parts3.{first-lift-stands}

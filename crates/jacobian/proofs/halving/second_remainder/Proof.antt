@@ -1,3 +1,4 @@
+-- `second_remainder` meets its contract: both remainders are by the same divisor of length 4.
 use native.Mathlib.Omega.{arith}
 use Rattle.jacobian.proofs.Rows.Elements.{zero-lt, one-lt}
 use Rattle.jacobian.proofs.HalfRows.Rows.{quadratic-fits}

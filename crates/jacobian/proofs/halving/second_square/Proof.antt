@@ -1,3 +1,4 @@
+-- `second_square` meets its contract: the summands as the rows stand for them.
 use Rattle.jacobian.proofs.Rows.Elements.{zero-lt, one-lt}
 use Rattle.jacobian.proofs.HalfRows.Rows.{quartic-fits}
 use Rattle.jacobian.proofs.HalfRows.Parts3.{second-square-stands}
