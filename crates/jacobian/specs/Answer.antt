@@ -14,6 +14,7 @@ use Rattle.jacobian.specs.declared.Class.{Class}
 use Rattle.jacobian.specs.declared.Outcome.{Outcome}
 use Rattle.jacobian.specs.declared.Outcome.the-variants.{Accepted, Refused}
 use Rattle.jacobian.specs.declared.ClassAnswer.{ClassAnswer}
+use Rattle.jacobian.specs.declared.CountedAnswer.{CountedAnswer}
 
 -- an outcome is acceptance or a refusal with its number
 pub data Verdict : Type 0 where
@@ -48,15 +49,26 @@ pub record Reply : Type 0 where
 abbrev pub reply : ClassAnswer → Reply
 reply r = record { outcome = verdict (r .outcome); class = r .class }
 
--- a refusal comes with the neutral class
-unfoldable pub refusal-reply : ℕ → Reply
-refusal-reply n = record { outcome = refused n; class = neutral-class }
-
--- the class where no refusal is due
+-- the class where no refusal is due, and else the refusal with the neutral class
 unfoldable pub answered : (d : ℕ) → ℕ → Pair (Poly d) → Reply
 answered d zero D = record { outcome = accepted; class = class-of d D }
-answered d (suc n) D = refusal-reply (suc n)
+answered d (suc n) D = record { outcome = refused (suc n); class = neutral-class }
 
+-- the answer of a call that gives a class and the number of reduction steps that led to it
+pub record CountedReply : Type 0 where
+  pub outcome : Verdict
+  pub class : Class
+  pub steps : ℕ
+
+abbrev pub counted-reply : CountedAnswer → CountedReply
+counted-reply r = record { outcome = verdict (r .outcome); class = r .class; steps = r .steps }
+
+-- a refusal comes with no step
+unfoldable pub counted-answered : (d : ℕ) → ℕ → Counted (Poly d) → CountedReply
+counted-answered d zero D = record { outcome = accepted; class = class-of d (D .class); steps = D .steps }
+counted-answered d (suc n) D = record { outcome = refused (suc n); class = neutral-class; steps = 0 }
+
+-- ---- the calls
 unfoldable pub membership-answer : Curve → Class → Verdict
 membership-answer c a = verdict-of (refusal c a)
 
@@ -71,3 +83,9 @@ half-answer c a = let d = c .degree in answered d (refusal c a) (half (curve c) 
 
 unfoldable pub sum-answer : Curve → Class → Class → Reply
 sum-answer c a b = let d = c .degree in answered d (refusal-of-two c a b) (sum (curve c) (pair d a) (pair d b))
+
+unfoldable pub counted-double-answer : Curve → Class → CountedReply
+counted-double-answer c a = let d = c .degree in counted-answered d (refusal c a) (counted-double (curve c) (pair d a))
+
+unfoldable pub counted-sum-answer : Curve → Class → Class → CountedReply
+counted-sum-answer c a b = let d = c .degree in counted-answered d (refusal-of-two c a b) (counted-sum (curve c) (pair d a) (pair d b))

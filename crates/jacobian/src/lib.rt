@@ -1,9 +1,14 @@
 // Reduced divisor classes on y² + y = f(x) over GF(2^5) and GF(2^61), by value.
 // A call makes its checks in the stored order: 106 and 107 for the curve, then 104, 110 and 111 for each class.
 // On a refusal the class of the answer is the neutral one.
+ghost use Prim.Native.Nat.{ℕ};
 ghost use mathlib.Core.Path.{_≡_};
-ghost use Rattle.jacobian.specs.Row.{rows-pair, InRange};
-ghost use Rattle.jacobian.specs.Answer.{neutral-class, refusal, refusal-of-two, verdict, reply, refusal-reply, membership-answer, opposite-answer, double-answer, half-answer, sum-answer};
+ghost use Rattle.class_group.specs.Mumford.{Pair};
+ghost use Rattle.class_group.specs.Reduction.{Counted};
+ghost use Rattle.jacobian.specs.Field.{Poly};
+ghost use Rattle.jacobian.specs.Row.{StandsPair};
+ghost use Rattle.jacobian.specs.Core.{StandsCounted};
+ghost use Rattle.jacobian.specs.Answer.{neutral-class, refusal, refusal-of-two, verdict, reply, answered, counted-reply, counted-answered, membership-answer, opposite-answer, double-answer, half-answer, sum-answer, counted-double-answer, counted-sum-answer};
 
 mod classes;
 mod composition;
@@ -14,6 +19,7 @@ mod halving;
 mod reduction;
 mod row;
 
+use crate::reduction::CountedRows;
 use crate::row::RowPair;
 
 pub struct Curve {
@@ -37,6 +43,13 @@ pub enum Outcome {
 pub struct ClassAnswer {
     pub outcome: Outcome,
     pub class: Class,
+}
+
+// A class with the number of reduction steps that led to it; no step on a refusal.
+pub struct CountedAnswer {
+    pub outcome: Outcome,
+    pub class: Class,
+    pub steps: u32,
 }
 
 // The neutral class [1, 0].
@@ -76,12 +89,50 @@ fn due_of_two(c: Curve, a: Class, b: Class) -> u32
 
 // A refusal, with the neutral class.
 fn refused(n: u32) -> ClassAnswer
-    ensures { λ r. ⌜ reply r ≡ refusal-reply n ⌝ }
+    requires { ⌜ ¬ (n ≡ 0) ⌝ }
+    ensures { λ r. ⌜ ((d : ℕ) (D : Pair (Poly d)) → reply r ≡ answered d n D) ⌝ }
 {
     let class = neutral();
     ClassAnswer {
         outcome: Outcome::Refused(n),
         class: class,
+    }
+}
+
+// The class of a pair.
+fn accepted(rows: RowPair) -> ClassAnswer
+    ensures { λ r. ⌜ ((d : ℕ) (D : Pair (Poly d)) → StandsPair d rows D → reply r ≡ answered d 0 D) ⌝ }
+{
+    let class = classes::from_rows(rows);
+    ClassAnswer {
+        outcome: Outcome::Accepted,
+        class: class,
+    }
+}
+
+// A refusal, with the neutral class and no step.
+fn counted_refused(n: u32) -> CountedAnswer
+    requires { ⌜ ¬ (n ≡ 0) ⌝ }
+    ensures { λ r. ⌜ ((d : ℕ) (D : Counted (Poly d)) → counted-reply r ≡ counted-answered d n D) ⌝ }
+{
+    let class = neutral();
+    CountedAnswer {
+        outcome: Outcome::Refused(n),
+        class: class,
+        steps: 0,
+    }
+}
+
+// The class of a pair, with the steps that led to it.
+fn counted_accepted(rows: CountedRows) -> CountedAnswer
+    ensures { λ r. ⌜ ((d : ℕ) (D : Counted (Poly d)) → StandsCounted d rows D → counted-reply r ≡ counted-answered d 0 D) ⌝ }
+{
+    let pair = rows.pair;
+    let class = classes::from_rows(pair);
+    CountedAnswer {
+        outcome: Outcome::Accepted,
+        class: class,
+        steps: rows.steps,
     }
 }
 
@@ -105,12 +156,8 @@ pub fn opposite(curve: Curve, a: Class) -> ClassAnswer
         return refused(n);
     }
     let rows = classes::to_rows(a);
-    let pair = classes::opposite_rows(curve.degree, rows);
-    let class = classes::from_rows(pair);
-    ClassAnswer {
-        outcome: Outcome::Accepted,
-        class: class,
-    }
+    let opposed = classes::opposite_rows(curve.degree, rows);
+    accepted(opposed)
 }
 
 // The half of a class: the class whose double is the one given.
@@ -123,10 +170,62 @@ pub fn half(curve: Curve, a: Class) -> ClassAnswer
     }
     let f = curves::f_row(curve);
     let rows = classes::to_rows(a);
-    let pair = halving::half_rows(curve.degree, f, rows);
-    let class = classes::from_rows(pair);
+    let halved = halving::half_rows(curve.degree, f, rows);
+    accepted(halved)
+}
+
+// The double of a class, and the number of reduction steps that led to it.
+pub fn counted_double(curve: Curve, a: Class) -> CountedAnswer
+    ensures { λ r. ⌜ counted-reply r ≡ counted-double-answer curve a ⌝ }
+{
+    let n = due(curve, a);
+    if n != 0 {
+        return counted_refused(n);
+    }
+    let f = curves::f_row(curve);
+    let rows = classes::to_rows(a);
+    let doubled = reduction::double_rows(curve.degree, f, rows);
+    counted_accepted(doubled)
+}
+
+// The sum of two classes, and the number of reduction steps that led to it.
+pub fn counted_sum(curve: Curve, a: Class, b: Class) -> CountedAnswer
+    ensures { λ r. ⌜ counted-reply r ≡ counted-sum-answer curve a b ⌝ }
+{
+    let n = due_of_two(curve, a, b);
+    if n != 0 {
+        return counted_refused(n);
+    }
+    let f = curves::f_row(curve);
+    let left = classes::to_rows(a);
+    let right = classes::to_rows(b);
+    let composed = composition::compose_rows(curve.degree, f, left, right);
+    let summed = reduction::reduce_rows(curve.degree, f, composed);
+    counted_accepted(summed)
+}
+
+// The double of a class.
+pub fn double(curve: Curve, a: Class) -> ClassAnswer
+    ensures { λ r. ⌜ reply r ≡ double-answer curve a ⌝ }
+{
+    let doubled = counted_double(curve, a);
+    let outcome = doubled.outcome;
+    let class = doubled.class;
     ClassAnswer {
-        outcome: Outcome::Accepted,
+        outcome: outcome,
+        class: class,
+    }
+}
+
+// The sum of two classes.
+pub fn sum(curve: Curve, a: Class, b: Class) -> ClassAnswer
+    ensures { λ r. ⌜ reply r ≡ sum-answer curve a b ⌝ }
+{
+    let summed = counted_sum(curve, a, b);
+    let outcome = summed.outcome;
+    let class = summed.class;
+    ClassAnswer {
+        outcome: outcome,
         class: class,
     }
 }

@@ -1,11 +1,10 @@
 -- What the answers of the calls come to: the refusal where one is due, and else the class.
 use Prim.Native.Nat.{ℕ, zero, suc}
 use mathlib.Core.Path.{_≡_, refl, sym, _∙_, ap}
-use native.Mathlib.Omega.{arith}
 use Rattle.class_group.specs.Mumford.{Pair}
+use Rattle.class_group.specs.Reduction.{Counted}
 use Rattle.jacobian.specs.Field.{Poly}
-use Rattle.jacobian.specs.Classes.{class-of}
-use Rattle.jacobian.specs.Answer.{Verdict, accepted, refused, verdict-of, refusal, refusal-of-two, Reply, refusal-reply, answered}
+use Rattle.jacobian.specs.Answer.{Verdict, accepted, refused, verdict-of, refusal, refusal-of-two, neutral-class, Reply, answered, CountedReply, counted-answered}
 use Rattle.jacobian.specs.declared.Curve.{Curve}
 use Rattle.jacobian.specs.declared.Class.{Class}
 use Rattle.jacobian.proofs.ByValue.Checks.{CurvePasses, ClassPasses, then-zero, curve-passes, class-passes}
@@ -19,17 +18,41 @@ pub accepted-verdict : {n m : ℕ} → n ≡ m → n ≡ 0 → accepted ≡ verd
 unfolding verdict-of
 accepted-verdict e h = rw (← e, h)
 
-pub refuses : (d : ℕ) (D : Pair (Poly d)) {n m : ℕ} → n ≡ m → ¬ (n ≡ 0) → refusal-reply n ≡ answered d m D
-unfolding answered
-refuses d D {m = zero} e h = absurd (h e)
-refuses d D {m = suc m} e h = ap refusal-reply e
+module _ (d : ℕ) where
+  pub refused-answered : (D : Pair (Poly d)) (n : ℕ) → ¬ (n ≡ 0) → _≡_ {A = Reply} (record { outcome = refused n; class = neutral-class }) (answered d n D)
+  unfolding answered
+  refused-answered D zero h = absurd (h refl)
+  refused-answered D (suc n) h = refl
 
-pub answers :
-    (d : ℕ) (D : Pair (Poly d)) {n m : ℕ} → n ≡ m → n ≡ 0 → {k : Class} → k ≡ class-of d D
-    → _≡_ {A = Reply} (record { outcome = accepted; class = k }) (answered d m D)
-unfolding answered
-answers d D {m = zero} e h q = ap (λ (k : Class). record { outcome = accepted; class = k }) q
-answers d D {m = suc m} e h q = absurd (omega arith)
+  pub refused-counted :
+      (D : Counted (Poly d)) (n : ℕ) → ¬ (n ≡ 0)
+      → _≡_ {A = CountedReply} (record { outcome = refused n; class = neutral-class; steps = 0 }) (counted-answered d n D)
+  unfolding counted-answered
+  refused-counted D zero h = absurd (h refl)
+  refused-counted D (suc n) h = refl
+
+  -- what is answered at one number is answered at its equal
+  pub at-refusal : (D : Pair (Poly d)) {n m : ℕ} → n ≡ m → {r : Reply} → r ≡ answered d n D → r ≡ answered d m D
+  at-refusal D e h = h ∙ ap (λ k. answered d k D) e
+
+  pub at-none : (D : Pair (Poly d)) {n m : ℕ} → n ≡ m → n ≡ 0 → {r : Reply} → r ≡ answered d 0 D → r ≡ answered d m D
+  at-none D e z h = h ∙ ap (λ k. answered d k D) (sym z ∙ e)
+
+  pub counted-at-refusal : (D : Counted (Poly d)) {n m : ℕ} → n ≡ m → {r : CountedReply} → r ≡ counted-answered d n D → r ≡ counted-answered d m D
+  counted-at-refusal D e h = h ∙ ap (λ k. counted-answered d k D) e
+
+  pub counted-at-none :
+      (D : Counted (Poly d)) {n m : ℕ} → n ≡ m → n ≡ 0 → {r : CountedReply} → r ≡ counted-answered d 0 D → r ≡ counted-answered d m D
+  counted-at-none D e z h = h ∙ ap (λ k. counted-answered d k D) (sym z ∙ e)
+
+-- an answer without its count of steps
+abbrev pub uncounted : CountedReply → Reply
+uncounted r = record { outcome = r .outcome; class = r .class }
+
+pub uncounted-answered : (d n : ℕ) (D : Counted (Poly d)) → uncounted (counted-answered d n D) ≡ answered d n (D .class)
+unfolding answered counted-answered
+uncounted-answered d zero D = refl
+uncounted-answered d (suc n) D = refl
 
 -- the curve and the classes of a call that is not refused
 pub passes : (c : Curve) (a : Class) {n : ℕ} → n ≡ refusal c a → n ≡ 0 → CurvePasses c × ClassPasses c a

@@ -1,10 +1,9 @@
 -- `half` meets its contract.
-use mathlib.Core.Path.{_≡_, _∙_}
+use mathlib.Core.Path.{_≡_}
 use Rattle.jacobian.specs.Curves.{curve}
 use Rattle.jacobian.specs.Answer.{half-answer}
-use Rattle.jacobian.proofs.ByValue.Pairs.{stands-class}
 use Rattle.jacobian.proofs.ByValue.Passing.{on-curve, rows-pair-is, rows-reduced}
-use Rattle.jacobian.proofs.ByValue.Answers.{refuses, answers, passes}
+use Rattle.jacobian.proofs.ByValue.Answers.{at-refusal, at-none, passes}
 use borrow.Author.Needs.{needs}
 use Rattle.jacobian.proofs.half.Statement.{statement}
 use Rattle.jacobian.proofs.half.Tie as tie
@@ -17,7 +16,7 @@ refused-requires c κs = search needs
 
 returns : tie.Need-returns
 unfolding half-answer
-returns c = c .refused .ensures ∙ refuses _ _ (c .before .before .due .ensures) (c .before .if1 .taken)
+returns c = at-refusal _ _ (c .before .before .due .ensures) (c .refused .ensures _ _)
 
 f-row-requires : tie.Need-f-row-requires
 f-row-requires c κs = search needs
@@ -30,8 +29,8 @@ half-rows-requires c κs =
     let ok = passes _ _ (c .before .before .before .due .ensures) (c .before .before .if1 .left) in
     (ok .0 .accepted, rows-reduced _ _ (ok .0) (ok .1) (c .before .f-row .ensures) (c .to-rows .ensures))
 
-from-rows-requires : tie.Need-from-rows-requires
-from-rows-requires c κs = search needs
+accepted-requires : tie.Need-accepted-requires
+accepted-requires c κs = search needs
 
 returns-2 : tie.Need-returns-2
 unfolding half-answer
@@ -39,12 +38,10 @@ returns-2 c =
     let s = c .before .before .before .before .before .before in
     let e = c .before .before .before .before .before .due .ensures in
     let z = c .before .before .before .before .if1 .left in
-    let ok = passes _ _ e z in
     let d = s .args .curve .degree in
-    answers d _ e z
-    (stands-class d
-    (rw (rows-pair-is d (c .before .before .to-rows .ensures)) at (c .before .half-rows .ensures (curve (s .args .curve)) (on-curve _ (ok .0) (c .before .before .before .f-row .ensures))))
-    (c .from-rows .ensures d))
+    let on = on-curve _ (passes _ _ e z .0) (c .before .before .before .f-row .ensures) in
+    at-none d _ e z
+    (c .accepted .ensures d _ (rw (rows-pair-is d (c .before .before .to-rows .ensures)) at (c .before .half-rows .ensures (curve (s .args .curve)) on)))
 
 pub half-spec : {M : Type 1} → statement M
 half-spec =
@@ -56,5 +53,5 @@ half-spec =
     f-row-requires
     to-rows-requires
     half-rows-requires
-    from-rows-requires
+    accepted-requires
     returns-2)

@@ -1,10 +1,9 @@
 -- `opposite` meets its contract.
-use mathlib.Core.Path.{_≡_, _∙_}
+use mathlib.Core.Path.{_≡_}
 use Rattle.jacobian.specs.Curves.{curve}
 use Rattle.jacobian.specs.Answer.{opposite-answer}
-use Rattle.jacobian.proofs.ByValue.Pairs.{stands-class}
 use Rattle.jacobian.proofs.ByValue.Passing.{u-range, v-range, rows-pair-is}
-use Rattle.jacobian.proofs.ByValue.Answers.{refuses, answers, passes}
+use Rattle.jacobian.proofs.ByValue.Answers.{at-refusal, at-none, passes}
 use borrow.Author.Needs.{needs}
 use Rattle.jacobian.proofs.opposite.Statement.{statement}
 use Rattle.jacobian.proofs.opposite.Tie as tie
@@ -17,7 +16,7 @@ refused-requires c κs = search needs
 
 returns : tie.Need-returns
 unfolding opposite-answer
-returns c = c .refused .ensures ∙ refuses _ _ (c .before .before .due .ensures) (c .before .if1 .taken)
+returns c = at-refusal _ _ (c .before .before .due .ensures) (c .refused .ensures _ _)
 
 to-rows-requires : tie.Need-to-rows-requires
 to-rows-requires c κs = passes _ _ (c .before .due .ensures) (c .if1 .left) .1 .shape .low
@@ -27,23 +26,21 @@ opposite-rows-requires c κs =
     let ok = passes _ _ (c .before .before .due .ensures) (c .before .if1 .left) in
     let rows = c .to-rows .ensures in
     let d = c .before .before .before .args .curve .degree in
-    let a = c .before .before .before .args .a in (
-      ok .0 .accepted,
-      u-range d (ok .0 .accepted) a (ok .1 .shape) (rows .u-long) (ok .1 .range) rows,
-      v-range d (ok .0 .accepted) a (ok .1 .shape) (rows .u-long) (ok .1 .range) rows,
-    )
+    let a = c .before .before .before .args .a in
+    (ok .0 .accepted,
+    u-range d (ok .0 .accepted) a (ok .1 .shape) (rows .u-long) (ok .1 .range) rows,
+    v-range d (ok .0 .accepted) a (ok .1 .shape) (rows .u-long) (ok .1 .range) rows)
 
-from-rows-requires : tie.Need-from-rows-requires
-from-rows-requires c κs = search needs
+accepted-requires : tie.Need-accepted-requires
+accepted-requires c κs = search needs
 
 returns-2 : tie.Need-returns-2
 unfolding opposite-answer
 returns-2 c =
     let s = c .before .before .before .before .before in
     let d = s .args .curve .degree in
-    answers d _ (c .before .before .before .before .due .ensures) (c .before .before .before .if1 .left)
-    (stands-class d (rw (rows-pair-is d (c .before .before .to-rows .ensures)) at (c .before .opposite-rows .ensures (curve (s .args .curve))))
-    (c .from-rows .ensures d))
+    at-none d _ (c .before .before .before .before .due .ensures) (c .before .before .before .if1 .left)
+    (c .accepted .ensures d _ (rw (rows-pair-is d (c .before .before .to-rows .ensures)) at (c .before .opposite-rows .ensures (curve (s .args .curve)))))
 
 pub opposite-spec : {M : Type 1} → statement M
 opposite-spec =
@@ -54,5 +51,5 @@ opposite-spec =
     returns
     to-rows-requires
     opposite-rows-requires
-    from-rows-requires
+    accepted-requires
     returns-2)
