@@ -8,12 +8,14 @@ use mathlib.Core.List.{List, [], _∷_}
 use native.Mathlib.Decide.{decLt}
 use native.Mathlib.Omega.{arith}
 use lib.Dec.{T, eqb, eqb→eq}
-use Rattle.binary_field.specs.Carryless.{_⊕_, digits-to, digits, clmul, reduce, remainder}
+use Rattle.binary_field.specs.Carryless.{_⊕_, digits-to, digits, clmul, spread, reduce, remainder}
 use Rattle.binary_field.specs.Element.{Accepted, low, product, square, squarings}
-use Rattle.binary_field.proofs.Sum.{sum-self, sum-cancel, sum-odd, sum-middle}
+use Rattle.binary_field.proofs.Sums.{sum-self, sum-cancel, sum-odd, sum-middle}
 use Rattle.binary_field.proofs.Linear.{Additive, additive-zero, basis, combine, combine-additive}
-use Rattle.binary_field.proofs.Product
+use Rattle.binary_field.proofs.Products
+use Rattle.binary_field.proofs.FastInverse.{spreadings, spreadings-squarings}
 
+-- what makes the elements of degree d a field
 pub record Certified (d : ℕ) : Type 0 where
   pub fits : low d < 2 ^ d
   pub fixed : squarings d d 2 ≡ 2
@@ -44,6 +46,11 @@ undoes-at d cs (suc k) t i h =
     at p rec (yes g) = rec (p .0) i g
     at p rec (no g) = let e : k ≡ i = omega arith in subst Good e (eqb→eq _ _ (p .1))
 
+-- what the tests call
+computing : Unit {0}
+unfolding _⊕_ digits-to digits clmul spread reduce remainder low product square undoes combine
+computing = tt
+
 values-5 : List ℕ
 values-5 =
     0 ∷ 8 ∷ 10 ∷ 20 ∷ 14 ∷ []
@@ -63,16 +70,31 @@ values-61 =
     0xc8a0be15e917472 ∷ 0x6732488ca7ce0a ∷ 0x6633498dedb760a ∷ 0xc0406d0527cb80a ∷ 0x129fa6417f23380 ∷
     0x3d4ae9eac3e756a ∷ 0xbd4ae9eac3e7560 ∷ 0x171d34fcdac955d0 ∷ 0x12dfcb4458e8b80 ∷ []
 
-certified-5 : Certified 5
-unfolding _⊕_ digits-to digits clmul reduce remainder low product square squarings undoes combine values-5
-certified-5 = record { fits = omega arith; fixed = refl; values = values-5; undo = undoes-at 5 values-5 5 tt }
+-- ---- the computations: t squared d times, by spreading, and the test of each list
+fixed-5 : spreadings 5 5 2 ≡ 2
+unfolding spreadings computing
+fixed-5 = refl
 
-certified-61 : Certified 61
-unfolding _⊕_ digits-to digits clmul reduce remainder low product square squarings undoes combine values-61
-certified-61 = record { fits = omega arith; fixed = refl; values = values-61; undo = undoes-at 61 values-61 61 tt }
+fixed-61 : spreadings 61 61 2 ≡ 2
+unfolding spreadings computing
+fixed-61 = refl
+
+undoes-5 : T (undoes 5 values-5 5)
+unfolding computing values-5
+undoes-5 = tt
+
+undoes-61 : T (undoes 61 values-61 61)
+unfolding computing values-61
+undoes-61 = tt
+
+certify : (d : ℕ) → low d < 2 ^ d → spreadings d d 2 ≡ 2 → (cs : List ℕ) → T (undoes d cs d) → Certified d
+certify d fits e cs t =
+    record { fits = fits; fixed = sym (spreadings-squarings d d 2) ∙ e; values = cs; undo = undoes-at d cs d t }
 
 pub certified : (d : ℕ) → Accepted d → Certified d
-certified = Product.degree-cases Certified certified-5 certified-61
+certified =
+    Products.degree-cases Certified (certify 5 (Products.low-lt 5 tt) fixed-5 values-5 undoes-5)
+    (certify 61 (Products.low-lt 61 tt) fixed-61 values-61 undoes-61)
 
 -- an element that is its own square is 0 or 1
 pub idempotent-lt : (d : ℕ) → Certified d → (a : ℕ) → a < 2 ^ d → square d a ≡ a → a < 2
@@ -92,7 +114,7 @@ idempotent-lt d c a ha e =
 
     undone-additive : Additive undone
     undone-additive x y =
-        ap (combine (c .values)) (ap (λ z. z ⊕ (x ⊕ y)) (Product.square-sum d (c .fits) x y) ∙ sum-middle _ _ _ _)
+        ap (combine (c .values)) (ap (λ z. z ⊕ (x ⊕ y)) (Products.square-sum d (c .fits) x y) ∙ sum-middle _ _ _ _)
         ∙ combine-additive (c .values) (square d x ⊕ x) (square d y ⊕ y)
 
     cleared-additive : Additive cleared

@@ -7,7 +7,7 @@ use native.Mathlib.Decide.{le-ind}
 use native.Mathlib.Omega.{arith}
 use lib.Arith.{bin-ind, half-le}
 use Rattle.binary_field.specs.Carryless.{_⊕_, digits-to, digits, clmul}
-use Rattle.binary_field.proofs.Sum.{bit-cases, bit-lt, sums, sum-comm, sum-zero, zero-sum, sum-half, sum-odd, sum-double, double-plus, bit-mul-sum, bit-sum-mul, sum-middle}
+use Rattle.binary_field.proofs.Sums.{bit-cases, bit-lt, sums, sum-comm, sum-zero, zero-sum, sum-half, sum-odd, sum-double, double-plus, bit-mul-sum, bit-sum-mul, sum-middle}
 
 -- the law of Horner's rule: any number of digits to go serves that is not too small
 module _ (z : ℕ) (f : ℕ → ℕ → ℕ) where

@@ -11,15 +11,15 @@ use Rattle.field_laws.specs.Ring.{Ring2}
 use Rattle.field_laws.specs.Field.{Field2}
 use Rattle.binary_field.specs.Carryless.{_⊕_, digits-to, digits, clmul, spread, reduce, remainder}
 use Rattle.binary_field.specs.Element.{Accepted, Element, low, product, square, root, inverse}
-use Rattle.binary_field.proofs.Sum.{sum-comm, sum-assoc, sum-zero, sum-self, sum-lt}
+use Rattle.binary_field.proofs.Sums.{sum-comm, sum-assoc, sum-zero, sum-self, sum-lt}
 use Rattle.binary_field.proofs.Remainder
-use Rattle.binary_field.proofs.Product
-use Rattle.binary_field.proofs.Product.{low-lt}
+use Rattle.binary_field.proofs.Products
+use Rattle.binary_field.proofs.Products.{low-lt}
 use Rattle.binary_field.proofs.Power
 use Rattle.binary_field.proofs.Frobenius
 use Rattle.binary_field.proofs.Certificate.{certified}
-use Rattle.binary_field.proofs.Inverse
-use Rattle.binary_field.proofs.Chain.{spreadings, chain-turn, chain, chain-inverse, chain-is-inverse, spreadings-squarings}
+use Rattle.binary_field.proofs.Inverses
+use Rattle.binary_field.proofs.FastInverse.{spreadings, chain-turn, chain, chain-inverse, chain-is-inverse, spreadings-squarings}
 
 -- elements are equal by their numbers
 pub element-path : (d : ℕ) {x y : Element d} → x .0 ≡ y .0 → x ≡ y
@@ -33,18 +33,18 @@ module _ (d : ℕ) (ok : Accepted d) where
   ring =
       record {
         add = λ x y. (x .0 ⊕ y .0, sum-lt d (x .0) (y .0) (x .1) (y .1));
-        mul = λ x y. (product d (x .0) (y .0), Product.product-lt d (low-lt d ok) (x .0) (y .0));
+        mul = λ x y. (product d (x .0) (y .0), Products.product-lt d (low-lt d ok) (x .0) (y .0));
         nought = (0, pow-pos d);
-        one = (1, Product.one-lt d (low-lt d ok));
+        one = (1, Products.one-lt d (low-lt d ok));
         isSet = hedberg (element-discrete d);
         add-comm = λ x y. element-path d (sum-comm (x .0) (y .0));
         add-assoc = λ x y z. element-path d (sum-assoc (x .0) (y .0) (z .0));
         add-nought = λ x. element-path d (sum-zero (x .0));
         add-self = λ x. element-path d (sum-self (x .0));
-        mul-comm = λ x y. element-path d (Product.product-comm d (x .0) (y .0));
-        mul-assoc = λ x y z. element-path d (Product.product-assoc d (low-lt d ok) (x .0) (y .0) (z .0));
-        mul-one = λ x. element-path d (Product.product-one d (low-lt d ok) (x .0) (x .1));
-        mul-add = λ x y z. element-path d (Product.product-sum d (low-lt d ok) (x .0) (y .0) (z .0));
+        mul-comm = λ x y. element-path d (Products.product-comm d (x .0) (y .0));
+        mul-assoc = λ x y z. element-path d (Products.product-assoc d (low-lt d ok) (x .0) (y .0) (z .0));
+        mul-one = λ x. element-path d (Products.product-one d (low-lt d ok) (x .0) (x .1));
+        mul-add = λ x y z. element-path d (Products.product-sum d (low-lt d ok) (x .0) (y .0) (z .0));
       }
 
   pub one≢nought : ¬ (ring .one ≡ ring .nought)
@@ -71,7 +71,7 @@ module _ (d : ℕ) (ok : Accepted d) where
 
   -- the inverse, by few products
   pub chain-lt : (a : ℕ) → a < 2 ^ d → chain-inverse d a < 2 ^ d
-  chain-lt a ha = rw (chain-is-inverse d (low-lt d ok) a ha) (Inverse.inverse-lt d (certified d ok) a ha)
+  chain-lt a ha = rw (chain-is-inverse d (low-lt d ok) a ha) (Inverses.inverse-lt d (certified d ok) a ha)
 
   unfoldable pub inverse-element : Element d → Element d
   inverse-element x = (chain-inverse d (x .0), chain-lt (x .0) (x .1))
@@ -81,7 +81,7 @@ module _ (d : ℕ) (ok : Accepted d) where
   mul-inverse x ne =
       element-path d
       (rw (chain-is-inverse d (low-lt d ok) (x .0) (x .1))
-      (Inverse.product-inverse d (certified d ok) (x .0) (x .1) (λ z. ne (element-path d z))))
+      (Inverses.product-inverse d (certified d ok) (x .0) (x .1) (λ z. ne (element-path d z))))
 
   unfoldable pub field : Field2 (Element d)
   unfolding ring element-discrete root-element inverse-element

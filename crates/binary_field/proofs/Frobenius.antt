@@ -7,11 +7,11 @@ use native.Mathlib.Omega.{arith}
 use lib.Arith.{bin-ind}
 use Rattle.binary_field.specs.Carryless.{_⊕_}
 use Rattle.binary_field.specs.Element.{low, product, square, squarings, root}
-use Rattle.binary_field.proofs.Sum.{bit-cases, bit-lt}
+use Rattle.binary_field.proofs.Sums.{bit-cases, bit-lt}
 use Rattle.binary_field.proofs.Clmul.{digit-split}
 use Rattle.binary_field.proofs.Linear.{additive-zero}
 use Rattle.binary_field.proofs.Remainder.{remainder-small}
-use Rattle.binary_field.proofs.Product
+use Rattle.binary_field.proofs.Products
 use Rattle.binary_field.proofs.Power
 
 module _ (d : ℕ) (h : low d < 2 ^ d) (fixed : squarings d d 2 ≡ 2) where
@@ -24,7 +24,7 @@ module _ (d : ℕ) (h : low d < 2 ^ d) (fixed : squarings d d 2 ≡ 2) where
       ap (squarings d d) (sym twice) ∙ Power.squarings-product d h d 2 a ∙ ap₂ (product d) fixed e ∙ twice
     where
       twice : product d 2 a ≡ 2 * a
-      twice = Product.two-product d h a ∙ remainder-small d (low d) h (2 * a) ha
+      twice = Products.two-product d h a ∙ remainder-small d (low d) h (2 * a) ha
 
   pub frobenius : (a : ℕ) → a < 2 ^ d → squarings d d a ≡ a
   frobenius =
@@ -35,7 +35,7 @@ module _ (d : ℕ) (h : low d < 2 ^ d) (fixed : squarings d d 2 ≡ 2) where
       ∙ sym (digit-split n))
 
   d-suc : suc (d - 1) ≡ d
-  d-suc = omega (arith, Product.degree-pos d h)
+  d-suc = omega (arith, Products.degree-pos d h)
 
   pub square-root : (a : ℕ) → a < 2 ^ d → square d (root d a) ≡ a
   unfolding root

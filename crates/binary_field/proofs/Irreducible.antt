@@ -10,11 +10,11 @@ use lib.Arith.{bin-ind}
 use lib.Pow.{pow-pos, pow-mono}
 use Rattle.binary_field.specs.Carryless.{_⊕_, clmul, remainder}
 use Rattle.binary_field.specs.Element.{Accepted, low, modulus, product}
-use Rattle.binary_field.proofs.Sum.{bit-cases, bit-lt, zero-sum, sum-half, sum-shr}
+use Rattle.binary_field.proofs.Sums.{bit-cases, bit-lt, zero-sum, sum-half, sum-shr}
 use Rattle.binary_field.proofs.Clmul.{clmul-step, zero-clmul, clmul-zero, one-clmul}
 use Rattle.binary_field.proofs.Remainder.{remainder-modulus}
 use Rattle.binary_field.proofs.Certificate.{Certified, certified}
-use Rattle.binary_field.proofs.Inverse.{product-cancel}
+use Rattle.binary_field.proofs.Inverses.{product-cancel}
 
 -- n has degree i
 abbrev pub Degree : ℕ → ℕ → Type 0

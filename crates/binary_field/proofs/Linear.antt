@@ -8,7 +8,7 @@ use native.Mathlib.Omega.{arith}
 use lib.Arith.{lt-one}
 use lib.Pow.{pow-pos}
 use Rattle.binary_field.specs.Carryless.{_⊕_}
-use Rattle.binary_field.proofs.Sum.{bit-cases, bit-lt, sum-self, sum-zero, sum-half, sum-odd, sum-split, sum-middle, bit-sum-mul}
+use Rattle.binary_field.proofs.Sums.{bit-cases, bit-lt, sum-self, sum-zero, sum-half, sum-odd, sum-split, sum-middle, bit-sum-mul}
 
 abbrev pub Additive : (ℕ → ℕ) → Type 0
 Additive f = (a b : ℕ) → f (a ⊕ b) ≡ f a ⊕ f b

@@ -10,9 +10,9 @@ use lib.Arith.{bin-ind}
 use lib.Pow.{ones-split}
 use Rattle.binary_field.specs.Carryless.{_⊕_, digits-to, digits}
 use Rattle.binary_field.specs.Element.{low, product, square, squarings, power, inverse}
-use Rattle.binary_field.proofs.Sum.{bit-cases, bit-lt}
+use Rattle.binary_field.proofs.Sums.{bit-cases, bit-lt}
 use Rattle.binary_field.proofs.Clmul.{digits-step}
-use Rattle.binary_field.proofs.Product
+use Rattle.binary_field.proofs.Products
 
 pub squarings-zero : (d a : ℕ) → squarings d 0 a ≡ a
 unfolding squarings
@@ -35,21 +35,21 @@ power-zero d a = refl
 module _ (d : ℕ) (h : low d < 2 ^ d) where
   pub squarings-lt : (k a : ℕ) → a < 2 ^ d → squarings d k a < 2 ^ d
   squarings-lt zero a ha = rw squarings-zero ha
-  squarings-lt (suc k) a ha = rw squarings-suc (Product.square-lt d h (squarings d k a))
+  squarings-lt (suc k) a ha = rw squarings-suc (Products.square-lt d h (squarings d k a))
 
   pub squarings-sum : (k a b : ℕ) → squarings d k (a ⊕ b) ≡ squarings d k a ⊕ squarings d k b
   squarings-sum zero a b = simp squarings-zero
   squarings-sum (suc k) a b =
-      simp squarings-suc (ap (square d) (squarings-sum k a b) ∙ Product.square-sum d h (squarings d k a) (squarings d k b))
+      simp squarings-suc (ap (square d) (squarings-sum k a b) ∙ Products.square-sum d h (squarings d k a) (squarings d k b))
 
   pub squarings-product : (k a b : ℕ) → squarings d k (product d a b) ≡ product d (squarings d k a) (squarings d k b)
   squarings-product zero a b = simp squarings-zero
   squarings-product (suc k) a b =
-      simp squarings-suc (ap (square d) (squarings-product k a b) ∙ Product.square-product d h (squarings d k a) (squarings d k b))
+      simp squarings-suc (ap (square d) (squarings-product k a b) ∙ Products.square-product d h (squarings d k a) (squarings d k b))
 
   square-one : square d 1 ≡ 1
   unfolding square
-  square-one = Product.product-one d h 1 (Product.one-lt d h)
+  square-one = Products.product-one d h 1 (Products.one-lt d h)
 
   pub squarings-one : (k : ℕ) → squarings d k 1 ≡ 1
   squarings-one zero = squarings-zero d 1
@@ -59,13 +59,13 @@ module _ (d : ℕ) (h : low d < 2 ^ d) where
   unfolding power
   power-step a =
       digits-step 1 (λ k r. product d (cond (eqb (k % 2) 1) a 1) (square d r))
-      (ap (product d 1) square-one ∙ Product.product-one d h 1 (Product.one-lt d h))
+      (ap (product d 1) square-one ∙ Products.product-one d h 1 (Products.one-lt d h))
 
   pub power-even : (a n : ℕ) → power d a (2 * n) ≡ square d (power d a n)
   power-even a n =
       let e : 2 * n % 2 ≡ 0 = omega arith in
       let g : 2 * n / 2 ≡ n = omega arith in
-      rw (power-step a (2 * n), e, g) (Product.one-product d h (square d (power d a n)) (Product.square-lt d h (power d a n)))
+      rw (power-step a (2 * n), e, g) (Products.one-product d h (square d (power d a n)) (Products.square-lt d h (power d a n)))
 
   pub power-odd : (a n : ℕ) → power d a (suc (2 * n)) ≡ product d a (square d (power d a n))
   power-odd a n =
@@ -82,7 +82,7 @@ module _ (d : ℕ) (h : low d < 2 ^ d) where
       (let e : suc (2 * k + 1) ≡ 2 * suc k = omega arith in
       let g : 2 * k + 1 ≡ suc (2 * k) = omega arith in
       rw (e, g, power-even, power-odd, ih)
-      (Product.square-product d h a (power d a k) ∙ Product.product-assoc d h a a (square d (power d a k)))) x hx
+      (Products.square-product d h a (power d a k) ∙ Products.product-assoc d h a a (square d (power d a k)))) x hx
 
   pub power-suc : (a n : ℕ) → power d a (suc n) ≡ product d a (power d a n)
   power-suc a =
@@ -91,16 +91,16 @@ module _ (d : ℕ) (h : low d < 2 ^ d) where
       rw e at (next-power a (n / 2) (n % 2) (bit-lt n) ih))
 
   pub power-lt : (a n : ℕ) → power d a n < 2 ^ d
-  power-lt a zero = rw power-zero (Product.one-lt d h)
-  power-lt a (suc n) = rw power-suc (Product.product-lt d h a (power d a n))
+  power-lt a zero = rw power-zero (Products.one-lt d h)
+  power-lt a (suc n) = rw power-suc (Products.product-lt d h a (power d a n))
 
   pub power-add : (a m n : ℕ) → power d a (m + n) ≡ product d (power d a m) (power d a n)
-  power-add a zero n = rw (zero-add, power-zero) (sym (Product.one-product d h (power d a n) (power-lt a n)))
+  power-add a zero n = rw (zero-add, power-zero) (sym (Products.one-product d h (power d a n) (power-lt a n)))
   power-add a (suc m) n =
-      rw (suc-add, power-suc a (m + n), power-suc a m, power-add a m n) (sym (Product.product-assoc d h a (power d a m) (power d a n)))
+      rw (suc-add, power-suc a (m + n), power-suc a m, power-add a m n) (sym (Products.product-assoc d h a (power d a m) (power d a n)))
 
   pub power-one : (a : ℕ) → a < 2 ^ d → power d a 1 ≡ a
-  power-one a ha = power-suc a 0 ∙ ap (product d a) (power-zero d a) ∙ Product.product-one d h a ha
+  power-one a ha = power-suc a 0 ∙ ap (product d a) (power-zero d a) ∙ Products.product-one d h a ha
 
   pub power-pow : (a k : ℕ) → a < 2 ^ d → power d a (2 ^ k) ≡ squarings d k a
   power-pow a zero ha = power-one a ha ∙ sym (squarings-zero d a)
@@ -129,4 +129,4 @@ module _ (d : ℕ) (h : low d < 2 ^ d) where
   inverse-ones a = ap (power d a) even ∙ power-even a (2 ^ (d - 1) - 1)
     where
       even : 2 ^ d - 2 ≡ 2 * (2 ^ (d - 1) - 1)
-      even = let p : d ≡ suc (d - 1) = omega (arith, Product.degree-pos d h) in ap (λ n. 2 ^ n - 2) p ∙ (omega arith)
+      even = let p : d ≡ suc (d - 1) = omega (arith, Products.degree-pos d h) in ap (λ n. 2 ^ n - 2) p ∙ (omega arith)

@@ -8,7 +8,7 @@ use native.Mathlib.Omega.{arith}
 use lib.Arith.{bin-ind}
 use lib.Pow.{pow-pos}
 use Rattle.binary_field.specs.Carryless.{_⊕_, digits-to, digits, clmul, reduce, remainder}
-use Rattle.binary_field.proofs.Sum.{bit-cases, bit-lt, sums, sum-assoc, sum-self, sum-zero, zero-sum, sum-lt, sum-shr, sum-half, sum-odd, sum-double, sum-shifted, sum-split, double-plus, bit-mul-sum, bit-sum-mul, sum-middle, double-plus-sum}
+use Rattle.binary_field.proofs.Sums.{bit-cases, bit-lt, sums, sum-assoc, sum-self, sum-zero, zero-sum, sum-lt, sum-shr, sum-half, sum-odd, sum-double, sum-shifted, sum-split, double-plus, bit-mul-sum, bit-sum-mul, sum-middle, double-plus-sum}
 use Rattle.binary_field.proofs.Clmul.{digits-step, digit-split, clmul-step, zero-clmul, clmul-zero, clmul-comm, sum-clmul, double-clmul, bit-clmul, clmul-pow}
 
 module _ (d low : ℕ) where
@@ -36,7 +36,7 @@ module _ (d low : ℕ) where
   unfolding reduce
   reduce-small r h = rw (div-eq-of-lt h, zero-mul, zero-sum)
 
-  top-bit : (r : ℕ) → r < 2 ^ suc d → r / 2 ^ d < 2
+  pub top-bit : (r : ℕ) → r < 2 ^ suc d → r / 2 ^ d < 2
   top-bit r h = div-lt-iff-lt-mul (pow-pos d) .1 (omega arith)
 
   pub reduce-sum : (r s : ℕ) → r < 2 ^ suc d → s < 2 ^ suc d → reduce d low (r ⊕ s) ≡ reduce d low r ⊕ reduce d low s
@@ -57,7 +57,7 @@ module _ (d low : ℕ) (h : low < 2 ^ d) where
   bit-low-lt : (x : ℕ) → x < 2 → x * low < 2 ^ d
   bit-low-lt = bit-cases (λ x. x * low < 2 ^ d) (rw zero-mul (pow-pos d)) (rw one-mul h)
 
-  reduce-lt : (r : ℕ) → r < 2 ^ suc d → reduce d low r < 2 ^ d
+  pub reduce-lt : (r : ℕ) → r < 2 ^ suc d → reduce d low r < 2 ^ d
   reduce-lt r hr = rw (reduce-fold r hr) (sum-lt d _ _ (bit-low-lt _ (top-bit d low r hr)) (mod-lt r (pow-pos d)))
 
   pub remainder-lt : (n : ℕ) → remainder d low n < 2 ^ d

@@ -7,7 +7,7 @@ use native.Mathlib.Omega.{arith}
 use lib.Arith.{bin-ind, lt-one}
 use lib.Pow.{pow-add}
 use Rattle.binary_field.specs.Carryless.{_⊕_, digits-to, digits, clmul, spread}
-use Rattle.binary_field.proofs.Sum.{bit-cases, bit-lt, sum-shifted, double-plus}
+use Rattle.binary_field.proofs.Sums.{bit-cases, bit-lt, sum-shifted, double-plus}
 use Rattle.binary_field.proofs.Clmul.{digits-step, digit-split, zero-clmul, bit-clmul, double-clmul, clmul-double, clmul-self-sum, clmul-shl, shl-clmul}
 
 pub spread-step : (n : ℕ) → spread n ≡ 4 * spread (n / 2) + n % 2

@@ -9,7 +9,7 @@ use Rattle.binary_field.specs.Carryless.{clmul, remainder, digits}
 abbrev pub Accepted : ℕ → Type 0
 Accepted d = T (eqb d 5 || eqb d 61)
 
--- the modulus below its leading term: t^2 + 1 for 5, and t^5 + t^2 + t + 1 for 61
+-- the modulus below its leading term: t^2 + 1 for 5 (binary 101), and t^5 + t^2 + t + 1 for 61 (binary 100111)
 unfoldable pub low : ℕ → ℕ
 low d = cond (eqb d 61) 39 5
 

@@ -1,1 +1,99 @@
-// Elements of GF(2^5) and GF(2^61).
+// Elements of GF(2^5) and GF(2^61): numbers below 2^d whose bit i is the coefficient of t^i.
+// A call refuses a degree other than 5 and 61 with 106, then a number of 2^d or more with 110.
+ghost use mathlib.Core.Path.{_≡_};
+ghost use mathlib.Core.Bool.{cond};
+ghost use mathlib.Core.List.{[], _∷_};
+ghost use Rattle.binary_field.specs.Answer.{reply, below, due, sum-reply, product-reply, square-reply, root-reply, inverse-reply};
+
+mod carryless;
+mod inverting;
+mod rooting;
+mod spreading;
+mod squaring;
+
+pub enum Answer {
+    Element(u64),
+    Refused(u32),
+}
+
+// 110 where one of two numbers is m or more, else 0.
+fn range_due(m: u64, a: u64, b: u64) -> u32
+    ensures { λ r. ⌜ r ≡ cond (below m (a ∷ b ∷ [])) 0 110 ⌝ }
+{
+    if a < m {
+        if b < m {
+            return 0;
+        }
+    }
+    110
+}
+
+// The refusal that is due to a call on two numbers, and 0 where none is.
+fn refusal_due(d: u8, a: u64, b: u64) -> u32
+    ensures { λ r. ⌜ r ≡ due d (a ∷ b ∷ []) ⌝ }
+{
+    if d == 5 {
+        return range_due(0x20, a, b);
+    }
+    if d == 61 {
+        return range_due(0x2000_0000_0000_0000, a, b);
+    }
+    106
+}
+
+// The sum of two elements.
+pub fn sum(d: u8, a: u64, b: u64) -> Answer
+    ensures { λ r. ⌜ reply r ≡ sum-reply d a b ⌝ }
+{
+    let n = refusal_due(d, a, b);
+    if n != 0 {
+        return Answer::Refused(n);
+    }
+    Answer::Element(a ^ b)
+}
+
+// The product of two elements.
+pub fn product(d: u8, a: u64, b: u64) -> Answer
+    ensures { λ r. ⌜ reply r ≡ product-reply d a b ⌝ }
+{
+    let n = refusal_due(d, a, b);
+    if n != 0 {
+        return Answer::Refused(n);
+    }
+    Answer::Element(carryless::product_of(d, a, b))
+}
+
+// The square of an element.
+pub fn square(d: u8, a: u64) -> Answer
+    ensures { λ r. ⌜ reply r ≡ square-reply d a ⌝ }
+{
+    let n = refusal_due(d, a, a);
+    if n != 0 {
+        return Answer::Refused(n);
+    }
+    let table = spreading::spreads();
+    Answer::Element(squaring::square_of(d, a, &table))
+}
+
+// The square root of an element.
+pub fn square_root(d: u8, a: u64) -> Answer
+    ensures { λ r. ⌜ reply r ≡ root-reply d a ⌝ }
+{
+    let n = refusal_due(d, a, a);
+    if n != 0 {
+        return Answer::Refused(n);
+    }
+    Answer::Element(rooting::root_of(d, a))
+}
+
+// The inverse of an element, and 0 of 0.
+pub fn inverse(d: u8, a: u64) -> Answer
+    ensures { λ r. ⌜ reply r ≡ inverse-reply d a ⌝ }
+{
+    let n = refusal_due(d, a, a);
+    if n != 0 {
+        return Answer::Refused(n);
+    }
+    let table = spreading::spreads();
+    Answer::Element(inverting::inverse_of(d, a, &table))
+}

@@ -3,7 +3,7 @@
 use Prim.Native.Nat.{ℕ, zero, suc, _+_ as _+ℕ_, _≤_, _<_}
 use mathlib.Core.Path.{_≡_, refl, sym, _∙_, ap, ap₂}
 use mathlib.Core.HLevel.{Σ-prop-path}
-use native.Mathlib.Omega.{arith}
+use native.Mathlib.{Omega.arith, Decide.decLe}
 use Rattle.field_laws.specs.Ring.{Ring2}
 use Rattle.field_laws.specs.Field.{Field2}
 use Rattle.char2_algebra.specs.Polynomials.{Polynomials}
@@ -84,6 +84,9 @@ module _ {K P : Type 0} {F : Field2 K} (A : Polynomials F P) where
 
   pub rem-short : (a b : P) → len a < len b → rem a b ≡ a
   rem-short a b h = rem-is a b 𝟘 a h (sym (𝟘-+ R a) ∙ ap (λ z. z + a) (sym (𝟘-· R b)))
+
+  pub quot-short : (a b : P) → len a < len b → quot a b ≡ 𝟘
+  quot-short a b h = quot-is a b 𝟘 a h (sym (𝟘-+ R a) ∙ ap (λ z. z + a) (sym (𝟘-· R b)))
 
   module _ (b : P) (h : ¬ (b ≡ 𝟘)) where
     pub rem-divides : (a : P) → Divides R b (a + rem a b)
@@ -169,6 +172,15 @@ module _ {K P : Type 0} {F : Field2 K} (A : Polynomials F P) where
 
     pub divides-prop : (a : P) → IsProp (Divides R b a)
     divides-prop a (q, e) (s, k) = Σ-prop-path (λ z. A .ring .isSet a (z · b)) (cancel-right A b q s h (sym e ∙ k))
+
+  pub len-quot-le : (a b : P) → ¬ (b ≡ 𝟘) → len (quot a b) ≤ len a
+  len-quot-le a b h = elim (decLe (len b) (len a)) [
+    | yes k ↦
+        (let l : suc (len a) ≡ len (quot a b) +ℕ len b = len-quot b h a k in
+        let m : 0 < len b = len-nonzero A b h in
+        omega arith)
+    | no k ↦ (let l : len (quot a b) ≡ 0 = ap len (quot-short a b (omega arith)) ∙ len-nought A in omega arith)
+  ]
 
   pub divides-cancel : {b a : P} (c : P) → ¬ (c ≡ 𝟘) → Divides R (c · b) (c · a) → Divides R b a
   divides-cancel {b} {a} c h (q, e) = (q, cancel-left A c a (q · b) h (e ∙ swap q c b))

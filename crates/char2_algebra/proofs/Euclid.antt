@@ -1,17 +1,19 @@
 -- Euclid's rule: what it gives is a combination of the two (or three) polynomials, divides each of them, and is monic unless all are nought.
-use Prim.Native.Nat.{ℕ, zero, suc, _<_}
+use Prim.Native.Nat.{ℕ, zero, suc, pred, max, _+_ as _+ℕ_, _≤_, _<_}
 use mathlib.Core.Path.{_≡_, refl, sym, _∙_, ap}
-use native.Mathlib.Omega.{arith}
+use native.Mathlib.{Omega.arith, Decide.decLe}
 use Rattle.field_laws.specs.Ring.{Ring2}
 use Rattle.field_laws.specs.Field.{Field2}
 use Rattle.char2_algebra.specs.Polynomials.{Polynomials}
 use Rattle.char2_algebra.specs.Divides.{Divides}
 use Rattle.char2_algebra.specs.Lead.{lead, Monic, monic-of}
 use Rattle.char2_algebra.specs.Euclid.{Bezout, Bezout3, bezout-to, bezout, bezout3}
-use Rattle.char2_algebra.proofs.Ring.{ring2, +-𝟘, 𝟘-·, by, both, combine}
-use Rattle.char2_algebra.proofs.Degree.{len-zero, nonzero-of-len}
-use Rattle.char2_algebra.proofs.Divides.{divides-eq, divides-nought, divides-add, divides-mul, divides-trans, divides-by-eq, nought-divides}
-use Rattle.char2_algebra.proofs.Lead.{monic-of-monic, monic-of-divides, monic-nonzero, monic-antisym}
+use Rattle.char2_algebra.proofs.Ring.{ring2, +-𝟘, 𝟘-+, ·-𝟘, 𝟘-·, by, both, combine}
+use Rattle.char2_algebra.proofs.Degree.{len-zero, len-nonzero, len-add, nonzero-of-len}
+use Rattle.char2_algebra.proofs.Product.{len-mul-le}
+use Rattle.char2_algebra.proofs.Division.{len-quot, rem-short, quot-short}
+use Rattle.char2_algebra.proofs.Divides.{divides-eq, divides-nought, divides-add, divides-mul, divides-trans, divides-by-eq, nought-divides, one-divides}
+use Rattle.char2_algebra.proofs.Lead.{monic-of-monic, monic-of-divides, monic-nonzero, monic-antisym, monic-one, monic-constant, len-monic-of}
 
 -- from g = s b + t r and a = q b + r
 back-substitution : {A : Type 0} (R : Ring2 A) (a b g q r s t : A) → g ≡ R .add (R .mul s b) (R .mul t r) → a ≡ R .add (R .mul q b) r
@@ -53,53 +55,95 @@ module _ {K P : Type 0} {F : Field2 K} (A : Polynomials F P) where
   unfolding bezout-to
   bezout-go n k a b e = rw (e, bezout-to)
 
-  stop-is : (a b : P) → b ≡ 𝟘 → IsBezout a b (record { g = monic-of A a; s = con (F .inverse (lead A a)); t = 𝟘 })
+  pub bezout-nought-is : (a b : P) → b ≡ 𝟘 → IsBezout a b (record { g = monic-of A a; s = con (F .inverse (lead A a)); t = 𝟘 })
   unfolding monic-of
-  stop-is a b e = record {
+  bezout-nought-is a b e = record {
     combination = sym (ap (λ z. con (F .inverse (lead A a)) · a + z) (𝟘-· R b) ∙ +-𝟘 R _);
     divides-first = monic-of-divides A a;
     divides-second = divides-eq R (sym e) (divides-nought R _);
     monic = λ h. monic-of-monic A a (λ d. h (d, e));
   }
 
-  go-is : (a b : P) (r : Bezout P) → ¬ (b ≡ 𝟘) → IsBezout b (rem a b) r
+  pub bezout-step-is : (a b : P) (r : Bezout P) → ¬ (b ≡ 𝟘) → IsBezout b (rem a b) r
       → IsBezout a b (record { g = r .g; s = r .t; t = r .s + r .t · quot a b })
-  go-is a b r h i = record {
+  bezout-step-is a b r h i = record {
     combination = back-substitution R a b (r .g) (quot a b) (rem a b) (r .s) (r .t) (i .combination) (A .division a b h);
     divides-first = divides-eq R (sym (A .division a b h)) (divides-add R (divides-mul R (quot a b) (i .divides-first)) (i .divides-second));
     divides-second = i .divides-first;
     monic = λ _. i .monic (λ z. h (z .0));
   }
 
+  -- the step keeps the coefficients short: s no longer than b and t no longer than a, or constant
+  pub len-substituted : (a b s t : P) → ¬ (b ≡ 𝟘) → len s ≤ max 1 (len (rem a b)) → len t ≤ max 1 (len b) → len (s + t · quot a b) ≤ max 1 (len a)
+  len-substituted a b s t h l m = elim (decLe (len b) (len a)) [
+    | yes k ↦
+        (let b-len : 0 < len b = len-nonzero A b h in
+        let r-len : len (rem a b) < len b = A .rem-len a b h in
+        let q-len : suc (len a) ≡ len (quot a b) +ℕ len b = len-quot A b h a k in
+        let p-len : len (t · quot a b) ≤ pred (len b) +ℕ len (quot a b) = len-mul-le A (pred (len b)) (len (quot a b)) t (quot a b) (omega arith) (omega arith) in
+        len-add A s (t · quot a b) (max 1 (len a)) (omega arith) (omega arith))
+    | no k ↦
+        (let r-is : rem a b ≡ a = rem-short A a b (omega arith) in
+        let e : s + t · quot a b ≡ s = ap (λ z. s + t · z) (quot-short A a b (omega arith)) ∙ ap (λ z. s + z) (·-𝟘 R t) ∙ +-𝟘 R s in
+        let n : len (s + t · quot a b) ≡ len s = ap len e in
+        let o : len (rem a b) ≡ len a = ap len r-is in
+        omega arith)
+  ]
+
+  -- a constant other than 0 has the divisor 1 with every polynomial
+  pub bezout-constant-is : (a b : P) → len b ≡ 1 → IsBezout a b (record { g = 𝟙; s = 𝟘; t = con (F .inverse (lead A b)) })
+  unfolding monic-of
+  bezout-constant-is a b e = record {
+    combination = sym (ap (λ z. z + con (F .inverse (lead A b)) · b) (𝟘-· R a) ∙ 𝟘-+ R _ ∙ unit);
+    divides-first = one-divides R a;
+    divides-second = one-divides R b;
+    monic = λ _. monic-one A;
+  }
+    where
+      unit : con (F .inverse (lead A b)) · b ≡ 𝟙
+      unit = monic-constant A (monic-of A b) (monic-of-monic A b (nonzero-of-len A b (omega arith))) (let l : len (monic-of A b) ≡ len b = len-monic-of A b in omega arith)
+
   bezout-to-is : (n : ℕ) (a b : P) → len b < n → IsBezout a b (bezout-to A n a b)
   bezout-to-is zero a b h = absurd (omega arith)
   bezout-to-is (suc n) a b h = go (bezout-to-is n b (rem a b)) (len b) refl
     where
       go : (len (rem a b) < n → IsBezout b (rem a b) (bezout-to A n b (rem a b))) → (k : ℕ) → len b ≡ k → IsBezout a b (bezout-to A (suc n) a b)
-      go ih zero e = rw (bezout-stop n a b e) (stop-is a b (len-zero A b e))
+      go ih zero e = rw (bezout-stop n a b e) (bezout-nought-is a b (len-zero A b e))
       go ih (suc k) e =
           let b-nonzero : ¬ (b ≡ 𝟘) = nonzero-of-len A b (omega arith) in
           let l : len (rem a b) < len b = A .rem-len a b b-nonzero in
-          rw (bezout-go n k a b e) (go-is a b (bezout-to A n b (rem a b)) b-nonzero (ih (omega arith)))
+          rw (bezout-go n k a b e) (bezout-step-is a b (bezout-to A n b (rem a b)) b-nonzero (ih (omega arith)))
 
   -- Euclid's rule of two polynomials
   pub bezout-is : (a b : P) → IsBezout a b (bezout A a b)
   unfolding bezout
   bezout-is a b = bezout-to-is (suc (len b)) a b (omega arith)
 
-  -- and of three
+  -- of three: of two of them first, then of their divisor and the third
+  pub bezout-twice : {a b c : P} {B B' : Bezout P} → IsBezout a b B → IsBezout (B .g) c B'
+      → IsBezout3 a b c (record { e = B' .g; s1 = B' .s · B .s; s2 = B' .s · B .t; s3 = B' .t })
+  bezout-twice {a} {b} {c} first second = record {
+    combination = substitution R a b c _ _ _ _ _ _ (first .combination) (second .combination);
+    divides-first = divides-trans R (second .divides-first) (first .divides-first);
+    divides-second = divides-trans R (second .divides-first) (first .divides-second);
+    divides-third = second .divides-second;
+    monic = λ h. second .monic (λ z. h (nought-divides R (divides-by-eq R (z .0) (first .divides-first)), nought-divides R (divides-by-eq R (z .0) (first .divides-second)), z .1));
+  }
+
   pub bezout3-is : (a b c : P) → IsBezout3 a b c (bezout3 A a b c)
   unfolding bezout3
-  bezout3-is a b c =
-      let first : IsBezout a b (bezout A a b) = bezout-is a b in
-      let second : IsBezout (bezout A a b .g) c (bezout A (bezout A a b .g) c) = bezout-is (bezout A a b .g) c in
-      record {
-        combination = substitution R a b c _ _ _ _ _ _ (first .combination) (second .combination);
-        divides-first = divides-trans R (second .divides-first) (first .divides-first);
-        divides-second = divides-trans R (second .divides-first) (first .divides-second);
-        divides-third = second .divides-second;
-        monic = λ h. second .monic (λ z. h (nought-divides R (divides-by-eq R (z .0) (first .divides-first)), nought-divides R (divides-by-eq R (z .0) (first .divides-second)), z .1));
-      }
+  bezout3-is a b c = bezout-twice (bezout-is a b) (bezout-is (bezout A a b .g) c)
+
+  -- where the divisor of two is 1, the third is not needed
+  pub bezout-coprime : {a b : P} {B : Bezout P} (c : P) → IsBezout a b B → B .g ≡ 𝟙
+      → IsBezout3 a b c (record { e = B .g; s1 = B .s; s2 = B .t; s3 = 𝟘 })
+  bezout-coprime {a} {b} {B} c i e = record {
+    combination = i .combination ∙ sym (ap (λ z. B .s · a + B .t · b + z) (𝟘-· R c) ∙ +-𝟘 R _);
+    divides-first = i .divides-first;
+    divides-second = i .divides-second;
+    divides-third = divides-by-eq R (sym e) (one-divides R c);
+    monic = λ _. ap (lead A) e ∙ monic-one A;
+  }
 
   -- the greatest: every common divisor divides it
   pub bezout-greatest : {a b d : P} {B : Bezout P} → IsBezout a b B → Divides R d a → Divides R d b → Divides R d (B .g)

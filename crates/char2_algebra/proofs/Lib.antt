@@ -16,4 +16,5 @@ pub mod PolynomialRing
 pub mod ListDivision
 pub mod Polynomial
 pub mod OfList
+pub mod Compare
 pub mod Example

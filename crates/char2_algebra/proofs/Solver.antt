@@ -130,6 +130,16 @@ eq-of-order (v ∷ m) (w ∷ n) =
     (λ c e. ap₂ {C = List ℕ} _∷_ (eq-of-compare v w c) (eq-of-order m n e))
     (λ e. absurd (subst⁻¹ IsEq e tt))
 
+-- The statement of the first example below: the norm a² + a b h + b² f of a + b y, where y² = h y + f, of a product of three.
+abbrev norm : Exp → Exp → Exp → Exp → Exp
+norm f h a b = a :· a :+ a :· b :· h :+ b :· b :· f
+
+abbrev norms : Exp → Exp → Exp → Exp → Exp → Exp → Exp → Exp → Equation
+norms p q r s t u f h =
+    let a = p :· r :+ q :· s :· f in
+    let b = p :· s :+ q :· r :+ q :· s :· h in
+    norm f h p q :· norm f h r s :· norm f h t u := norm f h (a :· t :+ b :· u :· f) (a :· u :+ b :· t :+ b :· u :· h)
+
 module _ {A : Type 0} (R : Ring2 A) where
   open Ring2 R using (add as _+_, mul as _·_, nought as 𝟘, one as 𝟙)
 
@@ -257,6 +267,13 @@ module _ {A : Type 0} (R : Ring2 A) where
   instance [] k f = f
   instance (a ∷ ρ) k f = instance ρ (suc k) (f (var k))
 
+  -- what `solve` and `linear` prove; a statement too long to write twice is given once, as a function f
+  abbrev pub States : (ρ : List A) → Over ρ Equation → Type 0
+  States ρ f = Holds (instance ρ 0 f) ρ
+
+  abbrev pub Entails : (ρ : List A) → Over ρ Sequent → Type 0
+  Entails ρ f = Valid (instance ρ 0 f) ρ
+
   conclude : (ρ : List A) (hs : List Hypothesis) (l r s : Exp) → ⟦ s ⟧ ρ ≡ 𝟘 → left s hs (l := r) ≡ [] → Follows hs (l := r) ρ
   unfolding polynomial
   conclude ρ [] l r s z n =
@@ -264,30 +281,21 @@ module _ {A : Type 0} (R : Ring2 A) where
       (sym (𝟘-+ R (⟦ l ⟧ ρ + ⟦ r ⟧ ρ)) ∙ ap (λ a. a + (⟦ l ⟧ ρ + ⟦ r ⟧ ρ)) (sym z) ∙ sym (normal-sound ρ (s :+ (l :+ r))) ∙ ap (polynomial ρ) n)
   conclude ρ ((c ⊢ p := q) ∷ hs) l r s z n = λ h. conclude ρ hs l r (s :+ c :· (p :+ q)) (both R z (by R (⟦ c ⟧ ρ) h)) n
 
-  pub linear : (ρ : List A) (f : Over ρ Sequent) → remainder (instance ρ 0 f) ≡ [] → Valid (instance ρ 0 f) ρ
+  pub linear : (ρ : List A) (f : Over ρ Sequent) → remainder (instance ρ 0 f) ≡ [] → Entails ρ f
   linear ρ f n = sequent (instance ρ 0 f) n
     where
       sequent : (t : Sequent) → remainder t ≡ [] → Valid t ρ
       sequent (hs ⊨ l := r) n = conclude ρ hs l r :0 refl n
 
-  pub solve : (ρ : List A) (f : Over ρ Equation) → left :0 [] (instance ρ 0 f) ≡ [] → Holds (instance ρ 0 f) ρ
+  pub solve : (ρ : List A) (f : Over ρ Equation) → left :0 [] (instance ρ 0 f) ≡ [] → States ρ f
   solve ρ f n = equation (instance ρ 0 f) n
     where
       equation : (e : Equation) → left :0 [] e ≡ [] → Holds e ρ
       equation (l := r) n = conclude ρ [] l r :0 refl n
 
-  -- Examples. The norm p² + p q h + q² f of p + q y, where y² = h y + f, is multiplicative: six variables.
-  norm-product : (p q r s f h : A)
-      → (p · p + p · q · h + q · q · f) · (r · r + r · s · h + s · s · f)
-      ≡ (p · r + q · s · f) · (p · r + q · s · f) + (p · r + q · s · f) · (p · s + q · r + q · s · h) · h
-      + (p · s + q · r + q · s · h) · (p · s + q · r + q · s · h) · f
-  norm-product p q r s f h =
-      solve (p ∷ q ∷ r ∷ s ∷ f ∷ h ∷ [])
-      (λ p q r s f h.
-      let a = p :· r :+ q :· s :· f in
-      let b = p :· s :+ q :· r :+ q :· s :· h in
-      (p :· p :+ p :· q :· h :+ q :· q :· f) :· (r :· r :+ r :· s :· h :+ s :· s :· f) := a :· a :+ a :· b :· h :+ b :· b :· f)
-      refl
+  -- Examples. Eight variables, the statement written once; here `simp (ring2, R)` breaks off.
+  norm-product : (p q r s t u f h : A) → States (p ∷ q ∷ r ∷ s ∷ t ∷ u ∷ f ∷ h ∷ []) norms
+  norm-product p q r s t u f h = solve (p ∷ q ∷ r ∷ s ∷ t ∷ u ∷ f ∷ h ∷ []) norms refl
 
   -- A conclusion from five hypotheses in eleven variables.
   quotients : (u₁ v₁ w₁ u₂ v₂ w₂ d₁ d₂ e c f : A) → u₁ · w₁ ≡ v₁ · v₁ + v₁ + f → u₂ · w₂ ≡ v₂ · v₂ + v₂ + f

@@ -26,6 +26,7 @@ module _ {K : Type 0} (F : Field2 K) where
   Trimmed (a ∷ []) = Nonzero a
   Trimmed (a ∷ b ∷ p) = Trimmed (b ∷ p)
 
+-- the coefficients, the lowest power's first
 pub record Polynomial {K : Type 0} (F : Field2 K) : Type 0 where
   pub coefficients : List K
   pub trimmed : Trimmed F coefficients
@@ -46,6 +47,7 @@ module _ {K : Type 0} (F : Field2 K) where
   trim [] = []
   trim (a ∷ p) = attach a (trim p)
 
+  -- that the last element left is not nought
   unfoldable pub nonzero : (a : K) → ¬ (a ≡ 𝟘) → Nonzero F a
   nonzero a h = by-test (discrete a 𝟘)
     where
@@ -72,6 +74,7 @@ module _ {K : Type 0} (F : Field2 K) where
   unfolding trim-trimmed
   of-list p = record { coefficients = trim p; trimmed = trim-trimmed p }
 
+  -- operations on lists, trimmed or not
   unfoldable pub add-lists : List K → List K → List K
   add-lists [] q = q
   add-lists (a ∷ p) [] = a ∷ p

@@ -3,7 +3,7 @@
 -- Cantor's composition by Euclid's rule and the composition of a double are cases of it (`compose-is`, `compose-double-is`):
 -- `compose-semi`, `compose-len`, `compose-double-semi`, `compose-double-len`.
 use Prim.Native.Nat.{suc, _+_ as _+ℕ_, _≤_, _<_}
-use mathlib.Core.Path.{_≡_, sym, _∙_, ap, ap₂}
+use mathlib.Core.Path.{_≡_, refl, sym, _∙_, ap, ap₂}
 use native.Mathlib.Omega.{arith}
 use Rattle.field_laws.specs.{Ring.Ring2, Field.Field2}
 use Rattle.char2_algebra.specs.{Polynomials.Polynomials, Divides.Divides, Lead.lead, Lead.Monic, Lead.monic-of, Euclid.Bezout3, Euclid.bezout3}
@@ -92,6 +92,10 @@ module _ {K P : Type 0} {F : Field2 K} {A : Polynomials F P} (C : Curve A) where
           (numerator-divides R f u₁ v₁ (r .divides .0) u₂ v₂ e s1 s2 s3 (B .divides-first .0) (r .divides .1) (B .combination) (B .divides-first .1))
           ∙ ·-comm R _ e);
     }
+
+    pub composition-e : composition .e ≡ e
+    unfolding composition
+    composition-e = refl
 
     -- u is not nought, and no longer than u1 u2
     pub composed-u-divides : u₁ · u₂ ≡ e · e · composed C b D E .u

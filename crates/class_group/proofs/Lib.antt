@@ -9,6 +9,7 @@ pub mod Composition
 pub mod Uniqueness
 pub mod SemiReduced
 pub mod Composed
+pub mod Joined
 pub mod Closed
 pub mod Classes
 pub mod GroupLaws
@@ -21,3 +22,4 @@ pub mod LiftCoefficients
 pub mod Rows
 pub mod EvenRoot
 pub mod HalfChain
+pub mod Halving

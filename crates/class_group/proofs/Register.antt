@@ -1,15 +1,16 @@
--- The register's rules undo each other, given what is asked of half (`Halves`: a reduced class whose double is the class given).
--- `subtract-committed`: (2 S + D) - D is 2 S. `half-double`: the half of a double is the class. `half-unique`: there is no other half.
+-- The register's rules undo each other.
+-- `subtract-committed`: (2 S + D) - D is 2 S.
 -- `undo-commit`, `commit-undo`: an undo takes a commit back and a commit an undo. `undo-all`: undos over the reversed list take a whole
 -- list of commits back; `undo-newest`: the newest part of it. `backward-walk`: they meet the same seals in reverse order. `forward-reduced`, `backward-reduced`: all
 -- these seals are reduced classes.
-use mathlib.Core.Path.{_≡_, refl, sym, _∙_, ap}
+use mathlib.Core.Path.{_≡_, _∙_, ap}
 use mathlib.Core.List.{List, _++_, reverse}
 use Rattle.field_laws.specs.Field.{Field2}
 use Rattle.char2_algebra.specs.Polynomials.{Polynomials}
 use Rattle.class_group.specs.{Curve.Curve, Half.half, Mumford.Pair, Mumford.Reduced, Mumford.opposite, Operations.sum, Operations.double}
 use Rattle.class_group.specs.Walk.{All, after, walk, commit, undo}
-use Rattle.class_group.proofs.{Closed.sum-reduced, Closed.double-reduced, Closed.opposite-reduced, Group.classes, Group.double-injective, GroupLaws.add-subtract, GroupLaws.subtract-add}
+use Rattle.class_group.proofs.{Closed.sum-reduced, Closed.double-reduced, Closed.opposite-reduced, Group.classes, GroupLaws.add-subtract, GroupLaws.subtract-add}
+use Rattle.class_group.proofs.Halving.{half-reduced, double-half, half-double}
 use Rattle.class_group.proofs.Walk.{Along, after-reverse, after-newest, walk-reverse, walk-members, along-members}
 
 module _ {K P : Type 0} {F : Field2 K} {A : Polynomials F P} (C : Curve A) where
@@ -26,53 +27,39 @@ module _ {K P : Type 0} {F : Field2 K} {A : Polynomials F P} (C : Curve A) where
   pub forward-reduced : {S : Pair P} {Ds : List (Pair P)} → Reduced C S → All (Reduced C) Ds → All (Reduced C) (walk (commit C) S Ds)
   forward-reduced = walk-members (commit C) (λ _ _. commit-reduced)
 
-  -- what is asked of a half
-  pub record Halves (h : Pair P → Pair P) : Type 0 where
-    pub half-reduced : {D : Pair P} → Reduced C D → Reduced C (h D)
-    pub double-half : {D : Pair P} → Reduced C D → double C (h D) ≡ D
+  pub undo-reduced : {S D : Pair P} → Reduced C S → Reduced C D → Reduced C (undo C S D)
+  unfolding undo
+  undo-reduced s d = half-reduced C (sum-reduced C s (opposite-reduced C d))
 
-  module _ (H : Halves (half C)) where
-    -- demand 3: the half is the only reduced class whose double is the class given
-    pub half-unique : {D E : Pair P} → Reduced C D → Reduced C E → double C E ≡ D → E ≡ half C D
-    half-unique r s e = double-injective C s (H .half-reduced r) (e ∙ sym (H .double-half r))
+  -- demand 3: an undo with the same class takes a commit back
+  pub undo-commit : {S D : Pair P} → Reduced C S → Reduced C D → undo C (commit C S D) D ≡ S
+  unfolding undo
+  undo-commit s d = ap (half C) (subtract-committed s d) ∙ half-double C s
 
-    -- demand 3: doubling and halving undo each other
-    pub half-double : {D : Pair P} → Reduced C D → half C (double C D) ≡ D
-    half-double r = sym (half-unique (double-reduced C r) r refl)
+  -- demand 3: a commit with the same class takes an undo back
+  pub commit-undo : {S D : Pair P} → Reduced C S → Reduced C D → commit C (undo C S D) D ≡ S
+  unfolding commit undo
+  commit-undo {S} {D} s d =
+      ap (λ z. sum C z D) (double-half C (sum-reduced C s (opposite-reduced C d))) ∙ subtract-add (classes C) s d
 
-    pub undo-reduced : {S D : Pair P} → Reduced C S → Reduced C D → Reduced C (undo C S D)
-    unfolding undo
-    undo-reduced s d = H .half-reduced (sum-reduced C s (opposite-reduced C d))
+  -- demand 3: all seals of a walk back are reduced classes
+  pub backward-reduced : {S : Pair P} {Ds : List (Pair P)} → Reduced C S → All (Reduced C) Ds → All (Reduced C) (walk (undo C) S Ds)
+  backward-reduced = walk-members (undo C) (λ _ _. undo-reduced)
 
-    -- demand 3: an undo with the same class takes a commit back
-    pub undo-commit : {S D : Pair P} → Reduced C S → Reduced C D → undo C (commit C S D) D ≡ S
-    unfolding undo
-    undo-commit s d = ap (half C) (subtract-committed s d) ∙ half-double s
+  -- a list of commits of reduced classes is accepted from a reduced seal on
+  committing : {S : Pair P} {Ds : List (Pair P)} → Reduced C S → All (Reduced C) Ds → Along (commit C) (λ T D. Reduced C T × Reduced C D) S Ds
+  committing = along-members (commit C) (λ _ _. commit-reduced)
 
-    -- demand 3: a commit with the same class takes an undo back
-    pub commit-undo : {S D : Pair P} → Reduced C S → Reduced C D → commit C (undo C S D) D ≡ S
-    unfolding commit undo
-    commit-undo {S} {D} s d =
-        ap (λ z. sum C z D) (H .double-half (sum-reduced C s (opposite-reduced C d))) ∙ subtract-add (classes C) s d
+  -- demand 3: taking a list of commits back with the same classes, newest first, ends in the first seal,
+  pub undo-all : {S : Pair P} {Ds : List (Pair P)} → Reduced C S → All (Reduced C) Ds → after (undo C) (after (commit C) S Ds) (reverse Ds) ≡ S
+  undo-all s d = after-reverse (commit C) (undo C) (λ _ _ h. undo-commit (h .0) (h .1)) (committing s d)
 
-    -- demand 3: all seals of a walk back are reduced classes
-    pub backward-reduced : {S : Pair P} {Ds : List (Pair P)} → Reduced C S → All (Reduced C) Ds → All (Reduced C) (walk (undo C) S Ds)
-    backward-reduced = walk-members (undo C) (λ _ _. undo-reduced)
+  -- taking the newest part back ends in the seal before it,
+  pub undo-newest : {S : Pair P} (Ds Es : List (Pair P)) → Reduced C S → All (Reduced C) (Ds ++ Es)
+      → after (undo C) (after (commit C) S (Ds ++ Es)) (reverse Es) ≡ after (commit C) S Ds
+  undo-newest Ds Es s d = after-newest (commit C) (undo C) (λ _ _ h. undo-commit (h .0) (h .1)) Ds Es (committing s d)
 
-    -- a list of commits of reduced classes is accepted from a reduced seal on
-    committing : {S : Pair P} {Ds : List (Pair P)} → Reduced C S → All (Reduced C) Ds → Along (commit C) (λ T D. Reduced C T × Reduced C D) S Ds
-    committing = along-members (commit C) (λ _ _. commit-reduced)
-
-    -- demand 3: taking a list of commits back with the same classes, newest first, ends in the first seal,
-    pub undo-all : {S : Pair P} {Ds : List (Pair P)} → Reduced C S → All (Reduced C) Ds → after (undo C) (after (commit C) S Ds) (reverse Ds) ≡ S
-    undo-all s d = after-reverse (commit C) (undo C) (λ _ _ h. undo-commit (h .0) (h .1)) (committing s d)
-
-    -- taking the newest part back ends in the seal before it,
-    pub undo-newest : {S : Pair P} (Ds Es : List (Pair P)) → Reduced C S → All (Reduced C) (Ds ++ Es)
-        → after (undo C) (after (commit C) S (Ds ++ Es)) (reverse Es) ≡ after (commit C) S Ds
-    undo-newest Ds Es s d = after-newest (commit C) (undo C) (λ _ _ h. undo-commit (h .0) (h .1)) Ds Es (committing s d)
-
-    -- and the walk meets the same seals, one after each class
-    pub backward-walk : {S : Pair P} {Ds : List (Pair P)} → Reduced C S → All (Reduced C) Ds
-        → walk (undo C) (after (commit C) S Ds) (reverse Ds) ≡ reverse (walk (commit C) S Ds)
-    backward-walk s d = walk-reverse (commit C) (undo C) (λ _ _ h. undo-commit (h .0) (h .1)) (committing s d)
+  -- and the walk meets the same seals, one after each class
+  pub backward-walk : {S : Pair P} {Ds : List (Pair P)} → Reduced C S → All (Reduced C) Ds
+      → walk (undo C) (after (commit C) S Ds) (reverse Ds) ≡ reverse (walk (commit C) S Ds)
+  backward-walk s d = walk-reverse (commit C) (undo C) (λ _ _ h. undo-commit (h .0) (h .1)) (committing s d)

@@ -88,11 +88,11 @@ module _ {K P : Type 0} {F : Field2 K} {A : Polynomials F P} (C : Curve A) where
         omega arith
 
   -- the two cases of reduction
-  reduce-stop : (n steps : ℕ) (D : Pair P) → len (D .u) ≤ 4 → reduce-to C (suc n) steps D ≡ record { class = D; steps = steps }
+  pub reduce-stop : (n steps : ℕ) (D : Pair P) → len (D .u) ≤ 4 → reduce-to C (suc n) steps D ≡ record { class = D; steps = steps }
   unfolding reduce-to
   reduce-stop n steps D h = rw (le-ltb 4 (len (D .u)) h, reduce-to)
 
-  reduce-go : (n steps : ℕ) (D : Pair P) → 4 < len (D .u) → reduce-to C (suc n) steps D ≡ reduce-to C n (suc steps) (reduction-step C D)
+  pub reduce-go : (n steps : ℕ) (D : Pair P) → 4 < len (D .u) → reduce-to C (suc n) steps D ≡ reduce-to C n (suc steps) (reduction-step C D)
   unfolding reduce-to
   reduce-go n steps D h = rw (lt-ltb 4 (len (D .u)) h, reduce-to)
 

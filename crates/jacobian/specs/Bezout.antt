@@ -1,10 +1,10 @@
 -- What extended Euclid promises of its rows.
 use Prim.Native.Nat.{ℕ, _≤_, max}
+use mathlib.Core.Path.{_≡_}
 use mathlib.Core.List.{List}
-use Rattle.char2_algebra.specs.Euclid as Theory
 use Rattle.char2_algebra.proofs.Euclid.{IsBezout}
 use Rattle.jacobian.specs.Field.{𝔸, poly}
-use Rattle.jacobian.specs.Row.{InRange, row-len}
+use Rattle.jacobian.specs.Row.{InRange, Stands, row-len}
 use Rattle.jacobian.specs.declared.euclid.Combination.{Combination}
 
 -- g is the monic greatest common divisor and s a + t b; s is no longer than b and t no longer than a, or constant
@@ -15,3 +15,9 @@ pub record BezoutRows (d : ℕ) (a b : List ℕ) (r : Combination) : Type 0 wher
   pub bezout : IsBezout (𝔸 d) (poly d a) (poly d b) (record { g = poly d (r .g); s = poly d (r .s); t = poly d (r .t) })
   pub s-len : row-len d (r .s) ≤ max 1 (row-len d b)
   pub t-len : row-len d (r .t) ≤ max 1 (row-len d a)
+
+-- one step back: from g = s b + t r and a = q b + r follows g = t a + (s + t q) b
+pub record Substituted (d : ℕ) (q : List ℕ) (r c : Combination) : Type 0 where
+  pub g-is : c .g ≡ r .g
+  pub s-is : c .s ≡ r .t
+  pub t-stands : Stands d (c .t) (𝔸 d .ring .add (poly d (r .s)) (𝔸 d .ring .mul (poly d (r .t)) (poly d q)))

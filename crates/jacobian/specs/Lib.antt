@@ -4,6 +4,9 @@ pub mod Row
 pub mod Bezout
 pub mod Core
 pub mod Checks
+pub mod Cofactor
 pub mod Curves
 pub mod Classes
+pub mod Examples
 pub mod Answer
+pub mod Halving

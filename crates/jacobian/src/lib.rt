@@ -16,6 +16,7 @@ mod curves;
 mod element;
 mod euclid;
 mod halving;
+mod quotient;
 mod reduction;
 mod row;
 

@@ -6,6 +6,11 @@ ghost use Rattle.char2_algebra.specs.Lead.{monic-of};
 ghost use Rattle.char2_algebra.specs.Square.{sqrt};
 ghost use Rattle.jacobian.specs.Field.{degree-of, F, 𝔸, el, poly};
 ghost use Rattle.jacobian.specs.Row.{InRange, Stands, row-len, x-power};
+use crate::element::inverted;
+use crate::element::plus;
+use crate::element::root_of;
+use crate::element::squared;
+use crate::element::times;
 
 pub(crate) type Row = [u64; 12];
 
@@ -25,6 +30,13 @@ pub(crate) struct Division {
 pub(crate) fn length(a: [u64; 12]) -> usize
     ensures { λ r. ⌜ ((d : ℕ) → InRange d a → r ≡ row-len d a) ⌝ }
 {
+    let mut n: usize = 12;
+    while n > 0 {
+        if a[n - 1] != 0 {
+            return n;
+        }
+        n -= 1;
+    }
     0
 }
 
@@ -33,7 +45,7 @@ pub(crate) fn add_rows(d: u8, a: [u64; 12], b: [u64; 12]) -> [u64; 12]
     requires { ⌜ Accepted d × InRange d a × InRange d b ⌝ }
     ensures { λ r. ⌜ Stands d r (𝔸 d .ring .add (poly d a) (poly d b)) ⌝ }
 {
-    a
+    add_multiple(d, a, 1, b, 0)
 }
 
 // a + c x^shift b. No product where c is 0 or 1.
@@ -41,7 +53,18 @@ pub(crate) fn add_multiple(d: u8, a: [u64; 12], c: u64, b: [u64; 12], shift: usi
     requires { ⌜ Accepted d × InRange d a × (c < 2 ^ degree-of d) × InRange d b × (row-len d b + shift ≤ 12) ⌝ }
     ensures { λ r. ⌜ Stands d r (𝔸 d .ring .add (poly d a) (𝔸 d .ring .mul (𝔸 d .con (el d c)) (𝔸 d .ring .mul (x-power d shift) (poly d b)))) ⌝ }
 {
-    a
+    if c == 0 {
+        return a;
+    }
+    let n = length(b);
+    let mut r = a;
+    let mut i = 0;
+    while i < n {
+        let j = shift + i;
+        r[j] = plus(d, r[j], times(d, c, b[i]));
+        i += 1;
+    }
+    r
 }
 
 // c a.
@@ -49,7 +72,14 @@ pub(crate) fn scale(d: u8, c: u64, a: [u64; 12]) -> [u64; 12]
     requires { ⌜ Accepted d × (c < 2 ^ degree-of d) × InRange d a ⌝ }
     ensures { λ r. ⌜ Stands d r (𝔸 d .ring .mul (𝔸 d .con (el d c)) (poly d a)) ⌝ }
 {
-    a
+    let n = length(a);
+    let mut r = a;
+    let mut i = 0;
+    while i < n {
+        r[i] = times(d, c, a[i]);
+        i += 1;
+    }
+    r
 }
 
 // The square: the squares of the coefficients at the even powers.
@@ -57,7 +87,14 @@ pub(crate) fn square_row(d: u8, a: [u64; 12]) -> [u64; 12]
     requires { ⌜ Accepted d × InRange d a × (row-len d a ≤ 6) ⌝ }
     ensures { λ r. ⌜ Stands d r (𝔸 d .ring .mul (poly d a) (poly d a)) ⌝ }
 {
-    a
+    let n = length(a);
+    let mut r = [0; 12];
+    let mut i = 0;
+    while i < n {
+        r[i + i] = squared(d, a[i]);
+        i += 1;
+    }
+    r
 }
 
 // The product.
@@ -65,7 +102,15 @@ pub(crate) fn multiply(d: u8, a: [u64; 12], b: [u64; 12]) -> [u64; 12]
     requires { ⌜ Accepted d × InRange d a × InRange d b × (row-len d a + row-len d b ≤ 13) ⌝ }
     ensures { λ r. ⌜ Stands d r (𝔸 d .ring .mul (poly d a) (poly d b)) ⌝ }
 {
-    a
+    let n = length(a);
+    let mut r = [0; 12];
+    let mut i = 0;
+    while i < n {
+        let t = add_multiple(d, r, a[i], b, i);
+        r = t;
+        i += 1;
+    }
+    r
 }
 
 // Quotient and remainder. The leading coefficient of b is inverted once, and not at all where it is 1.
@@ -73,9 +118,25 @@ pub(crate) fn divide(d: u8, a: [u64; 12], b: [u64; 12]) -> Division
     requires { ⌜ Accepted d × InRange d a × InRange d b × ¬ (poly d b ≡ 𝔸 d .ring .nought) ⌝ }
     ensures { λ r. ⌜ Stands d (r .quotient) (𝔸 d .quot (poly d a) (poly d b)) × Stands d (r .remainder) (𝔸 d .rem (poly d a) (poly d b)) ⌝ }
 {
+    let top = length(b) - 1;
+    let inverse = inverted(d, b[top]);
+    let mut low = b;
+    low[top] = 0;
+    let mut q = [0; 12];
+    let mut r = a;
+    let mut k = length(a);
+    while top < k {
+        k -= 1;
+        let c = times(d, r[k], inverse);
+        let s = k - top;
+        q[s] = c;
+        r[k] = 0;
+        let t = add_multiple(d, r, c, low, s);
+        r = t;
+    }
     Division {
-        quotient: a,
-        remainder: b,
+        quotient: q,
+        remainder: r,
     }
 }
 
@@ -84,7 +145,17 @@ pub(crate) fn monic(d: u8, a: [u64; 12]) -> [u64; 12]
     requires { ⌜ Accepted d × InRange d a × ¬ (poly d a ≡ 𝔸 d .ring .nought) ⌝ }
     ensures { λ r. ⌜ Stands d r (monic-of (𝔸 d) (poly d a)) ⌝ }
 {
-    a
+    let top = length(a) - 1;
+    let lead = a[top];
+    if lead == 1 {
+        return a;
+    }
+    let inverse = inverted(d, lead);
+    let mut low = a;
+    low[top] = 0;
+    let mut r = scale(d, inverse, low);
+    r[top] = 1;
+    r
 }
 
 // The square root of a polynomial without odd powers: the square roots of the even coefficients.
@@ -92,5 +163,12 @@ pub(crate) fn root_row(d: u8, a: [u64; 12]) -> [u64; 12]
     requires { ⌜ Accepted d × InRange d a ⌝ }
     ensures { λ r. ⌜ Stands d r (sqrt (𝔸 d) (poly d a)) ⌝ }
 {
-    a
+    let n = length(a);
+    let mut r = [0; 12];
+    let mut i = 0;
+    while i + i < n {
+        r[i] = root_of(d, a[i + i]);
+        i += 1;
+    }
+    r
 }

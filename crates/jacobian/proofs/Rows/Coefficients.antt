@@ -1,13 +1,12 @@
 -- The polynomial that a row stands for, by its coefficients: the i-th is the element of the i-th number. Length from the noughts at the end.
-use Prim.Native.Nat.{ℕ, zero, suc, _≤_, _<_, _^_}
+use Prim.Native.Nat.{ℕ, suc, _≤_}
 use mathlib.Core.Path.{_≡_, refl, sym, _∙_, ap}
 use mathlib.Core.List.{List, map}
 use native.Mathlib.Omega.{arith}
-use native.Mathlib.Decide.{decLe}
 use lib.ListN.{length, getD, List·getD-map, List·getD-eq-default}
 use Rattle.char2_algebra.proofs.OfList.{coeff-of}
 use Rattle.char2_algebra.proofs.Degree.{len-bound, len-is}
-use Rattle.jacobian.specs.Field.{degree-of, K, F, Poly, 𝔸, el, poly}
+use Rattle.jacobian.specs.Field.{F, Poly, 𝔸, el, poly}
 use Rattle.jacobian.specs.Row.{InRange, Stands, row-len}
 use Rattle.jacobian.proofs.Rows.Elements.{el-zero, zero-of-nought, el-nonzero}
 
@@ -25,6 +24,9 @@ module _ (d : ℕ) where
 
   pub self-stands : (r : List ℕ) → InRange d r → Stands d r (poly d r)
   self-stands r h = record { in-range = h; stands = refl }
+
+  pub stands-eq : {r : List ℕ} {p q : Poly d} → p ≡ q → Stands d r p → Stands d r q
+  stands-eq e s = record { in-range = s .in-range; stands = s .stands ∙ e }
 
   -- the length of the polynomial
   pub row-len-le : (r : List ℕ) (n : ℕ) → ((i : ℕ) → n ≤ i → getD r i 0 ≡ 0) → row-len d r ≤ n

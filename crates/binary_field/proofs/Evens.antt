@@ -1,0 +1,95 @@
+-- The digits at even places: the code brings them together in ever longer runs; and a number is its digits at even places,
+-- spread, and those at odd places, spread and moved up by one. Both are equations of additive maps, tested at each power of t.
+use mathlib.Core.Path.{_≡_, refl, ap, ap₂, sym, _∙_, subst}
+use mathlib.Core.Bool.{Bool, true, false, _&&_}
+use Prim.Native.Nat.{ℕ, zero, suc, _*_, _/_, _%_, _^_, _<_, _≤_}
+use native.Mathlib.Decide.{decLt}
+use native.Mathlib.Omega.{arith}
+use lib.Arith.{bin-ind}
+use lib.Dec.{T, eqb, eqb→eq}
+use lib.Bits.{bitAnd, and-shr, and-mod}
+use Rattle.binary_field.specs.Carryless.{_⊕_, spread, digits, digits-to}
+use Rattle.binary_field.specs.Spreading.{evens}
+use Rattle.binary_field.proofs.Sums.{bit-cases, bit-lt, same-digits, sum-half, sum-odd, sum-shr, sum-double, sum-middle, sum-self, zero-sum, double-plus-sum}
+use Rattle.binary_field.proofs.Linear.{Additive, basis}
+use Rattle.binary_field.proofs.Spread.{spread-sum}
+
+-- ---- two additive maps are equal below 2^d where a computed test finds them equal at t^0 .. t^(d-1)
+same : (ℕ → ℕ) → (ℕ → ℕ) → ℕ → Bool
+same f g zero = true
+same f g (suc k) = eqb (f (2 ^ k)) (g (2 ^ k)) && same f g k
+
+same-at : (f g : ℕ → ℕ) (k : ℕ) → T (same f g k) → (i : ℕ) → i < k → f (2 ^ i) ≡ g (2 ^ i)
+unfolding same
+same-at f g zero t i h = absurd (omega arith)
+same-at f g (suc k) t i h = at (eqb (f (2 ^ k)) (g (2 ^ k))) refl t (same-at f g k) (decLt i k)
+  where
+    at : (x : Bool) → eqb (f (2 ^ k)) (g (2 ^ k)) ≡ x → T (x && same f g k)
+        → (T (same f g k) → (j : ℕ) → j < k → f (2 ^ j) ≡ g (2 ^ j)) → Dec (i < k) → f (2 ^ i) ≡ g (2 ^ i)
+    at true e u rec (yes l) = rec u i l
+    at true e u rec (no l) = let z : k ≡ i = omega arith in subst (λ (j : ℕ). f (2 ^ j) ≡ g (2 ^ j)) z (eqb→eq _ _ (rw e tt))
+    at false e u rec dec = absurd u
+
+-- ---- the operations are additive
+and-sum-bits : (x : ℕ) → x < 2 → (y : ℕ) → y < 2 → (m : ℕ) → m < 2 → bitAnd (x ⊕ y) m ≡ bitAnd x m ⊕ bitAnd y m
+unfolding _⊕_
+and-sum-bits =
+    bit-cases (λ x. (y : ℕ) → y < 2 → (m : ℕ) → m < 2 → bitAnd (x ⊕ y) m ≡ bitAnd x m ⊕ bitAnd y m) (λ y hy m hm. refl)
+    (bit-cases (λ y. (m : ℕ) → m < 2 → bitAnd (1 ⊕ y) m ≡ bitAnd 1 m ⊕ bitAnd y m)
+    (bit-cases (λ m. bitAnd 1 m ≡ bitAnd 1 m ⊕ 0) refl refl) (bit-cases (λ m. 0 ≡ bitAnd 1 m ⊕ bitAnd 1 m) refl refl))
+
+and-sum : (a b m : ℕ) → bitAnd (a ⊕ b) m ≡ bitAnd a m ⊕ bitAnd b m
+and-sum =
+    bin-ind (λ (n : ℕ). (b m : ℕ) → bitAnd (n ⊕ b) m ≡ bitAnd n m ⊕ bitAnd b m)
+    (λ b m. ap (λ (x : ℕ). bitAnd x m) (zero-sum b) ∙ sym (zero-sum (bitAnd b m)))
+    (λ n ih b m. same-digits _ _
+    (and-shr (n ⊕ b) m 1 ∙ ap (λ (x : ℕ). bitAnd x (m / 2)) (sum-half n b) ∙ ih (b / 2) (m / 2)
+    ∙ sym (sum-half (bitAnd n m) (bitAnd b m) ∙ ap₂ _⊕_ (and-shr n m 1) (and-shr b m 1)))
+    (and-mod (n ⊕ b) m 1 ∙ ap (λ (x : ℕ). bitAnd x (m % 2)) (sum-odd n b) ∙ and-sum-bits (n % 2) (bit-lt n) (b % 2) (bit-lt b) (m % 2) (bit-lt m)
+    ∙ sym (sum-odd (bitAnd n m) (bitAnd b m) ∙ ap₂ _⊕_ (and-mod n m 1) (and-mod b m 1))))
+
+-- runs of s digits that stand s apart are joined two by two
+unfoldable pub gather : ℕ → ℕ → ℕ → ℕ
+gather s m n = bitAnd (n ⊕ (n / 2 ^ s)) m
+
+gather-additive : (s m : ℕ) → Additive (gather s m)
+unfolding gather
+gather-additive s m a b = rw (sum-shr, sum-middle a b (a / 2 ^ s) (b / 2 ^ s), and-sum)
+
+evens-additive : (k : ℕ) → Additive (evens k)
+unfolding evens
+evens-additive zero a b = sym (sum-self 0)
+evens-additive (suc k) a b =
+    rw (sum-shr a b 2, evens-additive k, sum-odd) (double-plus-sum _ _ _ _ (bit-lt a) (bit-lt b))
+
+unfoldable pub gathered : ℕ → ℕ
+gathered n =
+    gather 16 0xffff_ffff (gather 8 0x0000_ffff_0000_ffff (gather 4 0x00ff_00ff_00ff_00ff
+    (gather 2 0x0f0f_0f0f_0f0f_0f0f (gather 1 0x3333_3333_3333_3333 (bitAnd n 0x5555_5555_5555_5555)))))
+
+gathered-additive : Additive gathered
+unfolding gathered
+gathered-additive a b =
+    rw (and-sum a b 0x5555_5555_5555_5555, gather-additive, gather-additive, gather-additive, gather-additive, gather-additive)
+
+pub gathered-evens : (n : ℕ) → n < 2 ^ 64 → gathered n ≡ evens 32 n
+unfolding same gathered gather evens _⊕_
+gathered-evens = basis gathered (evens 32) gathered-additive (evens-additive 32) 64 (same-at gathered (evens 32) 64 tt)
+
+-- ---- a number is its digits at even places, spread, and those at odd places, spread and moved up by one
+parts : ℕ → ℕ
+parts n = spread (evens 32 n) ⊕ 2 * spread (evens 32 (n / 2))
+
+parts-additive : Additive parts
+unfolding parts
+parts-additive a b =
+    rw (sum-half, evens-additive 32 a b, evens-additive 32 (a / 2) (b / 2), spread-sum, spread-sum, sum-double) (sum-middle _ _ _ _)
+
+pub evens-parts : (n : ℕ) → n < 2 ^ 64 → spread (evens 32 n) ⊕ 2 * spread (evens 32 (n / 2)) ≡ n
+unfolding same parts evens spread digits digits-to _⊕_
+evens-parts = basis parts (λ (n : ℕ). n) parts-additive (λ a b. refl) 64 (same-at parts (λ (n : ℕ). n) 64 tt)
+
+pub evens-le : (k n : ℕ) → evens k n ≤ n
+unfolding evens
+evens-le zero n = omega arith
+evens-le (suc k) n = omega (arith, evens-le k (n / 4))

@@ -1,0 +1,37 @@
+-- How many bits there are: in a carry-less product, in an element of either degree, in the carry-less product of two elements.
+use mathlib.Core.Path.{_≡_, refl}
+use Prim.Native.Nat.{ℕ, zero, suc, _+_, _*_, _/_, _%_, _^_, _<_}
+use native.Mathlib.Omega.{arith}
+use native.Mathlib.Nat.{zero-mul, one-mul, suc-add, pow-le-pow-right, lt-of-lt-of-le}
+use lib.Dec.{lit<, lit≤}
+use lib.Arith.{lt-one}
+use lib.Pow.{pow-pos}
+use Rattle.binary_field.specs.Carryless.{clmul}
+use Rattle.binary_field.specs.Element.{Accepted}
+use Rattle.binary_field.proofs.Sums.{bit-cases, bit-lt, sum-lt}
+use Rattle.binary_field.proofs.Clmul.{clmul-step, zero-clmul}
+use Rattle.binary_field.proofs.Products.{degree-cases}
+
+-- n bits times m + 1 bits are n + m bits
+pub clmul-lt : (n m a b : ℕ) → a < 2 ^ n → b < 2 ^ suc m → clmul a b < 2 ^ (n + m)
+clmul-lt zero m a b ha hb = rw (lt-one ha, zero-clmul) (pow-pos (0 + m))
+clmul-lt (suc n) m a b ha hb =
+    let p : a % 2 * b < 2 ^ suc (n + m) =
+    bit-cases (λ x. x * b < 2 ^ suc (n + m)) (rw zero-mul (pow-pos (suc (n + m))))
+    (rw one-mul (lt-of-lt-of-le hb (pow-le-pow-right (lit< tt) (omega arith)))) (a % 2) (bit-lt a) in
+    let q : clmul (a / 2) b < 2 ^ (n + m) = clmul-lt n m (a / 2) b (omega arith) hb in
+    rw (clmul-step a b, suc-add) (sum-lt (suc (n + m)) _ _ p (omega arith))
+
+-- an accepted degree other than 5
+pub other : (d : ℕ) → Accepted d → (d ≡ 5 → ⊥) → d ≡ 61
+other = degree-cases (λ d. (d ≡ 5 → ⊥) → d ≡ 61) (λ n. absurd (n refl)) (λ n. refl)
+
+-- an element of either degree has at most 61 bits
+pub element-lt : (a d : ℕ) → Accepted d → a < 2 ^ d → a < 2 ^ 61
+element-lt a = degree-cases (λ d. a < 2 ^ d → a < 2 ^ 61) (λ h. omega arith) (λ h. h)
+
+pub elements-lt : (a b d : ℕ) → Accepted d → a < 2 ^ d → b < 2 ^ d → clmul a b < 2 ^ (d + d)
+elements-lt a b =
+    degree-cases (λ d. a < 2 ^ d → b < 2 ^ d → clmul a b < 2 ^ (d + d))
+    (λ ha hb. lt-of-lt-of-le (clmul-lt 5 4 a b ha hb) (lit≤ tt))
+    (λ ha hb. lt-of-lt-of-le (clmul-lt 61 60 a b ha hb) (lit≤ tt))

@@ -1,0 +1,25 @@
+-- `inverse_5` meets its contract: each product makes the next power 2^k - 1 of the chain, and the last is squared.
+use borrow.Author.Needs.{needs}
+use Rattle.binary_field.proofs.ChainSteps.{first, joins, last}
+use Rattle.binary_field.proofs.inverting.inverse_5.Statement.{statement}
+use Rattle.binary_field.proofs.inverting.inverse_5.Tie as tie
+
+joined-requires : tie.Need-joined-requires
+joined-requires c κs = search needs
+
+joined-requires-2 : tie.Need-joined-requires-2
+joined-requires-2 c κs = search needs
+
+square-of-requires : tie.Need-square-of-requires
+square-of-requires c κs = search needs
+
+returns : tie.Need-returns
+returns c =
+    let a = c .before .before .before .args .a in
+    let e₁ = first 5 a tt (c .before .before .before .pre .0) in
+    let e₂ = joins 5 a 1 1 tt e₁ e₁ (c .before .before .joined .ensures .0) in
+    let e₄ = joins 5 a 2 2 tt e₂ e₂ (c .before .joined2 .ensures .0) in
+    last 5 a tt e₄ (c .square-of .ensures)
+
+pub inverse-5-spec : {M : Type 1} → statement M
+inverse-5-spec = tie.close (tie.spec joined-requires joined-requires-2 square-of-requires returns)

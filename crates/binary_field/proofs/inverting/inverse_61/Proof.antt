@@ -1,0 +1,56 @@
+-- `inverse_61` meets its contract: each product makes the next power 2^k - 1 of the chain, and the last is squared.
+use borrow.Author.Needs.{needs}
+use Rattle.binary_field.proofs.ChainSteps.{first, joins, last}
+use Rattle.binary_field.proofs.inverting.inverse_61.Statement.{statement}
+use Rattle.binary_field.proofs.inverting.inverse_61.Tie as tie
+
+joined-requires : tie.Need-joined-requires
+joined-requires c κs = search needs
+
+joined-requires-2 : tie.Need-joined-requires-2
+joined-requires-2 c κs = search needs
+
+joined-requires-3 : tie.Need-joined-requires-3
+joined-requires-3 c κs = search needs
+
+joined-requires-4 : tie.Need-joined-requires-4
+joined-requires-4 c κs = search needs
+
+joined-requires-5 : tie.Need-joined-requires-5
+joined-requires-5 c κs = search needs
+
+joined-requires-6 : tie.Need-joined-requires-6
+joined-requires-6 c κs = search needs
+
+joined-requires-7 : tie.Need-joined-requires-7
+joined-requires-7 c κs = search needs
+
+square-of-requires : tie.Need-square-of-requires
+square-of-requires c κs = search needs
+
+returns : tie.Need-returns
+returns c =
+    let a = c .before .before .before .before .before .before .before .before .args .a in
+    let e₁ = first 61 a tt (c .before .before .before .before .before .before .before .before .pre .0) in
+    let e₂ = joins 61 a 1 1 tt e₁ e₁ (c .before .before .before .before .before .before .before .joined .ensures .0) in
+    let e₃ = joins 61 a 2 1 tt e₂ e₁ (c .before .before .before .before .before .before .joined2 .ensures .0) in
+    let e₆ = joins 61 a 3 3 tt e₃ e₃ (c .before .before .before .before .before .joined3 .ensures .0) in
+    let e₁₂ = joins 61 a 6 6 tt e₆ e₆ (c .before .before .before .before .joined4 .ensures .0) in
+    let e₁₅ = joins 61 a 12 3 tt e₁₂ e₃ (c .before .before .before .joined5 .ensures .0) in
+    let e₃₀ = joins 61 a 15 15 tt e₁₅ e₁₅ (c .before .before .joined6 .ensures .0) in
+    let e₆₀ = joins 61 a 30 30 tt e₃₀ e₃₀ (c .before .joined7 .ensures .0) in
+    last 61 a tt e₆₀ (c .square-of .ensures)
+
+pub inverse-61-spec : {M : Type 1} → statement M
+inverse-61-spec =
+    tie.close
+    (tie.spec
+    joined-requires
+    joined-requires-2
+    joined-requires-3
+    joined-requires-4
+    joined-requires-5
+    joined-requires-6
+    joined-requires-7
+    square-of-requires
+    returns)

@@ -1,0 +1,38 @@
+-- `squarings_of` meets its contract: after i turns the loop holds a, squared i times.
+use mathlib.Core.Path.{_≡_}
+use Prim.Native.Nat.{_≤_, _<_, _-_, _^_}
+use native.Mathlib.Omega.{arith}
+use Rattle.binary_field.specs.Element.{squarings}
+use Rattle.binary_field.proofs.ChainSteps.{none-squared, once-more, all-squared}
+use Rattle.binary_field.proofs.inverting.squarings_of.Statement.{statement}
+use Rattle.binary_field.proofs.inverting.squarings_of.Tie as tie
+
+abbrev Inv-loop : tie.InvT-loop
+Inv-loop d a k table r₀ i₀ r i = (i ≤ k) × ((r ≡ squarings d i a) × (r < 2 ^ d))
+
+abbrev μ-loop : tie.MeasureT-loop
+μ-loop d a k table r₀ i₀ r i = k - i
+
+loop-holds : tie.Need-loop-holds Inv-loop μ-loop
+loop-holds c = (omega arith, none-squared _ _ (c .pre .1))
+
+square-of-requires : tie.Need-square-of-requires Inv-loop μ-loop
+square-of-requires c κs = (c .before .before .pre .0, c .before .loop .inv .1 .1, c .before .before .pre .2)
+
+add-i : tie.Need-add-i Inv-loop μ-loop
+add-i c = omega arith
+
+loop-less : tie.Need-loop-less Inv-loop μ-loop
+loop-less c = omega arith
+
+loop-again : tie.Need-loop-again Inv-loop μ-loop
+loop-again c =
+    (omega arith, once-more _ _ _ (c .before .before .before .pre .0) (c .before .before .loop .inv .1 .0) (c .square-of .ensures))
+
+returns : tie.Need-returns Inv-loop μ-loop
+returns c = all-squared _ _ (c .before .loop .inv .1) (c .before .loop .inv .0) (c .loop-test .left)
+
+pub squarings-of-spec : {M : Type 1} → statement M
+squarings-of-spec =
+    tie.close
+    (tie.spec Inv-loop μ-loop loop-holds square-of-requires add-i loop-less loop-again returns)

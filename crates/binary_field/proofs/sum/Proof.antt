@@ -1,0 +1,21 @@
+-- `sum` meets its contract.
+use borrow.Author.Needs.{needs}
+use Rattle.binary_field.specs.Carryless.{_⊕_}
+use Rattle.binary_field.specs.Answer.{sum-reply}
+use Rattle.binary_field.proofs.Replies.{refuses, replies}
+use Rattle.binary_field.proofs.sum.Statement.{statement}
+use Rattle.binary_field.proofs.sum.Tie as tie
+
+refusal-due-requires : tie.Need-refusal-due-requires
+refusal-due-requires c κs = search needs
+
+returns : tie.Need-returns
+unfolding sum-reply
+returns c = refuses _ (c .before .refusal-due .ensures) (c .if1 .taken)
+
+returns-2 : tie.Need-returns-2
+unfolding sum-reply _⊕_
+returns-2 c = replies (c .before .refusal-due .ensures) (c .if1 .left)
+
+pub sum-spec : {M : Type 1} → statement M
+sum-spec = tie.close (tie.spec refusal-due-requires returns returns-2)

@@ -1,0 +1,55 @@
+-- What the calls on elements answer (document 01, 'The fields' and 'In checking order').
+use Prim.Native.Nat.{ℕ, zero, suc, _^_}
+use mathlib.Core.Bool.{Bool, true, cond, _||_, _&&_}
+use mathlib.Core.List.{List, [], _∷_}
+use lib.Dec.{eqb, ltb}
+use Rattle.binary_field.specs.declared.Answer.{Answer}
+use Rattle.binary_field.specs.declared.Answer.the-variants.{Element, Refused}
+use Rattle.binary_field.specs.Carryless.{_⊕_}
+use Rattle.binary_field.specs.Element.{product, square, root, inverse}
+
+-- an answer is an element or a refusal with its number
+pub data Reply : Type 0 where
+  element : ℕ → Reply
+  refusal : ℕ → Reply
+
+-- what each case of the code's answer says
+abbrev pub reply : Answer → Reply
+reply (Element n) = element n
+reply (Refused k) = refusal k
+
+-- every number of the list is below the bound
+unfoldable pub below : ℕ → List ℕ → Bool
+below m [] = true
+below m (n ∷ ns) = ltb n m && below m ns
+
+-- the refusal that is due, and 0 where none is: 106 for a degree other than 5 and 61, then 110 for a number of 2^d or more
+unfoldable pub due : ℕ → List ℕ → ℕ
+due d ns = cond (eqb d 5 || eqb d 61) (cond (below (2 ^ d) ns) 0 110) 106
+
+-- the refusal where one is due, else the element
+unfoldable pub answered : ℕ → ℕ → Reply
+answered zero v = element v
+answered (suc k) v = refusal (suc k)
+
+-- ---- the five calls
+
+-- the sum is bitwise exclusive or
+unfoldable pub sum-reply : ℕ → ℕ → ℕ → Reply
+sum-reply d a b = answered (due d (a ∷ b ∷ [])) (a ⊕ b)
+
+-- the product modulo the modulus of the degree
+unfoldable pub product-reply : ℕ → ℕ → ℕ → Reply
+product-reply d a b = answered (due d (a ∷ b ∷ [])) (product d a b)
+
+-- the square
+unfoldable pub square-reply : ℕ → ℕ → Reply
+square-reply d a = answered (due d (a ∷ [])) (square d a)
+
+-- the square root: every element has one
+unfoldable pub root-reply : ℕ → ℕ → Reply
+root-reply d a = answered (due d (a ∷ [])) (root d a)
+
+-- the inverse, which is 0 of 0
+unfoldable pub inverse-reply : ℕ → ℕ → Reply
+inverse-reply d a = answered (due d (a ∷ [])) (inverse d a)

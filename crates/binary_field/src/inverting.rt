@@ -1,0 +1,64 @@
+// The inverse of an element, the power 2^d - 2 = 2 (2^(d-1) - 1), by an addition chain (Itoh and Tsujii): from the powers 2^j - 1 and
+// 2^k - 1 of a, k squarings and one product make the power 2^(j+k) - 1.
+ghost use mathlib.Core.Path.{_≡_};
+ghost use Prim.Native.Nat.{_<_, _^_};
+ghost use Rattle.binary_field.specs.Element.{Accepted, product, squarings, inverse};
+ghost use Rattle.binary_field.specs.Spreading.{Spreads};
+use crate::carryless;
+use crate::squaring;
+
+fn squarings_of(d: u8, a: u64, k: u8, table: &[u16; 256]) -> u64
+    requires { ⌜ Accepted d × (a < 2 ^ d) × Spreads (now table) ⌝ }
+    ensures { λ r. ⌜ (r ≡ squarings d k a) × (r < 2 ^ d) ⌝ }
+{
+    let mut r = a;
+    let mut i = 0u8;
+    while i < k {
+        r = squaring::square_of(d, r, table);
+        i += 1;
+    }
+    r
+}
+
+// x squared k times, times y.
+fn joined(d: u8, x: u64, k: u8, y: u64, table: &[u16; 256]) -> u64
+    requires { ⌜ Accepted d × (x < 2 ^ d) × (y < 2 ^ d) × Spreads (now table) ⌝ }
+    ensures { λ r. ⌜ (r ≡ product d (squarings d k x) y) × (r < 2 ^ d) ⌝ }
+{
+    carryless::product_of(d, squarings_of(d, x, k, table), y)
+}
+
+// The chain 1, 2, 4.
+fn inverse_5(a: u64, table: &[u16; 256]) -> u64
+    requires { ⌜ (a < 2 ^ 5) × Spreads (now table) ⌝ }
+    ensures { λ r. ⌜ r ≡ inverse 5 a ⌝ }
+{
+    let a2 = joined(5, a, 1, a, table);
+    let a4 = joined(5, a2, 2, a2, table);
+    squaring::square_of(5, a4, table)
+}
+
+// The chain 1, 2, 3, 6, 12, 15, 30, 60.
+fn inverse_61(a: u64, table: &[u16; 256]) -> u64
+    requires { ⌜ (a < 2 ^ 61) × Spreads (now table) ⌝ }
+    ensures { λ r. ⌜ r ≡ inverse 61 a ⌝ }
+{
+    let a2 = joined(61, a, 1, a, table);
+    let a3 = joined(61, a2, 1, a, table);
+    let a6 = joined(61, a3, 3, a3, table);
+    let a12 = joined(61, a6, 6, a6, table);
+    let a15 = joined(61, a12, 3, a3, table);
+    let a30 = joined(61, a15, 15, a15, table);
+    let a60 = joined(61, a30, 30, a30, table);
+    squaring::square_of(61, a60, table)
+}
+
+pub(crate) fn inverse_of(d: u8, a: u64, table: &[u16; 256]) -> u64
+    requires { ⌜ Accepted d × (a < 2 ^ d) × Spreads (now table) ⌝ }
+    ensures { λ r. ⌜ r ≡ inverse d a ⌝ }
+{
+    if d == 5 {
+        return inverse_5(a, table);
+    }
+    inverse_61(a, table)
+}

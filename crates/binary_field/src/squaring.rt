@@ -1,0 +1,24 @@
+// The square of an element: its digits are spread, and the result is folded.
+ghost use mathlib.Core.Path.{_≡_};
+ghost use Prim.Native.Nat.{_<_, _^_};
+ghost use Rattle.binary_field.specs.Element.{Accepted, square};
+ghost use Rattle.binary_field.specs.Spreading.{Spreads};
+use crate::carryless;
+use crate::carryless::Words;
+use crate::spreading;
+
+// The low half of a spreads to the digits below 64, the high half to those above.
+pub(crate) fn square_of(d: u8, a: u64, table: &[u16; 256]) -> u64
+    requires { ⌜ Accepted d × (a < 2 ^ d) × Spreads (now table) ⌝ }
+    ensures { λ r. ⌜ r ≡ square d a ⌝ }
+{
+    let high = spreading::spread_32(a >> 32, table);
+    let low = spreading::spread_32(a & 0xffff_ffff, table);
+    carryless::fold(
+        d,
+        Words {
+            lo: low & 0x1fff_ffff_ffff_ffff,
+            hi: (high << 3) ^ (low >> 61),
+        },
+    )
+}

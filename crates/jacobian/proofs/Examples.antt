@@ -1,0 +1,65 @@
+-- Every row of the table of examples holds, over either field: `examples`. The rows are computed, and the numbers that come out compared
+-- with those of the table.
+use Prim.Native.Nat.{ℕ}
+use mathlib.Core.Bool.{Bool, true, _&&_}
+use mathlib.Core.List.{List, [], _∷_}
+use lib.Dec.{T}
+use mir.Facts.{and-yes}
+use Rattle.binary_field.specs.Element.{Accepted}
+use Rattle.class_group.specs.Mumford.{Pair}
+use Rattle.class_group.specs.Operations.{double, sum}
+use Rattle.class_group.specs.Half.{half}
+use Rattle.jacobian.specs.Field.{Poly}
+use Rattle.jacobian.specs.declared.Curve.{Curve}
+use Rattle.jacobian.specs.declared.Class.{Class}
+use Rattle.jacobian.specs.Curves.{curve}
+use Rattle.jacobian.specs.Classes.{pair}
+use Rattle.jacobian.specs.Answer.{Reply, accepted, refused, membership-answer, double-answer, half-answer, sum-answer}
+use Rattle.jacobian.specs.Examples.{Example, twice-is, half-is, sum-is, on-and-not-on, Gives, Holds, All-hold, table}
+use Rattle.jacobian.proofs.ByValue.Degrees.{by-degree}
+use Rattle.jacobian.proofs.Computing.{computing}
+use Rattle.jacobian.proofs.Examples.Compare.{alike-pairs, pairs-eq, alike-verdicts, verdicts-eq, alike-replies, replies-eq}
+pub mod Compare
+
+-- ---- the test of a row, and of all
+abbrev gives : (c : Curve) → Pair (Poly (c .degree)) → Reply → Class → Bool
+gives c D s r = alike-pairs (c .degree) D (pair (c .degree) r) && alike-replies s (record { outcome = accepted; class = r })
+
+abbrev test : Example → Bool
+test (twice-is c a r) = gives c (double (curve c) (pair (c .degree) a)) (double-answer c a) r
+test (half-is c a r) = gives c (half (curve c) (pair (c .degree) a)) (half-answer c a) r
+test (sum-is c a b r) = gives c (sum (curve c) (pair (c .degree) a) (pair (c .degree) b)) (sum-answer c a b) r
+test (on-and-not-on c e a) = alike-verdicts (membership-answer c a) accepted && alike-verdicts (membership-answer e a) (refused 111)
+
+abbrev test-all : List Example → Bool
+test-all [] = true
+test-all (e ∷ es) = test e && test-all es
+
+computed : T (test-all (table 5)) × T (test-all (table 61))
+unfolding computing
+computed = (tt, tt)
+
+-- ---- what passes the test holds
+gives-gives : (c : Curve) (D : Pair (Poly (c .degree))) (s : Reply) (r : Class) → T (gives c D s r) → Gives c D s r
+gives-gives c D s r t =
+    let answer : Reply = record { outcome = accepted; class = r } in
+    let h = and-yes (alike-pairs (c .degree) D (pair (c .degree) r)) (alike-replies s answer) t in
+    (pairs-eq (c .degree) D (pair (c .degree) r) (h .0), replies-eq s answer (h .1))
+
+test-holds : (e : Example) → T (test e) → Holds e
+test-holds (twice-is c a r) t = gives-gives c _ _ r t
+test-holds (half-is c a r) t = gives-gives c _ _ r t
+test-holds (sum-is c a b r) t = gives-gives c _ _ r t
+test-holds (on-and-not-on c e a) t =
+    let h = and-yes (alike-verdicts (membership-answer c a) accepted) (alike-verdicts (membership-answer e a) (refused 111)) t in
+    (verdicts-eq (membership-answer c a) accepted (h .0), verdicts-eq (membership-answer e a) (refused 111) (h .1))
+
+all-hold : (es : List Example) → T (test-all es) → All-hold es
+all-hold [] t = tt
+all-hold (e ∷ es) t =
+    let h = and-yes (test e) (test-all es) t in
+    (test-holds e (h .0), all-hold es (h .1))
+
+-- document 01, 'Twelve proved examples', over either field
+pub examples : (d : ℕ) → Accepted d → All-hold (table d)
+examples = by-degree (λ d. All-hold (table d)) (all-hold (table 5) (computed .0)) (all-hold (table 61) (computed .1))

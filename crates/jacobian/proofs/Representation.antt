@@ -1,0 +1,107 @@
+-- Classes by value and reduced classes: on an accepted curve the values that no check refuses are those that stand for reduced classes, and every
+-- reduced class has exactly one such value. The value of a reduced class stands for it on every curve: `pair-class-of` of Form.
+use Prim.Native.Nat.{ℕ, suc, _≤_, _^_}
+use mathlib.Core.Path.{_≡_, sym, _∙_, ap}
+use mathlib.Core.Bool.{true}
+use mathlib.Core.List.{List}
+use mathlib.Core.Logic.{_↔_}
+use native.Mathlib.Omega.{arith}
+use Rattle.char2_algebra.specs.Divides.{Divides}
+use Rattle.char2_algebra.proofs.Degree.{len-zero, len-nought}
+use Rattle.char2_algebra.proofs.Lead.{monic-nonzero}
+use Rattle.char2_algebra.proofs.Division.{rem-of-divides, divides-of-rem}
+use Rattle.class_group.specs.Mumford.{Pair, Reduced, value}
+use Rattle.jacobian.specs.Field.{degree-of, Poly, 𝔸}
+use Rattle.jacobian.specs.Row.{InRange}
+use Rattle.jacobian.specs.Checks.{below}
+use Rattle.jacobian.specs.declared.Curve.{Curve}
+use Rattle.jacobian.specs.declared.Class.{Class}
+use Rattle.jacobian.specs.Curves.{curve-refusal, curve}
+use Rattle.jacobian.specs.Classes.{pair, class-of, class-refusal}
+use Rattle.jacobian.proofs.Rows.Elements.{degree-is, zero-lt}
+use Rattle.jacobian.proofs.ByValue.Checks.{curve-passes, class-passes, below-at}
+use Rattle.jacobian.proofs.Representation.Form.{Three, Formed, u-len, u-monic, v-len, class-of-formed, class-of-is-formed, pair-class-of}
+use Rattle.jacobian.proofs.Representation.Unrefused.{at-below, passes-unrefused}
+pub mod Form
+pub mod Unrefused
+
+module _ (c : Curve) (ok : curve-refusal c ≡ 0) where
+  bound-is : 2 ^ degree-of (c .degree) ≡ 2 ^ c .degree
+  bound-is = ap (λ d. 2 ^ d) (degree-is (c .degree) (curve-passes c ok .accepted))
+
+  in-range : (r : List ℕ) → below (2 ^ c .degree) r ≡ true → InRange (c .degree) r
+  in-range r e = rw bound-is (below-at (2 ^ c .degree) r (rw bound-is at (zero-lt (c .degree))) e)
+
+  range-in : (r : List ℕ) → InRange (c .degree) r → below (2 ^ c .degree) r ≡ true
+  range-in r h = at-below (2 ^ c .degree) r (λ i. rw bound-is at (h i))
+
+  -- what is accepted is of the right form, and what is of the right form is accepted where u divides v² + v + f
+  accepted-formed : (a : Class) → Three a → class-refusal c a ≡ 0 → Formed (c .degree) a
+  accepted-formed a three e =
+      let p = class-passes c a e in
+      record {
+        three = three;
+        degree-le = p .low;
+        u-blank = p .u-blank;
+        v-blank = p .v-blank;
+        u-range = in-range (a .u) (p .u-below);
+        v-range = in-range (a .v) (p .v-below);
+      }
+
+  formed-accepted : (a : Class) → Formed (c .degree) a
+      → Divides (𝔸 (c .degree) .ring) (pair (c .degree) a .u) (value (curve c) (pair (c .degree) a .v))
+      → class-refusal c a ≡ 0
+  formed-accepted a h k =
+      let P = 𝔸 (c .degree) in
+      let D = pair (c .degree) a in
+      let nonzero = monic-nonzero P (D .u) (u-monic (c .degree) a h) in
+      passes-unrefused c a
+      (record {
+        low = h .degree-le;
+        u-blank = h .u-blank;
+        v-blank = h .v-blank;
+        u-below = range-in (a .u) (h .u-range);
+        v-below = range-in (a .v) (h .v-range);
+        divides = ap (P .len) (rem-of-divides P (D .u) nonzero (value (curve c) (D .v)) k) ∙ len-nought P;
+      })
+
+  -- ---- the theorems
+  -- what is accepted stands for a reduced class
+  pub accepted-reduced : (a : Class) → Three a → class-refusal c a ≡ 0 → Reduced (curve c) (pair (c .degree) a)
+  accepted-reduced a three e =
+      let P = 𝔸 (c .degree) in
+      let D = pair (c .degree) a in
+      let h = accepted-formed a three e in
+      let n : a .degree ≤ 3 = h .degree-le in
+      let l : P .len (D .u) ≡ suc (a .degree) = u-len (c .degree) a h in
+      let m : P .len (D .v) ≤ a .degree = v-len (c .degree) a h in
+      let monic = u-monic (c .degree) a h in
+      record {
+        u-monic = monic;
+        u-len = omega arith;
+        v-len = omega arith;
+        divides = divides-of-rem P (D .u) (monic-nonzero P (D .u) monic) (value (curve c) (D .v)) (len-zero P _ (class-passes c a e .divides));
+      }
+
+  -- the value of a reduced class is accepted, and stands for it
+  pub class-of-accepted : (D : Pair (Poly (c .degree))) → Reduced (curve c) D → class-refusal c (class-of (c .degree) D) ≡ 0
+  class-of-accepted D h =
+      formed-accepted (class-of (c .degree) D) (class-of-is-formed (c .degree) (curve c) D h)
+      (rw (pair-class-of (c .degree) (curve c) D h) (h .divides))
+
+  -- what is accepted is the value of the class that it stands for
+  pub class-of-pair : (a : Class) → Three a → class-refusal c a ≡ 0 → class-of (c .degree) (pair (c .degree) a) ≡ a
+  class-of-pair a three e = class-of-formed (c .degree) a (accepted-formed a three e)
+
+  -- so a reduced class has one value only
+  pub pair-injective : (a b : Class) → Three a → Three b → class-refusal c a ≡ 0 → class-refusal c b ≡ 0
+      → pair (c .degree) a ≡ pair (c .degree) b → a ≡ b
+  pair-injective a b p q h k e = sym (class-of-pair a p h) ∙ ap (class-of (c .degree)) e ∙ class-of-pair b q k
+
+  -- the values that are accepted are those of the reduced classes
+  pub accepted-iff : (a : Class) → Three a
+      → (class-refusal c a ≡ 0) ↔ ((D : Pair (Poly (c .degree))) × Reduced (curve c) D × (a ≡ class-of (c .degree) D))
+  accepted-iff a three = (
+    λ e. (pair (c .degree) a, accepted-reduced a three e, sym (class-of-pair a three e)),
+    λ t. rw (t .2) (class-of-accepted (t .0) (t .1)),
+  )

@@ -1,0 +1,196 @@
+-- Classes by value of the right form, and the pairs that they stand for: u monic of the degree's length and v shorter; the value of the pair is the
+-- one given. The value of a reduced class is of the right form and stands for it.
+use Prim.Native.Nat.{ℕ, zero, suc, _-_, _≤_, _<_, _^_}
+use mathlib.Core.Path.{_≡_, refl, sym, _∙_, ap, ap₂}
+use mathlib.Core.List.{List, [], _∷_, _++_}
+use native.Mathlib.Omega.{arith}
+use native.Mathlib.Decide.{decLe, ℕ-discrete}
+use lib.ListN.{length, getD, take, List·getD-append, List·getD-eq-default, length-append}
+use lib.Seq.{length-take-le, getD-take, getD-at, ext-getD}
+use borrow.Author.Tests.{lt-ltb, le-ltb}
+use Rattle.char2_algebra.specs.Lead.{Monic}
+use Rattle.char2_algebra.proofs.Lead.{len-by-top, monic-by-top, monic-top}
+use Rattle.class_group.specs.Curve as Theory
+use Rattle.class_group.specs.Mumford.{Pair, Reduced}
+use Rattle.jacobian.specs.Field.{degree-of, K, Poly, F, 𝔸, el}
+use Rattle.jacobian.specs.Row.{InRange}
+use Rattle.jacobian.specs.declared.Class.{Class}
+use Rattle.jacobian.specs.Classes.{u-row, pair, numbers, class-of}
+use Rattle.jacobian.proofs.Rows.Elements.{el-number, el-of, el-zero, el-one, zero-lt}
+use Rattle.jacobian.proofs.Rows.Coefficients.{coeff-poly, row-len-le}
+
+-- rows of three numbers, as in every value of the code's type
+pub record Three (a : Class) : Type 0 where
+  pub u-three : length (a .u) ≡ 3
+  pub v-three : length (a .v) ≡ 3
+
+-- the form of a class by value: rows of three numbers in range, 0 at and past the degree, which is at most 3
+pub record Formed (d : ℕ) (a : Class) : Type 0 where
+  pub three : Three a
+  pub degree-le : a .degree ≤ 3
+  pub u-blank : (i : ℕ) → a .degree ≤ i → getD (a .u) i 0 ≡ 0
+  pub v-blank : (i : ℕ) → a .degree ≤ i → getD (a .v) i 0 ≡ 0
+  pub u-range : InRange d (a .u)
+  pub v-range : InRange d (a .v)
+
+-- ---- the row of u: the numbers below the degree, and 1
+module _ (a : Class) (long : a .degree ≤ length (a .u)) where
+  front : length (take (a .degree) (a .u)) ≡ a .degree
+  front = length-take-le (a .degree) (a .u) long
+
+  u-row-below : (i : ℕ) → i < a .degree → getD (u-row a) i 0 ≡ getD (a .u) i 0
+  unfolding u-row
+  u-row-below i h =
+      let k : length (take (a .degree) (a .u)) ≡ a .degree = front in
+      List·getD-append (take (a .degree) (a .u)) (1 ∷ []) 0 i (omega arith) ∙ getD-take (a .degree) (a .u) i 0 h
+
+  u-row-top : getD (u-row a) (a .degree) 0 ≡ 1
+  unfolding u-row
+  u-row-top = getD-at (take (a .degree) (a .u)) 1 [] 0 (a .degree) front
+
+  u-row-past : (i : ℕ) → a .degree < i → getD (u-row a) i 0 ≡ 0
+  unfolding u-row
+  u-row-past i h =
+      let k : length (take (a .degree) (a .u)) ≡ a .degree = front in
+      List·getD-eq-default (take (a .degree) (a .u) ++ 1 ∷ []) 0 (simp length-append (omega arith))
+
+-- ---- the pair of a class
+module _ (d : ℕ) (a : Class) (h : Formed d a) where
+  long : a .degree ≤ length (a .u)
+  long = let e : length (a .u) ≡ 3 = h .three .u-three in omega arith
+
+  coeff-u-below : (i : ℕ) → i < a .degree → 𝔸 d .coeff (pair d a .u) i ≡ el d (getD (a .u) i 0)
+  unfolding pair
+  coeff-u-below i k = coeff-poly d (u-row a) i ∙ ap (el d) (u-row-below a long i k)
+
+  coeff-u-top : 𝔸 d .coeff (pair d a .u) (a .degree) ≡ F d .ring .one
+  unfolding pair
+  coeff-u-top = coeff-poly d (u-row a) (a .degree) ∙ ap (el d) (u-row-top a long) ∙ el-one d
+
+  coeff-u-past : (i : ℕ) → a .degree < i → 𝔸 d .coeff (pair d a .u) i ≡ F d .ring .nought
+  unfolding pair
+  coeff-u-past i k = coeff-poly d (u-row a) i ∙ ap (el d) (u-row-past a long i k) ∙ el-zero d
+
+  coeff-v : (i : ℕ) → 𝔸 d .coeff (pair d a .v) i ≡ el d (getD (a .v) i 0)
+  unfolding pair
+  coeff-v i = coeff-poly d (a .v) i
+
+  pub u-len : 𝔸 d .len (pair d a .u) ≡ suc (a .degree)
+  u-len = len-by-top (𝔸 d) (pair d a .u) (a .degree) coeff-u-top coeff-u-past
+
+  pub u-monic : Monic (𝔸 d) (pair d a .u)
+  u-monic = monic-by-top (𝔸 d) (pair d a .u) (a .degree) coeff-u-top coeff-u-past
+
+  pub v-len : 𝔸 d .len (pair d a .v) ≤ a .degree
+  unfolding pair
+  v-len = row-len-le d (a .v) (a .degree) (h .v-blank)
+
+-- ---- the numbers of a polynomial
+module _ (d n : ℕ) (p : Poly d) where
+  numbers-length : length (numbers d n p) ≡ 3
+  unfolding numbers
+  numbers-length = refl
+
+  numbers-below : (i : ℕ) → i < n → n ≤ 3 → getD (numbers d n p) i 0 ≡ (𝔸 d .coeff p i) .0
+  unfolding numbers
+  numbers-below zero h k = rw (lt-ltb 0 n h)
+  numbers-below (suc zero) h k = rw (lt-ltb 1 n h)
+  numbers-below (suc (suc zero)) h k = rw (lt-ltb 2 n h)
+  numbers-below (suc (suc (suc i))) h k = absurd (omega arith)
+
+  numbers-past : (i : ℕ) → n ≤ i → getD (numbers d n p) i 0 ≡ 0
+  unfolding numbers
+  numbers-past zero h = rw (le-ltb 0 n h)
+  numbers-past (suc zero) h = rw (le-ltb 1 n h)
+  numbers-past (suc (suc zero)) h = rw (le-ltb 2 n h)
+  numbers-past (suc (suc (suc i))) h = refl
+
+  numbers-range : n ≤ 3 → InRange d (numbers d n p)
+  numbers-range k i = at (decLe n i)
+    where
+      at : Dec (n ≤ i) → getD (numbers d n p) i 0 < 2 ^ degree-of d
+      at (yes l) = rw (numbers-past i l) (zero-lt d)
+      at (no l) = rw (numbers-below i (omega arith) k) ((𝔸 d .coeff p i) .1)
+
+-- ---- a formed value is that of its pair
+module _ (d : ℕ) (a : Class) (h : Formed d a) where
+  -- the numbers of a polynomial that has a row's coefficients below the degree
+  row-back : (r : List ℕ) (p : Poly d) → length r ≡ 3 → InRange d r → ((i : ℕ) → a .degree ≤ i → getD r i 0 ≡ 0)
+      → ((i : ℕ) → i < a .degree → 𝔸 d .coeff p i ≡ el d (getD r i 0)) → numbers d (a .degree) p ≡ r
+  row-back r p l range blank same = ext-getD 0 (numbers d (a .degree) p) r (numbers-length d (a .degree) p ∙ sym l) (λ i _. at i (decLe (a .degree) i))
+    where
+      at : (i : ℕ) → Dec (a .degree ≤ i) → getD (numbers d (a .degree) p) i 0 ≡ getD r i 0
+      at i (yes k) = numbers-past d (a .degree) p i k ∙ sym (blank i k)
+      at i (no k) =
+          numbers-below d (a .degree) p i (omega arith) (h .degree-le)
+          ∙ ap (λ (e : K d). e .0) (same i (omega arith))
+          ∙ el-number d (getD r i 0) (range i)
+
+  pub class-of-formed : class-of d (pair d a) ≡ a
+  unfolding class-of
+  class-of-formed =
+      let D = pair d a in
+      let n-is : 𝔸 d .len (D .u) - 1 ≡ a .degree = rw (u-len d a h) (omega arith) in
+      let u-is : numbers d (a .degree) (D .u) ≡ a .u =
+      row-back (a .u) (D .u) (h .three .u-three) (h .u-range) (h .u-blank) (coeff-u-below d a h) in
+      let v-is : numbers d (a .degree) (D .v) ≡ a .v =
+      row-back (a .v) (D .v) (h .three .v-three) (h .v-range) (h .v-blank) (λ i _. coeff-v d a h i) in
+      ap (λ n. as-class n (numbers d n (D .u)) (numbers d n (D .v))) n-is ∙ ap₂ (as-class (a .degree)) u-is v-is
+    where
+      as-class : ℕ → List ℕ → List ℕ → Class
+      as-class n u v = record { degree = n; u = u; v = v }
+
+-- ---- the value of a pair, and of a reduced class
+pub class-of-three : (d : ℕ) (D : Pair (Poly d)) → Three (class-of d D)
+unfolding class-of
+class-of-three d D = record { u-three = numbers-length d _ (D .u); v-three = numbers-length d _ (D .v) }
+
+module _ (d : ℕ) (C : Theory.Curve (𝔸 d)) (D : Pair (Poly d)) (h : Reduced C D) where
+  degree-suc : 𝔸 d .len (D .u) ≡ suc (𝔸 d .len (D .u) - 1)
+  degree-suc = let l : 𝔸 d .len (D .v) < 𝔸 d .len (D .u) = h .v-len in omega arith
+
+  degree-le-3 : 𝔸 d .len (D .u) - 1 ≤ 3
+  degree-le-3 = let l : 𝔸 d .len (D .u) ≤ 4 = h .u-len in omega arith
+
+  pub class-of-is-formed : Formed d (class-of d D)
+  unfolding class-of
+  class-of-is-formed =
+      let n = 𝔸 d .len (D .u) - 1 in
+      record {
+        three = class-of-three d D;
+        degree-le = degree-le-3;
+        u-blank = numbers-past d n (D .u);
+        v-blank = numbers-past d n (D .v);
+        u-range = numbers-range d n (D .u) degree-le-3;
+        v-range = numbers-range d n (D .v) degree-le-3;
+      }
+
+  -- the element of a number of the value is the coefficient
+  back : (p : Poly d) (i : ℕ) → i < 𝔸 d .len (D .u) - 1 → el d (getD (numbers d (𝔸 d .len (D .u) - 1) p) i 0) ≡ 𝔸 d .coeff p i
+  back p i k = ap (el d) (numbers-below d (𝔸 d .len (D .u) - 1) p i k degree-le-3) ∙ el-of d (𝔸 d .coeff p i)
+
+  u-back : pair d (class-of d D) .u ≡ D .u
+  unfolding class-of
+  u-back = 𝔸 d .ext (pair d (class-of d D) .u) (D .u) (λ i. at i (decLe (𝔸 d .len (D .u) - 1) i) (ℕ-discrete i (𝔸 d .len (D .u) - 1)))
+    where
+      at : (i : ℕ) → Dec (𝔸 d .len (D .u) - 1 ≤ i) → Dec (i ≡ 𝔸 d .len (D .u) - 1) → 𝔸 d .coeff (pair d (class-of d D) .u) i ≡ 𝔸 d .coeff (D .u) i
+      at i (no k) _ = coeff-u-below d (class-of d D) class-of-is-formed i (omega arith) ∙ back (D .u) i (omega arith)
+      at i (yes k) (yes e) =
+          ap (𝔸 d .coeff (pair d (class-of d D) .u)) e
+          ∙ coeff-u-top d (class-of d D) class-of-is-formed
+          ∙ sym (ap (𝔸 d .coeff (D .u)) e ∙ monic-top (𝔸 d) (D .u) (𝔸 d .len (D .u) - 1) (h .u-monic) degree-suc)
+      at i (yes k) (no e) =
+          coeff-u-past d (class-of d D) class-of-is-formed i (omega arith) ∙ sym (𝔸 d .len-past (D .u) i (omega arith))
+
+  v-back : pair d (class-of d D) .v ≡ D .v
+  unfolding class-of
+  v-back = 𝔸 d .ext (pair d (class-of d D) .v) (D .v) (λ i. coeff-v d (class-of d D) class-of-is-formed i ∙ at i (decLe (𝔸 d .len (D .u) - 1) i))
+    where
+      at : (i : ℕ) → Dec (𝔸 d .len (D .u) - 1 ≤ i) → el d (getD (numbers d (𝔸 d .len (D .u) - 1) (D .v)) i 0) ≡ 𝔸 d .coeff (D .v) i
+      at i (no k) = back (D .v) i (omega arith)
+      at i (yes k) =
+          let l : 𝔸 d .len (D .v) < 𝔸 d .len (D .u) = h .v-len in
+          ap (el d) (numbers-past d (𝔸 d .len (D .u) - 1) (D .v) i k) ∙ el-zero d ∙ sym (𝔸 d .len-past (D .v) i (omega arith))
+
+  pub pair-class-of : pair d (class-of d D) ≡ D
+  pair-class-of = λ i. record { u = u-back i; v = v-back i }
