@@ -19,6 +19,7 @@ mod halving;
 mod quotient;
 mod reduction;
 mod row;
+mod sums;
 
 use crate::reduction::CountedRows;
 use crate::row::RowPair;
@@ -200,8 +201,7 @@ pub fn counted_sum(curve: Curve, a: Class, b: Class) -> CountedAnswer
     let f = curves::f_row(curve);
     let left = classes::to_rows(a);
     let right = classes::to_rows(b);
-    let composed = composition::compose_rows(curve.degree, f, left, right);
-    let summed = reduction::reduce_rows(curve.degree, f, composed);
+    let summed = sums::sum_rows(curve.degree, f, left, right);
     counted_accepted(summed)
 }
 

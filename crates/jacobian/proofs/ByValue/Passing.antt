@@ -12,13 +12,11 @@ use Rattle.char2_algebra.proofs.Division.{divides-of-rem}
 use Rattle.char2_algebra.proofs.Lead.{len-by-top, monic-by-top, monic-nonzero}
 use Rattle.class_group.specs.Curve as Theory
 use Rattle.class_group.specs.Mumford.{Pair, Reduced, value}
-use Rattle.class_group.specs.Composition.{compose}
-use Rattle.class_group.proofs.Composed.{compose-semi, compose-len}
 use Rattle.class_group.specs.Coefficients.{monic-7, curve-of}
 use Rattle.binary_field.specs.Element.{Accepted}
 use Rattle.jacobian.specs.Field.{degree-of, F, 𝔸, Poly, el, poly}
-use Rattle.jacobian.specs.Row.{InRange, Stands, StandsPair, row-len, filled, rows-pair}
-use Rattle.jacobian.specs.Core.{OnCurve, ReducedRows, SemiReducedRows}
+use Rattle.jacobian.specs.Row.{InRange, Stands, row-len, filled, rows-pair}
+use Rattle.jacobian.specs.Core.{OnCurve, ReducedRows}
 use Rattle.jacobian.specs.Checks.{unless}
 use Rattle.jacobian.specs.Curves.{f-row, curve}
 use Rattle.jacobian.specs.Classes.{RowsOf, u-row, pair}
@@ -140,24 +138,3 @@ rows-due c a h shape range {r} rows e =
       omega arith,
       λ z. monic-nonzero (𝔸 d) (pair d a .u) (u-monic d ok a shape (rows .u-long)) (sym (ap (λ D. D .u) (rows-pair-is d rows)) ∙ z),
     )
-
--- ---- the composition of two classes, which is to be reduced
-pub composed-rows :
-    (d : ℕ) {f : List ℕ} {C : Theory.Curve (𝔸 d)} → OnCurve d f C → {D E : Pair (Poly d)} → Reduced C D → Reduced C E
-    → {r : RowPair} → StandsPair d r (compose C D E) → SemiReducedRows d f r
-composed-rows d {C = C} on h k {r} s =
-    let m = compose-semi C h k in
-    record {
-      C = C;
-      on-curve = on;
-      u-range = s .u-stands .in-range;
-      v-range = s .v-stands .in-range;
-      u-monic = rw (s .u-stands .stands) (m .u-monic);
-      u-len = rw (s .u-stands .stands) (compose-len C h k);
-      v-len = rw (s .u-stands .stands, s .v-stands .stands) (m .v-len);
-      divides = rw (s .u-stands .stands, s .v-stands .stands) (m .divides);
-    }
-
-pub stands-pair : (d : ℕ) {r : RowPair} {D : Pair (Poly d)} → StandsPair d r D → rows-pair d r ≡ D
-unfolding rows-pair
-stands-pair d s = λ i. record { u = s .u-stands .stands i; v = s .v-stands .stands i }

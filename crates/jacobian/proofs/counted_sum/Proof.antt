@@ -1,66 +1,49 @@
--- `counted_sum` meets its contract.
-use mathlib.Core.Path.{_≡_, _∙_}
-use Rattle.jacobian.specs.Curves.{curve}
-use Rattle.class_group.specs.Operations.{counted-sum}
-use Rattle.jacobian.specs.Answer.{counted-sum-answer}
-use Rattle.jacobian.proofs.ByValue.Passing.{on-curve, rows-pair-is, rows-reduced, class-reduced, composed-rows, stands-pair}
-use Rattle.jacobian.proofs.ByValue.Answers.{counted-at-refusal, counted-at-none, passes-two}
-use borrow.Author.Needs.{needs}
 use Rattle.jacobian.proofs.counted_sum.Statement.{statement}
 use Rattle.jacobian.proofs.counted_sum.Tie as tie
+use Rattle.jacobian.proofs.counted_sum.Reads as reads
+use Rattle.jacobian.proofs.counted_sum.Lts as lts
+use Rattle.jacobian.proofs.classes.to_rows.Reads as to-rows-reads
+use Rattle.jacobian.proofs.counted_accepted.Reads as counted-accepted-reads
+use Rattle.jacobian.proofs.counted_refused.Reads as counted-refused-reads
+use Rattle.jacobian.proofs.curves.f_row.Reads as f-row-reads
+use Rattle.jacobian.proofs.due_of_two.Reads as due-of-two-reads
+use Rattle.jacobian.proofs.sums.sum_rows.Reads as sum-rows-reads
 
+-- src/lib.rt:197:9
 due-of-two-requires : tie.Need-due-of-two-requires
-due-of-two-requires c κs = search needs
+due-of-two-requires c κs = ?
 
+-- src/lib.rt:199:9
 counted-refused-requires : tie.Need-counted-refused-requires
-counted-refused-requires c κs = search needs
+counted-refused-requires c κs = ?
 
+-- src/lib.rt:199:9
 returns : tie.Need-returns
-unfolding counted-sum-answer
-returns c = counted-at-refusal _ _ (c .before .before .due-of-two .ensures) (c .counted-refused .ensures _ _)
+returns c = ?
 
+-- src/lib.rt:201:9
 f-row-requires : tie.Need-f-row-requires
-f-row-requires c κs = search needs
+f-row-requires c κs = ?
 
+-- src/lib.rt:202:9
 to-rows-requires : tie.Need-to-rows-requires
-to-rows-requires c κs = passes-two _ _ _ (c .before .before .due-of-two .ensures) (c .before .if1 .left) .1 .shape .low
+to-rows-requires c κs = ?
 
+-- src/lib.rt:203:9
 to-rows-requires-2 : tie.Need-to-rows-requires-2
-to-rows-requires-2 c κs = passes-two _ _ _ (c .before .before .before .due-of-two .ensures) (c .before .before .if1 .left) .2 .shape .low
+to-rows-requires-2 c κs = ?
 
-compose-rows-requires : tie.Need-compose-rows-requires
-compose-rows-requires c κs =
-    let ok = passes-two _ _ _ (c .before .before .before .before .due-of-two .ensures) (c .before .before .before .if1 .left) in
-    let f = c .before .before .f-row .ensures in
-    (ok .0 .accepted, rows-reduced _ _ (ok .0) (ok .1) f (c .before .to-rows .ensures), rows-reduced _ _ (ok .0) (ok .2) f (c .to-rows2 .ensures))
+-- src/lib.rt:204:9
+sum-rows-requires : tie.Need-sum-rows-requires
+sum-rows-requires c κs = ?
 
-reduce-rows-requires : tie.Need-reduce-rows-requires
-reduce-rows-requires c κs =
-    let ok = passes-two _ _ _ (c .before .before .before .before .before .due-of-two .ensures) (c .before .before .before .before .if1 .left) in
-    let f = c .before .before .before .f-row .ensures in
-    let left = rows-reduced _ _ (ok .0) (ok .1) f (c .before .before .to-rows .ensures) in
-    let right = rows-reduced _ _ (ok .0) (ok .2) f (c .before .to-rows2 .ensures) in
-    let on = on-curve _ (ok .0) f in
-    (ok .0 .accepted, composed-rows _ on (left .reduced) (right .reduced) (c .compose-rows .ensures _ on))
-
+-- src/lib.rt:205:5
 counted-accepted-requires : tie.Need-counted-accepted-requires
-counted-accepted-requires c κs = search needs
+counted-accepted-requires c κs = ?
 
+-- src/lib.rt:194:1
 returns-2 : tie.Need-returns-2
-unfolding counted-sum-answer counted-sum
-returns-2 c =
-    let s = c .before .before .before .before .before .before .before .before in
-    let e = c .before .before .before .before .before .before .before .due-of-two .ensures in
-    let z = c .before .before .before .before .before .before .if1 .left in
-    let d = s .args .curve .degree in
-    let on = on-curve _ (passes-two _ _ _ e z .0) (c .before .before .before .before .before .f-row .ensures) in
-    counted-at-none d _ e z
-    (c .counted-accepted .ensures d _
-    (rw
-    (stands-pair d (c .before .before .compose-rows .ensures _ on),
-    rows-pair-is d (c .before .before .before .before .to-rows .ensures),
-    rows-pair-is d (c .before .before .before .to-rows2 .ensures))
-    at (c .before .reduce-rows .ensures (curve (s .args .curve)) on)))
+returns-2 c = ?
 
 pub counted-sum-spec : {M : Type 1} → statement M
 counted-sum-spec =
@@ -72,7 +55,6 @@ counted-sum-spec =
     f-row-requires
     to-rows-requires
     to-rows-requires-2
-    compose-rows-requires
-    reduce-rows-requires
+    sum-rows-requires
     counted-accepted-requires
     returns-2)
