@@ -15,7 +15,7 @@ use Rattle.class_group.specs.Half.{lift, step, halved, quadratic, half-of-degre
 use Rattle.jacobian.specs.Field.{degree-of, accepted, F, 𝔸, el, poly}
 use Rattle.jacobian.specs.Curves.{f-row, curve-refusal, curve}
 use Rattle.jacobian.specs.Checks.{unless, _then_, below, blank}
-use Rattle.jacobian.specs.Classes.{u-row, pair, numbers, class-of, class-refusal}
+use Rattle.jacobian.specs.Classes.{u-row, pair, numbers, class-of, shape-refusal, range-refusal, class-refusal}
 use Rattle.jacobian.specs.Answer.{refusal, refusal-of-two, verdict-of, neutral-class, answered, membership-answer, opposite-answer, double-answer, half-answer, sum-answer}
 
 unfoldable pub elements : Unit {0}
@@ -35,7 +35,7 @@ unfolding lift step halved quadratic half-of-degree-1 lifted-half-of-degree-2 ha
 halving = tt
 
 unfoldable pub by-value : Unit {0}
-unfolding monic-7 curve-of unless _then_ below blank f-row curve-refusal curve u-row pair numbers class-of class-refusal
+unfolding monic-7 curve-of unless _then_ below blank f-row curve-refusal curve u-row pair numbers class-of shape-refusal range-refusal class-refusal
 by-value = tt
 
 unfoldable pub answers : Unit {0}

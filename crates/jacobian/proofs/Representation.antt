@@ -1,11 +1,11 @@
 -- Classes by value and reduced classes: on an accepted curve the values that no check refuses are those that stand for reduced classes, and every
 -- reduced class has exactly one such value. The value of a reduced class stands for it on every curve: `pair-class-of` of Form.
-use Prim.Native.Nat.{ℕ, suc, _≤_, _^_}
+use Prim.Native.Nat.{ℕ, suc, _≤_, _<_, _^_}
 use mathlib.Core.Path.{_≡_, sym, _∙_, ap}
-use mathlib.Core.Bool.{true}
 use mathlib.Core.List.{List}
 use mathlib.Core.Logic.{_↔_}
 use native.Mathlib.Omega.{arith}
+use lib.ListN.{getD}
 use Rattle.char2_algebra.specs.Divides.{Divides}
 use Rattle.char2_algebra.proofs.Degree.{len-zero, len-nought}
 use Rattle.char2_algebra.proofs.Lead.{monic-nonzero}
@@ -13,15 +13,14 @@ use Rattle.char2_algebra.proofs.Division.{rem-of-divides, divides-of-rem}
 use Rattle.class_group.specs.Mumford.{Pair, Reduced, value}
 use Rattle.jacobian.specs.Field.{degree-of, Poly, 𝔸}
 use Rattle.jacobian.specs.Row.{InRange}
-use Rattle.jacobian.specs.Checks.{below}
 use Rattle.jacobian.specs.declared.Curve.{Curve}
 use Rattle.jacobian.specs.declared.Class.{Class}
 use Rattle.jacobian.specs.Curves.{curve-refusal, curve}
 use Rattle.jacobian.specs.Classes.{pair, class-of, class-refusal}
-use Rattle.jacobian.proofs.Rows.Elements.{degree-is, zero-lt}
-use Rattle.jacobian.proofs.ByValue.Checks.{curve-passes, class-passes, below-at}
+use Rattle.jacobian.proofs.Rows.Elements.{degree-is}
+use Rattle.jacobian.proofs.ByValue.Checks.{curve-passes, class-passes}
 use Rattle.jacobian.proofs.Representation.Form.{Three, Formed, u-len, u-monic, v-len, class-of-formed, class-of-is-formed, pair-class-of}
-use Rattle.jacobian.proofs.Representation.Unrefused.{at-below, passes-unrefused}
+use Rattle.jacobian.proofs.Representation.Unrefused.{passes-unrefused}
 pub mod Form
 pub mod Unrefused
 
@@ -29,11 +28,11 @@ module _ (c : Curve) (ok : curve-refusal c ≡ 0) where
   bound-is : 2 ^ degree-of (c .degree) ≡ 2 ^ c .degree
   bound-is = ap (λ d. 2 ^ d) (degree-is (c .degree) (curve-passes c ok .accepted))
 
-  in-range : (r : List ℕ) → below (2 ^ c .degree) r ≡ true → InRange (c .degree) r
-  in-range r e = rw bound-is (below-at (2 ^ c .degree) r (rw bound-is at (zero-lt (c .degree))) e)
+  in-range : (r : List ℕ) → ((i : ℕ) → getD r i 0 < 2 ^ c .degree) → InRange (c .degree) r
+  in-range r h i = rw bound-is (h i)
 
-  range-in : (r : List ℕ) → InRange (c .degree) r → below (2 ^ c .degree) r ≡ true
-  range-in r h = at-below (2 ^ c .degree) r (λ i. rw bound-is at (h i))
+  range-in : (r : List ℕ) → InRange (c .degree) r → (i : ℕ) → getD r i 0 < 2 ^ c .degree
+  range-in r h i = rw bound-is at (h i)
 
   -- what is accepted is of the right form, and what is of the right form is accepted where u divides v² + v + f
   accepted-formed : (a : Class) → Three a → class-refusal c a ≡ 0 → Formed (c .degree) a
@@ -41,11 +40,11 @@ module _ (c : Curve) (ok : curve-refusal c ≡ 0) where
       let p = class-passes c a e in
       record {
         three = three;
-        degree-le = p .low;
-        u-blank = p .u-blank;
-        v-blank = p .v-blank;
-        u-range = in-range (a .u) (p .u-below);
-        v-range = in-range (a .v) (p .v-below);
+        degree-le = p .shape .low;
+        u-blank = p .shape .u-blank;
+        v-blank = p .shape .v-blank;
+        u-range = in-range (a .u) (p .range .u-below);
+        v-range = in-range (a .v) (p .range .v-below);
       }
 
   formed-accepted : (a : Class) → Formed (c .degree) a
@@ -57,11 +56,8 @@ module _ (c : Curve) (ok : curve-refusal c ≡ 0) where
       let nonzero = monic-nonzero P (D .u) (u-monic (c .degree) a h) in
       passes-unrefused c a
       (record {
-        low = h .degree-le;
-        u-blank = h .u-blank;
-        v-blank = h .v-blank;
-        u-below = range-in (a .u) (h .u-range);
-        v-below = range-in (a .v) (h .v-range);
+        shape = record { low = h .degree-le; u-blank = h .u-blank; v-blank = h .v-blank };
+        range = record { u-below = range-in (a .u) (h .u-range); v-below = range-in (a .v) (h .v-range) };
         divides = ap (P .len) (rem-of-divides P (D .u) nonzero (value (curve c) (D .v)) k) ∙ len-nought P;
       })
 

@@ -10,7 +10,7 @@ use borrow.Author.Tests.{lt-ltb, le-leb, eq-eqb}
 use Rattle.jacobian.specs.Checks.{unless, _then_, below, blank}
 use Rattle.jacobian.specs.declared.Curve.{Curve}
 use Rattle.jacobian.specs.declared.Class.{Class}
-use Rattle.jacobian.specs.Classes.{class-refusal}
+use Rattle.jacobian.specs.Classes.{shape-refusal, range-refusal, class-refusal}
 use Rattle.jacobian.proofs.ByValue.Checks.{ClassPasses}
 
 zero-then : (m n : ℕ) → m ≡ 0 → n ≡ 0 → m then n ≡ 0
@@ -38,8 +38,8 @@ from-blank : (n : ℕ) (r : List ℕ) → ((i : ℕ) → n ≤ i → getD r i 0 
 from-blank n r h = at-blank (drop n r) (λ i. getD-drop n r i 0 ∙ h (n + i) (omega arith))
 
 pub passes-unrefused : (c : Curve) (a : Class) → ClassPasses c a → class-refusal c a ≡ 0
-unfolding class-refusal
+unfolding class-refusal shape-refusal range-refusal
 passes-unrefused c a p =
     zero-then _ _ (zero-unless _ 104
-    (rw (le-leb (a .degree) 3 (p .low), from-blank (a .degree) (a .u) (p .u-blank), from-blank (a .degree) (a .v) (p .v-blank))))
-    (zero-then _ _ (zero-unless _ 110 (rw (p .u-below, p .v-below))) (zero-unless _ 111 (eq-eqb _ 0 (p .divides))))
+    (rw (le-leb (a .degree) 3 (p .shape .low), from-blank (a .degree) (a .u) (p .shape .u-blank), from-blank (a .degree) (a .v) (p .shape .v-blank))))
+    (zero-then _ _ (zero-unless _ 110 (rw (at-below _ (a .u) (p .range .u-below), at-below _ (a .v) (p .range .v-below)))) (zero-unless _ 111 (eq-eqb _ 0 (p .divides))))

@@ -5,7 +5,7 @@ use Rattle.binary_field.specs.Carryless.{_⊕_}
 use Rattle.binary_field.specs.Element.{Accepted, product, square, root, inverse}
 use Rattle.binary_field.specs.Answer.{element, sum-reply, product-reply, square-reply, root-reply, inverse-reply}
 use Rattle.binary_field.proofs.Field.{add-number, mul-number, inverse-number, root-number}
-use Rattle.binary_field.proofs.Replies.{sum-element, product-element, square-element, root-element, inverse-element}
+use Rattle.binary_field.proofs.Replies.{sum-replies, product-replies, square-replies, root-replies, inverse-replies}
 use Rattle.char2_algebra.proofs.Ring.{·-𝟘, 𝟘-·, ·-𝟙, 𝟙-·}
 use Rattle.jacobian.specs.Field.{degree-of, accepted, K, F, el}
 use Rattle.jacobian.specs.Row.{Is}
@@ -25,14 +25,14 @@ module _ (d : ℕ) where
       hb' = rw (degree-is d hd) at hb
 
       pub sum-answers : sum-reply d a b ≡ element (a ⊕ b)
-      sum-answers = sum-element d a hd ha' b hb'
+      sum-answers = sum-replies d a hd ha' b hb'
 
       pub sum-is : {n : ℕ} → n ≡ a ⊕ b → Is d n (F d .ring .add (el d a) (el d b))
       unfolding F
       sum-is h = number-is _ (h ∙ sym (add-number (degree-of d) (accepted d) (el d a) (el d b) ∙ ap₂ _⊕_ (el-number d a ha) (el-number d b hb)))
 
       pub product-answers : product-reply d a b ≡ element (product d a b)
-      product-answers = product-element d a hd ha' b hb'
+      product-answers = product-replies d a hd ha' b hb'
 
       pub product-is : {n : ℕ} → n ≡ product d a b → Is d n (F d .ring .mul (el d a) (el d b))
       unfolding F
@@ -43,14 +43,14 @@ module _ (d : ℕ) where
           ∙ sym (mul-number (degree-of d) (accepted d) (el d a) (el d b) ∙ ap₂ (product (degree-of d)) (el-number d a ha) (el-number d b hb)))
 
     pub square-answers : square-reply d a ≡ element (square d a)
-    square-answers = square-element d a hd ha'
+    square-answers = square-replies d a hd ha'
 
     pub square-is : {n : ℕ} → n ≡ square d a → Is d n (F d .ring .mul (el d a) (el d a))
     unfolding square
     square-is h = product-is a ha h
 
     pub root-answers : root-reply d a ≡ element (root d a)
-    root-answers = root-element d a hd ha'
+    root-answers = root-replies d a hd ha'
 
     pub root-is : {n : ℕ} → n ≡ root d a → Is d n (F d .root (el d a))
     unfolding F
@@ -59,7 +59,7 @@ module _ (d : ℕ) where
         (h ∙ ap (λ k. root k a) (sym (degree-is d hd)) ∙ sym (root-number (degree-of d) (accepted d) (el d a) ∙ ap (root (degree-of d)) (el-number d a ha)))
 
     pub inverse-answers : inverse-reply d a ≡ element (inverse d a)
-    inverse-answers = inverse-element d a hd ha'
+    inverse-answers = inverse-replies d a hd ha'
 
     pub inverse-is : {n : ℕ} → n ≡ inverse d a → Is d n (F d .inverse (el d a))
     unfolding F
