@@ -1,49 +1,53 @@
+-- `counted_sum` meets its contract.
+use mathlib.Core.Path.{_≡_}
+use Rattle.jacobian.specs.Curves.{curve}
+use Rattle.jacobian.specs.Answer.{counted-sum-answer}
+use Rattle.jacobian.proofs.ByValue.Passing.{on-curve, rows-pair-is, rows-reduced}
+use Rattle.jacobian.proofs.ByValue.Answers.{counted-at-refusal, counted-at-none, passes-two}
+use borrow.Author.Needs.{needs}
 use Rattle.jacobian.proofs.counted_sum.Statement.{statement}
 use Rattle.jacobian.proofs.counted_sum.Tie as tie
-use Rattle.jacobian.proofs.counted_sum.Reads as reads
-use Rattle.jacobian.proofs.counted_sum.Lts as lts
-use Rattle.jacobian.proofs.classes.to_rows.Reads as to-rows-reads
-use Rattle.jacobian.proofs.counted_accepted.Reads as counted-accepted-reads
-use Rattle.jacobian.proofs.counted_refused.Reads as counted-refused-reads
-use Rattle.jacobian.proofs.curves.f_row.Reads as f-row-reads
-use Rattle.jacobian.proofs.due_of_two.Reads as due-of-two-reads
-use Rattle.jacobian.proofs.sums.sum_rows.Reads as sum-rows-reads
 
--- src/lib.rt:197:9
 due-of-two-requires : tie.Need-due-of-two-requires
-due-of-two-requires c κs = ?
+due-of-two-requires c κs = search needs
 
--- src/lib.rt:199:9
 counted-refused-requires : tie.Need-counted-refused-requires
-counted-refused-requires c κs = ?
+counted-refused-requires c κs = c .if1 .taken
 
--- src/lib.rt:199:9
 returns : tie.Need-returns
-returns c = ?
+unfolding counted-sum-answer
+returns c = counted-at-refusal _ _ (c .before .before .due-of-two .ensures) (c .counted-refused .ensures _ _)
 
--- src/lib.rt:201:9
 f-row-requires : tie.Need-f-row-requires
-f-row-requires c κs = ?
+f-row-requires c κs = search needs
 
--- src/lib.rt:202:9
 to-rows-requires : tie.Need-to-rows-requires
-to-rows-requires c κs = ?
+to-rows-requires c κs = passes-two _ _ _ (c .before .before .due-of-two .ensures) (c .before .if1 .left) .1 .shape .low
 
--- src/lib.rt:203:9
 to-rows-requires-2 : tie.Need-to-rows-requires-2
-to-rows-requires-2 c κs = ?
+to-rows-requires-2 c κs = passes-two _ _ _ (c .before .before .before .due-of-two .ensures) (c .before .before .if1 .left) .2 .shape .low
 
--- src/lib.rt:204:9
 sum-rows-requires : tie.Need-sum-rows-requires
-sum-rows-requires c κs = ?
+sum-rows-requires c κs =
+    let ok = passes-two _ _ _ (c .before .before .before .before .due-of-two .ensures) (c .before .before .before .if1 .left) in
+    let f = c .before .before .f-row .ensures in
+    (ok .0 .accepted, rows-reduced _ _ (ok .0) (ok .1) f (c .before .to-rows .ensures), rows-reduced _ _ (ok .0) (ok .2) f (c .to-rows2 .ensures))
 
--- src/lib.rt:205:5
 counted-accepted-requires : tie.Need-counted-accepted-requires
-counted-accepted-requires c κs = ?
+counted-accepted-requires c κs = search needs
 
--- src/lib.rt:194:1
 returns-2 : tie.Need-returns-2
-returns-2 c = ?
+unfolding counted-sum-answer
+returns-2 c =
+    let s = c .before .before .before .before .before .before .before in
+    let e = c .before .before .before .before .before .before .due-of-two .ensures in
+    let z = c .before .before .before .before .before .if1 .left in
+    let d = s .args .curve .degree in
+    let on = on-curve _ (passes-two _ _ _ e z .0) (c .before .before .before .before .f-row .ensures) in
+    counted-at-none d _ e z
+    (c .counted-accepted .ensures d _
+    (rw (rows-pair-is d (c .before .before .before .to-rows .ensures), rows-pair-is d (c .before .before .to-rows2 .ensures)) at
+    (c .before .sum-rows .ensures (curve (s .args .curve)) on)))
 
 pub counted-sum-spec : {M : Type 1} → statement M
 counted-sum-spec =

@@ -12,7 +12,7 @@ counted-double-requires c κs = search needs
 
 returns : tie.Need-returns
 unfolding double-answer counted-double-answer double
-returns c = ap uncounted (c .counted-double .ensures) ∙ uncounted-answered _ _ _
+returns c = ap uncounted (c .before .counted-double .ensures) ∙ uncounted-answered _ _ _
 
 pub double-spec : {M : Type 1} → statement M
 double-spec = tie.close (tie.spec counted-double-requires returns)

@@ -26,10 +26,11 @@ opposite-rows-requires c κs =
     let ok = passes _ _ (c .before .before .due .ensures) (c .before .if1 .left) in
     let rows = c .to-rows .ensures in
     let d = c .before .before .before .args .curve .degree in
-    let a = c .before .before .before .args .a in
-    (ok .0 .accepted,
-    u-range d (ok .0 .accepted) a (ok .1 .shape) (rows .u-long) (ok .1 .range) rows,
-    v-range d (ok .0 .accepted) a (ok .1 .shape) (rows .u-long) (ok .1 .range) rows)
+    let a = c .before .before .before .args .a in (
+      ok .0 .accepted,
+      u-range d (ok .0 .accepted) a (ok .1 .shape) (rows .u-long) (ok .1 .range) rows,
+      v-range d (ok .0 .accepted) a (ok .1 .shape) (rows .u-long) (ok .1 .range) rows,
+    )
 
 accepted-requires : tie.Need-accepted-requires
 accepted-requires c κs = search needs

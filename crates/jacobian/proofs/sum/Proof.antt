@@ -12,7 +12,7 @@ counted-sum-requires c κs = search needs
 
 returns : tie.Need-returns
 unfolding sum-answer counted-sum-answer sum
-returns c = ap uncounted (c .counted-sum .ensures) ∙ uncounted-answered _ _ _
+returns c = ap uncounted (c .before .counted-sum .ensures) ∙ uncounted-answered _ _ _
 
 pub sum-spec : {M : Type 1} → statement M
 sum-spec = tie.close (tie.spec counted-sum-requires returns)
