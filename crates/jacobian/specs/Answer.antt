@@ -1,5 +1,6 @@
 -- What the calls on classes by value answer, refusals included (document 01, 'Curves and classes', 'The register', 'In checking order').
 use Prim.Native.Nat.{ℕ, zero, suc}
+use mathlib.Core.Path.{_≡_}
 use mathlib.Core.List.{[], _∷_}
 use Rattle.class_group.specs.Mumford.{Pair, opposite}
 use Rattle.class_group.specs.Reduction.{Counted}
@@ -80,6 +81,11 @@ double-answer c a = let d = c .degree in answered d (refusal c a) (double (curve
 
 unfoldable pub half-answer : Curve → Class → Reply
 half-answer c a = let d = c .degree in answered d (refusal c a) (half (curve c) (pair d a))
+
+-- half promises besides that where its answer is accepted, the double of the answer's class is the class given
+pub record HalfAnswers (c : Curve) (a : Class) (r : Reply) : Type 0 where
+  pub answer : r ≡ half-answer c a
+  pub doubled : refusal c a ≡ 0 → double (curve c) (pair (c .degree) (r .class)) ≡ pair (c .degree) a
 
 unfoldable pub sum-answer : Curve → Class → Class → Reply
 sum-answer c a b = let d = c .degree in answered d (refusal-of-two c a b) (sum (curve c) (pair d a) (pair d b))
