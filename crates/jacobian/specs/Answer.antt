@@ -6,6 +6,7 @@ use Rattle.class_group.specs.Mumford.{Pair, opposite}
 use Rattle.class_group.specs.Reduction.{Counted}
 use Rattle.class_group.specs.Operations.{sum, double, counted-sum, counted-double}
 use Rattle.class_group.specs.Half.{half}
+use Rattle.class_group.specs.Walk.{commit, undo}
 use Rattle.jacobian.specs.Field.{Poly}
 use Rattle.jacobian.specs.Checks.{_then_}
 use Rattle.jacobian.specs.Curves.{curve-refusal, curve}
@@ -70,6 +71,9 @@ counted-answered d zero D = record { outcome = accepted; class = class-of d (D .
 counted-answered d (suc n) D = record { outcome = refused (suc n); class = neutral-class; steps = 0 }
 
 -- ---- the calls
+unfoldable pub curve-answer : Curve → Verdict
+curve-answer c = verdict-of (curve-refusal c)
+
 unfoldable pub membership-answer : Curve → Class → Verdict
 membership-answer c a = verdict-of (refusal c a)
 
@@ -95,3 +99,10 @@ counted-double-answer c a = let d = c .degree in counted-answered d (refusal c a
 
 unfoldable pub counted-sum-answer : Curve → Class → Class → CountedReply
 counted-sum-answer c a b = let d = c .degree in counted-answered d (refusal-of-two c a b) (counted-sum (curve c) (pair d a) (pair d b))
+
+-- twice a class plus another, and the half of a class less another: the rules by which a commit and an undo move a seal
+unfoldable pub double-and-add-answer : Curve → Class → Class → Reply
+double-and-add-answer c a b = let d = c .degree in answered d (refusal-of-two c a b) (commit (curve c) (pair d a) (pair d b))
+
+unfoldable pub subtract-and-halve-answer : Curve → Class → Class → Reply
+subtract-and-halve-answer c a b = let d = c .degree in answered d (refusal-of-two c a b) (undo (curve c) (pair d a) (pair d b))
