@@ -7,3 +7,4 @@ pub mod Pairs
 pub mod Passing
 pub mod Answers
 pub mod Opposite
+pub mod Halved

@@ -12,3 +12,4 @@ pub mod ComposeRows
 pub mod QuotientRows
 pub mod HalfRows
 pub mod Calls
+pub mod MoveRows

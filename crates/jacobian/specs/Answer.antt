@@ -1,10 +1,12 @@
 -- What the calls on classes by value answer, refusals included (document 01, 'Curves and classes', 'The register', 'In checking order').
 use Prim.Native.Nat.{ℕ, zero, suc}
+use mathlib.Core.Path.{_≡_}
 use mathlib.Core.List.{[], _∷_}
 use Rattle.class_group.specs.Mumford.{Pair, opposite}
 use Rattle.class_group.specs.Reduction.{Counted}
 use Rattle.class_group.specs.Operations.{sum, double, counted-sum, counted-double}
 use Rattle.class_group.specs.Half.{half}
+use Rattle.class_group.specs.Walk.{commit, undo}
 use Rattle.jacobian.specs.Field.{Poly}
 use Rattle.jacobian.specs.Checks.{_then_}
 use Rattle.jacobian.specs.Curves.{curve-refusal, curve}
@@ -69,6 +71,9 @@ counted-answered d zero D = record { outcome = accepted; class = class-of d (D .
 counted-answered d (suc n) D = record { outcome = refused (suc n); class = neutral-class; steps = 0 }
 
 -- ---- the calls
+unfoldable pub curve-answer : Curve → Verdict
+curve-answer c = verdict-of (curve-refusal c)
+
 unfoldable pub membership-answer : Curve → Class → Verdict
 membership-answer c a = verdict-of (refusal c a)
 
@@ -81,6 +86,11 @@ double-answer c a = let d = c .degree in answered d (refusal c a) (double (curve
 unfoldable pub half-answer : Curve → Class → Reply
 half-answer c a = let d = c .degree in answered d (refusal c a) (half (curve c) (pair d a))
 
+-- half promises besides that where its answer is accepted, the double of the answer's class is the class given
+pub record HalfAnswers (c : Curve) (a : Class) (r : Reply) : Type 0 where
+  pub answer : r ≡ half-answer c a
+  pub doubled : refusal c a ≡ 0 → double (curve c) (pair (c .degree) (r .class)) ≡ pair (c .degree) a
+
 unfoldable pub sum-answer : Curve → Class → Class → Reply
 sum-answer c a b = let d = c .degree in answered d (refusal-of-two c a b) (sum (curve c) (pair d a) (pair d b))
 
@@ -89,3 +99,10 @@ counted-double-answer c a = let d = c .degree in counted-answered d (refusal c a
 
 unfoldable pub counted-sum-answer : Curve → Class → Class → CountedReply
 counted-sum-answer c a b = let d = c .degree in counted-answered d (refusal-of-two c a b) (counted-sum (curve c) (pair d a) (pair d b))
+
+-- twice a class plus another, and the half of a class less another: the rules by which a commit and an undo move a seal
+unfoldable pub double-and-add-answer : Curve → Class → Class → Reply
+double-and-add-answer c a b = let d = c .degree in answered d (refusal-of-two c a b) (commit (curve c) (pair d a) (pair d b))
+
+unfoldable pub subtract-and-halve-answer : Curve → Class → Class → Reply
+subtract-and-halve-answer c a b = let d = c .degree in answered d (refusal-of-two c a b) (undo (curve c) (pair d a) (pair d b))

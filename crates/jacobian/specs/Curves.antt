@@ -11,11 +11,17 @@ use Rattle.jacobian.specs.Field.{F, 𝔸, el}
 use Rattle.jacobian.specs.Checks.{unless, _then_, below}
 use Rattle.jacobian.specs.declared.Curve.{Curve}
 
--- 106 for a degree other than 5 and 61, then 107 for a coefficient of 2^d or more; 0 where the curve is accepted
+-- 106 for a degree other than 5 and 61
+unfoldable pub degree-refusal : Curve → ℕ
+degree-refusal c = unless (eqb (c .degree) 5 || eqb (c .degree) 61) 106
+
+-- 107 for a coefficient of 2^d or more
+unfoldable pub coefficient-refusal : Curve → ℕ
+coefficient-refusal c = unless (below (2 ^ c .degree) (c .f3 ∷ c .f1 ∷ c .f0 ∷ [])) 107
+
+-- 106, then 107; 0 where the curve is accepted
 unfoldable pub curve-refusal : Curve → ℕ
-curve-refusal c =
-    unless (eqb (c .degree) 5 || eqb (c .degree) 61) 106
-    then unless (below (2 ^ c .degree) (c .f3 ∷ c .f1 ∷ c .f0 ∷ [])) 107
+curve-refusal c = degree-refusal c then coefficient-refusal c
 
 -- f, the lowest coefficient first: f0 + f1 x + f3 x^3 + x^7
 unfoldable pub f-row : Curve → List ℕ

@@ -8,7 +8,7 @@ ghost use Rattle.class_group.specs.Reduction.{Counted};
 ghost use Rattle.jacobian.specs.Field.{Poly};
 ghost use Rattle.jacobian.specs.Row.{StandsPair};
 ghost use Rattle.jacobian.specs.Core.{StandsCounted};
-ghost use Rattle.jacobian.specs.Answer.{neutral-class, refusal, refusal-of-two, verdict, reply, answered, counted-reply, counted-answered, membership-answer, opposite-answer, double-answer, half-answer, sum-answer, counted-double-answer, counted-sum-answer};
+ghost use Rattle.jacobian.specs.Answer.{neutral-class, refusal, refusal-of-two, verdict, reply, answered, counted-reply, counted-answered, membership-answer, opposite-answer, double-answer, HalfAnswers, sum-answer, counted-double-answer, counted-sum-answer, double-and-add-answer, subtract-and-halve-answer, curve-answer};
 
 mod classes;
 mod composition;
@@ -164,7 +164,7 @@ pub fn opposite(curve: Curve, a: Class) -> ClassAnswer
 
 // The half of a class: the class whose double is the one given.
 pub fn half(curve: Curve, a: Class) -> ClassAnswer
-    ensures { λ r. ⌜ reply r ≡ half-answer curve a ⌝ }
+    ensures { λ r. ⌜ HalfAnswers curve a (reply r) ⌝ }
 {
     let n = due(curve, a);
     if n != 0 {
@@ -211,10 +211,10 @@ pub fn double(curve: Curve, a: Class) -> ClassAnswer
 {
     let doubled = counted_double(curve, a);
     let outcome = doubled.outcome;
-    let class = doubled.class;
+    let twice = doubled.class;
     ClassAnswer {
         outcome: outcome,
-        class: class,
+        class: twice,
     }
 }
 
@@ -224,9 +224,50 @@ pub fn sum(curve: Curve, a: Class, b: Class) -> ClassAnswer
 {
     let summed = counted_sum(curve, a, b);
     let outcome = summed.outcome;
-    let class = summed.class;
+    let total = summed.class;
     ClassAnswer {
         outcome: outcome,
-        class: class,
+        class: total,
     }
+}
+
+// Twice a class plus another, as a commit takes a seal to the next.
+pub fn double_and_add(curve: Curve, a: Class, b: Class) -> ClassAnswer
+    ensures { λ r. ⌜ reply r ≡ double-and-add-answer curve a b ⌝ }
+{
+    let n = due_of_two(curve, a, b);
+    if n != 0 {
+        return refused(n);
+    }
+    let f = curves::f_row(curve);
+    let left = classes::to_rows(a);
+    let right = classes::to_rows(b);
+    let moved = sums::commit_rows(curve.degree, f, left, right);
+    accepted(moved)
+}
+
+// The half of a class less another, as an undo takes a seal to the one before.
+pub fn subtract_and_halve(curve: Curve, a: Class, b: Class) -> ClassAnswer
+    ensures { λ r. ⌜ reply r ≡ subtract-and-halve-answer curve a b ⌝ }
+{
+    let n = due_of_two(curve, a, b);
+    if n != 0 {
+        return refused(n);
+    }
+    let f = curves::f_row(curve);
+    let left = classes::to_rows(a);
+    let right = classes::to_rows(b);
+    let moved = sums::undo_rows(curve.degree, f, left, right);
+    accepted(moved)
+}
+
+// Is the curve accepted?
+pub fn accepts_curve(curve: Curve) -> Outcome
+    ensures { λ r. ⌜ verdict r ≡ curve-answer curve ⌝ }
+{
+    let n = curves::curve_due(curve);
+    if n != 0 {
+        return Outcome::Refused(n);
+    }
+    Outcome::Accepted
 }

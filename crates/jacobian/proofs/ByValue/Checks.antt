@@ -12,7 +12,7 @@ use Rattle.binary_field.specs.Element.{Accepted}
 use Rattle.class_group.specs.Mumford.{value}
 use Rattle.jacobian.specs.Field.{𝔸}
 use Rattle.jacobian.specs.Checks.{unless, _then_, below, blank}
-use Rattle.jacobian.specs.Curves.{curve-refusal, f-row, curve}
+use Rattle.jacobian.specs.Curves.{degree-refusal, coefficient-refusal, curve-refusal, f-row, curve}
 use Rattle.jacobian.specs.Classes.{pair, shape-refusal, range-refusal, class-refusal}
 use Rattle.jacobian.specs.declared.Curve.{Curve}
 use Rattle.jacobian.specs.declared.Class.{Class}
@@ -84,7 +84,7 @@ pub record CurvePasses (c : Curve) : Type 0 where
   pub f-below : (i : ℕ) → getD (f-row c) i 0 < 2 ^ c .degree
 
 pub curve-passes : (c : Curve) → curve-refusal c ≡ 0 → CurvePasses c
-unfolding curve-refusal f-row
+unfolding curve-refusal degree-refusal coefficient-refusal f-row
 curve-passes c e =
     let h = then-zero _ _ e in
     let ok : Accepted (c .degree) = T-of (unless-zero _ 105 (h .0)) in

@@ -1,9 +1,10 @@
 -- `half` meets its contract.
-use mathlib.Core.Path.{_≡_}
+use mathlib.Core.Path.{_≡_, _∙_}
 use Rattle.jacobian.specs.Curves.{curve}
 use Rattle.jacobian.specs.Answer.{half-answer}
 use Rattle.jacobian.proofs.ByValue.Passing.{on-curve, rows-pair-is, rows-reduced}
 use Rattle.jacobian.proofs.ByValue.Answers.{at-refusal, at-none, passes}
+use Rattle.jacobian.proofs.ByValue.Halved.{half-doubled}
 use borrow.Author.Needs.{needs}
 use Rattle.jacobian.proofs.half.Statement.{statement}
 use Rattle.jacobian.proofs.half.Tie as tie
@@ -16,7 +17,11 @@ refused-requires c κs = search needs
 
 returns : tie.Need-returns
 unfolding half-answer
-returns c = at-refusal _ _ (c .before .before .due .ensures) (c .refused .ensures _ _)
+returns c =
+    record {
+      answer = at-refusal _ _ (c .before .before .due .ensures) (c .refused .ensures _ _);
+      doubled = λ z. absurd (c .before .if1 .taken (c .before .before .due .ensures ∙ z));
+    }
 
 f-row-requires : tie.Need-f-row-requires
 f-row-requires c κs = search needs
@@ -38,10 +43,12 @@ returns-2 c =
     let s = c .before .before .before .before .before .before in
     let e = c .before .before .before .before .before .due .ensures in
     let z = c .before .before .before .before .if1 .left in
+    let ok = passes _ _ e z in
+    let rows = c .before .before .to-rows .ensures in
     let d = s .args .curve .degree in
-    let on = on-curve _ (passes _ _ e z .0) (c .before .before .before .f-row .ensures) in
-    at-none d _ e z
-    (c .accepted .ensures d _ (rw (rows-pair-is d (c .before .before .to-rows .ensures)) at (c .before .half-rows .ensures (curve (s .args .curve)) on)))
+    let on = on-curve _ (ok .0) (c .before .before .before .f-row .ensures) in
+    let h = c .accepted .ensures d _ (rw (rows-pair-is d rows) at (c .before .half-rows .ensures (curve (s .args .curve)) on)) in
+    record { answer = at-none d _ e z h; doubled = λ _. half-doubled (s .args .curve) (s .args .a) (ok .0) (ok .1) (rows .u-long) h }
 
 pub half-spec : {M : Type 1} → statement M
 half-spec =

@@ -1,7 +1,7 @@
 -- `curve_due` meets its contract.
 use borrow.Author.Tests.{eq-eqb, ne-eqb}
 use Rattle.jacobian.specs.Checks.{unless, _then_}
-use Rattle.jacobian.specs.Curves.{curve-refusal}
+use Rattle.jacobian.specs.Curves.{degree-refusal, coefficient-refusal, curve-refusal}
 use borrow.Author.Needs.{needs}
 use Rattle.jacobian.proofs.curves.curve_due.Statement.{statement}
 use Rattle.jacobian.proofs.curves.curve_due.Tie as tie
@@ -10,18 +10,18 @@ coefficients-due-requires : tie.Need-coefficients-due-requires
 coefficients-due-requires c κs = search needs
 
 returns : tie.Need-returns
-unfolding curve-refusal unless _then_
+unfolding curve-refusal degree-refusal coefficient-refusal unless _then_
 returns c = rw (c .before .if1 .taken) (c .coefficients-due .ensures)
 
 coefficients-due-requires-2 : tie.Need-coefficients-due-requires-2
 coefficients-due-requires-2 c κs = search needs
 
 returns-2 : tie.Need-returns-2
-unfolding curve-refusal unless _then_
+unfolding curve-refusal degree-refusal coefficient-refusal unless _then_
 returns-2 c = rw (c .before .if2 .taken) (c .coefficients-due2 .ensures)
 
 returns-3 : tie.Need-returns-3
-unfolding curve-refusal unless _then_
+unfolding curve-refusal degree-refusal coefficient-refusal unless _then_
 returns-3 c = simp (ne-eqb _ _ (c .before .before .if1 .left), ne-eqb _ _ (c .if2 .left))
 
 pub curve-due-spec : {M : Type 1} → statement M
