@@ -9,3 +9,5 @@ pub mod Preserved
 pub mod Steps
 pub mod WalkingBack
 pub mod Edges
+pub mod Numbers
+pub mod Answers

@@ -8,9 +8,9 @@ use lib.ListN.{length, take, getD}
 use Rattle.class_group.specs.Walk.{All, none, more, after, walk}
 use Rattle.class_group.specs.Mumford.{Pair}
 use Rattle.jacobian.specs.Field.{Poly}
-use Rattle.jacobian.specs.Answer.{accepted, answered, refusal, refusal-of-two}
+use Rattle.jacobian.specs.Answer.{accepted, answered, refusal, refusal-of-two, subtract-and-halve-answer}
 use Rattle.jacobian.specs.Classes.{class-of}
-use Rattle.history.specs.Register.{limit, RegisterReply, earlier, moved, undone, undo-answer, step-back-answer}
+use Rattle.history.specs.Register.{limit, RegisterReply, earlier, moved, undone, undo-answer}
 use Rattle.history.specs.Calls.{undo, answer, event, run, steps-back}
 use Rattle.jacobian.specs.declared.Curve.{Curve}
 use Rattle.jacobian.specs.declared.Class.{Class}
@@ -28,8 +28,8 @@ module _ (r : Register) (a : Class) (e : undo-answer r a .outcome ≡ accepted) 
   unfolding undo-answer
   undo-hands = ap (λ (x : RegisterReply). x .register) (follows-zero _ r (undone r a) (follows-accepted _ r (undone r a) e))
 
-  step-of-undo : step-back-answer (r .curve) (r .seal) a ≡ record { outcome = accepted; class = earlier (r .curve) (r .seal) a }
-  unfolding step-back-answer earlier refusal refusal-of-two answered
+  step-of-undo : subtract-and-halve-answer (r .curve) (r .seal) a ≡ record { outcome = accepted; class = earlier (r .curve) (r .seal) a }
+  unfolding subtract-and-halve-answer earlier refusal refusal-of-two answered
   step-of-undo =
       rw (zero-then _ _ (zero-then _ _ (passing .register .curve-passes) (passing .register .seal-passes)) (passing .class-passes))
 
@@ -68,8 +68,8 @@ unfolding answered
 answered-accepted d zero D e = refl
 answered-accepted d (suc n) D e = let z : _≡_ {A = ℕ} 0 1 = cc in absurd (omega arith)
 
-step-accepted : (c : Curve) (s a : Class) → step-back-answer c s a .outcome ≡ accepted → step-back-answer c s a .class ≡ earlier c s a
-unfolding step-back-answer earlier
+step-accepted : (c : Curve) (s a : Class) → subtract-and-halve-answer c s a .outcome ≡ accepted → subtract-and-halve-answer c s a .class ≡ earlier c s a
+unfolding subtract-and-halve-answer earlier
 step-accepted c s a e = answered-accepted (c .degree) (refusal-of-two c s a) _ e
 
 pub steps-walk : (c : Curve) (s : Class) (ops : List Class) → All (λ x. x .outcome ≡ accepted) (steps-back c s ops)
@@ -78,7 +78,7 @@ unfolding steps-back walk
 steps-walk c s [] none = refl
 steps-walk c s (a ∷ ops) (more h hs) =
     ap (λ x. s ∷ walk (earlier c) x ops) (sym (step-accepted c s a h))
-    ∙ ap (λ l. s ∷ l) (steps-walk c (step-back-answer c s a .class) ops hs)
+    ∙ ap (λ l. s ∷ l) (steps-walk c (subtract-and-halve-answer c s a .class) ops hs)
 
 -- ---- the first part of a walk
 pub walk-at : {X Y : Type 0} (rule : X → Y → X) (s : X) (l : List Y) (k : ℕ) (x : X) → k ≤ length l → after rule s (take k l) ≡ getD (walk rule s l) k x
@@ -93,4 +93,4 @@ unfolding steps-back
 steps-take c s [] zero = refl
 steps-take c s (a ∷ ops) zero = refl
 steps-take c s [] (suc k) = refl
-steps-take c s (a ∷ ops) (suc k) = ap (λ l. step-back-answer c s a ∷ l) (steps-take c (step-back-answer c s a .class) ops k)
+steps-take c s (a ∷ ops) (suc k) = ap (λ l. subtract-and-halve-answer c s a ∷ l) (steps-take c (subtract-and-halve-answer c s a .class) ops k)

@@ -2,8 +2,8 @@
 use mathlib.Core.Path.{_≡_}
 use mathlib.Core.List.{List, [], _∷_, map, reverse}
 use Rattle.class_group.specs.Walk.{All, after}
-use Rattle.jacobian.specs.Answer.{Verdict, accepted, refused, Reply}
-use Rattle.history.specs.Register.{RegisterReply, commit-answer, undo-answer, earlier, step-back-answer}
+use Rattle.jacobian.specs.Answer.{Verdict, accepted, refused, Reply, subtract-and-halve-answer}
+use Rattle.history.specs.Register.{RegisterReply, commit-answer, undo-answer, earlier}
 use Rattle.jacobian.specs.declared.Curve.{Curve}
 use Rattle.jacobian.specs.declared.Class.{Class}
 use Rattle.history.specs.declared.Register.{Register}
@@ -82,7 +82,7 @@ seals-back r cs = last r cs .seal ∷ map (λ e. e .before .seal) (newest r cs)
 unfoldable pub walk-back : Curve → Class → List Class → Class
 walk-back c seal ops = after (earlier c) seal ops
 
--- what its steps answer, each on the seal that the step before it answered
+-- what its steps answer as calls, each on the seal that the step before it answered
 unfoldable pub steps-back : Curve → Class → List Class → List Reply
 steps-back c seal [] = []
-steps-back c seal (a ∷ ops) = let s = step-back-answer c seal a in s ∷ steps-back c (s .class) ops
+steps-back c seal (a ∷ ops) = let s = subtract-and-halve-answer c seal a in s ∷ steps-back c (s .class) ops

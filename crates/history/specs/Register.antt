@@ -6,7 +6,7 @@ use Rattle.class_group.specs.Walk.{commit, undo}
 use Rattle.jacobian.specs.Checks.{unless, _then_}
 use Rattle.jacobian.specs.Curves.{curve-refusal, curve}
 use Rattle.jacobian.specs.Classes.{pair, class-of, class-refusal}
-use Rattle.jacobian.specs.Answer.{Verdict, accepted, refused, verdict, Reply, answered, refusal-of-two}
+use Rattle.jacobian.specs.Answer.{Verdict, accepted, refused, verdict}
 use Rattle.jacobian.specs.declared.Curve.{Curve}
 use Rattle.jacobian.specs.declared.Class.{Class}
 use Rattle.jacobian.specs.declared.Outcome.{Outcome}
@@ -77,11 +77,3 @@ commit-answer r a = follows (commit-refusal r a) r (committed r a)
 
 unfoldable pub undo-answer : Register → Class → RegisterReply
 undo-answer r a = follows (undo-refusal r a) r (undone r a)
-
--- one step forward: the seal moved by the commit rule
-unfoldable pub step-forward-answer : Curve → Class → Class → Reply
-step-forward-answer c seal a = let d = c .degree in answered d (refusal-of-two c seal a) (commit (curve c) (pair d seal) (pair d a))
-
--- one step of a walk: the seal moved by the undo rule, with no register and no count
-unfoldable pub step-back-answer : Curve → Class → Class → Reply
-step-back-answer c seal a = let d = c .degree in answered d (refusal-of-two c seal a) (undo (curve c) (pair d seal) (pair d a))
