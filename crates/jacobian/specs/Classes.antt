@@ -1,18 +1,10 @@
 -- A class by value, and the pair that it stands for (document 01, 'Curves and classes', 'The register', 'In checking order').
 use Prim.Native.Nat.{ℕ, _-_, _^_, _≤_}
 use mathlib.Core.Path.{_≡_}
-use mathlib.Core.Bool.{cond, _&&_}
-use mathlib.Core.List.{List, [], _∷_, _++_}
-use lib.Dec.{eqb, ltb, leb}
-use lib.ListN.{length, take, drop}
+use mathlib.Core.{Bool.cond, Bool._&&_, List.List, List.[], List._∷_, List._++_}
+use lib.{Dec.eqb, Dec.ltb, Dec.leb, ListN.length, ListN.take, ListN.drop}
 use Rattle.class_group.specs.Mumford.{Pair, value}
-use Rattle.jacobian.specs.Field.{Poly, 𝔸, poly}
-use Rattle.jacobian.specs.Row.{filled}
-use Rattle.jacobian.specs.Checks.{unless, _then_, below, blank}
-use Rattle.jacobian.specs.Curves.{curve}
-use Rattle.jacobian.specs.declared.Curve.{Curve}
-use Rattle.jacobian.specs.declared.Class.{Class}
-use Rattle.jacobian.specs.declared.row.RowPair.{RowPair}
+use Rattle.jacobian.specs.{Field.Poly, Field.𝔸, Field.poly, Row.filled, Checks.unless, Checks._then_, Checks.below, Checks.blank, Curves.curve, declared.Curve.Curve, declared.Class.Class, declared.row.RowPair.RowPair}
 
 -- u, the lowest coefficient first, with its leading 1, which is not in the row of the class
 unfoldable pub u-row : Class → List ℕ

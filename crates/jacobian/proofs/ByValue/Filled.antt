@@ -2,12 +2,9 @@
 use Prim.Native.Nat.{ℕ, zero, suc, _-_, _≤_, _<_}
 use mathlib.Core.Path.{_≡_, refl, sym, _∙_, ap}
 use mathlib.Core.List.{List, [], _∷_, _++_}
-use native.Mathlib.Omega.{arith}
-use native.Mathlib.Decide.{decLt}
-use lib.ListN.{length, getD, take, replicate, length-append, List·getD-append, List·getD-eq-default}
-use lib.Seq.{length-take-le, getD-take, getD-at}
-use Rattle.jacobian.specs.Field.{F, 𝔸, el, poly}
-use Rattle.jacobian.specs.Row.{filled}
+use native.Mathlib.{Omega.arith, Decide.decLt}
+use lib.{ListN.length, ListN.getD, ListN.take, ListN.replicate, ListN.length-append, ListN.List·getD-append, ListN.List·getD-eq-default, Seq.length-take-le, Seq.getD-take, Seq.getD-at}
+use Rattle.jacobian.specs.{Field.el, Field.poly, Row.filled}
 use Rattle.jacobian.proofs.Rows.Coefficients.{coeff-poly, poly-is}
 
 getD-zeros : (n i : ℕ) → _≡_ {A = ℕ} (getD (replicate n 0) i 0) 0

@@ -1,18 +1,11 @@
 -- The double of the class that half answers is the class given.
-use Prim.Native.Nat.{ℕ, _≤_}
+use Prim.Native.Nat.{_≤_}
 use mathlib.Core.Path.{_≡_, _∙_, ap}
 use lib.ListN.{length}
-use Rattle.class_group.specs.Operations.{double}
-use Rattle.class_group.specs.Half.{half}
+use Rattle.class_group.specs.{Operations.double, Half.half}
 use Rattle.class_group.proofs.Halving.{half-reduced, double-half}
-use Rattle.jacobian.specs.Curves.{curve}
-use Rattle.jacobian.specs.Classes.{pair}
-use Rattle.jacobian.specs.Answer.{Reply, answered}
-use Rattle.jacobian.specs.declared.Curve.{Curve}
-use Rattle.jacobian.specs.declared.Class.{Class}
-use Rattle.jacobian.proofs.Representation.Form.{pair-class-of}
-use Rattle.jacobian.proofs.ByValue.Checks.{CurvePasses, ClassPasses}
-use Rattle.jacobian.proofs.ByValue.Passing.{class-reduced}
+use Rattle.jacobian.specs.{Curves.curve, Classes.pair, Answer.Reply, Answer.answered, declared.Curve.Curve, declared.Class.Class}
+use Rattle.jacobian.proofs.{Representation.Form.pair-class-of, ByValue.Checks.CurvePasses, ByValue.Checks.ClassPasses, ByValue.Passing.class-reduced}
 
 pub half-doubled :
     (c : Curve) (a : Class) → CurvePasses c → ClassPasses c a → a .degree ≤ length (a .u)

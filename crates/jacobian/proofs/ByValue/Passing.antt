@@ -1,32 +1,16 @@
 -- A curve and a class that pass their checks: the rows of the curve stand for its f, and those of the class for its pair, which is reduced.
 use Prim.Native.Nat.{ℕ, suc, _^_, _≤_, _<_}
-use mathlib.Core.Path.{_≡_, refl, sym, _∙_, ap, ap₂}
-use mathlib.Core.List.{List}
-use mathlib.Core.Bool.{Bool}
+use mathlib.Core.Path.{_≡_, sym, _∙_, ap, ap₂}
+use mathlib.Core.{List.List, Bool.Bool}
 use native.Mathlib.Omega.{arith}
-use lib.Dec.{eqb}
-use lib.ListN.{length, getD}
+use lib.{Dec.eqb, ListN.length, ListN.getD}
 use Rattle.char2_algebra.specs.Lead.{Monic}
-use Rattle.char2_algebra.proofs.Degree.{len-zero}
-use Rattle.char2_algebra.proofs.Division.{divides-of-rem}
-use Rattle.char2_algebra.proofs.Lead.{len-by-top, monic-by-top, monic-nonzero}
-use Rattle.class_group.specs.Curve as Theory
-use Rattle.class_group.specs.Mumford.{Pair, Reduced, value}
-use Rattle.class_group.specs.Coefficients.{monic-7, curve-of}
+use Rattle.char2_algebra.proofs.{Degree.len-zero, Division.divides-of-rem, Lead.len-by-top, Lead.monic-by-top, Lead.monic-nonzero}
+use Rattle.class_group.specs.{Mumford.Reduced, Mumford.value, Coefficients.monic-7, Coefficients.curve-of}
 use Rattle.binary_field.specs.Element.{Accepted}
-use Rattle.jacobian.specs.Field.{degree-of, F, 𝔸, Poly, el, poly}
-use Rattle.jacobian.specs.Row.{InRange, Stands, row-len, filled, rows-pair}
-use Rattle.jacobian.specs.Core.{OnCurve, ReducedRows}
-use Rattle.jacobian.specs.Checks.{unless}
-use Rattle.jacobian.specs.Curves.{f-row, curve}
-use Rattle.jacobian.specs.Classes.{RowsOf, u-row, pair}
-use Rattle.jacobian.specs.declared.Curve.{Curve}
-use Rattle.jacobian.specs.declared.Class.{Class}
-use Rattle.jacobian.specs.declared.row.RowPair.{RowPair}
-use Rattle.jacobian.proofs.Rows.Elements.{degree-is, one-lt, el-zero, el-one}
-use Rattle.jacobian.proofs.Rows.Coefficients.{coeff-poly, row-len-le}
-use Rattle.jacobian.proofs.ByValue.Checks.{CurvePasses, ShapePasses, RangePasses, ClassPasses}
-use Rattle.jacobian.proofs.ByValue.Filled.{getD-filled, poly-filled, led-top, led-past, led-below}
+use Rattle.jacobian.specs.{Field.𝔸, Field.Poly, Field.el, Field.poly, Row.InRange, Row.Stands, Row.row-len, Row.filled, Row.rows-pair, Core.OnCurve, Core.ReducedRows, Checks.unless, Curves.f-row, Curves.curve, Classes.RowsOf, Classes.u-row, Classes.pair, declared.Curve.Curve, declared.Class.Class, declared.row.RowPair.RowPair}
+use Rattle.jacobian.proofs.{Rows.Elements.degree-is, Rows.Elements.one-lt, Rows.Elements.el-zero, Rows.Elements.el-one, Rows.Coefficients.coeff-poly, Rows.Coefficients.row-len-le, ByValue.Checks.CurvePasses, ByValue.Checks.ShapePasses, ByValue.Checks.RangePasses, ByValue.Checks.ClassPasses, ByValue.Filled.getD-filled, ByValue.Filled.poly-filled, ByValue.Filled.led-top, ByValue.Filled.led-past, ByValue.Filled.led-below}
+use Rattle.class_group.specs.Curve as Theory
 
 -- ---- rows of numbers below 2^d
 pub filled-range : (d : ℕ) → Accepted d → (r : List ℕ) → ((i : ℕ) → getD r i 0 < 2 ^ d) → InRange d (filled r)

@@ -1,10 +1,7 @@
 -- `half` meets its contract.
-use mathlib.Core.Path.{_≡_, _∙_}
-use Rattle.jacobian.specs.Curves.{curve}
-use Rattle.jacobian.specs.Answer.{half-answer}
-use Rattle.jacobian.proofs.ByValue.Passing.{on-curve, rows-pair-is, rows-reduced}
-use Rattle.jacobian.proofs.ByValue.Answers.{at-refusal, at-none, passes}
-use Rattle.jacobian.proofs.ByValue.Halved.{half-doubled}
+use mathlib.Core.Path.{_∙_}
+use Rattle.jacobian.specs.{Curves.curve, Answer.half-answer}
+use Rattle.jacobian.proofs.{ByValue.Passing.on-curve, ByValue.Passing.rows-pair-is, ByValue.Passing.rows-reduced, ByValue.Answers.at-refusal, ByValue.Answers.at-none, ByValue.Answers.passes, ByValue.Halved.half-doubled}
 use borrow.Author.Needs.{needs}
 use Rattle.jacobian.proofs.half.Statement.{statement}
 use Rattle.jacobian.proofs.half.Tie as tie

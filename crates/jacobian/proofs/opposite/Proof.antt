@@ -1,9 +1,6 @@
 -- `opposite` meets its contract.
-use mathlib.Core.Path.{_≡_}
-use Rattle.jacobian.specs.Curves.{curve}
-use Rattle.jacobian.specs.Answer.{opposite-answer}
-use Rattle.jacobian.proofs.ByValue.Passing.{u-range, v-range, rows-pair-is}
-use Rattle.jacobian.proofs.ByValue.Answers.{at-refusal, at-none, passes}
+use Rattle.jacobian.specs.{Curves.curve, Answer.opposite-answer}
+use Rattle.jacobian.proofs.{ByValue.Passing.u-range, ByValue.Passing.v-range, ByValue.Passing.rows-pair-is, ByValue.Answers.at-refusal, ByValue.Answers.at-none, ByValue.Answers.passes}
 use borrow.Author.Needs.{needs}
 use Rattle.jacobian.proofs.opposite.Statement.{statement}
 use Rattle.jacobian.proofs.opposite.Tie as tie

@@ -1,11 +1,9 @@
 -- `leading_one` meets its contract, by the degree.
-use Prim.Native.Nat.{ℕ, _≤_}
-use mathlib.Core.Path.{_≡_, refl}
-use mathlib.Core.List.{List, [], _∷_}
+use mathlib.Core.Path.{_≡_}
+use mathlib.Core.List.{[], _∷_}
 use native.Mathlib.Omega.{arith}
 use lib.ListN.{getD}
-use Rattle.jacobian.specs.Row.{filled}
-use Rattle.jacobian.specs.Classes.{Led}
+use Rattle.jacobian.specs.{Row.filled, Classes.Led}
 use Rattle.jacobian.proofs.ByValue.Threes.{by-three, is-three}
 use borrow.Author.Needs.{needs}
 use Rattle.jacobian.proofs.classes.leading_one.Statement.{statement}

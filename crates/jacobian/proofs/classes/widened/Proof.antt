@@ -1,6 +1,6 @@
 -- `widened` meets its contract.
 use mathlib.Core.Path.{_≡_, refl}
-use mathlib.Core.List.{List, [], _∷_}
+use mathlib.Core.List.{[], _∷_}
 use lib.ListN.{getD}
 use Rattle.jacobian.specs.Row.{filled}
 use Rattle.jacobian.proofs.ByValue.Threes.{by-three}
