@@ -45,7 +45,7 @@ returns-2 c =
     let d = s .args .curve .degree in
     let on = on-curve _ (ok .0) (c .before .before .before .f-row .ensures) in
     let h = c .accepted .ensures d _ (rw (rows-pair-is d rows) at (c .before .half-rows .ensures (curve (s .args .curve)) on)) in
-    record { answer = at-none d _ e z h; doubled = λ _. half-doubled (s .args .curve) (s .args .a) (ok .0) (ok .1) (rows .u-long) h }
+    record { answer = at-none d _ e z h; doubled = λ _. half-doubled (s .args .curve) (s .args .a) (ok .0) (ok .1) (rows .three) h }
 
 pub half-spec : {M : Type 1} → statement M
 half-spec =

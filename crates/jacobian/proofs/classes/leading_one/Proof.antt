@@ -1,7 +1,6 @@
 -- `leading_one` meets its contract, by the degree.
-use mathlib.Core.Path.{_≡_}
+use mathlib.Core.Path.{_≡_, refl}
 use mathlib.Core.List.{[], _∷_}
-use native.Mathlib.Omega.{arith}
 use lib.ListN.{getD}
 use Rattle.jacobian.specs.{Row.filled, Classes.Led}
 use Rattle.jacobian.proofs.ByValue.Threes.{by-three, is-three}
@@ -14,7 +13,7 @@ unfolding filled
 returns c =
     let n = c .before .args .n in
     by-three (λ r. n ≡ 0 → Led n r (1 ∷ 0 ∷ 0 ∷ 0 ∷ 0 ∷ 0 ∷ 0 ∷ 0 ∷ 0 ∷ 0 ∷ 0 ∷ 0 ∷ []))
-    (λ x y z e. record { is = rw e; long = omega arith })
+    (λ x y z e. record { is = rw e; three = refl })
     (c .before .args .t2)
     (c .before .good .1 .0 .1 .0 .1)
     (c .if1 .taken)
@@ -27,7 +26,7 @@ unfolding filled
 returns-2 c =
     let n = c .before .before .args .n in
     by-three (λ r. n ≡ 1 → Led n r (getD r 0 0 ∷ 1 ∷ 0 ∷ 0 ∷ 0 ∷ 0 ∷ 0 ∷ 0 ∷ 0 ∷ 0 ∷ 0 ∷ 0 ∷ []))
-    (λ x y z e. record { is = rw e; long = omega arith })
+    (λ x y z e. record { is = rw e; three = refl })
     (c .before .before .args .t2)
     (c .before .before .good .1 .0 .1 .0 .1)
     (c .if2 .taken)
@@ -43,7 +42,7 @@ unfolding filled
 returns-3 c =
     let n = c .before .before .before .args .n in
     by-three (λ r. n ≡ 2 → Led n r (getD r 0 0 ∷ getD r 1 0 ∷ 1 ∷ 0 ∷ 0 ∷ 0 ∷ 0 ∷ 0 ∷ 0 ∷ 0 ∷ 0 ∷ 0 ∷ []))
-    (λ x y z e. record { is = rw e; long = omega arith })
+    (λ x y z e. record { is = rw e; three = refl })
     (c .before .before .before .args .t2)
     (c .before .before .before .good .1 .0 .1 .0 .1)
     (c .if3 .taken)
@@ -62,7 +61,7 @@ unfolding filled
 returns-4 c =
     let n = c .before .before .before .args .n in
     by-three (λ r. n ≡ 3 → Led n r (getD r 0 0 ∷ getD r 1 0 ∷ getD r 2 0 ∷ 1 ∷ 0 ∷ 0 ∷ 0 ∷ 0 ∷ 0 ∷ 0 ∷ 0 ∷ 0 ∷ []))
-    (λ x y z e. record { is = rw e; long = omega arith })
+    (λ x y z e. record { is = rw e; three = refl })
     (c .before .before .before .args .t2)
     (c .before .before .before .good .1 .0 .1 .0 .1)
     (is-three (c .before .before .before .pre) (c .before .before .if1 .left) (c .before .if2 .left) (c .if3 .left))
