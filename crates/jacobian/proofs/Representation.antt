@@ -1,6 +1,6 @@
 -- Classes by value and reduced classes: on an accepted curve the values that no check refuses are those that stand for reduced classes, and every
 -- reduced class has exactly one such value. The value of a reduced class stands for it on every curve: `pair-class-of` of Form.
-use Prim.Native.Nat.{ℕ, suc, _≤_, _<_, _^_}
+use Prim.Native.Nat.{ℕ, _<_, _^_}
 use mathlib.Core.Path.{_≡_, sym, _∙_, ap}
 use mathlib.Core.List.{List}
 use mathlib.Core.Logic.{_↔_}
