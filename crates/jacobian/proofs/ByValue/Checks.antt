@@ -79,9 +79,11 @@ pub curve-passes : (c : Curve) → curve-refusal c ≡ 0 → CurvePasses c
 unfolding curve-refusal degree-refusal coefficient-refusal f-row
 curve-passes c e =
     let h = then-zero _ _ e in
-    let ok : Accepted (c .degree) = T-of (unless-zero _ 105 (h .0)) in
+    let of-degree : degree-refusal c ≡ 0 = search in
+    let of-coefficients : coefficient-refusal c ≡ 0 = search in
+    let ok : Accepted (c .degree) = T-of (unless-zero _ 105 of-degree) in
     let two : 2 ≤ 2 ^ c .degree = by-degree (λ d. 2 ≤ 2 ^ d) (lit≤ tt) (lit≤ tt) (c .degree) ok in
-    let at = below-at _ _ (omega arith) (unless-zero _ 106 (h .1)) in
+    let at = below-at _ _ (omega arith) (unless-zero _ 106 of-coefficients) in
     record {
       accepted = ok;
       f-below = eight (λ n. n < 2 ^ c .degree) (at 2) (at 1) (omega arith) (at 0) (omega arith);
@@ -125,7 +127,7 @@ class-passes c a e =
     let h = then-zero _ _ e in
     let k = then-zero _ _ (h .1) in
     record {
-      shape = shape-passes a (h .0);
-      range = range-passes (c .degree) a (k .0);
+      shape = shape-passes a (search);
+      range = range-passes (c .degree) a (search);
       divides = eqb-true _ _ (unless-zero _ 110 (k .1));
     }
