@@ -22,6 +22,7 @@ refusal c a = curve-refusal c then class-refusal c a
 unfoldable pub refusal-of-two : Curve → Class → Class → ℕ
 refusal-of-two c a b = refusal c a then class-refusal c b
 
+-- acceptance where no refusal is due
 unfoldable pub verdict-of : ℕ → Verdict
 verdict-of zero = accepted
 verdict-of (suc n) = refused (suc n)
@@ -35,6 +36,7 @@ pub record Reply : Type 0 where
   pub outcome : Verdict
   pub class : Class
 
+-- what the code's answer says
 abbrev pub reply : ClassAnswer → Reply
 reply r = record { outcome = verdict (r .outcome); class = r .class }
 
@@ -49,6 +51,7 @@ pub record CountedReply : Type 0 where
   pub class : Class
   pub steps : ℕ
 
+-- what the code's answer says
 abbrev pub counted-reply : CountedAnswer → CountedReply
 counted-reply r = record { outcome = verdict (r .outcome); class = r .class; steps = r .steps }
 

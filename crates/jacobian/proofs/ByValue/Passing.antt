@@ -7,7 +7,7 @@ use lib.Dec.{eqb}
 use Rattle.char2_algebra.proofs.Lead.{monic-nonzero}
 use Rattle.class_group.specs.{Mumford.value, Coefficients.monic-7, Coefficients.curve-of}
 use Rattle.binary_field.specs.Element.{Accepted}
-use Rattle.jacobian.specs.{Field.𝔸, Field.Poly, Field.poly, Row.InRange, Row.Stands, Row.row-len, Row.filled, Row.rows-pair, Core.OnCurve, Core.ReducedRows, Checks.unless, Curves.f-row, Curves.curve, Classes.Three, Classes.RowsOf, Classes.u-row, Classes.pair, declared.Curve.Curve, declared.Class.Class, declared.row.RowPair.RowPair}
+use Rattle.jacobian.specs.{Field.𝔸, Field.Poly, Field.poly, Row.InRange, Row.Stands, Row.row-len, Row.filled, Row.rows-pair, Core.OnCurve, Core.ReducedRows, Checks.unless, Curves.f-row, Curves.curve, Classes.Three, ClassRows.RowsOf, Classes.u-row, Classes.pair, declared.Curve.Curve, declared.Class.Class, declared.row.RowPair.RowPair}
 use Rattle.jacobian.proofs.{Rows.Elements.degree-is, Rows.Elements.el-one, ByValue.Checks.CurvePasses, ByValue.Checks.ShapePasses, ByValue.Checks.RangePasses, ByValue.Checks.ClassPasses, ByValue.Filled.getD-filled, ByValue.Filled.poly-filled, Representation.Form.Formed, Representation.Form.passes-formed, Representation.Form.formed-reduced, Representation.Form.u-row-range, Representation.Form.u-monic, Representation.Form.v-len}
 use Rattle.class_group.specs.Curve as Theory
 

@@ -2,7 +2,7 @@
 use mathlib.Core.Path.{_≡_, refl}
 use mathlib.Core.List.{[], _∷_}
 use lib.ListN.{getD}
-use Rattle.jacobian.specs.{Row.filled, Classes.Led}
+use Rattle.jacobian.specs.{Row.filled, ClassRows.Led}
 use Rattle.jacobian.proofs.ByValue.Threes.{by-three, is-three}
 use borrow.Author.Needs.{needs}
 use Rattle.jacobian.proofs.classes.leading_one.Statement.{statement}

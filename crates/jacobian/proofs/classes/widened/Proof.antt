@@ -2,7 +2,7 @@
 use mathlib.Core.Path.{refl}
 use mathlib.Core.List.{[], _∷_}
 use lib.ListN.{getD}
-use Rattle.jacobian.specs.{Row.filled, Classes.Widened}
+use Rattle.jacobian.specs.{Row.filled, ClassRows.Widened}
 use Rattle.jacobian.proofs.ByValue.Threes.{by-three}
 use borrow.Author.Needs.{needs}
 use Rattle.jacobian.proofs.classes.widened.Statement.{statement}
