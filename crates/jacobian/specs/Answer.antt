@@ -2,21 +2,8 @@
 use Prim.Native.Nat.{ℕ, zero, suc}
 use mathlib.Core.Path.{_≡_}
 use mathlib.Core.List.{[], _∷_}
-use Rattle.class_group.specs.Mumford.{Pair, opposite}
-use Rattle.class_group.specs.Reduction.{Counted}
-use Rattle.class_group.specs.Operations.{sum, double, counted-sum, counted-double}
-use Rattle.class_group.specs.Half.{half}
-use Rattle.class_group.specs.Walk.{commit, undo}
-use Rattle.jacobian.specs.Field.{Poly}
-use Rattle.jacobian.specs.Checks.{_then_}
-use Rattle.jacobian.specs.Curves.{curve-refusal, curve}
-use Rattle.jacobian.specs.Classes.{pair, class-of, class-refusal}
-use Rattle.jacobian.specs.declared.Curve.{Curve}
-use Rattle.jacobian.specs.declared.Class.{Class}
-use Rattle.jacobian.specs.declared.Outcome.{Outcome}
-use Rattle.jacobian.specs.declared.Outcome.the-variants.{Accepted, Refused}
-use Rattle.jacobian.specs.declared.ClassAnswer.{ClassAnswer}
-use Rattle.jacobian.specs.declared.CountedAnswer.{CountedAnswer}
+use Rattle.class_group.specs.{Mumford.Pair, Mumford.opposite, Reduction.Counted, Operations.sum, Operations.double, Operations.counted-sum, Operations.counted-double, Half.half, Walk.commit, Walk.undo}
+use Rattle.jacobian.specs.{Field.Poly, Checks._then_, Curves.curve-refusal, Curves.curve, Classes.pair, Classes.class-of, Classes.class-refusal, declared.Curve.Curve, declared.Class.Class, declared.Outcome.Outcome, declared.Outcome.the-variants.Accepted, declared.Outcome.the-variants.Refused, declared.ClassAnswer.ClassAnswer, declared.CountedAnswer.CountedAnswer}
 
 -- an outcome is acceptance or a refusal with its number
 pub data Verdict : Type 0 where

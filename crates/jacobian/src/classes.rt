@@ -12,7 +12,7 @@ ghost use Rattle.jacobian.specs.Row.{InRange, StandsPair, filled, row-le
 ghost use Rattle.jacobian.specs.Core.{OnCurve};
 ghost use Rattle.jacobian.specs.Checks.{below, blank};
 ghost use Rattle.jacobian.specs.Curves.{curve-refusal, f-row};
-ghost use Rattle.jacobian.specs.Classes.{Led, RowsOf, class-of, shape-refusal, range-refusal, class-refusal};
+ghost use Rattle.jacobian.specs.Classes.{Led, Widened, RowsOf, class-of, shape-refusal, range-refusal, class-refusal};
 use crate::Class;
 use crate::Curve;
 use crate::curves;
@@ -73,7 +73,7 @@ fn leading_one(n: u64, r: [u64; 3]) -> [u64; 12]
 
 // The three numbers in a longer row.
 fn widened(r: [u64; 3]) -> [u64; 12]
-    ensures { λ t. ⌜ t ≡ filled r ⌝ }
+    ensures { λ t. ⌜ Widened r t ⌝ }
 {
     [r[0], r[1], r[2], 0, 0, 0, 0, 0, 0, 0, 0, 0]
 }
