@@ -110,6 +110,22 @@ pub fn thousand() -> Vec<Case> {
     cases
 }
 
+/// Membership, double, half and sum in the common case, two classes of degree 3 on each of sixteen curves; for what
+/// counts the calls on elements.
+pub fn common() -> Vec<Case> {
+    let mut random = Random::new(64);
+    let mut cases = vec![];
+    for _ in 0..16 {
+        let (values, curve) = drawn_curve(&mut random);
+        let [class, other] = [0; 2].map(|_| class_of_kind(&mut random, &curve, KINDS[7]).0);
+        cases.push(Case::on(MEMBERSHIP, values, &class));
+        cases.push(Case::on(DOUBLE, values, &class));
+        cases.push(Case::half(values, &curve.double(&class), &class));
+        cases.push(Case::on_two(SUM, values, &class, &other));
+    }
+    cases
+}
+
 #[cfg(test)]
 mod tests {
     use super::super::HALF;

@@ -45,7 +45,8 @@ pub fn cases() -> Vec<Case> {
 mod tests {
     use super::*;
 
-    /// The answers that document 01 gives, in its order; example 12 is two calls, and example 7's doubling goes 6, 4, 3.
+    /// The answers that document 01 gives, in its order: example 12 as two calls, and last that example 7's doubling
+    /// goes 6, 4, 3.
     #[test]
     fn answers_of_the_document() {
         let answers = [
