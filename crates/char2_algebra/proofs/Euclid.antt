@@ -2,16 +2,12 @@
 use Prim.Native.Nat.{ℕ, zero, suc, pred, max, _+_ as _+ℕ_, _≤_, _<_}
 use mathlib.Core.Path.{_≡_, refl, sym, _∙_, ap}
 use native.Mathlib.{Omega.arith, Decide.decLe}
-use Rattle.field_laws.specs.Ring.{Ring2}
-use Rattle.field_laws.specs.Field.{Field2}
-use Rattle.char2_algebra.specs.Polynomials.{Polynomials}
-use Rattle.char2_algebra.specs.Divides.{Divides}
-use Rattle.char2_algebra.specs.Lead.{lead, Monic, monic-of}
+use Rattle.field_laws.specs.{Ring.Ring2, Field.Field2}
+use Rattle.char2_algebra.specs.{Polynomials.Polynomials, Divides.Divides, Lead.lead, Lead.Monic, Lead.monic-of}
 use Rattle.char2_algebra.specs.Euclid.{Bezout, Bezout3, bezout-to, bezout, bezout3}
 use Rattle.char2_algebra.proofs.Ring.{ring2, +-𝟘, 𝟘-+, ·-𝟘, 𝟘-·, by, both, combine}
 use Rattle.char2_algebra.proofs.Degree.{len-zero, len-nonzero, len-add, nonzero-of-len}
-use Rattle.char2_algebra.proofs.Product.{len-mul-le}
-use Rattle.char2_algebra.proofs.Division.{len-quot, rem-short, quot-short}
+use Rattle.char2_algebra.proofs.{Product.len-mul-le, Division.len-quot, Division.rem-short, Division.quot-short}
 use Rattle.char2_algebra.proofs.Divides.{divides-eq, divides-nought, divides-add, divides-mul, divides-trans, divides-by-eq, nought-divides, one-divides}
 use Rattle.char2_algebra.proofs.Lead.{monic-of-monic, monic-of-divides, monic-nonzero, monic-antisym, monic-one, monic-constant, len-monic-of}
 
@@ -62,6 +58,15 @@ module _ {K P : Type 0} {F : Field2 K} (A : Polynomials F P) where
     divides-first = monic-of-divides A a;
     divides-second = divides-eq R (sym e) (divides-nought R _);
     monic = λ h. monic-of-monic A a (λ d. h (d, e));
+  }
+
+  -- the divisor of 0 and 0 is 0, whatever the coefficients
+  pub bezout-noughts-is : (a b : P) → a ≡ 𝟘 → b ≡ 𝟘 → IsBezout a b (record { g = 𝟘; s = 𝟘; t = 𝟘 })
+  bezout-noughts-is a b h k = record {
+    combination = sym (ap (λ z. z + 𝟘 · b) (𝟘-· R a) ∙ 𝟘-+ R _ ∙ 𝟘-· R b);
+    divides-first = divides-eq R (sym h) (divides-nought R 𝟘);
+    divides-second = divides-eq R (sym k) (divides-nought R 𝟘);
+    monic = λ n. absurd (n (h, k));
   }
 
   pub bezout-step-is : (a b : P) (r : Bezout P) → ¬ (b ≡ 𝟘) → IsBezout b (rem a b) r

@@ -1,34 +1,16 @@
 -- Extended Euclid on rows: constants as rows, and what holds of the rows where the rule stops (`nought-rows`, `blank-rows`,
 -- `constant-rows`) and of one step back from the remainder (`step-rows`).
 use Prim.Native.Nat.{ℕ, zero, suc, max, _≤_, _<_, _^_}
-use mathlib.Core.Path.{_≡_, sym, _∙_, ap, ap₂, subst}
+use mathlib.Core.Path.{_≡_, sym, _∙_, ap, subst}
 use mathlib.Core.List.{List, _∷_}
 use native.Mathlib.Omega.{arith}
 use lib.ListN.{getD, replicate}
-use Rattle.field_laws.specs.{Ring.Ring2, Field.Field2}
-use Rattle.char2_algebra.specs.{Polynomials.Polynomials, Lead.lead, Lead.monic-of}
+use Rattle.char2_algebra.specs.Lead.{lead, monic-of}
 use Rattle.char2_algebra.proofs.{Degree.len-nought, Degree.len-zero, Degree.len-con-le, Degree.con-nought, Degree.con-one, Division.len-quot-le}
-use Rattle.char2_algebra.proofs.Ring.{𝟘-·, +-self}
-use Rattle.char2_algebra.proofs.Euclid.{IsBezout, bezout-nought-is, bezout-constant-is, bezout-step-is, len-substituted}
-use Rattle.jacobian.specs.Field.{degree-of, K, F, Poly, 𝔸, el, poly}
-use Rattle.jacobian.specs.Row.{Is, Stands, row-len}
-use Rattle.jacobian.specs.Bezout.{BezoutRows, Substituted}
-use Rattle.jacobian.specs.declared.euclid.Combination.{Combination}
-use Rattle.jacobian.proofs.Rows.Elements.{el-zero, el-one}
-use Rattle.jacobian.proofs.Rows.Coefficients.{stands-by, stands-eq}
-use Rattle.jacobian.proofs.Rows.Fill.{zeros-at, zeros-range}
-
--- the divisor of 0 and 0 is 0
-module _ {K P : Type 0} {F : Field2 K} (A : Polynomials F P) where
-  open Ring2 (A .ring) using (nought as 𝟘)
-
-  both-nought-is : (a b : P) → a ≡ 𝟘 → b ≡ 𝟘 → IsBezout A a b (record { g = 𝟘; s = 𝟘; t = 𝟘 })
-  both-nought-is a b h k = record {
-    combination = sym (ap₂ (A .ring .add) (𝟘-· (A .ring) a) (𝟘-· (A .ring) b) ∙ +-self (A .ring) 𝟘);
-    divides-first = (𝟘, h ∙ sym (𝟘-· (A .ring) 𝟘));
-    divides-second = (𝟘, k ∙ sym (𝟘-· (A .ring) 𝟘));
-    monic = λ n. absurd (n (h, k));
-  }
+use Rattle.char2_algebra.proofs.Euclid.{IsBezout, bezout-nought-is, bezout-noughts-is, bezout-constant-is, bezout-step-is, len-substituted}
+use Rattle.jacobian.specs.Field.{degree-of, F, Poly, 𝔸, el, poly}
+use Rattle.jacobian.specs.{Row.Is, Row.Stands, Row.row-len, Bezout.BezoutRows, Bezout.Substituted, declared.euclid.Combination.Combination}
+use Rattle.jacobian.proofs.Rows.{Elements.el-zero, Elements.el-one, Coefficients.stands-by, Coefficients.stands-eq, Fill.zeros-at, Fill.zeros-range}
 
 module _ (d : ℕ) where
   -- a constant is the row of it and zeros
@@ -84,7 +66,7 @@ module _ (d : ℕ) where
   blank-rows a Z h b e =
       let Z′ = zero-stands Z in
       let m : 𝔸 d .len (𝔸 d .ring .nought) ≡ 0 = len-nought (𝔸 d) in
-      bezout-rows a b _ _ _ _ Z′ Z′ Z′ (both-nought-is (𝔸 d) (poly d a) (poly d b) (len-zero (𝔸 d) (poly d a) h) (len-zero (𝔸 d) (poly d b) e)) (omega arith) (omega arith)
+      bezout-rows a b _ _ _ _ Z′ Z′ Z′ (bezout-noughts-is (𝔸 d) (poly d a) (poly d b) (len-zero (𝔸 d) (poly d a) h) (len-zero (𝔸 d) (poly d b) e)) (omega arith) (omega arith)
 
   -- where b is another constant: 1
   pub constant-rows : (b : List ℕ) {c : ℕ} {g s t : List ℕ} → row-len d b ≡ 1 → Is d c (F d .inverse (lead (𝔸 d) (poly d b)))

@@ -11,7 +11,7 @@ use Rattle.class_group.specs.Curve as Theory
 use Rattle.class_group.specs.{Mumford.value, Composition.compose}
 use Rattle.class_group.proofs.{Norm.value-len, Joined.joined, Joined.compose-coprime, Joined.compose-common}
 use Rattle.jacobian.specs.{Field.𝔸, Field.el, Field.Poly, Field.poly, Row.Stands, Row.StandsPair, Row.rows-pair, Row.row-len}
-use Rattle.jacobian.specs.{Bezout.BezoutRows, Core.OnCurve, Core.ReducedRows, Cofactor.CofactorRow}
+use Rattle.jacobian.specs.{Bezout.BezoutRows, Compose.Short, Compose.multiple, Core.OnCurve, Core.ReducedRows, Cofactor.CofactorRow}
 use Rattle.jacobian.specs.declared.{row.RowPair.RowPair, euclid.Combination.Combination}
 use Rattle.jacobian.proofs.{Rows.Coefficients.stands-eq, Bezout.stands-len, Bezout.one-stands, ReductionRows.reduced-on, DoubleRows.reduced-len}
 
@@ -43,9 +43,10 @@ module _ (d : ℕ) where
   pub product-len : {r : List ℕ} (p q : Poly d) (m n : ℕ) → Stands d r (p · q) → len p ≤ suc m → len q ≤ n → row-len d r ≤ m +ℕ n
   product-len p q m n s h k = omega (arith, stands-len d s, len-mul-le (𝔸 d) m n p q h k)
 
-  pub multiplier-stands : (s s₀ s₃ sum w : List ℕ) {s₁ p q r : List ℕ} → Stands d s₁ (poly d s₀ · poly d s) → Stands d p (poly d s₁ · poly d sum) → Stands d q (poly d s₃ · poly d w)
-      → Stands d r (poly d p + poly d q) → Stands d r (poly d s₀ · poly d s · poly d sum + poly d s₃ · poly d w)
-  multiplier-stands s s₀ s₃ sum w S P Q = stands-eq d (ap₂ _+_ (P .stands ∙ ap (λ z. z · poly d sum) (S .stands)) (Q .stands))
+  pub multiple-stands : (sum w : List ℕ) (first second : Combination) {s₁ p q r : List ℕ} → Stands d s₁ (poly d (second .s) · poly d (first .s)) → Stands d p (poly d s₁ · poly d sum)
+      → Stands d q (poly d (second .t) · poly d w) → Stands d r (poly d p + poly d q) → Stands d r (multiple d sum w first second)
+  unfolding multiple
+  multiple-stands sum w first second S P Q = stands-eq d (ap₂ _+_ (P .stands ∙ ap (λ z. z · poly d sum) (S .stands)) (Q .stands))
 
   -- two reduced pairs of rows, and Euclid's rule of their u
   module _ {f : List ℕ} {a : RowPair} (A : ReducedRows d f a) where
@@ -53,15 +54,18 @@ module _ (d : ℕ) where
     unfolding rows-pair
     u-nonzero = monic-nonzero (𝔸 d) (poly d (a .u)) (A .reduced .u-monic)
 
-    pub cofactor-len : {w : List ℕ} → CofactorRow d f a w → row-len d w ≤ 8
+    pub u-short : Short d 4 (a .u)
+    u-short = record { in-range = A .u-range; len-le = reduced-len d A .0 }
+
+    pub cofactor-short : {w : List ℕ} → CofactorRow d f a w → Short d 8 w
     unfolding value
-    cofactor-len w =
+    cofactor-short w =
         let l = reduced-len d A in
         let C = A .C in
         let s = stands-len d (w C (A .on-curve)) in
         let n = value-len (𝔸 d) (C .f) (C .f-len) (poly d (a .v)) in
         let m = len-quot-le (𝔸 d) (value C (poly d (a .v))) (poly d (a .u)) u-nonzero in
-        omega (arith, l .0, l .1, s, n, m)
+        record { in-range = w C (A .on-curve) .in-range; len-le = omega (arith, l .0, l .1, s, n, m) }
 
     -- a common divisor of u and another polynomial
     module _ {b : List ℕ} {r : Combination} (B : BezoutRows d (a .u) b r) where
@@ -127,25 +131,28 @@ module _ {d : ℕ} {f : List ℕ} {a b : RowPair} {first second : Combination} {
 
   infixl 60 _+_
   infixl 70 _·_
-  pub common-sum-len : row-len d sum ≤ 3
-  common-sum-len = sum-len d A B I S
+  pub sum-short : Short d 3 sum
+  sum-short = record { in-range = S .in-range; len-le = sum-len d A B I S }
 
-  pub common-first-len : row-len d (first .s) ≤ 4
-  common-first-len = first-len d A B I S
+  pub first-short : Short d 4 (first .s)
+  first-short = record { in-range = I .s-range; len-le = first-len d A B I S }
 
-  pub second-s-len : row-len d (second .s) ≤ 4
-  second-s-len = omega (arith, J .s-len, third-len d sum (k .one-is) (k .third-is) common-sum-len)
+  pub second-s-short : Short d 4 (second .s)
+  second-s-short = record { in-range = J .s-range; len-le = omega (arith, J .s-len, third-len d sum (k .one-is) (k .third-is) (sum-short .len-le)) }
 
-  pub second-t-len : row-len d (second .t) ≤ 4
-  second-t-len = omega (arith, J .t-len, divisor-len d A I)
+  pub second-t-short : Short d 4 (second .t)
+  second-t-short = record { in-range = J .t-range; len-le = omega (arith, J .t-len, divisor-len d A I) }
 
   pub e-nonzero : ¬ (poly d (second .g) ≡ 𝟘)
   e-nonzero = monic-nonzero (𝔸 d) _ (J .bezout .monic (λ z. divisor-nonzero d A I (z .0)))
 
   -- u1 / e and u2 / e
   module _ {d₁ d₂ : List ℕ} (D : Stands d d₁ (quot (poly d (a .u)) (poly d (second .g)))) (E : Stands d d₂ (quot (poly d (b .u)) (poly d (second .g)))) where
-    pub parts-len : row-len d d₁ +ℕ row-len d d₂ ≤ 13
-    parts-len = omega (arith, part-len d A (second .g) e-nonzero D, part-len d B (second .g) e-nonzero E)
+    pub part₁-short : Short d 4 d₁
+    part₁-short = record { in-range = D .in-range; len-le = part-len d A (second .g) e-nonzero D }
+
+    pub part₂-short : Short d 4 d₂
+    part₂-short = record { in-range = E .in-range; len-le = part-len d B (second .g) e-nonzero E }
 
     pub part₁-nonzero : ¬ (poly d d₁ ≡ 𝟘)
     part₁-nonzero = part-nonzero d A (second .g) e-nonzero D (divides-trans R (J .bezout .divides-first) (I .bezout .divides-first))
@@ -154,10 +161,10 @@ module _ {d : ℕ} {f : List ℕ} {a b : RowPair} {first second : Combination} {
     part₂-nonzero = part-nonzero d B (second .g) e-nonzero E (divides-trans R (J .bezout .divides-first) (I .bezout .divides-second))
 
     pub common-stands : {w m : List ℕ} {r : RowPair} → CofactorRow d f a w
-        → Stands d m (poly d (second .s) · poly d (first .s) · poly d sum + poly d (second .t) · poly d w)
+        → Stands d m (multiple d sum w first second)
         → StandsPair d r (joined (𝔸 d) (poly d d₁) (poly d d₂) (poly d (a .v)) (poly d m))
         → (C : Theory.Curve (𝔸 d)) → OnCurve d f C → StandsPair d r (compose C (rows-pair d a) (rows-pair d b))
-    unfolding rows-pair
+    unfolding rows-pair multiple
     common-stands {r = r} W M Z C on =
         let c-is : poly d c ≡ poly d (a .v) + poly d (b .v) + 𝟙 = k .third-is .stands ∙ ap₂ _+_ (S .stands) (one-stands d (k .one-is) .stands) in
         let i = subst (λ z. IsBezout (𝔸 d) (poly d (first .g)) z (record { g = poly d (second .g); s = poly d (second .s); t = poly d (second .t) })) c-is (J .bezout) in

@@ -11,3 +11,5 @@ pub mod DoubleRows
 pub mod ComposeRows
 pub mod QuotientRows
 pub mod HalfRows
+pub mod Calls
+pub mod MoveRows

@@ -53,6 +53,17 @@ module _ (d : ℕ) where
     same-value c e v = ap (λ z. v · v + v + z) (sym (c .is-f) ∙ e .is-f)
 
     -- the rows are semi-reduced, or reduced, on every curve of f
+    -- rows that stand for a reduced class of the curve of f
+    pub reduced-rows : {b : RowPair} {C : Theory.Curve (𝔸 d)} {D : Pair (Poly d)} → OnCurve d f C → Reduced C D → StandsPair d b D → ReducedRows d f b
+    reduced-rows {C = C} on r t =
+        record {
+          C = C;
+          on-curve = on;
+          u-range = t .u-stands .in-range;
+          v-range = t .v-stands .in-range;
+          reduced = subst (Reduced C) (sym (pair-eq t)) r;
+        }
+
     pub semi-on : {a : RowPair} → SemiReducedRows d f a → {C : Theory.Curve (𝔸 d)} → OnCurve d f C → SemiReduced C (rows-pair d a)
     unfolding rows-pair
     semi-on {a} s c = record { u-monic = s .u-monic; v-len = s .v-len; divides = divides-eq R (same-value (s .on-curve) c (poly d (a .v))) (s .divides) }

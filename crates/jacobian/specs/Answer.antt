@@ -2,7 +2,7 @@
 use Prim.Native.Nat.{ℕ, zero, suc}
 use mathlib.Core.Path.{_≡_}
 use mathlib.Core.List.{[], _∷_}
-use Rattle.class_group.specs.{Mumford.Pair, Mumford.opposite, Reduction.Counted, Operations.sum, Operations.double, Operations.counted-sum, Operations.counted-double, Half.half}
+use Rattle.class_group.specs.{Mumford.Pair, Mumford.opposite, Reduction.Counted, Operations.sum, Operations.double, Operations.counted-sum, Operations.counted-double, Half.half, Walk.commit, Walk.undo}
 use Rattle.jacobian.specs.{Field.Poly, Checks._then_, Curves.curve-refusal, Curves.curve, Classes.pair, Classes.class-of, Classes.class-refusal, declared.Curve.Curve, declared.Class.Class, declared.Outcome.Outcome, declared.Outcome.the-variants.Accepted, declared.Outcome.the-variants.Refused, declared.ClassAnswer.ClassAnswer, declared.CountedAnswer.CountedAnswer}
 
 -- an outcome is acceptance or a refusal with its number
@@ -61,6 +61,9 @@ counted-answered d zero D = record { outcome = accepted; class = class-of d (D .
 counted-answered d (suc n) D = record { outcome = refused (suc n); class = neutral-class; steps = 0 }
 
 -- ---- the calls
+unfoldable pub curve-answer : Curve → Verdict
+curve-answer c = verdict-of (curve-refusal c)
+
 unfoldable pub membership-answer : Curve → Class → Verdict
 membership-answer c a = verdict-of (refusal c a)
 
@@ -86,3 +89,10 @@ counted-double-answer c a = let d = c .degree in counted-answered d (refusal c a
 
 unfoldable pub counted-sum-answer : Curve → Class → Class → CountedReply
 counted-sum-answer c a b = let d = c .degree in counted-answered d (refusal-of-two c a b) (counted-sum (curve c) (pair d a) (pair d b))
+
+-- twice a class plus another, and the half of a class less another: the rules by which a commit and an undo move a seal
+unfoldable pub double-and-add-answer : Curve → Class → Class → Reply
+double-and-add-answer c a b = let d = c .degree in answered d (refusal-of-two c a b) (commit (curve c) (pair d a) (pair d b))
+
+unfoldable pub subtract-and-halve-answer : Curve → Class → Class → Reply
+subtract-and-halve-answer c a b = let d = c .degree in answered d (refusal-of-two c a b) (undo (curve c) (pair d a) (pair d b))

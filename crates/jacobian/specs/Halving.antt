@@ -1,16 +1,12 @@
--- What the functions of the halving rule require of their rows, and the polynomials in whose words they promise.
-use Prim.Native.Nat.{ℕ, _+_, _≤_, _<_}
+-- What the private functions of the halving rule require of their rows, and the polynomials in whose words they promise. Nothing open to
+-- callers speaks of these: `half_rows` promises the half of class_group.
+use Prim.Native.Nat.{ℕ, _+_, _<_}
 use mathlib.Core.Path.{_≡_}
 use mathlib.Core.List.{List}
-use Rattle.field_laws.specs.Ring.{Ring2}
-use Rattle.field_laws.specs.Field.{Field2}
-use Rattle.char2_algebra.specs.Polynomials.{Polynomials}
-use Rattle.char2_algebra.specs.Lead.{Monic}
-use Rattle.char2_algebra.specs.Square.{sqrt}
-use Rattle.class_group.specs.Mumford.{Pair}
-use Rattle.class_group.specs.Half.{Triple, quadratic}
-use Rattle.jacobian.specs.Field.{Poly, 𝔸, poly}
-use Rattle.jacobian.specs.Row.{InRange, row-len}
+use Rattle.field_laws.specs.{Ring.Ring2, Field.Field2}
+use Rattle.char2_algebra.specs.{Polynomials.Polynomials, Lead.Monic, Square.sqrt}
+use Rattle.class_group.specs.{Mumford.Pair, Half.Triple, Half.quadratic}
+use Rattle.jacobian.specs.{Field.Poly, Field.𝔸, Field.poly, Row.InRange, Row.row-len}
 
 module _ {K P : Type 0} {F : Field2 K} (A : Polynomials F P) where
   open Polynomials A using (ring, coeff, con, x, rem)

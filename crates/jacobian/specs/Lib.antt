@@ -2,6 +2,7 @@
 pub mod Field
 pub mod Row
 pub mod Bezout
+pub mod Compose
 pub mod Core
 pub mod Checks
 pub mod Cofactor

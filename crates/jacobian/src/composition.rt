@@ -1,13 +1,13 @@
 // Cantor's composition for a sum, from the coefficients of any greatest common divisor and with short polynomials.
-ghost use Prim.Native.Nat.{ℕ, _+_, _≤_, _<_};
 ghost use mathlib.Core.Path.{_≡_};
 ghost use Rattle.binary_field.specs.Element.{Accepted};
 ghost use Rattle.class_group.specs.Composition.{compose};
 ghost use Rattle.class_group.specs.Curve.{Curve as TheoryCurve};
 ghost use Rattle.class_group.proofs.Joined.{joined};
 ghost use Rattle.jacobian.specs.Field.{𝔸, poly};
-ghost use Rattle.jacobian.specs.Row.{InRange, Stands, StandsPair, row-len, rows-pair};
+ghost use Rattle.jacobian.specs.Row.{InRange, Stands, StandsPair, rows-pair};
 ghost use Rattle.jacobian.specs.Bezout.{BezoutRows};
+ghost use Rattle.jacobian.specs.Compose.{Short, multiple};
 ghost use Rattle.jacobian.specs.Core.{OnCurve, ReducedRows};
 use crate::euclid::Combination;
 use crate::euclid::bezout;
@@ -21,7 +21,7 @@ use crate::row::multiply;
 
 // The pair [d1 d2, v1 + d1 (m mod d2) modulo d1 d2].
 fn joined_rows(d: u8, d1: [u64; 12], d2: [u64; 12], v1: [u64; 12], m: [u64; 12]) -> RowPair
-    requires { ⌜ Accepted d × InRange d d1 × InRange d d2 × InRange d v1 × InRange d m × (row-len d d1 + row-len d d2 ≤ 13) × ¬ (poly d d1 ≡ 𝔸 d .ring .nought) × ¬ (poly d d2 ≡ 𝔸 d .ring .nought) ⌝ }
+    requires { ⌜ Accepted d × Short d 4 d1 × Short d 4 d2 × InRange d v1 × InRange d m × ¬ (poly d d1 ≡ 𝔸 d .ring .nought) × ¬ (poly d d2 ≡ 𝔸 d .ring .nought) ⌝ }
     ensures { λ r. ⌜ StandsPair d r (joined (𝔸 d) (poly d d1) (poly d d2) (poly d v1) (poly d m)) ⌝ }
 {
     let u = multiply(d, d1, d2);
@@ -34,16 +34,16 @@ fn joined_rows(d: u8, d1: [u64; 12], d2: [u64; 12], v1: [u64; 12], m: [u64; 12])
     RowPair { u: u, v: v }
 }
 
-// s1 (v1 + v2) + s3 w1 with s1 = s' s and s3 = t', where g = s u1 + t u2 and e = s' g + t' (v1 + v2 + 1).
-fn multiplier(
+// s1 (v1 + v2) + s3 w1, from the coefficients of the two uses of Euclid's rule.
+fn multiple_row(
     d: u8,
     sum: [u64; 12],
     w: [u64; 12],
     first: Combination,
     second: Combination,
 ) -> [u64; 12]
-    requires { ⌜ Accepted d × InRange d sum × InRange d w × InRange d (first .s) × InRange d (second .s) × InRange d (second .t) × (row-len d sum ≤ 3) × (row-len d w ≤ 8) × (row-len d (first .s) ≤ 4) × (row-len d (second .s) ≤ 4) × (row-len d (second .t) ≤ 4) ⌝ }
-    ensures { λ r. ⌜ Stands d r (𝔸 d .ring .add (𝔸 d .ring .mul (𝔸 d .ring .mul (poly d (second .s)) (poly d (first .s))) (poly d sum)) (𝔸 d .ring .mul (poly d (second .t)) (poly d w))) ⌝ }
+    requires { ⌜ Accepted d × Short d 3 sum × Short d 8 w × Short d 4 (first .s) × Short d 4 (second .s) × Short d 4 (second .t) ⌝ }
+    ensures { λ r. ⌜ Stands d r (multiple d sum w first second) ⌝ }
 {
     let s = first.s;
     let s0 = second.s;
@@ -70,7 +70,7 @@ fn compose_common(d: u8, f: [u64; 12], a: RowPair, b: RowPair, first: Combinatio
     let second = bezout(d, g, c);
     let e = second.g;
     let w = cofactor(d, f, a);
-    let m = multiplier(d, sum, w, first, second);
+    let m = multiple_row(d, sum, w, first, second);
     let h1 = divide(d, u1, e);
     let h2 = divide(d, u2, e);
     let d1 = h1.quotient;

@@ -5,7 +5,7 @@ ghost use lib.ListN.{getD};
 ghost use Rattle.binary_field.specs.Element.{Accepted};
 ghost use Rattle.char2_algebra.specs.Square.{sqrt};
 ghost use Rattle.class_group.specs.Curve.{Curve as TheoryCurve};
-ghost use Rattle.class_group.specs.Half.{quadratic, triple, half, half-of-degree-1, half-of-degree-2, half-of-degree-3};
+ghost use Rattle.class_group.specs.Half.{quadratic, half, half-of-degree-1, half-of-degree-2, half-of-degree-3};
 ghost use Rattle.class_group.proofs.Rows.{first-lift};
 ghost use Rattle.jacobian.specs.Field.{degree-of, F, 𝔸, el, poly};
 ghost use Rattle.jacobian.specs.Row.{Is, InRange, Stands, StandsPair, row-len, rows-pair};
@@ -15,6 +15,7 @@ use crate::element::inverted;
 use crate::element::plus;
 use crate::element::root_of;
 use crate::element::times;
+use crate::reduction::cofactor;
 use crate::row::RowPair;
 use crate::row::add_multiple;
 use crate::row::add_rows;
@@ -23,7 +24,6 @@ use crate::row::length;
 use crate::row::multiply;
 use crate::row::root_row;
 use crate::row::scale;
-use crate::row::square_row;
 
 // k2 x² + k1 x + k0.
 fn quadratic_row(d: u8, k2: u64, k1: u64, k0: u64) -> [u64; 12]
@@ -41,7 +41,7 @@ fn quartic_row(d: u8, m2: u64, m1: u64, m0: u64) -> [u64; 12]
     [m0, 0, m1, 0, m2, 0, 0, 0, 0, 0, 0, 0]
 }
 
-// a + k b, a short k whose coefficients are mostly 0 or 1.
+// a + k b, for a short k: no product where a coefficient is 0 or 1.
 fn add_product(d: u8, a: [u64; 12], k: [u64; 12], b: [u64; 12]) -> [u64; 12]
     requires { ⌜ Accepted d × InRange d a × InRange d k × InRange d b × (row-len d k + row-len d b ≤ 13) ⌝ }
     ensures { λ r. ⌜ Stands d r (𝔸 d .ring .add (poly d a) (𝔸 d .ring .mul (poly d k) (poly d b))) ⌝ }
@@ -208,21 +208,6 @@ fn half_of_degree_3(d: u8, u: [u64; 12], v: [u64; 12], w: [u64; 12]) -> RowPair
     let a = root_row(d, p);
     let o = second_remainder(d, u, v, s, a, r, i, q);
     RowPair { u: a, v: o }
-}
-
-// w = (v² + v + f) / u.
-fn cofactor(d: u8, f: [u64; 12], a: RowPair) -> [u64; 12]
-    requires { ⌜ Accepted d × ReducedRows d f a ⌝ }
-    ensures { λ r. ⌜ ((C : TheoryCurve (𝔸 d)) → OnCurve d f C → Stands d r (triple C (rows-pair d a) .w)) ⌝ }
-{
-    let u = a.u;
-    let v = a.v;
-    let s = square_row(d, v);
-    let t = add_rows(d, s, v);
-    let n = add_rows(d, t, f);
-    let q = divide(d, n, u);
-    let w = q.quotient;
-    w
 }
 
 // The half of a reduced pair.

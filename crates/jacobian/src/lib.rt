@@ -8,7 +8,7 @@ ghost use Rattle.class_group.specs.Reduction.{Counted};
 ghost use Rattle.jacobian.specs.Field.{Poly};
 ghost use Rattle.jacobian.specs.Row.{StandsPair};
 ghost use Rattle.jacobian.specs.Core.{StandsCounted};
-ghost use Rattle.jacobian.specs.Answer.{neutral-class, refusal, refusal-of-two, verdict, reply, answered, counted-reply, counted-answered, membership-answer, opposite-answer, double-answer, HalfAnswers, sum-answer, counted-double-answer, counted-sum-answer};
+ghost use Rattle.jacobian.specs.Answer.{neutral-class, refusal, refusal-of-two, verdict, reply, answered, counted-reply, counted-answered, membership-answer, opposite-answer, double-answer, HalfAnswers, sum-answer, counted-double-answer, counted-sum-answer, double-and-add-answer, subtract-and-halve-answer, curve-answer};
 
 mod classes;
 mod composition;
@@ -229,4 +229,45 @@ pub fn sum(curve: Curve, a: Class, b: Class) -> ClassAnswer
         outcome: outcome,
         class: total,
     }
+}
+
+// Twice a class plus another, as a commit takes a seal to the next.
+pub fn double_and_add(curve: Curve, a: Class, b: Class) -> ClassAnswer
+    ensures { λ r. ⌜ reply r ≡ double-and-add-answer curve a b ⌝ }
+{
+    let n = due_of_two(curve, a, b);
+    if n != 0 {
+        return refused(n);
+    }
+    let f = curves::f_row(curve);
+    let seal = classes::to_rows(a);
+    let added = classes::to_rows(b);
+    let moved = sums::commit_rows(curve.degree, f, seal, added);
+    accepted(moved)
+}
+
+// The half of a class less another, as an undo takes a seal to the one before.
+pub fn subtract_and_halve(curve: Curve, a: Class, b: Class) -> ClassAnswer
+    ensures { λ r. ⌜ reply r ≡ subtract-and-halve-answer curve a b ⌝ }
+{
+    let n = due_of_two(curve, a, b);
+    if n != 0 {
+        return refused(n);
+    }
+    let f = curves::f_row(curve);
+    let later = classes::to_rows(a);
+    let taken = classes::to_rows(b);
+    let moved = sums::undo_rows(curve.degree, f, later, taken);
+    accepted(moved)
+}
+
+// Is the curve accepted?
+pub fn accepts_curve(curve: Curve) -> Outcome
+    ensures { λ r. ⌜ verdict r ≡ curve-answer curve ⌝ }
+{
+    let n = curves::curve_due(curve);
+    if n != 0 {
+        return Outcome::Refused(n);
+    }
+    Outcome::Accepted
 }

@@ -1,124 +1,98 @@
 -- From a reduced class by rows to the rows that the halving rule takes, and from the rule's pair to the half of the class.
 use Prim.Native.Nat.{ℕ, zero, suc, _≤_, _<_, _+_}
-use mathlib.Core.Path.{_≡_, refl, sym, _∙_, ap, ap₂, subst}
+use mathlib.Core.Path.{_≡_, refl, sym, _∙_, ap, subst}
 use mathlib.Core.List.{List}
 use native.Mathlib.Omega.{arith}
 use Rattle.char2_algebra.specs.Lead.{Monic}
-use Rattle.char2_algebra.proofs.Degree.{nonzero-of-len}
-use Rattle.char2_algebra.proofs.Division.{len-quot-exact}
-use Rattle.char2_algebra.proofs.Lead.{monic-nonzero, quot-monic}
+use Rattle.char2_algebra.proofs.{Degree.nonzero-of-len, Division.len-quot-exact, Lead.monic-nonzero, Lead.quot-monic}
 use Rattle.class_group.specs.Curve as Theory
-use Rattle.class_group.specs.Mumford.{Pair, value}
-use Rattle.class_group.specs.Half.{Triple, triple, half, half-by, half-of-degree-1, half-of-degree-2, half-of-degree-3}
+use Rattle.class_group.specs.{Mumford.value, Half.triple, Half.half, Half.half-by, Half.half-of-degree-1, Half.half-of-degree-2, Half.half-of-degree-3}
 use Rattle.class_group.proofs.HalfChain.{value-len, value-monic}
-use Rattle.jacobian.specs.Field.{Poly, 𝔸, poly}
-use Rattle.jacobian.specs.Row.{Stands, StandsPair, row-len, rows-pair}
-use Rattle.jacobian.specs.Core.{OnCurve, ReducedRows}
-use Rattle.jacobian.specs.declared.row.RowPair.{RowPair}
-use Rattle.jacobian.specs.Halving.{HalvingRows, rows-triple}
-use Rattle.jacobian.proofs.HalfRows.Rows.{stands-eq, pair-eq}
+use Rattle.jacobian.specs.{Field.𝔸, Field.poly, Row.Stands, Row.StandsPair, Row.row-len, Row.rows-pair, Core.OnCurve, Core.ReducedRows}
+use Rattle.jacobian.specs.{Cofactor.CofactorRow, declared.row.RowPair.RowPair, Halving.HalvingRows, Halving.rows-triple}
+use Rattle.jacobian.proofs.{DoubleRows.reduced-len, HalfRows.Rows.stands-pair-eq}
 
-module _ (d : ℕ) (f : List ℕ) (a : RowPair) where
-  -- w = (v² + v + f) / u
-  pub cofactor-stands :
-      {s t n w : List ℕ}
-      → Stands d s (𝔸 d .ring .mul (poly d (a .v)) (poly d (a .v)))
-      → Stands d t (𝔸 d .ring .add (poly d s) (poly d (a .v)))
-      → Stands d n (𝔸 d .ring .add (poly d t) (poly d f))
-      → Stands d w (𝔸 d .quot (poly d n) (poly d (a .u)))
-      → (C : Theory.Curve (𝔸 d))
-      → OnCurve d f C
-      → Stands d w (triple C (rows-pair d a) .w)
-  unfolding triple value rows-pair
-  cofactor-stands hs ht hn hw C o =
-      stands-eq d
-      (ap (λ p. 𝔸 d .quot p (poly d (a .u))) (hn .stands ∙ ap₂ (𝔸 d .ring .add) (ht .stands ∙ ap (λ p. 𝔸 d .ring .add p (poly d (a .v))) (hs .stands)) (o .is-f)))
-      hw
+-- a reduced class that is not neutral: w is its cofactor, n the length of u
+pub record NonNeutral (d : ℕ) (f : List ℕ) (a : RowPair) (w : List ℕ) (n : ℕ) : Type 0 where
+  pub reduced : ReducedRows d f a
+  pub cofactor : CofactorRow d f a w
+  pub length-is : n ≡ row-len d (a .u)
+  pub more : 1 < n
 
-  module _ (h : ReducedRows d f a) where
+module _ (d : ℕ) {f : List ℕ} {a : RowPair} where
+  -- the neutral class is its own half
+  pub half-neutral : {n : ℕ} → ReducedRows d f a → n ≡ row-len d (a .u) → n ≤ 1 → (C : Theory.Curve (𝔸 d)) → StandsPair d a (half C (rows-pair d a))
+  unfolding half half-by rows-pair
+  half-neutral {n} h e l C = subst (λ m. StandsPair d a (half-by C m (rows-pair d a))) e (go n l)
+    where
+      self : StandsPair d a (rows-pair d a)
+      self = record { u-stands = record { in-range = h .u-range; stands = refl }; v-stands = record { in-range = h .v-range; stands = refl } }
+
+      go : (n : ℕ) → n ≤ 1 → StandsPair d a (half-by C n (rows-pair d a))
+      go zero l = self
+      go (suc zero) l = self
+      go (suc (suc n)) l = absurd (omega arith)
+
+  module _ {w : List ℕ} {n : ℕ} (c : NonNeutral d f a w n) where
+    pub degree-three : ¬ (n ≡ 2) → ¬ (n ≡ 3) → n ≡ 4
+    degree-three h k = omega (arith, reduced-len d (c .reduced) .0, c .length-is, c .more)
+
+    abbrev E : Theory.Curve (𝔸 d)
+    E = c .reduced .C
+
+    w-is : Stands d w (𝔸 d .quot (value E (poly d (a .v))) (poly d (a .u)))
+    w-is = c .cofactor E (c .reduced .on-curve)
+
     u-monic : Monic (𝔸 d) (poly d (a .u))
     unfolding rows-pair
-    u-monic = h .reduced .u-monic
+    u-monic = c .reduced .reduced .u-monic
 
-    pub u-nonzero : ¬ (poly d (a .u) ≡ 𝔸 d .ring .nought)
-    u-nonzero = monic-nonzero (𝔸 d) (poly d (a .u)) u-monic
+    v-short : row-len d (a .v) ≤ 4
+    v-short = omega (arith, reduced-len d (c .reduced) .0, reduced-len d (c .reduced) .1)
 
-    u-short : row-len d (a .u) ≤ 4
+    w-monic : Monic (𝔸 d) (poly d w)
     unfolding rows-pair
-    u-short = h .reduced .u-len
+    w-monic = subst (Monic (𝔸 d)) (sym (w-is .stands)) (quot-monic (𝔸 d) _ _ (value-monic E (poly d (a .v)) v-short) u-monic (c .reduced .reduced .divides))
 
-    v-less : row-len d (a .v) < row-len d (a .u)
+    w-len : row-len d w + row-len d (a .u) ≡ 9
     unfolding rows-pair
-    v-less = h .reduced .v-len
+    w-len =
+        ap (λ p. 𝔸 d .len p + row-len d (a .u)) (w-is .stands)
+        ∙ sym (len-quot-exact (𝔸 d) (poly d (a .u)) (monic-nonzero (𝔸 d) _ u-monic) _ (nonzero-of-len (𝔸 d) _ (omega (arith, value-len E (poly d (a .v)) v-short))) (c .reduced .reduced .divides))
+        ∙ ap suc (value-len E (poly d (a .v)) v-short)
 
-    pub v-short : row-len d (a .v) ≤ 4
-    v-short = omega (arith, u-short, v-less)
+    -- what the halving rule takes
+    pub halving-rows : (m : ℕ) → n ≡ m → HalvingRows d m (a .u) (a .v) w
+    halving-rows m e =
+        record {
+          u-range = c .reduced .u-range;
+          v-range = c .reduced .v-range;
+          w-range = w-is .in-range;
+          u-monic = u-monic;
+          w-monic = w-monic;
+          u-len = sym (c .length-is) ∙ e;
+          v-len = omega (arith, reduced-len d (c .reduced) .1, c .length-is);
+          w-len = omega (arith, w-len, c .length-is);
+        }
 
-    -- the triple of the class, as rows
-    module _ (w : List ℕ) (s : Stands d w (triple (h .C) (rows-pair d a) .w)) where
-      w-path : poly d w ≡ 𝔸 d .quot (value (h .C) (poly d (a .v))) (poly d (a .u))
-      unfolding triple rows-pair
-      w-path = s .stands
-
-      w-monic : Monic (𝔸 d) (poly d w)
-      unfolding rows-pair
-      w-monic = subst (Monic (𝔸 d)) (sym w-path) (quot-monic (𝔸 d) _ _ (value-monic (h .C) (poly d (a .v)) v-short) u-monic (h .reduced .divides))
-
-      w-len : row-len d w + row-len d (a .u) ≡ 9
-      unfolding rows-pair
-      w-len =
-          ap (λ p. 𝔸 d .len p + row-len d (a .u)) w-path
-          ∙ sym (len-quot-exact (𝔸 d) (poly d (a .u)) u-nonzero _ (nonzero-of-len (𝔸 d) _ (omega (arith, value-len (h .C) (poly d (a .v)) v-short))) (h .reduced .divides))
-          ∙ ap suc (value-len (h .C) (poly d (a .v)) v-short)
-
-      pub halving-rows : (n : ℕ) → row-len d (a .u) ≡ n → HalvingRows d n (a .u) (a .v) w
-      halving-rows n e =
-          record {
-            u-range = h .u-range;
-            v-range = h .v-range;
-            w-range = s .in-range;
-            u-monic = u-monic;
-            w-monic = w-monic;
-            u-len = e;
-            v-len = omega (arith, v-less);
-            w-len = omega (arith, w-len);
-          }
-
-    pub degree-three : 1 < row-len d (a .u) → ¬ (row-len d (a .u) ≡ 2) → ¬ (row-len d (a .u) ≡ 3) → row-len d (a .u) ≡ 4
-    degree-three h1 h2 h3 = omega (arith, u-short)
-
-    self : StandsPair d a (rows-pair d a)
-    unfolding rows-pair
-    self = record { u-stands = record { in-range = h .u-range; stands = refl }; v-stands = record { in-range = h .v-range; stands = refl } }
-
-    -- the neutral class is its own half
-    pub half-neutral : (C : Theory.Curve (𝔸 d)) → row-len d (a .u) ≤ 1 → StandsPair d a (half C (rows-pair d a))
-    unfolding half half-by rows-pair
-    half-neutral C l = go (row-len d (a .u)) l
-      where
-        go : (n : ℕ) → n ≤ 1 → StandsPair d a (half-by C n (rows-pair d a))
-        go zero l = self
-        go (suc zero) l = self
-        go (suc (suc n)) l = absurd (omega arith)
-
-    -- the triple of the class on any curve of f
-    module _ (w : List ℕ) (C : Theory.Curve (𝔸 d)) (s : Stands d w (triple C (rows-pair d a) .w)) where
+    -- what it gives is the half on every curve of f
+    module _ (C : Theory.Curve (𝔸 d)) (o : OnCurve d f C) where
       triple-path : rows-triple d (a .u) (a .v) w ≡ triple C (rows-pair d a)
       unfolding triple rows-pair rows-triple
-      triple-path j = record { u = poly d (a .u); v = poly d (a .v); w = s .stands j }
+      triple-path j = record { u = poly d (a .u); v = poly d (a .v); w = c .cofactor C o .stands j }
 
-      by-length : (n : ℕ) → row-len d (a .u) ≡ n → half-by C n (rows-pair d a) ≡ half C (rows-pair d a)
+      by-length : (m : ℕ) → n ≡ m → half-by C m (rows-pair d a) ≡ half C (rows-pair d a)
       unfolding half rows-pair
-      by-length n e = ap (λ m. half-by C m (rows-pair d a)) (sym e)
+      by-length m e = ap (λ l. half-by C l (rows-pair d a)) (sym e ∙ c .length-is)
 
-      pub half-1 : {r : RowPair} → row-len d (a .u) ≡ 2 → StandsPair d r (half-of-degree-1 (𝔸 d) (rows-triple d (a .u) (a .v) w)) → StandsPair d r (half C (rows-pair d a))
+      pub half-1 : {r : RowPair} → n ≡ 2 → StandsPair d r (half-of-degree-1 (𝔸 d) (rows-triple d (a .u) (a .v) w)) → StandsPair d r (half C (rows-pair d a))
       unfolding half-by
-      half-1 e = pair-eq d (ap (half-of-degree-1 (𝔸 d)) triple-path ∙ by-length 2 e)
+      half-1 e = stands-pair-eq d (ap (half-of-degree-1 (𝔸 d)) triple-path ∙ by-length 2 e)
 
-      pub half-2 : {r : RowPair} → row-len d (a .u) ≡ 3 → StandsPair d r (half-of-degree-2 (𝔸 d) (rows-triple d (a .u) (a .v) w)) → StandsPair d r (half C (rows-pair d a))
+      pub half-2 : {r : RowPair} → n ≡ 3 → StandsPair d r (half-of-degree-2 (𝔸 d) (rows-triple d (a .u) (a .v) w)) → StandsPair d r (half C (rows-pair d a))
       unfolding half-by
-      half-2 e = pair-eq d (ap (half-of-degree-2 (𝔸 d)) triple-path ∙ by-length 3 e)
+      half-2 e = stands-pair-eq d (ap (half-of-degree-2 (𝔸 d)) triple-path ∙ by-length 3 e)
 
-      pub half-3 : {r : RowPair} → row-len d (a .u) ≡ 4 → StandsPair d r (half-of-degree-3 (𝔸 d) (rows-triple d (a .u) (a .v) w)) → StandsPair d r (half C (rows-pair d a))
+      pub half-3 : {r : RowPair} → n ≡ 4 → StandsPair d r (half-of-degree-3 (𝔸 d) (rows-triple d (a .u) (a .v) w)) → StandsPair d r (half C (rows-pair d a))
       unfolding half-by
-      half-3 e = pair-eq d (ap (half-of-degree-3 (𝔸 d)) triple-path ∙ by-length 4 e)
+      half-3 e = stands-pair-eq d (ap (half-of-degree-3 (𝔸 d)) triple-path ∙ by-length 4 e)

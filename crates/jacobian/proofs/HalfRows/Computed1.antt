@@ -1,19 +1,16 @@
 -- What the calls in the half of degree 1 promise, and what follows of the pair that they lead to.
-use Prim.Native.Nat.{ℕ, _≤_, _<_, _+_}
-use mathlib.Core.Path.{_≡_, refl, sym, _∙_, ap, ap₂}
+use Prim.Native.Nat.{ℕ}
+use mathlib.Core.Path.{_≡_, sym, _∙_, ap, ap₂}
 use mathlib.Core.List.{List}
 use native.Mathlib.Omega.{arith}
 use lib.ListN.{getD}
 use Rattle.field_laws.specs.Ring.{Ring2}
 use Rattle.char2_algebra.specs.Square.{sqrt}
 use Rattle.class_group.specs.Half.{Triple, quadratic, half-of-degree-1}
-use Rattle.jacobian.specs.Field.{F, Poly, 𝔸, el, poly}
-use Rattle.jacobian.specs.Row.{Is, Stands, StandsPair, row-len}
-use Rattle.jacobian.specs.declared.row.RowPair.{RowPair}
-use Rattle.jacobian.specs.Halving.{HalvingRows, even-quartic, root-pair, rows-triple}
-use Rattle.jacobian.proofs.Rows.Coefficients.{coeff-poly}
-use Rattle.jacobian.proofs.HalfRows.Rows.{pair-eq}
-use Rattle.jacobian.proofs.HalfRows.Degrees12.{pair-1, nonzero-1, k-1, m-1}
+use Rattle.jacobian.specs.{Field.F, Field.Poly, Field.𝔸, Field.el, Field.poly, Row.Is, Row.Stands, Row.StandsPair, declared.row.RowPair.RowPair}
+use Rattle.jacobian.specs.{Halving.HalvingRows, Halving.even-quartic, Halving.root-pair, Halving.rows-triple}
+use Rattle.jacobian.proofs.{Rows.Coefficients.coeff-poly, HalfRows.Rows.stands-pair-eq, HalfRows.Degrees12.pair-1, HalfRows.Degrees12.nonzero-1}
+use Rattle.jacobian.proofs.{HalfRows.Degrees12.k-1, HalfRows.Degrees12.m-1}
 
 module _ (d : ℕ) (u v w : List ℕ) where
   open Ring2 (𝔸 d .ring) using (add as _⊞_, mul as _·_, nought as 𝟘, one as 𝟙)
@@ -61,4 +58,4 @@ module _ (d : ℕ) (u v w : List ℕ) where
 
     pub result-1 : {r : RowPair} → StandsPair d r (root-pair (𝔸 d) (poly d p) (poly d q)) → StandsPair d r (half-of-degree-1 (𝔸 d) (rows-triple d u v w))
     unfolding rows-triple
-    result-1 = pair-eq d (ap₂ (root-pair (𝔸 d)) p-path q-path ∙ sym (pair-1 (𝔸 d) T))
+    result-1 = stands-pair-eq d (ap₂ (root-pair (𝔸 d)) p-path q-path ∙ sym (pair-1 (𝔸 d) T))

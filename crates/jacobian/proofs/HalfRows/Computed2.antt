@@ -1,20 +1,17 @@
 -- What the calls in the half of degree 2 promise, and what follows of the pair that they lead to.
-use Prim.Native.Nat.{ℕ, _≤_, _<_, _+_}
-use mathlib.Core.Path.{_≡_, refl, sym, _∙_, ap, ap₂}
+use Prim.Native.Nat.{ℕ}
+use mathlib.Core.Path.{_≡_, sym, _∙_, ap, ap₂}
 use mathlib.Core.List.{List}
 use native.Mathlib.Omega.{arith}
 use lib.ListN.{getD}
 use Rattle.field_laws.specs.Ring.{Ring2}
 use Rattle.char2_algebra.specs.Square.{sqrt}
 use Rattle.class_group.specs.Half.{Triple, quadratic, half-of-degree-2}
-use Rattle.jacobian.specs.Field.{F, Poly, 𝔸, el, poly}
-use Rattle.jacobian.specs.Row.{Is, Stands, StandsPair, row-len}
-use Rattle.jacobian.specs.declared.row.RowPair.{RowPair}
-use Rattle.jacobian.specs.Halving.{HalvingRows, even-quartic, root-pair, rows-triple}
-use Rattle.jacobian.proofs.Rows.Elements.{el-zero, el-one, el-nonzero}
-use Rattle.jacobian.proofs.Rows.Coefficients.{coeff-poly}
-use Rattle.jacobian.proofs.HalfRows.Rows.{pair-eq}
-use Rattle.jacobian.proofs.HalfRows.Degrees12.{pair-2-square, nonzero-2-square, pair-2, nonzero-2, k-2, m-2}
+use Rattle.jacobian.specs.{Field.F, Field.Poly, Field.𝔸, Field.el, Field.poly, Row.Is, Row.Stands, Row.StandsPair, declared.row.RowPair.RowPair}
+use Rattle.jacobian.specs.{Halving.HalvingRows, Halving.even-quartic, Halving.root-pair, Halving.rows-triple}
+use Rattle.jacobian.proofs.{Rows.Elements.el-zero, Rows.Elements.el-one, Rows.Elements.el-nonzero, Rows.Coefficients.coeff-poly}
+use Rattle.jacobian.proofs.{HalfRows.Rows.stands-pair-eq, HalfRows.Degrees12.pair-2-square, HalfRows.Degrees12.nonzero-2-square, HalfRows.Degrees12.pair-2}
+use Rattle.jacobian.proofs.{HalfRows.Degrees12.nonzero-2, HalfRows.Degrees12.k-2, HalfRows.Degrees12.m-2}
 
 module _ (d : ℕ) (u v w : List ℕ) where
   open Ring2 (𝔸 d .ring) using (add as _⊞_, mul as _·_, nought as 𝟘, one as 𝟙)
@@ -55,7 +52,7 @@ module _ (d : ℕ) (u v w : List ℕ) where
 
     pub result-2-square : {r : RowPair} → StandsPair d r (root-pair (𝔸 d) (poly d u) (poly d v)) → StandsPair d r (half-of-degree-2 (𝔸 d) (rows-triple d u v w))
     unfolding rows-triple
-    result-2-square = pair-eq d (sym (pair-2-square (𝔸 d) T u1-zero))
+    result-2-square = stands-pair-eq d (sym (pair-2-square (𝔸 d) T u1-zero))
 
   -- u1 ≠ 0
   module _ {i k2 y k1 s z k0 : ℕ} {k m cw ck p q : List ℕ} (c : Computed2 i k2 y k1 s z k0 k m cw ck p q) (h : HalvingRows d 3 u v w) (n : ¬ (getD u 1 0 ≡ 0)) where
@@ -97,4 +94,4 @@ module _ (d : ℕ) (u v w : List ℕ) where
 
     pub result-2 : {r : RowPair} → StandsPair d r (root-pair (𝔸 d) (poly d p) (poly d q)) → StandsPair d r (half-of-degree-2 (𝔸 d) (rows-triple d u v w))
     unfolding rows-triple
-    result-2 = pair-eq d (ap₂ (root-pair (𝔸 d)) p-path q-path ∙ sym (pair-2 (𝔸 d) T u1≢))
+    result-2 = stands-pair-eq d (ap₂ (root-pair (𝔸 d)) p-path q-path ∙ sym (pair-2 (𝔸 d) T u1≢))

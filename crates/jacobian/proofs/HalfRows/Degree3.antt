@@ -1,23 +1,15 @@
 -- The half of a class of degree 3: the first lift and its square where it is one; else the square after the second lift, with no
 -- division, and the second polynomial of the half with the remainders taken early, so that no product of degree 5 is divided.
-use Prim.Native.Nat.{ℕ, suc, _≤_, _<_, _+_}
+use Prim.Native.Nat.{ℕ, suc, _≤_, _<_}
 use mathlib.Core.Path.{_≡_, refl, sym, _∙_, ap, ap₂, subst}
-use native.Mathlib.Omega.{arith}
-use native.Mathlib.Decide.{decLe}
-use Rattle.field_laws.specs.Ring.{Ring2}
-use Rattle.field_laws.specs.Field.{Field2}
-use Rattle.char2_algebra.specs.Polynomials.{Polynomials}
-use Rattle.char2_algebra.specs.Lead.{Monic}
-use Rattle.char2_algebra.specs.Square.{sqrt}
-use Rattle.char2_algebra.proofs.Ring.{ring2, by, both, combine, +-𝟘, ·-𝟘, 𝟘-·, ·-𝟙, 𝟙-·}
-use Rattle.char2_algebra.proofs.Degree.{len-add, len-bound, len-con-le}
-use Rattle.char2_algebra.proofs.Product.{len-mul-le}
-use Rattle.char2_algebra.proofs.Division.{rem-is}
-use Rattle.char2_algebra.proofs.Lead.{monic-top, monic-nonzero}
-use Rattle.class_group.specs.Mumford.{Pair}
-use Rattle.class_group.specs.Half.{Triple, lift, step, halved, quadratic, half-of-degree-3, stepped-of-degree-3, lifted-half-of-degree-3}
-use Rattle.class_group.proofs.Rows.{row-3, row-3-square, first-lift, second-lift}
-use Rattle.class_group.proofs.EvenRoot.{MonicRoot, even-root}
+use native.Mathlib.{Omega.arith, Decide.decLe}
+use Rattle.field_laws.specs.{Ring.Ring2, Field.Field2}
+use Rattle.char2_algebra.specs.{Polynomials.Polynomials, Lead.Monic, Square.sqrt}
+use Rattle.char2_algebra.proofs.{Ring.ring2, Ring.by, Ring.both, Ring.combine, Ring.+-𝟘, Ring.·-𝟘, Ring.·-𝟙, Degree.len-add, Degree.len-bound}
+use Rattle.char2_algebra.proofs.{Degree.len-con-le, Product.len-mul-le, Division.rem-is, Lead.monic-top, Lead.monic-nonzero}
+use Rattle.class_group.specs.{Mumford.Pair, Half.Triple, Half.lift, Half.step, Half.halved, Half.quadratic, Half.half-of-degree-3}
+use Rattle.class_group.specs.{Half.stepped-of-degree-3, Half.lifted-half-of-degree-3}
+use Rattle.class_group.proofs.{Rows.row-3, Rows.row-3-square, Rows.first-lift, Rows.second-lift, EvenRoot.MonicRoot, EvenRoot.even-root}
 use Rattle.jacobian.specs.Halving.{even-quartic, root-pair, second-square, second-remainder}
 use Rattle.jacobian.proofs.HalfRows.Squares.{quartic-is, quadratic-is, square-of, square-of-one, one-times, one-square, constant, halved-pair, root-nonzero}
 

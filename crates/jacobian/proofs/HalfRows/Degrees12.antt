@@ -1,16 +1,11 @@
 -- The half of a class of degree 1 or 2: the pair of the rule as the square root of a polynomial that takes no division by a constant,
 -- and that this root can be divided by.
-use Prim.Native.Nat.{ℕ, suc, _≤_, _<_, _+_}
-use mathlib.Core.Path.{_≡_, refl, sym, _∙_, ap, ap₂}
-use Rattle.field_laws.specs.Ring.{Ring2}
-use Rattle.field_laws.specs.Field.{Field2}
-use Rattle.char2_algebra.specs.Polynomials.{Polynomials}
-use Rattle.char2_algebra.specs.Lead.{Monic}
-use Rattle.char2_algebra.specs.Square.{sqrt}
-use Rattle.char2_algebra.proofs.Ring.{ring2, by, both, combine}
-use Rattle.char2_algebra.proofs.Lead.{monic-top}
-use Rattle.class_group.specs.Mumford.{Pair}
-use Rattle.class_group.specs.Half.{Triple, lift, step, halved, quadratic, half-of-degree-1, half-of-degree-2, lifted-half-of-degree-2}
+use mathlib.Core.Path.{_≡_, refl, _∙_, ap}
+use Rattle.field_laws.specs.{Ring.Ring2, Field.Field2}
+use Rattle.char2_algebra.specs.{Polynomials.Polynomials, Lead.Monic, Square.sqrt}
+use Rattle.char2_algebra.proofs.{Ring.ring2, Ring.by, Ring.both, Ring.combine, Lead.monic-top}
+use Rattle.class_group.specs.{Mumford.Pair, Half.Triple, Half.lift, Half.step, Half.halved, Half.quadratic, Half.half-of-degree-1}
+use Rattle.class_group.specs.{Half.half-of-degree-2, Half.lifted-half-of-degree-2}
 use Rattle.class_group.proofs.Rows.{row-1, row-2, row-2-square}
 use Rattle.jacobian.specs.Halving.{even-quartic, root-pair}
 use Rattle.jacobian.proofs.HalfRows.Squares.{quartic-is, square-of, square-of-one, one-times, one-square, halved-pair, root-nonzero}

@@ -1,20 +1,16 @@
 -- What the calls in the half of degree 3 promise where there is a second lift, and what follows of the pair that they lead to.
-use Prim.Native.Nat.{ℕ, _≤_, _<_}
+use Prim.Native.Nat.{ℕ}
 use mathlib.Core.Path.{_≡_, sym, _∙_, ap, ap₂}
 use mathlib.Core.List.{List}
-use native.Mathlib.Omega.{arith}
 use lib.ListN.{getD}
 use Rattle.char2_algebra.specs.Square.{sqrt}
 use Rattle.class_group.specs.Half.{Triple, half-of-degree-3}
 use Rattle.class_group.proofs.Rows.{first-lift}
-use Rattle.jacobian.specs.Field.{K, F, Poly, 𝔸, el, poly}
-use Rattle.jacobian.specs.Row.{Is, Stands, StandsPair, row-len}
-use Rattle.jacobian.specs.Halving.{second-square, second-remainder, rows-triple}
-use Rattle.jacobian.proofs.Rows.Elements.{el-nonzero}
-use Rattle.jacobian.proofs.Rows.Coefficients.{coeff-poly}
-use Rattle.jacobian.proofs.HalfRows.Rows.{stands-eq, pair-eq}
-use Rattle.jacobian.proofs.HalfRows.Degree3.{pair-3, a-len}
-use Rattle.jacobian.proofs.HalfRows.Computed3.{Computed3, w-five, r-path, t-path}
+use Rattle.jacobian.specs.{Field.K, Field.F, Field.Poly, Field.𝔸, Field.el, Field.poly, Row.Is, Row.Stands, Row.StandsPair, Row.row-len}
+use Rattle.jacobian.specs.{Halving.second-square, Halving.second-remainder, Halving.rows-triple}
+use Rattle.jacobian.proofs.{Rows.Elements.el-nonzero, Rows.Coefficients.coeff-poly, HalfRows.Rows.stands-eq, HalfRows.Rows.stands-pair-eq}
+use Rattle.jacobian.proofs.{HalfRows.Degree3.pair-3, HalfRows.Degree3.a-len, HalfRows.Computed3.Computed3, HalfRows.Computed3.w-five}
+use Rattle.jacobian.proofs.{HalfRows.Computed3.r-path, HalfRows.Computed3.t-path}
 
 module _ (d : ℕ) (u v w : List ℕ) where
   pub record Lifted3 (r : ℕ) (s : List ℕ) (t i g q : ℕ) (p a : List ℕ) : Type 0 where
@@ -71,7 +67,7 @@ module _ (d : ℕ) (u v w : List ℕ) where
         → StandsPair d (record { u = a; v = o }) (half-of-degree-3 (𝔸 d) (rows-triple d u v w))
     unfolding rows-triple
     result-3 ho =
-        pair-eq d
+        stands-pair-eq d
         (sym (pair-3 (𝔸 d) T t≢ (c .first .rows .u-len) (c .first .rows .u-monic) (w-five d u v w (c .first)) (c .first .rows .w-monic) (c .first .rows .v-len)))
         (record {
           u-stands = record { in-range = c .a-is .in-range; stands = a-path };

@@ -1,21 +1,16 @@
 -- Rows and pairs of rows that stand for equal polynomials, and the rows of k2 x² + k1 x + k0 and of m2 x⁴ + m1 x² + m0, written out.
 use Prim.Native.Nat.{ℕ, zero, suc, _+_, _≤_, _<_, _^_}
-use mathlib.Core.Path.{_≡_, refl, sym, _∙_, ap, ap₂, subst}
+use mathlib.Core.Path.{_≡_, sym, _∙_, ap, ap₂, subst}
 use mathlib.Core.List.{List, [], _∷_, map}
 use native.Mathlib.Omega.{arith}
 use Rattle.field_laws.specs.Ring.{Ring2}
 use Rattle.char2_algebra.specs.Square.{sqrt}
-use Rattle.char2_algebra.proofs.Ring.{+-𝟘, ·-𝟘}
-use Rattle.char2_algebra.proofs.Degree.{con-nought, con-one}
-use Rattle.char2_algebra.proofs.OfList.{of-nil, of-cons}
-use Rattle.class_group.specs.Mumford.{Pair}
-use Rattle.class_group.specs.Half.{quadratic}
-use Rattle.jacobian.specs.Field.{degree-of, K, F, Poly, 𝔸, el, poly}
-use Rattle.jacobian.specs.Row.{InRange, Stands, StandsPair, row-len}
-use Rattle.jacobian.specs.declared.row.RowPair.{RowPair}
-use Rattle.jacobian.specs.Halving.{even-quartic, root-pair}
-use Rattle.jacobian.proofs.Rows.Elements.{el-zero, el-one, zero-lt}
-use Rattle.jacobian.proofs.HalfRows.Squares.{constant, quadratic-len, quartic-len}
+use Rattle.char2_algebra.proofs.{Ring.+-𝟘, Ring.·-𝟘, Degree.con-nought, Degree.con-one, OfList.of-nil, OfList.of-cons}
+use Rattle.class_group.specs.{Mumford.Pair, Half.quadratic}
+use Rattle.jacobian.specs.{Field.degree-of, Field.K, Field.F, Field.Poly, Field.𝔸, Field.el, Field.poly, Row.InRange, Row.Stands, Row.StandsPair}
+use Rattle.jacobian.specs.{Row.row-len, declared.row.RowPair.RowPair, Halving.even-quartic, Halving.root-pair}
+use Rattle.jacobian.proofs.{Rows.Elements.el-zero, Rows.Elements.el-one, Rows.Elements.zero-lt, HalfRows.Squares.constant}
+use Rattle.jacobian.proofs.{HalfRows.Squares.quadratic-len, HalfRows.Squares.quartic-len}
 
 module _ (d : ℕ) where
   open Ring2 (𝔸 d .ring) using (add as _⊞_, mul as _·_, nought as 𝟘)
@@ -25,8 +20,8 @@ module _ (d : ℕ) where
   pub stands-eq : {r : List ℕ} {p q : Poly d} → p ≡ q → Stands d r p → Stands d r q
   stands-eq e s = record { in-range = s .in-range; stands = s .stands ∙ e }
 
-  pub pair-eq : {r : RowPair} {D E : Pair (Poly d)} → D ≡ E → StandsPair d r D → StandsPair d r E
-  pair-eq e s = record { u-stands = stands-eq (ap (λ D. D .u) e) (s .u-stands); v-stands = stands-eq (ap (λ D. D .v) e) (s .v-stands) }
+  pub stands-pair-eq : {r : RowPair} {D E : Pair (Poly d)} → D ≡ E → StandsPair d r D → StandsPair d r E
+  stands-pair-eq e s = record { u-stands = stands-eq (ap (λ D. D .u) e) (s .u-stands); v-stands = stands-eq (ap (λ D. D .v) e) (s .v-stands) }
 
   range-nil : InRange d []
   range-nil i = zero-lt d

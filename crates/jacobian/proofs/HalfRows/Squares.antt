@@ -1,19 +1,13 @@
 -- The rows of the halving rule with the constant multiplied out: the square c (w + k + k² u) as c w + c k + (c k²) u, where c k² has
 -- even powers alone, so that no coefficient is squared or divided.
-use Prim.Native.Nat.{ℕ, suc, _≤_, _<_, _+_}
-use mathlib.Core.Path.{_≡_, refl, sym, _∙_, ap, ap₂}
+use Prim.Native.Nat.{ℕ, _≤_}
+use mathlib.Core.Path.{_≡_, sym, _∙_, ap, ap₂}
 use native.Mathlib.Omega.{arith}
-use Rattle.field_laws.specs.Ring.{Ring2}
-use Rattle.field_laws.specs.Field.{Field2}
-use Rattle.char2_algebra.specs.Polynomials.{Polynomials}
-use Rattle.char2_algebra.proofs.Ring.{ring2, by, both, combine, +-𝟘, ·-𝟘, 𝟙-·}
-use Rattle.char2_algebra.specs.Lead.{Monic}
-use Rattle.char2_algebra.specs.Square.{sqrt}
-use Rattle.char2_algebra.proofs.Degree.{con-mul, con-one, con-nought, len-add, len-con-le, len-x-mul-le}
-use Rattle.char2_algebra.proofs.Lead.{monic-nonzero}
-use Rattle.class_group.proofs.Rows.{Even}
-use Rattle.class_group.proofs.EvenRoot.{even-root}
-use Rattle.class_group.specs.Mumford.{Pair}
+use Rattle.field_laws.specs.{Ring.Ring2, Field.Field2}
+use Rattle.char2_algebra.specs.{Polynomials.Polynomials, Square.sqrt}
+use Rattle.char2_algebra.proofs.{Ring.ring2, Ring.by, Ring.combine, Ring.+-𝟘, Ring.·-𝟘, Ring.𝟙-·, Degree.con-mul, Degree.con-one, Degree.con-nought}
+use Rattle.char2_algebra.proofs.{Degree.len-add, Degree.len-con-le, Degree.len-x-mul-le, Lead.monic-nonzero}
+use Rattle.class_group.proofs.{Rows.Even, EvenRoot.even-root}
 use Rattle.class_group.specs.Half.{Triple, halved, quadratic}
 use Rattle.jacobian.specs.Halving.{even-quartic, root-pair}
 

@@ -13,7 +13,7 @@ use Rattle.jacobian.specs.declared.Class.{Class}
 use Rattle.jacobian.specs.Classes.{shape-refusal, range-refusal, class-refusal}
 use Rattle.jacobian.proofs.ByValue.Checks.{ClassPasses}
 
-zero-then : (m n : ℕ) → m ≡ 0 → n ≡ 0 → m then n ≡ 0
+pub zero-then : (m n : ℕ) → m ≡ 0 → n ≡ 0 → m then n ≡ 0
 unfolding _then_
 zero-then zero n e f = f
 zero-then (suc m) n e f = e

@@ -3,7 +3,7 @@ use native.Mathlib.Omega.{arith}
 use borrow.Author.Needs.{needs}
 use Rattle.jacobian.proofs.Rows.Elements.{one-lt}
 use Rattle.jacobian.proofs.DoubleRows.{reduced-semi}
-use Rattle.jacobian.proofs.ComposeRows.{Common, sum-len, third-len, divisor-len, cofactor-len, common-sum-len, common-first-len, second-s-len, second-t-len, e-nonzero, parts-len, part₁-nonzero, part₂-nonzero, common-stands}
+use Rattle.jacobian.proofs.ComposeRows.{Common, sum-len, third-len, divisor-len, cofactor-short, sum-short, first-short, second-s-short, second-t-short, e-nonzero, part₁-short, part₂-short, part₁-nonzero, part₂-nonzero, common-stands}
 use Rattle.jacobian.proofs.composition.compose_common.Statement.{statement}
 use Rattle.jacobian.proofs.composition.compose_common.Tie as tie
 
@@ -46,26 +46,13 @@ cofactor-requires : tie.Need-cofactor-requires
 unfolding start
 cofactor-requires c κs = let s = start (c .before) in (s .pre .0, reduced-semi (s .args .d) (s .pre .1))
 
-multiplier-requires : tie.Need-multiplier-requires
+multiple-row-requires : tie.Need-multiple-row-requires
 unfolding start
-multiplier-requires c κs =
+multiple-row-requires c κs =
     let e = c .before .before in
     let s = start e in
     let k = common e in
-    let W = c .cofactor .ensures in
-    let A = s .pre .1 in (
-      s .pre .0,
-      k .sum-is .in-range,
-      W (A .C) (A .on-curve) .in-range,
-      k .first-is .s-range,
-      k .second-is .s-range,
-      k .second-is .t-range,
-      common-sum-len k,
-      cofactor-len (s .args .d) A W,
-      common-first-len k,
-      second-s-len k,
-      second-t-len k,
-    )
+    (s .pre .0, sum-short k, cofactor-short (s .args .d) (s .pre .1) (c .cofactor .ensures), first-short k, second-s-short k, second-t-short k)
 
 divide-requires : tie.Need-divide-requires
 unfolding start
@@ -91,11 +78,10 @@ joined-rows-requires c κs =
     let D = h .divide .ensures .0 in
     let E = c .before .before .divide2 .ensures .0 in (
       s .pre .0,
-      D .in-range,
-      E .in-range,
+      part₁-short k D E,
+      part₂-short k D E,
       s .pre .1 .v-range,
-      h .before .multiplier .ensures .in-range,
-      parts-len k D E,
+      h .before .multiple-row .ensures .in-range,
       part₁-nonzero k D E,
       part₂-nonzero k D E,
     )
@@ -105,7 +91,7 @@ unfolding start
 returns c =
     let h = c .before .before .before .before in
     let e = h .before .before .before .before in
-    common-stands (common e) (h .divide .ensures .0) (c .before .before .before .divide2 .ensures .0) (h .before .before .cofactor .ensures) (h .before .multiplier .ensures) (c .joined-rows .ensures)
+    common-stands (common e) (h .divide .ensures .0) (c .before .before .before .divide2 .ensures .0) (h .before .before .cofactor .ensures) (h .before .multiple-row .ensures) (c .joined-rows .ensures)
 
 pub compose-common-spec : {M : Type 1} → statement M
 compose-common-spec =
@@ -116,7 +102,7 @@ compose-common-spec =
     add-rows-requires-2
     bezout-requires
     cofactor-requires
-    multiplier-requires
+    multiple-row-requires
     divide-requires
     divide-requires-2
     joined-rows-requires

@@ -2,7 +2,7 @@
 use native.Mathlib.Omega.{arith}
 use borrow.Author.Needs.{needs}
 use Rattle.jacobian.proofs.DoubleRows.{reduced-len}
-use Rattle.jacobian.proofs.ComposeRows.{u-nonzero, sum-len, first-len, coprime-stands}
+use Rattle.jacobian.proofs.ComposeRows.{u-nonzero, u-short, sum-len, first-len, coprime-stands}
 use Rattle.jacobian.proofs.composition.compose_rows.Statement.{statement}
 use Rattle.jacobian.proofs.composition.compose_rows.Tie as tie
 
@@ -43,11 +43,10 @@ joined-rows-requires c κs =
     let A = s .pre .1 in
     let B = s .pre .2 in (
       s .pre .0,
-      A .u-range,
-      B .u-range,
+      u-short d A,
+      u-short d B,
       A .v-range,
       c .multiply .ensures .in-range,
-      omega (arith, reduced-len d A .0, reduced-len d B .0),
       u-nonzero d A,
       u-nonzero d B,
     )

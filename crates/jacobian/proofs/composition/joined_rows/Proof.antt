@@ -16,8 +16,8 @@ multiply-requires-2 c κs =
     let s = c .before .before .before in
     let a = s .args in
     let k = c .before .divide .ensures .1 in
-    let l = joined-less (a .d) (a .d1) (a .d2) (a .m) (c .before .before .multiply .ensures) (s .pre .6) (s .pre .7) k in
-    (s .pre .0, s .pre .1, k .in-range, omega (arith, l, s .pre .5))
+    let l = joined-less (a .d) (a .d1) (a .d2) (a .m) (c .before .before .multiply .ensures) (s .pre .5) (s .pre .6) k in
+    (s .pre .0, s .pre .1 .in-range, k .in-range, omega (arith, l, s .pre .1 .len-le, s .pre .2 .len-le))
 
 add-rows-requires : tie.Need-add-rows-requires
 add-rows-requires c κs = search needs
@@ -30,7 +30,7 @@ divide-requires-2 c κs =
       s .pre .0,
       c .add-rows .ensures .in-range,
       u .in-range,
-      joined-nonzero (a .d) (a .d1) (a .d2) (a .m) u (s .pre .6) (s .pre .7) (c .before .before .before .divide .ensures .1),
+      joined-nonzero (a .d) (a .d1) (a .d2) (a .m) u (s .pre .5) (s .pre .6) (c .before .before .before .divide .ensures .1),
     )
 
 returns : tie.Need-returns
@@ -38,7 +38,7 @@ returns c =
     let s = c .before .before .before .before .before .before .before in
     let a = s .args in
     let e = c .before .before .before in
-    joined-stands (a .d) (a .d1) (a .d2) (a .m) (e .before .before .before .multiply .ensures) (s .pre .6) (s .pre .7) (e .before .before .divide .ensures .1)
+    joined-stands (a .d) (a .d1) (a .d2) (a .m) (e .before .before .before .multiply .ensures) (s .pre .5) (s .pre .6) (e .before .before .divide .ensures .1)
     (a .v1) (e .multiply2 .ensures) (c .before .before .add-rows .ensures) (c .before .divide2 .ensures .1)
 
 pub joined-rows-spec : {M : Type 1} → statement M

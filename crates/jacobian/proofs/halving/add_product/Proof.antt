@@ -1,3 +1,4 @@
+-- `add_product` meets its contract: the sum of a and what the product stands for.
 use mathlib.Core.Path.{ap}
 use Rattle.jacobian.specs.Field.{𝔸, poly}
 use Rattle.jacobian.proofs.HalfRows.Rows.{stands-eq}

@@ -1,6 +1,7 @@
+-- `first_lift` meets its contract: the square of √w3 is w3, so no coefficient is squared.
 use Rattle.jacobian.proofs.Rows.Elements.{zero-lt}
 use Rattle.jacobian.proofs.HalfRows.Rows.{quartic-fits}
-use Rattle.jacobian.proofs.HalfRows.Computed3.{first-lift-stands}
+use Rattle.jacobian.proofs.HalfRows.Parts3.{first-lift-stands}
 use borrow.Author.Needs.{needs}
 use Rattle.jacobian.proofs.halving.first_lift.Statement.{statement}
 use Rattle.jacobian.proofs.halving.first_lift.Tie as tie

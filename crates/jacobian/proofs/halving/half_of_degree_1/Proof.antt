@@ -1,3 +1,4 @@
+-- `half_of_degree_1` meets its contract: its calls give the lift of the rule (proofs/Halving/Computed1.antt).
 use native.Mathlib.Omega.{arith}
 use Rattle.jacobian.proofs.HalfRows.Rows.{quadratic-fits, quartic-fits}
 use Rattle.jacobian.proofs.HalfRows.Computed1.{Computed1, root-nonzero-1, result-1}

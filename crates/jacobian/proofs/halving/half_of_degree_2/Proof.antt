@@ -1,3 +1,4 @@
+-- `half_of_degree_2` meets its contract: u is a square where u1 is 0.
 use Rattle.jacobian.proofs.HalfRows.Computed2.{root-nonzero-2-square, result-2-square}
 use borrow.Author.Needs.{needs}
 use Rattle.jacobian.proofs.halving.half_of_degree_2.Statement.{statement}

@@ -1,3 +1,4 @@
+-- `half_of_degree_3` meets its contract: the first lift is a square where t is 0, else the second lift gives one (proofs/Halving/Computed3.antt, Lifted3.antt).
 use native.Mathlib.Omega.{arith}
 use Rattle.jacobian.proofs.HalfRows.Rows.{quadratic-fits}
 use Rattle.jacobian.proofs.HalfRows.Computed3.{Computed3, first-lift-short, root-nonzero-3-square, result-3-square}

@@ -1,3 +1,4 @@
+-- `lifted_half_of_degree_2` meets its contract: its calls give the lift of the rule (proofs/Halving/Computed2.antt).
 use native.Mathlib.Omega.{arith}
 use Rattle.jacobian.proofs.Rows.Elements.{one-lt}
 use Rattle.jacobian.proofs.HalfRows.Rows.{quadratic-fits, quartic-fits}

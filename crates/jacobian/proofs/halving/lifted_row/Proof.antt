@@ -1,3 +1,4 @@
+-- `lifted_row` meets its contract: w + k first, then the product.
 use mathlib.Core.Path.{ap}
 use Rattle.jacobian.specs.Field.{𝔸, poly}
 use Rattle.jacobian.proofs.HalfRows.Rows.{stands-eq}

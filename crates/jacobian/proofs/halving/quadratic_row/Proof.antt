@@ -1,3 +1,4 @@
+-- `quadratic_row` meets its contract: the row is written out.
 use Rattle.jacobian.proofs.HalfRows.Rows.{quadratic-stands}
 use Rattle.jacobian.proofs.halving.quadratic_row.Statement.{statement}
 use Rattle.jacobian.proofs.halving.quadratic_row.Tie as tie

@@ -1,3 +1,4 @@
+-- `quartic_row` meets its contract: the row is written out.
 use Rattle.jacobian.proofs.HalfRows.Rows.{quartic-stands}
 use Rattle.jacobian.proofs.halving.quartic_row.Statement.{statement}
 use Rattle.jacobian.proofs.halving.quartic_row.Tie as tie

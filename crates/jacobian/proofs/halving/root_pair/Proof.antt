@@ -1,3 +1,4 @@
+-- `root_pair` meets its contract: the root is not 0, and v is divided by it.
 use mathlib.Core.Path.{sym, _∙_}
 use Rattle.jacobian.proofs.HalfRows.Rows.{root-pair-stands}
 use borrow.Author.Needs.{needs}

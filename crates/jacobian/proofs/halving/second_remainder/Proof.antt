@@ -1,7 +1,8 @@
+-- `second_remainder` meets its contract: both remainders are by the same divisor of length 4.
 use native.Mathlib.Omega.{arith}
 use Rattle.jacobian.proofs.Rows.Elements.{zero-lt, one-lt}
 use Rattle.jacobian.proofs.HalfRows.Rows.{quadratic-fits}
-use Rattle.jacobian.proofs.HalfRows.Computed3.{divisor-nonzero, remainder-len, sum-len, second-remainder-stands}
+use Rattle.jacobian.proofs.HalfRows.Parts3.{divisor-nonzero, remainder-len, sum-len, second-remainder-stands}
 use borrow.Author.Needs.{needs}
 use Rattle.jacobian.proofs.halving.second_remainder.Statement.{statement}
 use Rattle.jacobian.proofs.halving.second_remainder.Tie as tie

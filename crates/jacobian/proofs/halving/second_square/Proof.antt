@@ -1,6 +1,7 @@
+-- `second_square` meets its contract: the summands as the rows stand for them.
 use Rattle.jacobian.proofs.Rows.Elements.{zero-lt, one-lt}
 use Rattle.jacobian.proofs.HalfRows.Rows.{quartic-fits}
-use Rattle.jacobian.proofs.HalfRows.Computed3.{second-square-stands}
+use Rattle.jacobian.proofs.HalfRows.Parts3.{second-square-stands}
 use borrow.Author.Needs.{needs}
 use Rattle.jacobian.proofs.halving.second_square.Statement.{statement}
 use Rattle.jacobian.proofs.halving.second_square.Tie as tie

@@ -1,3 +1,4 @@
+-- `stepped_row` meets its contract: the row of 1 is added to v + k u.
 use Rattle.jacobian.proofs.Rows.Elements.{zero-lt, one-lt}
 use Rattle.jacobian.proofs.HalfRows.Rows.{stepped-stands}
 use borrow.Author.Needs.{needs}

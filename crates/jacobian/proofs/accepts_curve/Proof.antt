@@ -1,0 +1,20 @@
+-- `accepts_curve` meets its contract.
+use Rattle.jacobian.specs.Answer.{curve-answer}
+use Rattle.jacobian.proofs.ByValue.Answers.{refused-verdict, accepted-verdict}
+use borrow.Author.Needs.{needs}
+use Rattle.jacobian.proofs.accepts_curve.Statement.{statement}
+use Rattle.jacobian.proofs.accepts_curve.Tie as tie
+
+curve-due-requires : tie.Need-curve-due-requires
+curve-due-requires c κs = search needs
+
+returns : tie.Need-returns
+unfolding curve-answer
+returns c = refused-verdict (c .before .curve-due .ensures) (c .if1 .taken)
+
+returns-2 : tie.Need-returns-2
+unfolding curve-answer
+returns-2 c = accepted-verdict (c .before .curve-due .ensures) (c .if1 .left)
+
+pub accepts-curve-spec : {M : Type 1} → statement M
+accepts-curve-spec = tie.close (tie.spec curve-due-requires returns returns-2)
