@@ -1,0 +1,113 @@
+-- What the checks of a register and of the calls on it show where none of them refuses, and what a call then answers.
+use Prim.Native.Nat.{ℕ, zero, suc, _≤_, _<_}
+use mathlib.Core.Path.{_≡_, refl, sym, _∙_, ap}
+use native.Mathlib.Omega.{arith}
+use borrow.Author.Tests.{ltb-true, leb-true, lt-ltb, le-leb}
+use Rattle.jacobian.specs.Checks.{unless, _then_}
+use Rattle.jacobian.specs.Curves.{curve-refusal}
+use Rattle.jacobian.specs.Classes.{class-refusal}
+use Rattle.jacobian.specs.Answer.{accepted, refused}
+use Rattle.history.specs.Register.{limit, register-refusal, commit-refusal, undo-refusal, RegisterReply, follows}
+use Rattle.jacobian.specs.declared.Class.{Class}
+use Rattle.history.specs.declared.Register.{Register}
+use Rattle.jacobian.proofs.ByValue.Checks.{then-zero, unless-zero}
+
+-- ---- a register that passes its own checks
+pub record Passes (r : Register) : Type 0 where
+  pub curve-passes : curve-refusal (r .curve) ≡ 0
+  pub count-passes : r .count ≤ limit
+  pub seal-passes : class-refusal (r .curve) (r .seal) ≡ 0
+
+pub register-passes : (r : Register) → register-refusal r ≡ 0 → Passes r
+unfolding register-refusal
+register-passes r e =
+    let h = then-zero _ _ e in
+    let k = then-zero _ _ (h .1) in
+    record { curve-passes = h .0; count-passes = leb-true _ _ (unless-zero _ 108 (k .0)); seal-passes = k .1 }
+
+pub passes-register : (r : Register) → Passes r → register-refusal r ≡ 0
+unfolding register-refusal unless _then_
+passes-register r p = rw (p .curve-passes, le-leb (r .count) limit (p .count-passes)) (p .seal-passes)
+
+-- ---- a call that passes: the register, the class and a bound on the count
+pub record Passing (Bound : Type 0) (r : Register) (a : Class) : Type 0 where
+  pub register : Passes r
+  pub class-passes : class-refusal (r .curve) a ≡ 0
+  pub bound : Bound
+
+module _ (r : Register) (a : Class) where
+  pub commit-passes : commit-refusal r a ≡ 0 → Passing (r .count < limit) r a
+  unfolding commit-refusal
+  commit-passes e =
+      let h = then-zero _ _ e in
+      let k = then-zero _ _ (h .1) in
+      record { register = register-passes r (h .0); class-passes = k .0; bound = ltb-true _ _ (unless-zero _ 113 (k .1)) }
+
+  pub passes-commit : Passing (r .count < limit) r a → commit-refusal r a ≡ 0
+  unfolding commit-refusal unless _then_
+  passes-commit p = rw (passes-register r (p .register), p .class-passes, lt-ltb (r .count) limit (p .bound))
+
+  pub undo-passes : undo-refusal r a ≡ 0 → Passing (0 < r .count) r a
+  unfolding undo-refusal
+  undo-passes e =
+      let h = then-zero _ _ e in
+      let k = then-zero _ _ (h .1) in
+      record { register = register-passes r (h .0); class-passes = k .0; bound = ltb-true _ _ (unless-zero _ 112 (k .1)) }
+
+  pub passes-undo : Passing (0 < r .count) r a → undo-refusal r a ≡ 0
+  unfolding undo-refusal unless _then_
+  passes-undo p = rw (passes-register r (p .register), p .class-passes, lt-ltb 0 (r .count) (p .bound))
+
+-- ---- what a call answers
+module _ (n : ℕ) (given next : Register) where
+  pub follows-accepted : follows n given next .outcome ≡ accepted → n ≡ 0
+  unfolding follows
+  follows-accepted e = go n e
+    where
+      go : (m : ℕ) → follows m given next .outcome ≡ accepted → m ≡ 0
+      go zero e = refl
+      go (suc m) e = let z : _≡_ {A = ℕ} 0 1 = cc in absurd (omega arith)
+
+  pub follows-zero : n ≡ 0 → follows n given next ≡ record { outcome = accepted; register = next }
+  unfolding follows
+  follows-zero e = rw e
+
+  pub follows-refused : ¬ (n ≡ 0) → follows n given next ≡ record { outcome = refused n; register = given }
+  unfolding follows
+  follows-refused h = go n h
+    where
+      go : (m : ℕ) → ¬ (m ≡ 0) → follows m given next ≡ record { outcome = refused m; register = given }
+      go zero h = absurd (h refl)
+      go (suc m) h = refl
+
+  -- a refused call hands back the register given
+  pub follows-stays : (m : ℕ) → follows n given next .outcome ≡ refused m → follows n given next .register ≡ given
+  unfolding follows
+  follows-stays m e = go n e
+    where
+      go : (k : ℕ) → follows k given next .outcome ≡ refused m → follows k given next .register ≡ given
+      go zero e = let z : _≡_ {A = ℕ} 0 1 = cc in absurd (omega arith)
+      go (suc k) e = refl
+
+  -- whatever holds of the register given and of the one that follows holds of the one handed back
+  pub follows-either : (P : Register → Type 0) → P given → P next → P (follows n given next .register)
+  unfolding follows
+  follows-either P g h = go n
+    where
+      go : (k : ℕ) → P (follows k given next .register)
+      go zero = h
+      go (suc k) = g
+
+-- what is answered at one number is answered at its equal
+pub at-number : (given next : Register) {n m : ℕ} → n ≡ m → {x : RegisterReply} → x ≡ follows n given next → x ≡ follows m given next
+at-number given next e h = h ∙ ap (λ k. follows k given next) e
+
+-- an accepted call hands back the register that follows
+pub at-none : (given next : Register) {n : ℕ} {t : Register} → n ≡ 0 → t ≡ next → _≡_ {A = RegisterReply} (record { outcome = accepted; register = t }) (follows n given next)
+at-none given next {n} z e = ap (λ s. record { outcome = accepted; register = s }) e ∙ sym (follows-zero n given next z)
+
+-- a refusal of the first check is the refusal
+pub then-first : (m n : ℕ) → ¬ (m ≡ 0) → m then n ≡ m
+unfolding _then_
+then-first zero n h = absurd (h refl)
+then-first (suc m) n h = refl

@@ -1,0 +1,65 @@
+-- Demand 3 on walks (document 01, 'The register'): where the accepted calls of a list are all commits, a walk from the last seal over their classes,
+-- newest first, meets the seals just before them.
+-- `walk-steps`: no step is refused, and each answers the seal just before its commit. `walk-meets`: all seals of the walk. `walk-ends`: where the walk over
+-- the k newest classes ends, and `walk-part`: that no step of it is refused. `accepted-few`: the accepted commits are no more than the limit.
+use Prim.Native.Nat.{ℕ, _≤_}
+use mathlib.Core.Path.{_≡_, refl, sym, _∙_, ap, ap₂}
+use mathlib.Core.List.{List, [], _∷_, map, map-map}
+use lib.ListN.{length, take, getD, length-map}
+use Rattle.class_group.specs.Walk.{All, none, more, walk}
+use Rattle.jacobian.specs.Answer.{accepted, Reply}
+use Rattle.history.specs.Register.{limit, earlier}
+use Rattle.history.specs.Calls.{Call, undo, class, back, Event, run, last, newest, backs, taken-back, turned, classes, OnlyCommits, seals-back, walk-back, steps-back}
+use Rattle.history.specs.declared.Register.{Register}
+use Rattle.history.proofs.Steps.{undos-steps, undos-few, steps-walk, walk-at, steps-take}
+use Rattle.history.proofs.TakingBack.{Fits, all-map, last-curve, taken-back-turned, taken-back-accepted}
+
+-- commits are taken back by undos of their classes
+backs-of-commits : (es : List Event) → OnlyCommits es → backs es ≡ map undo (classes es)
+unfolding backs classes back
+backs-of-commits [] none = refl
+backs-of-commits (e ∷ es) (more h hs) = ap₂ (λ c l. back c ∷ l) h (backs-of-commits es hs)
+
+module _ (r : Register) (cs : List Call) (fits : Fits r cs) (only : OnlyCommits (newest r cs)) where
+  -- the taking back is a run of accepted undos
+  undos-are : taken-back r cs ≡ run (last r cs) (map undo (classes (newest r cs)))
+  unfolding taken-back
+  undos-are = ap (run (last r cs)) (backs-of-commits (newest r cs) only)
+
+  undos-accepted : All (λ e. e .outcome ≡ accepted) (run (last r cs) (map undo (classes (newest r cs))))
+  undos-accepted = rw undos-are at (taken-back-accepted r cs fits)
+
+  -- the steps of the walk are all accepted, and answer the seals just before the commits
+  pub walk-steps : steps-back (r .curve) (last r cs .seal) (classes (newest r cs)) ≡ map (λ e. record { outcome = accepted; class = e .before .seal }) (newest r cs)
+  unfolding turned
+  walk-steps =
+      ap (λ c. steps-back c (last r cs .seal) (classes (newest r cs))) (sym (last-curve r cs))
+      ∙ undos-steps (last r cs) (classes (newest r cs)) undos-accepted
+      ∙ ap (map (λ e. record { outcome = accepted; class = e .left .seal })) (sym undos-are ∙ taken-back-turned r cs fits)
+      ∙ map-map (λ e. record { outcome = accepted; class = e .left .seal }) turned (newest r cs)
+
+  -- all seals of the walk, the last seal first
+  pub walk-meets : walk (earlier (r .curve)) (last r cs .seal) (classes (newest r cs)) ≡ seals-back r cs
+  unfolding seals-back
+  walk-meets =
+      steps-walk (r .curve) (last r cs .seal) (classes (newest r cs)) (rw walk-steps (all-map (λ e. record { outcome = accepted; class = e .before .seal }) (λ e. refl) (newest r cs)))
+      ∙ ap (λ l. last r cs .seal ∷ map (λ x. x .class) l) walk-steps
+      ∙ ap (λ l. last r cs .seal ∷ l) (map-map (λ (x : Reply). x .class) (λ e. record { outcome = accepted; class = e .before .seal }) (newest r cs))
+
+  -- the walk over the k newest classes ends in the seal just before the k-th newest commit, and for k = 0 in the last seal
+  pub walk-ends : (k : ℕ) → k ≤ length (newest r cs)
+      → walk-back (r .curve) (last r cs .seal) (take k (classes (newest r cs))) ≡ getD (seals-back r cs) k (last r cs .seal)
+  unfolding walk-back classes
+  walk-ends k h =
+      walk-at (earlier (r .curve)) (last r cs .seal) (classes (newest r cs)) k (last r cs .seal) (rw length-map h)
+      ∙ ap (λ l. getD l k (last r cs .seal)) walk-meets
+
+  -- and no step of it is refused
+  pub walk-part : (k : ℕ) → steps-back (r .curve) (last r cs .seal) (take k (classes (newest r cs)))
+      ≡ take k (map (λ e. record { outcome = accepted; class = e .before .seal }) (newest r cs))
+  walk-part k = steps-take (r .curve) (last r cs .seal) (classes (newest r cs)) k ∙ ap (take k) walk-steps
+
+  -- no more commits were accepted than the limit
+  pub accepted-few : length (newest r cs) ≤ limit
+  unfolding classes
+  accepted-few = rw length-map at (undos-few (last r cs) (classes (newest r cs)) undos-accepted)

@@ -1,0 +1,29 @@
+-- `followed` meets its contract.
+use mathlib.Core.Path.{sym, _∙_, ap}
+use Rattle.history.specs.Register.{moved}
+use Rattle.history.proofs.Registers.{at-number, at-none}
+use Rattle.history.proofs.Answers.{number-answered, class-answered}
+use borrow.Author.Needs.{needs}
+use Rattle.history.proofs.followed.Statement.{statement}
+use Rattle.history.proofs.followed.Tie as tie
+
+outcome-number-requires : tie.Need-outcome-number-requires
+outcome-number-requires c κs = search needs
+
+kept-requires : tie.Need-kept-requires
+kept-requires c κs = search needs
+
+returns : tie.Need-returns
+returns c d n D e =
+    let s = c .before .before .before in
+    at-number (s .args .r) _ (c .before .before .outcome-number .ensures ∙ number-answered (s .args .step) d n D e) (c .kept .ensures _)
+
+returns-2 : tie.Need-returns-2
+unfolding moved
+returns-2 c d n D e =
+    let s = c .before .before .before .before in
+    let z = sym (c .before .before .before .outcome-number .ensures ∙ number-answered (s .args .step) d n D e) ∙ c .before .before .if1 .left in
+    at-none (s .args .r) _ z (ap (λ t. moved (s .args .count) t (s .args .r)) (class-answered (s .args .step) d n D e z))
+
+pub followed-spec : {M : Type 1} → statement M
+followed-spec = tie.close (tie.spec outcome-number-requires kept-requires returns returns-2)
