@@ -4,3 +4,6 @@ pub mod Lengths
 pub mod Readings
 pub mod Heads
 pub mod Readers
+pub mod Parts
+pub mod Bodies
+pub mod RoundTrips

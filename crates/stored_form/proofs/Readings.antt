@@ -32,6 +32,23 @@ module _ {A B : Type 0} (f : A → ℕ → Reading B) where
   both-found (found a n) h = (a, n, refl, h)
   both-found (refused k) h = absurd (found-not-refused h)
 
+  -- a check goes before what follows it
+  pub then-refuse : (k : ℕ) (b : Bool) (a : A) (next : ℕ) → (refuse k b (found a next) then f) ≡ refuse k b (f a next)
+  unfolding _then_
+  then-refuse k true a next = refl
+  then-refuse k false a next = refl
+
+  pub then-same : (x : Reading A) {g : A → ℕ → Reading B} → ((a : A) (n : ℕ) → f a n ≡ g a n) → (x then f) ≡ (x then g)
+  unfolding _then_
+  then-same (found a n) e = e a n
+  then-same (refused k) e = refl
+
+pub then-assoc : {A B C : Type 0} (x : Reading A) (f : A → ℕ → Reading B) (g : B → ℕ → Reading C) →
+    (x then f then g) ≡ (x then λ a n. f a n then g)
+unfolding _then_
+then-assoc (found a n) f g = refl
+then-assoc (refused k) f g = refl
+
 -- a refusal and its number
 pub refused-number : {A : Type 0} {x : Reading A} {n k : ℕ} → x ≡ refused n → k ≡ number x → x ≡ refused k
 refused-number e q = e ∙ sym (ap refused (q ∙ ap number e))

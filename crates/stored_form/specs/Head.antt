@@ -1,5 +1,6 @@
 -- Tags, the lengths that each allows, and the head of a field (document 01, 'Stored form' and 'In checking order').
 use Prim.Native.Nat.{ℕ, _+_}
+use mathlib.Core.Path.{_≡_}
 use mathlib.Core.Bool.{Bool, false, not, cond, _||_}
 use mathlib.Core.List.{List, _∷_, _++_}
 use lib.ListN.{length, getD}
@@ -46,6 +47,14 @@ abbrev pub head-read : Head → Reading ℕ
 head-read (Body n next) = found n (next .at)
 head-read (Refused n) = refused n
 
--- a field as it is written: the tag, the body's length in two bytes, the body
+-- a head as it is written: the tag, and the body's length in two bytes
+unfoldable pub head-bytes : ℕ → ℕ → List ℕ
+head-bytes tag n = tag ∷ bytes-of 2 n
+
+-- a field as it is written
 unfoldable pub stored : ℕ → List ℕ → List ℕ
-stored tag body = tag ∷ bytes-of 2 (length body) ++ body
+stored tag body = head-bytes tag (length body) ++ body
+
+-- these bytes stand at a place
+abbrev pub Stands : List ℕ → ℕ → List ℕ → Type 0
+Stands s at xs = part s at (length xs) ≡ xs

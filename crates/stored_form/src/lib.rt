@@ -5,8 +5,8 @@ ghost use Prim.Native.Nat.{_-_, _+_, _≤_};
 ghost use lib.ListN.{length};
 ghost use Rattle.stored_form.specs.Number.{part};
 ghost use Rattle.stored_form.specs.Reading.{number};
-ghost use Rattle.stored_form.specs.Head.{head-at, head-read, class-length, allowed};
-ghost use Rattle.stored_form.specs.Fields.{degree-at, degree-read, count-at, count-read, drawing-place, drawing-read, printable, end-due};
+ghost use Rattle.stored_form.specs.Head.{head-at, head-read, head-bytes, class-length, allowed};
+ghost use Rattle.stored_form.specs.Fields.{degree-at, degree-read, count-at, count-read, degree-field, count-field, drawing-place, drawing-read, printable, end-due};
 
 mod numbers;
 
@@ -236,4 +236,25 @@ pub fn end_at(s: &[u8], at: Cursor) -> u32
         return 112;
     }
     0
+}
+
+// The field of a degree.
+pub fn degree_field(d: u8) -> [u8; 4]
+    ensures { λ r. ⌜ r ≡ degree-field d ⌝ }
+{
+    [DEGREE, 0, 1, d]
+}
+
+// The field of a count.
+pub fn count_field(n: u16) -> [u8; 5]
+    ensures { λ r. ⌜ r ≡ count-field n ⌝ }
+{
+    [COUNT, 0, 2, (n / 256) as u8, (n % 256) as u8]
+}
+
+// The head of a drawing number's field; its bytes follow as they are.
+pub fn drawing_head(len: u8) -> [u8; 3]
+    ensures { λ r. ⌜ r ≡ head-bytes 0x46 len ⌝ }
+{
+    [DRAWING, 0, len]
 }
