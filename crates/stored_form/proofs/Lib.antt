@@ -7,3 +7,6 @@ pub mod Readers
 pub mod Parts
 pub mod Bodies
 pub mod RoundTrips
+pub mod Verdicts
+pub mod Items
+pub mod ClassReaders

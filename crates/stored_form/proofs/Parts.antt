@@ -8,7 +8,7 @@ use lib.Seq.{take-nil, take-take, drop-drop, take-add, drop-cons, getD-take, get
 use Rattle.stored_form.specs.Number.{part}
 use Rattle.stored_form.specs.Head.{Stands}
 
-drop-take : (i k : ℕ) (l : List ℕ) → drop i (take k l) ≡ take (k - i) (drop i l)
+pub drop-take : (i k : ℕ) (l : List ℕ) → drop i (take k l) ≡ take (k - i) (drop i l)
 drop-take zero k l = let e : k - 0 ≡ k = omega arith in rw e
 drop-take (suc i) zero l = let e : 0 - suc i ≡ 0 = omega arith in rw e
 drop-take (suc i) (suc k) [] = sym (take-nil (suc k - suc i))

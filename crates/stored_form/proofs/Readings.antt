@@ -1,13 +1,28 @@
 -- Readings one after the other: what a check or a field that was passed says.
-use Prim.Native.Nat.{ℕ}
+use Prim.Native.Nat.{ℕ, zero, suc}
 use mathlib.Core.Path.{_≡_, refl, sym, ap, _∙_}
 use mathlib.Core.Bool.{Bool, true, false}
 use native.Mathlib.Omega.{arith}
-use Rattle.stored_form.specs.Reading.{Reading, found, refused, refuse, _then_, number}
+use Rattle.stored_form.specs.Reading.{Reading, found, refused, refuse, due, _then_, number}
 
 module _ {A : Type 0} where
   pub found-not-refused : {k next : ℕ} {a : A} → _≡_ {A = Reading A} (refused k) (found a next) → ⊥
   found-not-refused h = let z : _≡_ {A = ℕ} 0 1 = cc in omega arith
+
+  -- checks made elsewhere
+  pub due-some : (n : ℕ) (r : Reading A) → (n ≡ 0 → ⊥) → due n r ≡ refused n
+  unfolding due
+  due-some zero r h = absurd (h refl)
+  due-some (suc n) r h = refl
+
+  pub due-none : (n : ℕ) (r : Reading A) → n ≡ 0 → due n r ≡ r
+  unfolding due
+  due-none n r e = rw e
+
+  pub due-found : (n : ℕ) (r : Reading A) {a : A} {next : ℕ} → due n r ≡ found a next → (n ≡ 0) × (r ≡ found a next)
+  unfolding due
+  due-found zero r h = (refl, h)
+  due-found (suc n) r h = absurd (found-not-refused h)
 
   pub same-found : {a b : A} {m n : ℕ} → found a m ≡ found b n → (a ≡ b) × (m ≡ n)
   same-found h = (cc, cc)

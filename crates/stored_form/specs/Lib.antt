@@ -3,3 +3,5 @@ pub mod Number
 pub mod Reading
 pub mod Head
 pub mod Fields
+pub mod Elements
+pub mod Classes

@@ -1,5 +1,5 @@
 -- What reading a field gives, and readings one after the other (document 01, 'In checking order').
-use Prim.Native.Nat.{ℕ}
+use Prim.Native.Nat.{ℕ, zero, suc}
 use mathlib.Core.Bool.{Bool, cond}
 
 -- the field's value and the place where the next field begins, or the refusal's number
@@ -10,6 +10,11 @@ pub data Reading (A : Type 0) : Type 0 where
 -- a check: the number where its condition holds, else what follows it
 abbrev pub refuse : {A : Type 0} → ℕ → Bool → Reading A → Reading A
 refuse n b r = cond b (refused n) r
+
+-- checks made elsewhere: the number of the refusal that is due, where 0 is none, else what follows
+unfoldable pub due : {A : Type 0} → ℕ → Reading A → Reading A
+due zero r = r
+due (suc n) r = refused (suc n)
 
 infixl 20 _then_
 -- a field is begun only where the one before it was found

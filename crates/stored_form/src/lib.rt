@@ -8,6 +8,7 @@ ghost use Rattle.stored_form.specs.Reading.{number};
 ghost use Rattle.stored_form.specs.Head.{head-at, head-read, head-bytes, class-length, allowed};
 ghost use Rattle.stored_form.specs.Fields.{degree-at, degree-read, count-at, count-read, degree-field, count-field, drawing-place, drawing-read, printable, end-due};
 
+pub mod classes;
 mod numbers;
 
 // The tags.
@@ -135,7 +136,7 @@ pub fn head_at(s: &[u8], at: Cursor, tag: u8) -> Head
 }
 
 // The number of a head's refusal, and 0 where a head was found.
-fn head_refusal(h: Head) -> u32
+pub(crate) fn head_refusal(h: Head) -> u32
     ensures { λ r. ⌜ r ≡ number (head-read h) ⌝ }
 {
     match h {
