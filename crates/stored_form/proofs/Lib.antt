@@ -12,3 +12,4 @@ pub mod Items
 pub mod ClassReaders
 pub mod Stores
 pub mod ClassBytes
+pub mod ClassRoundTrips
