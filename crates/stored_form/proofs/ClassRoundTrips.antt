@@ -1,76 +1,21 @@
--- The stored form of a curve and of a class and its value determine each other: what is read was written so, and what is
--- written is read so.
-use Prim.Native.Nat.{ℕ, zero, suc, _+_, _*_, _/_, _^_, _≤_, _<_}
+-- The stored form of a class and its value determine each other: what is read was written so, and what is written is read so.
+use Prim.Native.Nat.{ℕ, zero, suc, _+_, _*_, _/_, _^_, _≤_}
 use mathlib.Core.Path.{_≡_, refl, sym, ap, ap₂, _∙_, subst, subst₂}
 use mathlib.Core.Bool.{true}
-use mathlib.Core.List.{List, [], _∷_, _++_, reverseAux}
+use mathlib.Core.List.{List, [], _∷_, _++_}
 use native.Mathlib.Omega.{arith}
-use native.Mathlib.Nat.{lt-of-lt-of-le}
-use lib.Dec.{lit<, lit≤}
-use lib.ListN.{length, getD, take, drop, length-append, length-take, length-drop, length-reverse, take-append-drop}
-use lib.Seq.{take-at, drop-at, getD-drop}
-use Rattle.jacobian.specs.Curves.{curve-refusal, f-row}
-use Rattle.jacobian.specs.Answer.{refusal}
-use Rattle.jacobian.specs.declared.Curve.{Curve}
-use Rattle.jacobian.specs.declared.Class.{Class}
-use Rattle.jacobian.proofs.Representation.Form.{Three}
-use Rattle.stored_form.specs.Number.{number-of, bytes-of, Bytes}
-use Rattle.stored_form.specs.Reading.{found}
-use Rattle.stored_form.specs.Head.{allowed, class-length, body-at, stored, Stands}
-use Rattle.stored_form.specs.Elements.{elements, element-bytes}
-use Rattle.stored_form.specs.Classes.{curve-said, curve-at, curve-field, row-said, class-said, class-at, row-written, class-field}
-use Rattle.stored_form.proofs.Digits.{bytes-number, number-bytes-small, part-bytes}
-use Rattle.stored_form.proofs.Readings.{then-found, both-found, due-found, due-none, same-found}
-use Rattle.stored_form.proofs.Lengths.{curve-length, class-length-le, class-length-even}
-use Rattle.stored_form.proofs.Items.{length-elements}
-use Rattle.stored_form.proofs.ClassBytes.{length-element-bytes, element-bytes-append}
-use Rattle.stored_form.proofs.Bodies.{body-written, body-read}
-use Rattle.stored_form.proofs.RoundTrips.{Field}
-
--- ---- elements and their bytes
-
--- every number fits an element's bytes
-abbrev pub Small : List ℕ → Type 0
-Small [] = Unit {0}
-Small (x ∷ xs) = (x < 2 ^ 64) × Small xs
-
-small-of : (r : List ℕ) → ((i : ℕ) → getD r i 0 < 2 ^ 64) → Small r
-small-of [] h = tt
-small-of (x ∷ r) h = (h 0, small-of r (λ i. h (suc i)))
-
-small-take : (n : ℕ) (r : List ℕ) → Small r → Small (take n r)
-small-take zero r h = tt
-small-take (suc n) [] h = tt
-small-take (suc n) (x ∷ r) h = (h .0, small-take n r (h .1))
-
-small-append : (xs ys : List ℕ) → Small xs → Small ys → Small (xs ++ ys)
-small-append [] ys h k = k
-small-append (x ∷ xs) ys h k = (h .0, small-append xs ys (h .1) k)
-
-small-reversed : (xs ys : List ℕ) → Small xs → Small ys → Small (reverseAux xs ys)
-small-reversed [] ys h k = k
-small-reversed (x ∷ xs) ys h k = small-reversed xs (x ∷ ys) (h .1) (h .0, k)
-
-pub elements-bytes : (xs : List ℕ) → Small xs → elements (length xs) (element-bytes xs) ≡ xs
-unfolding elements element-bytes bytes-of
-elements-bytes [] h = refl
-elements-bytes (x ∷ xs) h = ap₂ (λ (y : ℕ) (ys : List ℕ). y ∷ ys) (number-bytes-small 8 x (h .0)) (elements-bytes xs (h .1))
-
-pub bytes-elements : (k : ℕ) (s : List ℕ) → length s ≡ 8 * k → Bytes s → element-bytes (elements k s) ≡ s
-unfolding elements element-bytes
-bytes-elements zero [] h b = refl
-bytes-elements zero (x ∷ s) h b = absurd (omega arith)
-bytes-elements (suc k) s h b =
-    let first : length (take 8 s) ≡ 8 = length-take 8 s ∙ omega arith in
-    let rest : length (drop 8 s) ≡ 8 * k = length-drop 8 s ∙ omega arith in
-    ap₂ (λ (xs ys : List ℕ). xs ++ ys)
-    (ap (λ (j : ℕ). bytes-of j (number-of (take 8 s))) (sym first) ∙ bytes-number (take 8 s) (part-bytes s b 0 8))
-    (bytes-elements k (drop 8 s) rest (λ i. rw getD-drop (b (8 + i))))
-    ∙ take-append-drop 8 s
-
--- numbers below 2^d fit an element's bytes
-fits : (d : ℕ) {n : ℕ} → 2 ^ d ≤ 2 ^ 61 → n < 2 ^ d → n < 2 ^ 64
-fits d le lt = lt-of-lt-of-le (lt-of-lt-of-le lt le) (lit≤ tt)
+use lib.Dec.{lit≤}
+use lib.ListN.{length, getD, take, drop, length-append, length-take, length-drop, take-append-drop}
+use lib.Seq.{take-at, drop-at}
+use Rattle.jacobian.specs.{Answer.refusal, declared.Curve.Curve, declared.Class.Class}
+use Rattle.jacobian.proofs.{ByValue.Degrees.by-degree, ByValue.Threes.by-three, ByValue.Answers.passes, Representation.Form.Three}
+use Rattle.stored_form.specs.{Number.Bytes, Reading.found, Head.allowed, Head.class-length, Head.body-at, Head.stored, Head.Stands}
+use Rattle.stored_form.specs.{Elements.elements, Elements.element-bytes}
+use Rattle.stored_form.specs.Classes.{row-said, class-said, class-at, row-written, class-field}
+use Rattle.stored_form.proofs.{Readings.then-found, Readings.both-found, Readings.due-found, Readings.due-none, Readings.same-found}
+use Rattle.stored_form.proofs.{Lengths.class-length-le, Lengths.class-length-even, Items.length-elements, ClassBytes.length-row}
+use Rattle.stored_form.proofs.ElementBytes.{Small, small-of, small-take, small-append, small-reversed, elements-bytes, bytes-elements, fits, length-element-bytes, element-bytes-append}
+use Rattle.stored_form.proofs.{Bodies.body-written, Bodies.body-read, RoundTrips.Field}
 
 -- ---- rows and the order in which they are stored
 
@@ -94,52 +39,6 @@ row-ahead n r long le =
     go (suc (suc zero)) le x y z h = rw (h 2 (lit≤ tt))
     go (suc (suc (suc zero))) le x y z h = refl
     go (suc (suc (suc (suc n)))) le x y z h = absurd (omega arith)
-
-length-row : (n : ℕ) (r : List ℕ) → length r ≡ 3 → n ≤ 3 → length (row-written n r) ≡ n
-unfolding row-written
-length-row n r h le = length-reverse (take n r) ∙ length-take n r ∙ omega arith
-
--- ---- the curve
-
-curve-field-said : (d : ℕ) (body : List ℕ) → length body ≡ 24 → Bytes body → curve-field (curve-said d body) ≡ stored 0x41 body
-unfolding curve-field curve-said elements
-curve-field-said d body len b = ap (stored 0x41) (bytes-elements 3 body len b)
-
--- the coefficients of a curve that is not refused fit
-curve-fits : (c : Curve) → curve-refusal c ≡ 0 → Small (c .f3 ∷ c .f1 ∷ c .f0 ∷ [])
-unfolding f-row
-curve-fits c ok =
-    let p = curve-passes c ok in
-    let small = by-degree (λ d. 2 ^ d ≤ 2 ^ 61) (lit≤ tt) (lit≤ tt) (c .degree) (p .accepted) in
-    (fits (c .degree) small (p .f-below 3), (fits (c .degree) small (p .f-below 1), (fits (c .degree) small (p .f-below 0), tt)))
-
-curve-said-field : (c : Curve) → curve-refusal c ≡ 0 → curve-said (c .degree) (element-bytes (c .f3 ∷ c .f1 ∷ c .f0 ∷ [])) ≡ c
-unfolding curve-said
-curve-said-field c ok = rw (elements-bytes (c .f3 ∷ c .f1 ∷ c .f0 ∷ []) (curve-fits c ok))
-
-module _ (s : List ℕ) (at : ℕ) where
-  pub curve-written : (d : ℕ) {c : Curve} {next : ℕ} → Bytes s → curve-at d s at ≡ found c next →
-      (curve-refusal c ≡ 0) × (c .degree ≡ d) × Field s at (curve-field c) next
-  unfolding curve-at curve-said
-  curve-written d {c} {next} b h =
-      let p = both-found _ (body-at 0x41 s at) h in
-      let q = due-found (curve-refusal (curve-said d (p .0))) (found (curve-said d (p .0)) (p .1)) (p .3) in
-      let e = same-found (q .1) in
-      let w = body-written 0x41 s at b (p .2) in
-      let said = curve-field-said d (p .0) (curve-length (w .allows)) (w .bytes) in (
-        ap curve-refusal (sym (e .0)) ∙ q .0,
-        ap (λ (c : Curve). c .degree) (sym (e .0)),
-        subst₂ (λ (c : Curve) (n : ℕ). Field s at (curve-field c) n) (e .0) (e .1)
-            (subst (λ (bs : List ℕ). Field s at bs (p .1)) (sym said) (record { stands = w .stands; ends = w .ends })),
-      )
-
-  pub curve-read-back : (c : Curve) → curve-refusal c ≡ 0 → Stands s at (curve-field c) → curve-at (c .degree) s at ≡ found c (at + length (curve-field c))
-  unfolding curve-at curve-field allowed
-  curve-read-back c ok h =
-      let body : List ℕ = element-bytes (c .f3 ∷ c .f1 ∷ c .f0 ∷ []) in
-      let len : length body ≡ 24 = length-element-bytes (c .f3 ∷ c .f1 ∷ c .f0 ∷ []) in
-      then-found _ (body-read 0x41 s at body (rw len refl) (rw len (lit< tt)) h)
-      ∙ rw (curve-said-field c ok) (due-none _ _ ok)
 
 -- ---- a class
 
