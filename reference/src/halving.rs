@@ -52,16 +52,22 @@ fn points(curve: &Curve, field: Field) -> i64 {
     1 + elements().map(|x| elements().filter(|&y| on_curve(x, y)).count() as i64).sum::<i64>()
 }
 
+/// Newton's identities: the first three coefficients of a monic polynomial from the sums of the first, second and third
+/// powers of its roots.
+fn from_power_sums(sums: [i64; 3]) -> [i64; 3] {
+    let a1 = -sums[0];
+    let a2 = -(sums[1] + a1 * sums[0]) / 2;
+    let a3 = -(sums[2] + a1 * sums[1] + a2 * sums[0]) / 3;
+    [a1, a2, a3]
+}
+
 impl HalfByFrobenius<'_> {
     pub fn new(curve: &Curve) -> HalfByFrobenius<'_> {
         assert!(curve.f.coefficients().iter().all(|&c| c < 2));
-        // Newton's identities, for the sums of powers of F's six eigenvalues: 2^k + 1 less the number of points
-        let sums = SMALL_FIELDS.map(|field| (1 << field.degree) + 1 - points(curve, field));
-        let a1 = -sums[0];
-        let a2 = -(sums[1] + a1 * sums[0]) / 2;
-        let a3 = -(sums[2] + a1 * sums[1] + a2 * sums[0]) / 3;
-        assert!([a1, a2, a3].iter().all(|a| a % 2 == 0), "there is no class of order 2");
-        HalfByFrobenius { curve, a: [a1, a2, a3] }
+        // the sums of powers of F's six eigenvalues: 2^k + 1 less the number of points
+        let a = from_power_sums(SMALL_FIELDS.map(|field| (1 << field.degree) + 1 - points(curve, field)));
+        assert!(a.iter().all(|a| a % 2 == 0), "there is no class of order 2");
+        HalfByFrobenius { curve, a }
     }
 
     fn signed_multiple(&self, n: i64, class: &Class) -> Class {
@@ -94,6 +100,24 @@ mod tests {
 
     fn curves_over_two(field: Field) -> Vec<Curve> {
         (0..8).map(|i| Curve::new(field, i & 1, i >> 1 & 1, i >> 2)).collect()
+    }
+
+    /// The number of classes over the bench field, from the points over GF(2), GF(4) and GF(8) alone, is that of the
+    /// list: the value at 1 of the polynomial whose roots are the fifth powers of F's eigenvalues.
+    #[test]
+    fn numbers_of_classes() {
+        for curve in curves_over_two(BENCH) {
+            let [a1, a2, a3] = HalfByFrobenius::new(&curve).a;
+            let a = [a1, a2, a3, 2 * a2, 4 * a1, 8];
+            let mut sums: Vec<i64> = vec![6];
+            for k in 1..=15 {
+                let last = if k <= 6 { k as i64 * a[k - 1] } else { 0 };
+                sums.push(-last - (1..k.min(7)).map(|i| a[i - 1] * sums[k - i]).sum::<i64>());
+            }
+            let [b1, b2, b3] = from_power_sums([sums[5], sums[10], sums[15]]);
+            let number = 1 + b1 + b2 + b3 + 32 * b2 + 1024 * b1 + 32768;
+            assert_eq!(all_classes(&curve).len() as i64, number);
+        }
     }
 
     /// Examples 4 to 7 of document 01.

@@ -8,9 +8,11 @@
 //! - `halving`: halves found without halving rules.
 //! - `bench_classes`: every reduced class of a curve over the bench field.
 //! - `element_cases`: the cases that the program `element_trial` is run on, and the lines that it owes.
+//! - `class_cases`: the same for the program `class_trial`: calls on classes.
 //! - `random`: a small generator with a fixed seed, for cases that are the same in every run.
 
 pub mod bench_classes;
+pub mod class_cases;
 pub mod element_cases;
 pub mod field;
 pub mod halving;

@@ -1,15 +1,14 @@
 -- Classes by value and reduced classes: on an accepted curve the values that no check refuses are those that stand for reduced classes, and every
 -- reduced class has exactly one such value. The value of a reduced class stands for it on every curve: `pair-class-of` of Form.
-use Prim.Native.Nat.{ℕ, suc, _≤_, _<_, _^_}
+use Prim.Native.Nat.{ℕ, _<_, _^_}
 use mathlib.Core.Path.{_≡_, sym, _∙_, ap}
 use mathlib.Core.List.{List}
 use mathlib.Core.Logic.{_↔_}
-use native.Mathlib.Omega.{arith}
 use lib.ListN.{getD}
 use Rattle.char2_algebra.specs.Divides.{Divides}
-use Rattle.char2_algebra.proofs.Degree.{len-zero, len-nought}
+use Rattle.char2_algebra.proofs.Degree.{len-nought}
 use Rattle.char2_algebra.proofs.Lead.{monic-nonzero}
-use Rattle.char2_algebra.proofs.Division.{rem-of-divides, divides-of-rem}
+use Rattle.char2_algebra.proofs.Division.{rem-of-divides}
 use Rattle.class_group.specs.Mumford.{Pair, Reduced, value}
 use Rattle.jacobian.specs.Field.{degree-of, Poly, 𝔸}
 use Rattle.jacobian.specs.Row.{InRange}
@@ -19,7 +18,7 @@ use Rattle.jacobian.specs.Curves.{curve-refusal, curve}
 use Rattle.jacobian.specs.Classes.{pair, class-of, class-refusal}
 use Rattle.jacobian.proofs.Rows.Elements.{degree-is}
 use Rattle.jacobian.proofs.ByValue.Checks.{curve-passes, class-passes}
-use Rattle.jacobian.proofs.Representation.Form.{Three, Formed, u-len, u-monic, v-len, class-of-formed, class-of-is-formed, pair-class-of}
+use Rattle.jacobian.proofs.Representation.Form.{Three, Formed, passes-formed, formed-reduced, u-monic, class-of-formed, class-of-is-formed, pair-class-of}
 use Rattle.jacobian.proofs.Representation.Unrefused.{passes-unrefused}
 pub mod Form
 pub mod Unrefused
@@ -28,9 +27,6 @@ module _ (c : Curve) (ok : curve-refusal c ≡ 0) where
   bound-is : 2 ^ degree-of (c .degree) ≡ 2 ^ c .degree
   bound-is = ap (λ d. 2 ^ d) (degree-is (c .degree) (curve-passes c ok .accepted))
 
-  in-range : (r : List ℕ) → ((i : ℕ) → getD r i 0 < 2 ^ c .degree) → InRange (c .degree) r
-  in-range r h i = rw bound-is (h i)
-
   range-in : (r : List ℕ) → InRange (c .degree) r → (i : ℕ) → getD r i 0 < 2 ^ c .degree
   range-in r h i = rw bound-is at (h i)
 
@@ -38,14 +34,7 @@ module _ (c : Curve) (ok : curve-refusal c ≡ 0) where
   accepted-formed : (a : Class) → Three a → class-refusal c a ≡ 0 → Formed (c .degree) a
   accepted-formed a three e =
       let p = class-passes c a e in
-      record {
-        three = three;
-        degree-le = p .shape .low;
-        u-blank = p .shape .u-blank;
-        v-blank = p .shape .v-blank;
-        u-range = in-range (a .u) (p .range .u-below);
-        v-range = in-range (a .v) (p .range .v-below);
-      }
+      passes-formed (c .degree) (curve-passes c ok .accepted) a three (p .shape) (p .range)
 
   formed-accepted : (a : Class) → Formed (c .degree) a
       → Divides (𝔸 (c .degree) .ring) (pair (c .degree) a .u) (value (curve c) (pair (c .degree) a .v))
@@ -64,20 +53,7 @@ module _ (c : Curve) (ok : curve-refusal c ≡ 0) where
   -- ---- the theorems
   -- what is accepted stands for a reduced class
   pub accepted-reduced : (a : Class) → Three a → class-refusal c a ≡ 0 → Reduced (curve c) (pair (c .degree) a)
-  accepted-reduced a three e =
-      let P = 𝔸 (c .degree) in
-      let D = pair (c .degree) a in
-      let h = accepted-formed a three e in
-      let n : a .degree ≤ 3 = h .degree-le in
-      let l : P .len (D .u) ≡ suc (a .degree) = u-len (c .degree) a h in
-      let m : P .len (D .v) ≤ a .degree = v-len (c .degree) a h in
-      let monic = u-monic (c .degree) a h in
-      record {
-        u-monic = monic;
-        u-len = omega arith;
-        v-len = omega arith;
-        divides = divides-of-rem P (D .u) (monic-nonzero P (D .u) monic) (value (curve c) (D .v)) (len-zero P _ (class-passes c a e .divides));
-      }
+  accepted-reduced a three e = formed-reduced (c .degree) a (accepted-formed a three e) (curve c) (class-passes c a e .divides)
 
   -- the value of a reduced class is accepted, and stands for it
   pub class-of-accepted : (D : Pair (Poly (c .degree))) → Reduced (curve c) D → class-refusal c (class-of (c .degree) D) ≡ 0

@@ -1,7 +1,6 @@
 -- How a call's checks are said (document 01, 'In checking order'): one after the other, and the first that fails gives the refusal's number.
 use Prim.Native.Nat.{ℕ, zero, suc}
-use mathlib.Core.Bool.{Bool, true, cond, _&&_}
-use mathlib.Core.List.{List, [], _∷_}
+use mathlib.Core.{Bool.Bool, Bool.true, Bool.cond, Bool._&&_, List.List, List.[], List._∷_}
 use lib.Dec.{eqb, ltb}
 
 infixr 20 _then_

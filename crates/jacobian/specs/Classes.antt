@@ -1,18 +1,10 @@
 -- A class by value, and the pair that it stands for (document 01, 'Curves and classes', 'The register', 'In checking order').
-use Prim.Native.Nat.{ℕ, _-_, _^_, _≤_}
+use Prim.Native.Nat.{ℕ, _-_, _^_}
 use mathlib.Core.Path.{_≡_}
-use mathlib.Core.Bool.{cond, _&&_}
-use mathlib.Core.List.{List, [], _∷_, _++_}
-use lib.Dec.{eqb, ltb, leb}
-use lib.ListN.{length, take, drop}
+use mathlib.Core.{Bool.cond, Bool._&&_, List.List, List.[], List._∷_, List._++_}
+use lib.{Dec.eqb, Dec.ltb, Dec.leb, ListN.length, ListN.take, ListN.drop}
 use Rattle.class_group.specs.Mumford.{Pair, value}
-use Rattle.jacobian.specs.Field.{Poly, 𝔸, poly}
-use Rattle.jacobian.specs.Row.{filled}
-use Rattle.jacobian.specs.Checks.{unless, _then_, below, blank}
-use Rattle.jacobian.specs.Curves.{curve}
-use Rattle.jacobian.specs.declared.Curve.{Curve}
-use Rattle.jacobian.specs.declared.Class.{Class}
-use Rattle.jacobian.specs.declared.row.RowPair.{RowPair}
+use Rattle.jacobian.specs.{Field.Poly, Field.𝔸, Field.poly, Checks.unless, Checks._then_, Checks.below, Checks.blank, Curves.curve, declared.Curve.Curve, declared.Class.Class}
 
 -- u, the lowest coefficient first, with its leading 1, which is not in the row of the class
 unfoldable pub u-row : Class → List ℕ
@@ -50,13 +42,7 @@ class-refusal c a =
     let D = pair d a in
     shape-refusal a then range-refusal d a then unless (eqb (𝔸 d .len (𝔸 d .rem (value (curve c) (D .v)) (D .u))) 0) 111
 
--- the first n numbers of a row that has as many, then 1
-pub record Led (n : ℕ) (r t : List ℕ) : Type 0 where
-  pub is : t ≡ filled (take n r ++ 1 ∷ [])
-  pub long : n ≤ length r
-
--- the rows are the pair of the class
-pub record RowsOf (a : Class) (r : RowPair) : Type 0 where
-  pub u-is : r .u ≡ filled (u-row a)
-  pub v-is : r .v ≡ filled (a .v)
-  pub u-long : a .degree ≤ length (a .u)
+-- rows of three numbers, as in every value of the code's type
+pub record Three (a : Class) : Type 0 where
+  pub u-three : length (a .u) ≡ 3
+  pub v-three : length (a .v) ≡ 3

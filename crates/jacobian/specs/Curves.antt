@@ -1,15 +1,11 @@
 -- A curve by value: which are refused, and the f of those that are not (document 01, 'Curves and classes', 'In checking order').
 -- Nothing else names the coefficients f3, f1 and f0.
 use Prim.Native.Nat.{ℕ, _^_}
-use mathlib.Core.Bool.{_||_}
-use mathlib.Core.List.{List, [], _∷_}
-use lib.Dec.{eqb}
-use lib.ListN.{getD}
-use Rattle.class_group.specs.Curve as Theory
+use mathlib.Core.{Bool._||_, List.List, List.[], List._∷_}
+use lib.{Dec.eqb, ListN.getD}
 use Rattle.class_group.specs.Coefficients.{curve-of}
-use Rattle.jacobian.specs.Field.{F, 𝔸, el}
-use Rattle.jacobian.specs.Checks.{unless, _then_, below}
-use Rattle.jacobian.specs.declared.Curve.{Curve}
+use Rattle.jacobian.specs.{Field.F, Field.𝔸, Field.el, Checks.unless, Checks._then_, Checks.below, declared.Curve.Curve}
+use Rattle.class_group.specs.Curve as Theory
 
 -- 106 for a degree other than 5 and 61
 unfoldable pub degree-refusal : Curve → ℕ

@@ -8,6 +8,7 @@ pub mod Checks
 pub mod Cofactor
 pub mod Curves
 pub mod Classes
+pub mod ClassRows
 pub mod Examples
 pub mod Answer
 pub mod Halving

@@ -1,18 +1,12 @@
 // A class by value: its checks, and its pair as rows.
-ghost use Prim.Native.Nat.{ℕ, _≤_, _<_};
+ghost use Prim.Native.Nat.{ℕ, _≤_};
 ghost use mathlib.Core.Path.{_≡_};
-ghost use mathlib.Core.List.{[], _∷_, _++_};
-ghost use lib.Dec.{eqb};
-ghost use lib.ListN.{take, drop};
-ghost use Rattle.class_group.specs.Curve.{Curve as TheoryCurve};
-ghost use Rattle.class_group.specs.Mumford.{value, opposite};
+ghost use lib.{Dec.eqb, ListN.drop};
+ghost use Rattle.class_group.specs.{Curve.Curve as TheoryCurve, Mumford.value, Mumford.opposite};
 ghost use Rattle.binary_field.specs.Element.{Accepted};
-ghost use Rattle.jacobian.specs.Field.{𝔸, poly};
-ghost use Rattle.jacobian.specs.Row.{InRange, StandsPair, filled, row-len, rows-pair};
-ghost use Rattle.jacobian.specs.Core.{OnCurve};
-ghost use Rattle.jacobian.specs.Checks.{below, blank};
-ghost use Rattle.jacobian.specs.Curves.{curve-refusal, f-row};
-ghost use Rattle.jacobian.specs.Classes.{Led, RowsOf, class-of, shape-refusal, range-refusal, class-refusal};
+ghost use Rattle.jacobian.specs.{Field.𝔸, Field.poly, Row.InRange, Row.StandsPair, Row.filled, Row.row-len, Row.rows-pair, Core.OnCurve};
+ghost use Rattle.jacobian.specs.{Checks.below, Checks.blank, Curves.curve-refusal, Curves.f-row};
+ghost use Rattle.jacobian.specs.{Classes.class-of, Classes.shape-refusal, Classes.range-refusal, Classes.class-refusal, ClassRows.Led, ClassRows.Widened, ClassRows.RowsOf};
 use crate::Class;
 use crate::Curve;
 use crate::curves;
@@ -73,7 +67,7 @@ fn leading_one(n: u64, r: [u64; 3]) -> [u64; 12]
 
 // The three numbers in a longer row.
 fn widened(r: [u64; 3]) -> [u64; 12]
-    ensures { λ t. ⌜ t ≡ filled r ⌝ }
+    ensures { λ t. ⌜ Widened r t ⌝ }
 {
     [r[0], r[1], r[2], 0, 0, 0, 0, 0, 0, 0, 0, 0]
 }

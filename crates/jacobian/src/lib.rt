@@ -240,9 +240,9 @@ pub fn double_and_add(curve: Curve, a: Class, b: Class) -> ClassAnswer
         return refused(n);
     }
     let f = curves::f_row(curve);
-    let left = classes::to_rows(a);
-    let right = classes::to_rows(b);
-    let moved = sums::commit_rows(curve.degree, f, left, right);
+    let seal = classes::to_rows(a);
+    let added = classes::to_rows(b);
+    let moved = sums::commit_rows(curve.degree, f, seal, added);
     accepted(moved)
 }
 
@@ -255,9 +255,9 @@ pub fn subtract_and_halve(curve: Curve, a: Class, b: Class) -> ClassAnswer
         return refused(n);
     }
     let f = curves::f_row(curve);
-    let left = classes::to_rows(a);
-    let right = classes::to_rows(b);
-    let moved = sums::undo_rows(curve.degree, f, left, right);
+    let later = classes::to_rows(a);
+    let taken = classes::to_rows(b);
+    let moved = sums::undo_rows(curve.degree, f, later, taken);
     accepted(moved)
 }
 

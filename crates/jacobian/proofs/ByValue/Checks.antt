@@ -1,21 +1,13 @@
 -- What the checks of a curve and a class show where none of them refuses.
 use Prim.Native.Nat.{ℕ, zero, suc, _^_, _≤_, _<_}
-use mathlib.Core.Path.{_≡_, refl, sym, _∙_}
-use mathlib.Core.Bool.{Bool, true, false, cond, _&&_, _||_}
-use mathlib.Core.List.{List, [], _∷_}
+use mathlib.Core.Path.{_≡_, refl}
+use mathlib.Core.{Bool.Bool, Bool.true, Bool.false, Bool._&&_, List.List, List.[], List._∷_}
 use native.Mathlib.Omega.{arith}
-use lib.Dec.{T, eqb, ltb, leb, lit≤}
-use lib.ListN.{getD, drop}
-use lib.Pow.{pow-pos}
+use lib.{Dec.T, Dec.eqb, Dec.ltb, Dec.lit≤, ListN.getD, ListN.drop, Pow.pow-pos}
 use borrow.Author.Tests.{ltb-true, leb-true, eqb-true}
 use Rattle.binary_field.specs.Element.{Accepted}
 use Rattle.class_group.specs.Mumford.{value}
-use Rattle.jacobian.specs.Field.{𝔸}
-use Rattle.jacobian.specs.Checks.{unless, _then_, below, blank}
-use Rattle.jacobian.specs.Curves.{degree-refusal, coefficient-refusal, curve-refusal, f-row, curve}
-use Rattle.jacobian.specs.Classes.{pair, shape-refusal, range-refusal, class-refusal}
-use Rattle.jacobian.specs.declared.Curve.{Curve}
-use Rattle.jacobian.specs.declared.Class.{Class}
+use Rattle.jacobian.specs.{Field.𝔸, Checks.unless, Checks._then_, Checks.below, Checks.blank, Curves.degree-refusal, Curves.coefficient-refusal, Curves.curve-refusal, Curves.f-row, Curves.curve, Classes.pair, Classes.shape-refusal, Classes.range-refusal, Classes.class-refusal, declared.Curve.Curve, declared.Class.Class}
 use Rattle.jacobian.proofs.ByValue.Degrees.{by-degree}
 
 -- ---- one check, and one after the other
@@ -87,9 +79,11 @@ pub curve-passes : (c : Curve) → curve-refusal c ≡ 0 → CurvePasses c
 unfolding curve-refusal degree-refusal coefficient-refusal f-row
 curve-passes c e =
     let h = then-zero _ _ e in
-    let ok : Accepted (c .degree) = T-of (unless-zero _ 105 (h .0)) in
+    let of-degree : degree-refusal c ≡ 0 = search in
+    let of-coefficients : coefficient-refusal c ≡ 0 = search in
+    let ok : Accepted (c .degree) = T-of (unless-zero _ 105 of-degree) in
     let two : 2 ≤ 2 ^ c .degree = by-degree (λ d. 2 ≤ 2 ^ d) (lit≤ tt) (lit≤ tt) (c .degree) ok in
-    let at = below-at _ _ (omega arith) (unless-zero _ 106 (h .1)) in
+    let at = below-at _ _ (omega arith) (unless-zero _ 106 of-coefficients) in
     record {
       accepted = ok;
       f-below = eight (λ n. n < 2 ^ c .degree) (at 2) (at 1) (omega arith) (at 0) (omega arith);
@@ -133,7 +127,7 @@ class-passes c a e =
     let h = then-zero _ _ e in
     let k = then-zero _ _ (h .1) in
     record {
-      shape = shape-passes a (h .0);
-      range = range-passes (c .degree) a (k .0);
+      shape = shape-passes a (search);
+      range = range-passes (c .degree) a (search);
       divides = eqb-true _ _ (unless-zero _ 110 (k .1));
     }

@@ -1,22 +1,16 @@
 -- The opposite of a pair of rows.
 use Prim.Native.Nat.{ℕ, zero, suc, _≤_, _<_}
 use mathlib.Core.Path.{_≡_, refl, sym, _∙_, ap}
-use mathlib.Core.Bool.{Bool, true, false}
 use mathlib.Core.List.{List, [], _∷_}
-use lib.Dec.{ltb}
 use lib.ListN.{getD}
 use borrow.Author.Tests.{lt-ltb, le-ltb}
 use Rattle.field_laws.specs.Field.{Field2}
 use Rattle.char2_algebra.specs.Polynomials.{Polynomials}
 use Rattle.char2_algebra.proofs.Degree.{coeff-one, coeff-one-suc}
-use Rattle.class_group.specs.Curve as Theory
 use Rattle.class_group.specs.Mumford.{Pair, opposite}
-use Rattle.jacobian.specs.Field.{𝔸, el, poly}
-use Rattle.jacobian.specs.Row.{InRange, Stands, StandsPair, row-len, rows-pair, filled}
-use Rattle.jacobian.specs.declared.row.RowPair.{RowPair}
-use Rattle.jacobian.proofs.Rows.Elements.{one-lt, zero-lt, el-zero, el-one}
-use Rattle.jacobian.proofs.Rows.Coefficients.{poly-is}
-use Rattle.jacobian.proofs.ByValue.Filled.{getD-filled, poly-filled}
+use Rattle.jacobian.specs.{Field.𝔸, Field.el, Field.poly, Row.InRange, Row.Stands, Row.StandsPair, Row.row-len, Row.rows-pair, Row.filled, declared.row.RowPair.RowPair}
+use Rattle.jacobian.proofs.{Rows.Elements.one-lt, Rows.Elements.zero-lt, Rows.Elements.el-zero, Rows.Elements.el-one, Rows.Coefficients.poly-is, ByValue.Filled.getD-filled, ByValue.Filled.poly-filled}
+use Rattle.class_group.specs.Curve as Theory
 
 -- the opposite by the length of u
 module _ {K P : Type 0} {F : Field2 K} {A : Polynomials F P} (C : Theory.Curve A) where

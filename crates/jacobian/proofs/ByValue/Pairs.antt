@@ -1,20 +1,13 @@
 -- The class by value of a pair of rows.
-use Prim.Native.Nat.{ℕ, _-_, _≤_, _<_}
-use mathlib.Core.Path.{_≡_, refl, sym, _∙_, ap, ap₂}
-use mathlib.Core.Bool.{cond}
-use mathlib.Core.List.{List, [], _∷_}
+use Prim.Native.Nat.{ℕ, _-_, _≤_}
+use mathlib.Core.Path.{_≡_, _∙_, ap, ap₂}
+use mathlib.Core.{Bool.cond, List.List, List.[], List._∷_}
 use native.Mathlib.Omega.{arith}
-use lib.Dec.{ltb}
-use lib.ListN.{getD}
+use lib.{Dec.ltb, ListN.getD}
 use borrow.Author.Tests.{lt-ltb}
 use Rattle.class_group.specs.Mumford.{Pair}
-use Rattle.jacobian.specs.Field.{Poly, 𝔸, poly}
-use Rattle.jacobian.specs.Row.{InRange, StandsPair, row-len, rows-pair}
-use Rattle.jacobian.specs.Classes.{numbers, class-of}
-use Rattle.jacobian.specs.declared.Class.{Class}
-use Rattle.jacobian.specs.declared.row.RowPair.{RowPair}
-use Rattle.jacobian.proofs.Rows.Elements.{el-number}
-use Rattle.jacobian.proofs.Rows.Coefficients.{coeff-poly}
+use Rattle.jacobian.specs.{Field.Poly, Field.𝔸, Field.poly, Row.InRange, Row.StandsPair, Row.row-len, Row.rows-pair, Classes.numbers, Classes.class-of, declared.Class.Class, declared.row.RowPair.RowPair}
+use Rattle.jacobian.proofs.{Rows.Elements.el-number, Rows.Coefficients.coeff-poly}
 
 -- the numbers of a row below place n, in a row of three
 abbrev pub first : ℕ → List ℕ → List ℕ

@@ -1,36 +1,18 @@
 -- A curve and a class that pass their checks: the rows of the curve stand for its f, and those of the class for its pair, which is reduced.
-use Prim.Native.Nat.{ℕ, suc, _^_, _≤_, _<_}
-use mathlib.Core.Path.{_≡_, refl, sym, _∙_, ap, ap₂}
-use mathlib.Core.List.{List}
-use mathlib.Core.Bool.{Bool}
+use Prim.Native.Nat.{ℕ, _≤_}
+use mathlib.Core.Path.{_≡_, sym, _∙_, ap, ap₂}
+use mathlib.Core.{List.List, Bool.Bool}
 use native.Mathlib.Omega.{arith}
 use lib.Dec.{eqb}
-use lib.ListN.{length, getD}
-use Rattle.char2_algebra.specs.Lead.{Monic}
-use Rattle.char2_algebra.proofs.Degree.{len-zero}
-use Rattle.char2_algebra.proofs.Division.{divides-of-rem}
-use Rattle.char2_algebra.proofs.Lead.{len-by-top, monic-by-top, monic-nonzero}
-use Rattle.class_group.specs.Curve as Theory
-use Rattle.class_group.specs.Mumford.{Pair, Reduced, value}
-use Rattle.class_group.specs.Coefficients.{monic-7, curve-of}
+use Rattle.char2_algebra.proofs.Lead.{monic-nonzero}
+use Rattle.class_group.specs.{Mumford.value, Coefficients.monic-7, Coefficients.curve-of}
 use Rattle.binary_field.specs.Element.{Accepted}
-use Rattle.jacobian.specs.Field.{degree-of, F, 𝔸, Poly, el, poly}
-use Rattle.jacobian.specs.Row.{InRange, Stands, row-len, filled, rows-pair}
-use Rattle.jacobian.specs.Core.{OnCurve, ReducedRows}
-use Rattle.jacobian.specs.Checks.{unless}
-use Rattle.jacobian.specs.Curves.{f-row, curve}
-use Rattle.jacobian.specs.Classes.{RowsOf, u-row, pair}
-use Rattle.jacobian.specs.declared.Curve.{Curve}
-use Rattle.jacobian.specs.declared.Class.{Class}
-use Rattle.jacobian.specs.declared.row.RowPair.{RowPair}
-use Rattle.jacobian.proofs.Rows.Elements.{degree-is, one-lt, el-zero, el-one}
-use Rattle.jacobian.proofs.Rows.Coefficients.{coeff-poly, row-len-le}
-use Rattle.jacobian.proofs.ByValue.Checks.{CurvePasses, ShapePasses, RangePasses, ClassPasses}
-use Rattle.jacobian.proofs.ByValue.Filled.{getD-filled, poly-filled, led-top, led-past, led-below}
+use Rattle.jacobian.specs.{Field.𝔸, Field.Poly, Field.poly, Row.InRange, Row.Stands, Row.row-len, Row.filled, Row.rows-pair, Core.OnCurve, Core.ReducedRows, Checks.unless, Curves.f-row, Curves.curve, Classes.Three, ClassRows.RowsOf, Classes.u-row, Classes.pair, declared.Curve.Curve, declared.Class.Class, declared.row.RowPair.RowPair}
+use Rattle.jacobian.proofs.{Rows.Elements.degree-is, Rows.Elements.el-one, ByValue.Checks.CurvePasses, ByValue.Checks.ShapePasses, ByValue.Checks.RangePasses, ByValue.Checks.ClassPasses, ByValue.Filled.getD-filled, ByValue.Filled.poly-filled, Representation.Form.Formed, Representation.Form.passes-formed, Representation.Form.formed-reduced, Representation.Form.u-row-range, Representation.Form.u-monic, Representation.Form.v-len}
+use Rattle.class_group.specs.Curve as Theory
 
--- ---- rows of numbers below 2^d
-pub filled-range : (d : ℕ) → Accepted d → (r : List ℕ) → ((i : ℕ) → getD r i 0 < 2 ^ d) → InRange d (filled r)
-filled-range d ok r h i = rw (getD-filled r i, degree-is d ok) (h i)
+pub filled-range : (d : ℕ) (r : List ℕ) → InRange d r → InRange d (filled r)
+filled-range d r h i = rw (getD-filled r i) (h i)
 
 -- ---- the curve
 f-is : (c : Curve) → poly (c .degree) (f-row c) ≡ curve c .f
@@ -40,7 +22,7 @@ f-is c = simp (el-one (c .degree))
 pub on-curve : (c : Curve) → CurvePasses c → {f : List ℕ} → f ≡ filled (f-row c) → OnCurve (c .degree) f (curve c)
 on-curve c h e =
     record {
-      in-range = rw e (filled-range (c .degree) (h .accepted) (f-row c) (h .f-below));
+      in-range = rw e (filled-range (c .degree) (f-row c) (λ i. rw (degree-is (c .degree) (h .accepted)) (h .f-below i)));
       is-f = ap (poly (c .degree)) e ∙ poly-filled (c .degree) (f-row c) ∙ f-is c;
     }
 
@@ -50,55 +32,27 @@ unfolding rows-pair pair
 rows-pair-is d {a} h =
     ap₂ (λ (x y : Poly d). record { u = x; v = y }) (ap (poly d) (h .u-is) ∙ poly-filled d (u-row a)) (ap (poly d) (h .v-is) ∙ poly-filled d (a .v))
 
-module _ (d : ℕ) (ok : Accepted d) (a : Class) (shape : ShapePasses a) (long : a .degree ≤ length (a .u)) where
-  pub u-monic : Monic (𝔸 d) (pair d a .u)
-  unfolding pair u-row
-  u-monic =
-      monic-by-top (𝔸 d) _ (a .degree) (coeff-poly d _ (a .degree) ∙ ap (el d) (led-top (a .degree) (a .u) long) ∙ el-one d)
-      (λ i h. coeff-poly d _ i ∙ ap (el d) (led-past (a .degree) (a .u) long i h) ∙ el-zero d)
+module _ (d : ℕ) {a : Class} (h : Formed d a) {r : RowPair} (rows : RowsOf a r) where
+  pub u-range : InRange d (r .u)
+  u-range = rw (rows .u-is) (filled-range d (u-row a) (u-row-range d a h))
 
-  pub u-len : 𝔸 d .len (pair d a .u) ≡ suc (a .degree)
-  unfolding pair u-row
-  u-len =
-      len-by-top (𝔸 d) _ (a .degree) (coeff-poly d _ (a .degree) ∙ ap (el d) (led-top (a .degree) (a .u) long) ∙ el-one d)
-      (λ i h. coeff-poly d _ i ∙ ap (el d) (led-past (a .degree) (a .u) long i h) ∙ el-zero d)
-
-  pub v-len : 𝔸 d .len (pair d a .v) ≤ a .degree
-  unfolding pair
-  v-len = row-len-le d (a .v) (a .degree) (shape .v-blank)
-
-  pub u-range : RangePasses d a → {r : RowPair} → RowsOf a r → InRange d (r .u)
-  unfolding u-row
-  u-range range h = rw (h .u-is) (filled-range d ok _ (led-below (a .degree) (a .u) long (2 ^ d) (rw (degree-is d ok) at (one-lt d)) (range .u-below)))
-
-  pub v-range : RangePasses d a → {r : RowPair} → RowsOf a r → InRange d (r .v)
-  v-range range h = rw (h .v-is) (filled-range d ok _ (range .v-below))
-
-pub class-reduced : (c : Curve) (a : Class) → CurvePasses c → ClassPasses c a → a .degree ≤ length (a .u) → Reduced (curve c) (pair (c .degree) a)
-class-reduced c a h k long =
-    let d = c .degree in
-    let m = u-monic d (h .accepted) a (k .shape) long in
-    let n : 𝔸 d .len (pair d a .u) ≡ suc (a .degree) = u-len d (h .accepted) a (k .shape) long in
-    let l : 𝔸 d .len (pair d a .v) ≤ a .degree = v-len d (h .accepted) a (k .shape) long in
-    let low : a .degree ≤ 3 = k .shape .low in
-    record {
-      u-monic = m;
-      u-len = omega arith;
-      v-len = omega arith;
-      divides = divides-of-rem (𝔸 d) (pair d a .u) (monic-nonzero (𝔸 d) (pair d a .u) m) _ (len-zero (𝔸 d) _ (k .divides));
-    }
+  pub v-range : InRange d (r .v)
+  v-range = rw (rows .v-is) (filled-range d (a .v) (h .v-range))
 
 -- the rows of a class that passes its checks
+pub class-formed : {c : Curve} {a : Class} → CurvePasses c → ClassPasses c a → Three a → Formed (c .degree) a
+class-formed {c} {a} h k three = passes-formed (c .degree) (h .accepted) a three (k .shape) (k .range)
+
 pub rows-reduced :
     (c : Curve) (a : Class) → CurvePasses c → ClassPasses c a → {f : List ℕ} → f ≡ filled (f-row c) → {r : RowPair} → RowsOf a r → ReducedRows (c .degree) f r
-rows-reduced c a h k e {r} rows =
-    let d = c .degree in
+rows-reduced c a h k e rows =
+    let formed = class-formed h k (rows .three) in
     record {
       C = curve c;
       on-curve = on-curve c h e;
-      u-range = u-range d (h .accepted) a (k .shape) (rows .u-long) (k .range) rows;
-      v-range = v-range d (h .accepted) a (k .shape) (rows .u-long) (k .range) rows;
-      reduced = rw (rows-pair-is d rows) (class-reduced c a h k (rows .u-long));
+      u-range = u-range (c .degree) formed rows;
+      v-range = v-range (c .degree) formed rows;
+      reduced = rw (rows-pair-is (c .degree) rows) (formed-reduced (c .degree) a formed (curve c) (k .divides));
     }
 
 -- ---- u divides v² + v + f
@@ -127,14 +81,14 @@ pub rows-due :
 unfolding rows-pair
 rows-due c a h shape range {r} rows e =
     let d = c .degree in
-    let ok = h .accepted in
+    let formed = passes-formed d (h .accepted) a (rows .three) shape range in
     let low : a .degree ≤ 3 = shape .low in
-    let v-short : 𝔸 d .len (pair d a .v) ≤ a .degree = v-len d ok a shape (rows .u-long) in
-    let v-same : row-len d (r .v) ≡ 𝔸 d .len (pair d a .v) = ap (λ D. 𝔸 d .len (D .v)) (rows-pair-is d rows) in (
-      ok,
+    let short : 𝔸 d .len (pair d a .v) ≤ a .degree = v-len d a formed in
+    let same : row-len d (r .v) ≡ 𝔸 d .len (pair d a .v) = ap (λ D. 𝔸 d .len (D .v)) (rows-pair-is d rows) in (
+      h .accepted,
       on-curve c h e .in-range,
-      u-range d ok a shape (rows .u-long) range rows,
-      v-range d ok a shape (rows .u-long) range rows,
+      u-range d formed rows,
+      v-range d formed rows,
       omega arith,
-      λ z. monic-nonzero (𝔸 d) (pair d a .u) (u-monic d ok a shape (rows .u-long)) (sym (ap (λ D. D .u) (rows-pair-is d rows)) ∙ z),
+      λ z. monic-nonzero (𝔸 d) (pair d a .u) (u-monic d a formed) (sym (ap (λ D. D .u) (rows-pair-is d rows)) ∙ z),
     )

@@ -9,20 +9,18 @@ use lib.ListN.{length, getD, take, List·getD-append, List·getD-eq-default, len
 use lib.Seq.{length-take-le, getD-take, getD-at, ext-getD}
 use borrow.Author.Tests.{lt-ltb, le-ltb}
 use Rattle.char2_algebra.specs.Lead.{Monic}
-use Rattle.char2_algebra.proofs.Lead.{len-by-top, monic-by-top, monic-top}
+use Rattle.char2_algebra.proofs.{Degree.len-zero, Division.divides-of-rem, Lead.len-by-top, Lead.monic-by-top, Lead.monic-top, Lead.monic-nonzero}
 use Rattle.class_group.specs.Curve as Theory
-use Rattle.class_group.specs.Mumford.{Pair, Reduced}
+use Rattle.class_group.specs.Mumford.{Pair, Reduced, value}
 use Rattle.jacobian.specs.Field.{degree-of, K, Poly, F, 𝔸, el}
 use Rattle.jacobian.specs.Row.{InRange}
 use Rattle.jacobian.specs.declared.Class.{Class}
 use Rattle.jacobian.specs.Classes.{u-row, pair, numbers, class-of}
-use Rattle.jacobian.proofs.Rows.Elements.{el-number, el-of, el-zero, el-one, zero-lt}
+pub use Rattle.jacobian.specs.Classes.{Three}
+use Rattle.jacobian.proofs.Rows.Elements.{degree-is, el-number, el-of, el-zero, el-one, zero-lt, one-lt}
 use Rattle.jacobian.proofs.Rows.Coefficients.{coeff-poly, row-len-le}
-
--- rows of three numbers, as in every value of the code's type
-pub record Three (a : Class) : Type 0 where
-  pub u-three : length (a .u) ≡ 3
-  pub v-three : length (a .v) ≡ 3
+use Rattle.jacobian.proofs.ByValue.Checks.{ShapePasses, RangePasses}
+use Rattle.binary_field.specs.Element.{Accepted}
 
 -- the form of a class by value: rows of three numbers in range, 0 at and past the degree, which is at most 3
 pub record Formed (d : ℕ) (a : Class) : Type 0 where
@@ -38,17 +36,17 @@ module _ (a : Class) (long : a .degree ≤ length (a .u)) where
   front : length (take (a .degree) (a .u)) ≡ a .degree
   front = length-take-le (a .degree) (a .u) long
 
-  u-row-below : (i : ℕ) → i < a .degree → getD (u-row a) i 0 ≡ getD (a .u) i 0
+  pub u-row-below : (i : ℕ) → i < a .degree → getD (u-row a) i 0 ≡ getD (a .u) i 0
   unfolding u-row
   u-row-below i h =
       let k : length (take (a .degree) (a .u)) ≡ a .degree = front in
       List·getD-append (take (a .degree) (a .u)) (1 ∷ []) 0 i (omega arith) ∙ getD-take (a .degree) (a .u) i 0 h
 
-  u-row-top : getD (u-row a) (a .degree) 0 ≡ 1
+  pub u-row-top : getD (u-row a) (a .degree) 0 ≡ 1
   unfolding u-row
   u-row-top = getD-at (take (a .degree) (a .u)) 1 [] 0 (a .degree) front
 
-  u-row-past : (i : ℕ) → a .degree < i → getD (u-row a) i 0 ≡ 0
+  pub u-row-past : (i : ℕ) → a .degree < i → getD (u-row a) i 0 ≡ 0
   unfolding u-row
   u-row-past i h =
       let k : length (take (a .degree) (a .u)) ≡ a .degree = front in
@@ -58,6 +56,15 @@ module _ (a : Class) (long : a .degree ≤ length (a .u)) where
 module _ (d : ℕ) (a : Class) (h : Formed d a) where
   long : a .degree ≤ length (a .u)
   long = let e : length (a .u) ≡ 3 = h .three .u-three in omega arith
+
+  -- the row of u is in range
+  pub u-row-range : InRange d (u-row a)
+  u-row-range i = at (decLe (a .degree) i) (ℕ-discrete i (a .degree))
+    where
+      at : Dec (a .degree ≤ i) → Dec (i ≡ a .degree) → getD (u-row a) i 0 < 2 ^ degree-of d
+      at (no k) _ = rw (u-row-below a long i (omega arith)) (h .u-range i)
+      at (yes k) (yes e) = rw (e, u-row-top a long) (one-lt d)
+      at (yes k) (no e) = rw (u-row-past a long i (omega arith)) (zero-lt d)
 
   coeff-u-below : (i : ℕ) → i < a .degree → 𝔸 d .coeff (pair d a .u) i ≡ el d (getD (a .u) i 0)
   unfolding pair
@@ -84,6 +91,31 @@ module _ (d : ℕ) (a : Class) (h : Formed d a) where
   pub v-len : 𝔸 d .len (pair d a .v) ≤ a .degree
   unfolding pair
   v-len = row-len-le d (a .v) (a .degree) (h .v-blank)
+
+  -- where u divides v² + v + f the pair is reduced
+  pub formed-reduced : (C : Theory.Curve (𝔸 d)) → 𝔸 d .len (𝔸 d .rem (value C (pair d a .v)) (pair d a .u)) ≡ 0 → Reduced C (pair d a)
+  formed-reduced C e =
+      let n : a .degree ≤ 3 = h .degree-le in
+      let l : 𝔸 d .len (pair d a .u) ≡ suc (a .degree) = u-len in
+      let m : 𝔸 d .len (pair d a .v) ≤ a .degree = v-len in
+      record {
+        u-monic = u-monic;
+        u-len = omega arith;
+        v-len = omega arith;
+        divides = divides-of-rem (𝔸 d) (pair d a .u) (monic-nonzero (𝔸 d) (pair d a .u) u-monic) (value C (pair d a .v)) (len-zero (𝔸 d) _ e);
+      }
+
+-- what passes the checks of shape and range is of the right form
+pub passes-formed : (d : ℕ) → Accepted d → (a : Class) → Three a → ShapePasses a → RangePasses d a → Formed d a
+passes-formed d ok a three shape range =
+    record {
+      three = three;
+      degree-le = shape .low;
+      u-blank = shape .u-blank;
+      v-blank = shape .v-blank;
+      u-range = λ i. rw (degree-is d ok) (range .u-below i);
+      v-range = λ i. rw (degree-is d ok) (range .v-below i);
+    }
 
 -- ---- the numbers of a polynomial
 module _ (d n : ℕ) (p : Poly d) where

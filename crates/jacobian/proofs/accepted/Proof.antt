@@ -1,7 +1,6 @@
 -- `accepted` meets its contract.
-use mathlib.Core.Path.{_≡_, ap}
-use Rattle.jacobian.specs.declared.Class.{Class}
-use Rattle.jacobian.specs.Answer.{accepted, answered}
+use mathlib.Core.Path.{ap}
+use Rattle.jacobian.specs.{declared.Class.Class, Answer.accepted, Answer.answered}
 use Rattle.jacobian.proofs.ByValue.Pairs.{stands-class}
 use borrow.Author.Needs.{needs}
 use Rattle.jacobian.proofs.accepted.Statement.{statement}

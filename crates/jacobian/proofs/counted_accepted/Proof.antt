@@ -1,8 +1,7 @@
 -- `counted_accepted` meets its contract.
 use Prim.Native.Nat.{ℕ}
-use mathlib.Core.Path.{_≡_, ap₂}
-use Rattle.jacobian.specs.declared.Class.{Class}
-use Rattle.jacobian.specs.Answer.{accepted, counted-answered}
+use mathlib.Core.Path.{ap₂}
+use Rattle.jacobian.specs.{declared.Class.Class, Answer.accepted, Answer.counted-answered}
 use Rattle.jacobian.proofs.ByValue.Pairs.{stands-class}
 use borrow.Author.Needs.{needs}
 use Rattle.jacobian.proofs.counted_accepted.Statement.{statement}

@@ -1,9 +1,6 @@
 -- `counted_sum` meets its contract.
-use mathlib.Core.Path.{_≡_}
-use Rattle.jacobian.specs.Curves.{curve}
-use Rattle.jacobian.specs.Answer.{counted-sum-answer}
-use Rattle.jacobian.proofs.ByValue.Passing.{on-curve, rows-pair-is, rows-reduced}
-use Rattle.jacobian.proofs.ByValue.Answers.{counted-at-refusal, counted-at-none, passes-two}
+use Rattle.jacobian.specs.{Curves.curve, Answer.counted-sum-answer}
+use Rattle.jacobian.proofs.{ByValue.Passing.on-curve, ByValue.Passing.rows-pair-is, ByValue.Passing.rows-reduced, ByValue.Answers.counted-at-refusal, ByValue.Answers.counted-at-none, ByValue.Answers.passes-two}
 use borrow.Author.Needs.{needs}
 use Rattle.jacobian.proofs.counted_sum.Statement.{statement}
 use Rattle.jacobian.proofs.counted_sum.Tie as tie

@@ -1,5 +1,5 @@
 -- `double` meets its contract: the counted double without its steps.
-use mathlib.Core.Path.{_≡_, _∙_, ap}
+use mathlib.Core.Path.{_∙_, ap}
 use Rattle.class_group.specs.Operations.{double}
 use Rattle.jacobian.specs.Answer.{double-answer, counted-double-answer}
 use Rattle.jacobian.proofs.ByValue.Answers.{uncounted, uncounted-answered}

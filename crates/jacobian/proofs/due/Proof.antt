@@ -1,5 +1,5 @@
 -- `due` meets its contract: the class after the curve.
-use mathlib.Core.Path.{_≡_, sym, _∙_}
+use mathlib.Core.Path.{sym, _∙_}
 use Rattle.jacobian.specs.Answer.{refusal}
 use Rattle.jacobian.proofs.ByValue.Checks.{first-due, next-due}
 use borrow.Author.Needs.{needs}

@@ -1,5 +1,5 @@
 -- `due_of_two` meets its contract: the second class after the first.
-use mathlib.Core.Path.{_≡_, sym, _∙_}
+use mathlib.Core.Path.{sym, _∙_}
 use Rattle.jacobian.specs.Answer.{refusal, refusal-of-two}
 use Rattle.jacobian.proofs.ByValue.Checks.{first-due, next-due, then-zero}
 use borrow.Author.Needs.{needs}

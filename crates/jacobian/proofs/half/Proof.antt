@@ -1,10 +1,7 @@
 -- `half` meets its contract.
-use mathlib.Core.Path.{_≡_, _∙_}
-use Rattle.jacobian.specs.Curves.{curve}
-use Rattle.jacobian.specs.Answer.{half-answer}
-use Rattle.jacobian.proofs.ByValue.Passing.{on-curve, rows-pair-is, rows-reduced}
-use Rattle.jacobian.proofs.ByValue.Answers.{at-refusal, at-none, passes}
-use Rattle.jacobian.proofs.ByValue.Halved.{half-doubled}
+use mathlib.Core.Path.{_∙_}
+use Rattle.jacobian.specs.{Curves.curve, Answer.half-answer}
+use Rattle.jacobian.proofs.{ByValue.Passing.on-curve, ByValue.Passing.rows-pair-is, ByValue.Passing.rows-reduced, ByValue.Answers.at-refusal, ByValue.Answers.at-none, ByValue.Answers.passes, ByValue.Halved.half-doubled}
 use borrow.Author.Needs.{needs}
 use Rattle.jacobian.proofs.half.Statement.{statement}
 use Rattle.jacobian.proofs.half.Tie as tie
@@ -48,7 +45,7 @@ returns-2 c =
     let d = s .args .curve .degree in
     let on = on-curve _ (ok .0) (c .before .before .before .f-row .ensures) in
     let h = c .accepted .ensures d _ (rw (rows-pair-is d rows) at (c .before .half-rows .ensures (curve (s .args .curve)) on)) in
-    record { answer = at-none d _ e z h; doubled = λ _. half-doubled (s .args .curve) (s .args .a) (ok .0) (ok .1) (rows .u-long) h }
+    record { answer = at-none d _ e z h; doubled = λ _. half-doubled (s .args .curve) (s .args .a) (ok .0) (ok .1) (rows .three) h }
 
 pub half-spec : {M : Type 1} → statement M
 half-spec =

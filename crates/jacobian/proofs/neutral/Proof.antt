@@ -1,5 +1,5 @@
 -- `neutral` meets its contract.
-use mathlib.Core.Path.{_≡_, refl}
+use mathlib.Core.Path.{refl}
 use Rattle.jacobian.specs.Answer.{neutral-class}
 use Rattle.jacobian.proofs.neutral.Statement.{statement}
 use Rattle.jacobian.proofs.neutral.Tie as tie

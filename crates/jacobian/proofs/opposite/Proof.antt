@@ -1,9 +1,6 @@
 -- `opposite` meets its contract.
-use mathlib.Core.Path.{_≡_}
-use Rattle.jacobian.specs.Curves.{curve}
-use Rattle.jacobian.specs.Answer.{opposite-answer}
-use Rattle.jacobian.proofs.ByValue.Passing.{u-range, v-range, rows-pair-is}
-use Rattle.jacobian.proofs.ByValue.Answers.{at-refusal, at-none, passes}
+use Rattle.jacobian.specs.{Curves.curve, Answer.opposite-answer}
+use Rattle.jacobian.proofs.{ByValue.Passing.class-formed, ByValue.Passing.u-range, ByValue.Passing.v-range, ByValue.Passing.rows-pair-is, ByValue.Answers.at-refusal, ByValue.Answers.at-none, ByValue.Answers.passes}
 use borrow.Author.Needs.{needs}
 use Rattle.jacobian.proofs.opposite.Statement.{statement}
 use Rattle.jacobian.proofs.opposite.Tie as tie
@@ -25,12 +22,8 @@ opposite-rows-requires : tie.Need-opposite-rows-requires
 opposite-rows-requires c κs =
     let ok = passes _ _ (c .before .before .due .ensures) (c .before .if1 .left) in
     let rows = c .to-rows .ensures in
-    let d = c .before .before .before .args .curve .degree in
-    let a = c .before .before .before .args .a in (
-      ok .0 .accepted,
-      u-range d (ok .0 .accepted) a (ok .1 .shape) (rows .u-long) (ok .1 .range) rows,
-      v-range d (ok .0 .accepted) a (ok .1 .shape) (rows .u-long) (ok .1 .range) rows,
-    )
+    let formed = class-formed (ok .0) (ok .1) (rows .three) in
+    (ok .0 .accepted, u-range _ formed rows, v-range _ formed rows)
 
 accepted-requires : tie.Need-accepted-requires
 accepted-requires c κs = search needs

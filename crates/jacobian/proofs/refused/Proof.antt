@@ -1,7 +1,6 @@
 -- `refused` meets its contract.
-use mathlib.Core.Path.{_≡_, _∙_, ap}
-use Rattle.jacobian.specs.declared.Class.{Class}
-use Rattle.jacobian.specs.Answer.{refused}
+use mathlib.Core.Path.{_∙_, ap}
+use Rattle.jacobian.specs.{declared.Class.Class, Answer.refused}
 use Rattle.jacobian.proofs.ByValue.Answers.{refused-answered}
 use borrow.Author.Needs.{needs}
 use Rattle.jacobian.proofs.refused.Statement.{statement}

@@ -1,5 +1,5 @@
 -- `sum` meets its contract: the counted sum without its steps.
-use mathlib.Core.Path.{_≡_, _∙_, ap}
+use mathlib.Core.Path.{_∙_, ap}
 use Rattle.class_group.specs.Operations.{sum}
 use Rattle.jacobian.specs.Answer.{sum-answer, counted-sum-answer}
 use Rattle.jacobian.proofs.ByValue.Answers.{uncounted, uncounted-answered}

@@ -2,10 +2,8 @@
 use mathlib.Core.Path.{_≡_}
 use mathlib.Core.Bool.{false, and-true}
 use Prim.Native.Nat.{_≤_, _<_}
-use lib.Dec.{ltb}
-use lib.ListN.{getD}
-use borrow.Author.Needs.{needs}
-use borrow.Author.Tests.{lt-ltb, le-ltb}
+use lib.{Dec.ltb, ListN.getD}
+use borrow.Author.{Needs.needs, Tests.lt-ltb, Tests.le-ltb}
 use Rattle.jacobian.specs.Checks.{below}
 use Rattle.jacobian.proofs.ByValue.Threes.{by-three}
 use Rattle.jacobian.proofs.classes.all_below.Statement.{statement}

@@ -1,15 +1,11 @@
 -- `blank_from` meets its contract: each return by the tests that led to it.
-use Prim.Native.Nat.{ℕ, _≤_, _<_}
-use mathlib.Core.Path.{_≡_, sym, ap}
-use mathlib.Core.Bool.{true, false, and-true, and-false}
-use native.Mathlib.Omega.{arith}
-use mathlib.Core.List.{[], _∷_}
-use lib.Dec.{eqb}
-use lib.ListN.{drop, getD, drop-of-length-le}
-use borrow.Author.Tests.{eq-eqb, ne-eqb}
+use Prim.Native.Nat.{_≤_, _<_}
+use mathlib.Core.Path.{_≡_, sym}
+use mathlib.Core.{Bool.true, Bool.false, Bool.and-true, Bool.and-false, List.[], List._∷_}
+use lib.{Dec.eqb, ListN.drop, ListN.getD, ListN.drop-of-length-le}
+use borrow.Author.{Tests.ne-eqb, Needs.needs}
 use Rattle.jacobian.specs.Checks.{blank}
 use Rattle.jacobian.proofs.ByValue.Threes.{by-three, below-two, below-three, at-most-one, is-zero}
-use borrow.Author.Needs.{needs}
 use Rattle.jacobian.proofs.classes.blank_from.Statement.{statement}
 use Rattle.jacobian.proofs.classes.blank_from.Tie as tie
 

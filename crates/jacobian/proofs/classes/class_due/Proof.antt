@@ -1,15 +1,7 @@
 -- `class_due` meets its contract: each check after the one before.
-use Prim.Native.Nat.{ℕ, _≤_}
-use mathlib.Core.Path.{_≡_, refl, sym, _∙_, ap}
-use native.Mathlib.Omega.{arith}
-use Rattle.jacobian.specs.Field.{𝔸}
-use Rattle.jacobian.specs.Row.{row-len, rows-pair}
-use Rattle.jacobian.specs.Core.{OnCurve}
-use Rattle.jacobian.specs.Checks.{unless}
-use Rattle.jacobian.specs.Classes.{class-refusal, pair}
-use Rattle.jacobian.specs.Curves.{curve}
-use Rattle.jacobian.proofs.ByValue.Checks.{first-due, next-due, curve-passes, shape-passes, range-passes}
-use Rattle.jacobian.proofs.ByValue.Passing.{filled-range, on-curve, rows-due, divides-due}
+use mathlib.Core.Path.{sym, _∙_}
+use Rattle.jacobian.specs.{Checks.unless, Classes.class-refusal, Curves.curve}
+use Rattle.jacobian.proofs.{ByValue.Checks.first-due, ByValue.Checks.next-due, ByValue.Checks.curve-passes, ByValue.Checks.shape-passes, ByValue.Checks.range-passes, ByValue.Passing.on-curve, ByValue.Passing.rows-due, ByValue.Passing.divides-due}
 use borrow.Author.Needs.{needs}
 use Rattle.jacobian.proofs.classes.class_due.Statement.{statement}
 use Rattle.jacobian.proofs.classes.class_due.Tie as tie

@@ -1,8 +1,7 @@
 -- `divides` meets its contract.
-use mathlib.Core.Path.{_≡_, _∙_, ap}
+use mathlib.Core.Path.{_∙_, ap}
 use lib.Dec.{eqb}
-use Rattle.jacobian.specs.Field.{𝔸, poly}
-use Rattle.jacobian.specs.Row.{rows-pair}
+use Rattle.jacobian.specs.{Field.𝔸, Field.poly, Row.rows-pair}
 use Rattle.jacobian.proofs.ByValue.Passing.{value-stands}
 use borrow.Author.Needs.{needs}
 use Rattle.jacobian.proofs.classes.divides.Statement.{statement}

@@ -1,9 +1,8 @@
 -- `from_rows` meets its contract, by the length of u.
-use mathlib.Core.Path.{_≡_, refl, sym, _∙_, ap, ap₂}
+use mathlib.Core.Path.{sym, _∙_, ap₂}
 use mathlib.Core.List.{List}
 use Prim.Native.Nat.{ℕ, _-_, _≤_}
 use native.Mathlib.Omega.{arith}
-use Rattle.jacobian.specs.declared.Class.{Class}
 use Rattle.jacobian.specs.Answer.{neutral-class}
 use Rattle.jacobian.proofs.ByValue.Pairs.{first-three, class-of-rows}
 use borrow.Author.Needs.{needs}

@@ -1,11 +1,8 @@
 -- `leading_one` meets its contract, by the degree.
-use Prim.Native.Nat.{ℕ, _≤_}
 use mathlib.Core.Path.{_≡_, refl}
-use mathlib.Core.List.{List, [], _∷_}
-use native.Mathlib.Omega.{arith}
+use mathlib.Core.List.{[], _∷_}
 use lib.ListN.{getD}
-use Rattle.jacobian.specs.Row.{filled}
-use Rattle.jacobian.specs.Classes.{Led}
+use Rattle.jacobian.specs.{Row.filled, ClassRows.Led}
 use Rattle.jacobian.proofs.ByValue.Threes.{by-three, is-three}
 use borrow.Author.Needs.{needs}
 use Rattle.jacobian.proofs.classes.leading_one.Statement.{statement}
@@ -16,7 +13,7 @@ unfolding filled
 returns c =
     let n = c .before .args .n in
     by-three (λ r. n ≡ 0 → Led n r (1 ∷ 0 ∷ 0 ∷ 0 ∷ 0 ∷ 0 ∷ 0 ∷ 0 ∷ 0 ∷ 0 ∷ 0 ∷ 0 ∷ []))
-    (λ x y z e. record { is = rw e; long = omega arith })
+    (λ x y z e. record { is = rw e; three = refl })
     (c .before .args .t2)
     (c .before .good .1 .0 .1 .0 .1)
     (c .if1 .taken)
@@ -29,7 +26,7 @@ unfolding filled
 returns-2 c =
     let n = c .before .before .args .n in
     by-three (λ r. n ≡ 1 → Led n r (getD r 0 0 ∷ 1 ∷ 0 ∷ 0 ∷ 0 ∷ 0 ∷ 0 ∷ 0 ∷ 0 ∷ 0 ∷ 0 ∷ 0 ∷ []))
-    (λ x y z e. record { is = rw e; long = omega arith })
+    (λ x y z e. record { is = rw e; three = refl })
     (c .before .before .args .t2)
     (c .before .before .good .1 .0 .1 .0 .1)
     (c .if2 .taken)
@@ -45,7 +42,7 @@ unfolding filled
 returns-3 c =
     let n = c .before .before .before .args .n in
     by-three (λ r. n ≡ 2 → Led n r (getD r 0 0 ∷ getD r 1 0 ∷ 1 ∷ 0 ∷ 0 ∷ 0 ∷ 0 ∷ 0 ∷ 0 ∷ 0 ∷ 0 ∷ 0 ∷ []))
-    (λ x y z e. record { is = rw e; long = omega arith })
+    (λ x y z e. record { is = rw e; three = refl })
     (c .before .before .before .args .t2)
     (c .before .before .before .good .1 .0 .1 .0 .1)
     (c .if3 .taken)
@@ -64,7 +61,7 @@ unfolding filled
 returns-4 c =
     let n = c .before .before .before .args .n in
     by-three (λ r. n ≡ 3 → Led n r (getD r 0 0 ∷ getD r 1 0 ∷ getD r 2 0 ∷ 1 ∷ 0 ∷ 0 ∷ 0 ∷ 0 ∷ 0 ∷ 0 ∷ 0 ∷ 0 ∷ []))
-    (λ x y z e. record { is = rw e; long = omega arith })
+    (λ x y z e. record { is = rw e; three = refl })
     (c .before .before .before .args .t2)
     (c .before .before .before .good .1 .0 .1 .0 .1)
     (is-three (c .before .before .before .pre) (c .before .before .if1 .left) (c .before .if2 .left) (c .if3 .left))

@@ -1,10 +1,7 @@
 -- `range_due` meets its contract: each return by the tests that led to it.
-use Prim.Native.Nat.{ℕ}
-use mathlib.Core.Path.{_≡_, sym, _∙_, ap}
-use borrow.Author.Tests.{not-true, not-false}
-use Rattle.jacobian.specs.Checks.{unless, below}
-use Rattle.jacobian.specs.Classes.{range-refusal}
-use borrow.Author.Needs.{needs}
+use mathlib.Core.Path.{sym, _∙_}
+use borrow.Author.{Tests.not-true, Tests.not-false, Needs.needs}
+use Rattle.jacobian.specs.{Checks.unless, Classes.range-refusal}
 use Rattle.jacobian.proofs.classes.range_due.Statement.{statement}
 use Rattle.jacobian.proofs.classes.range_due.Tie as tie
 

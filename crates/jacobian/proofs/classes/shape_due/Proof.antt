@@ -1,9 +1,7 @@
 -- `shape_due` meets its contract: each return by the tests that led to it.
-use mathlib.Core.Path.{_≡_, sym, _∙_}
-use borrow.Author.Tests.{le-leb, lt-leb, not-true, not-false}
-use Rattle.jacobian.specs.Checks.{unless}
-use Rattle.jacobian.specs.Classes.{shape-refusal}
-use borrow.Author.Needs.{needs}
+use mathlib.Core.Path.{sym, _∙_}
+use borrow.Author.{Tests.le-leb, Tests.lt-leb, Tests.not-true, Tests.not-false, Needs.needs}
+use Rattle.jacobian.specs.{Checks.unless, Classes.shape-refusal}
 use Rattle.jacobian.proofs.classes.shape_due.Statement.{statement}
 use Rattle.jacobian.proofs.classes.shape_due.Tie as tie
 

@@ -12,7 +12,10 @@ widened-requires c κs = search needs
 
 returns : tie.Need-returns
 unfolding u-row
-returns c = record { u-is = c .before .leading-one .ensures .is; v-is = c .widened .ensures; u-long = c .before .leading-one .ensures .long }
+returns c =
+    let u = c .before .leading-one .ensures in
+    let v = c .widened .ensures in
+    record { u-is = u .is; v-is = v .is; three = record { u-three = u .three; v-three = v .three } }
 
 pub to-rows-spec : {M : Type 1} → statement M
 to-rows-spec = tie.close (tie.spec leading-one-requires widened-requires returns)

@@ -1,5 +1,4 @@
 -- `bound` meets its contract.
-use mathlib.Core.Path.{_≡_}
 use Rattle.jacobian.proofs.ByValue.Degrees.{is-five}
 use Rattle.jacobian.proofs.curves.bound.Statement.{statement}
 use Rattle.jacobian.proofs.curves.bound.Tie as tie

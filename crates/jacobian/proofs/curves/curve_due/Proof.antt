@@ -1,8 +1,6 @@
 -- `curve_due` meets its contract.
-use borrow.Author.Tests.{eq-eqb, ne-eqb}
-use Rattle.jacobian.specs.Checks.{unless, _then_}
-use Rattle.jacobian.specs.Curves.{degree-refusal, coefficient-refusal, curve-refusal}
-use borrow.Author.Needs.{needs}
+use borrow.Author.{Tests.ne-eqb, Needs.needs}
+use Rattle.jacobian.specs.{Checks.unless, Checks._then_, Curves.degree-refusal, Curves.coefficient-refusal, Curves.curve-refusal}
 use Rattle.jacobian.proofs.curves.curve_due.Statement.{statement}
 use Rattle.jacobian.proofs.curves.curve_due.Tie as tie
 

@@ -1,7 +1,6 @@
 -- `f_row` meets its contract.
-use mathlib.Core.Path.{_≡_, refl}
-use Rattle.jacobian.specs.Row.{filled}
-use Rattle.jacobian.specs.Curves.{f-row}
+use mathlib.Core.Path.{refl}
+use Rattle.jacobian.specs.{Row.filled, Curves.f-row}
 use Rattle.jacobian.proofs.curves.f_row.Statement.{statement}
 use Rattle.jacobian.proofs.curves.f_row.Tie as tie
 

@@ -1,7 +1,6 @@
 -- `sum_rows` meets its contract: the composition of two reduced pairs is to be reduced, and its reduction is their sum.
-use mathlib.Core.Path.{_≡_, subst}
-use Rattle.class_group.specs.Operations.{counted-sum}
-use Rattle.class_group.specs.Reduction.{reduce}
+use mathlib.Core.Path.{subst}
+use Rattle.class_group.specs.{Operations.counted-sum, Reduction.reduce}
 use Rattle.class_group.proofs.Composed.{compose-semi, compose-len}
 use Rattle.jacobian.specs.Core.{StandsCounted}
 use Rattle.jacobian.proofs.ReductionRows.{pair-eq, reduced-on, semi-rows}

@@ -1,0 +1,22 @@
+-- What the functions from classes to rows promise.
+use Prim.Native.Nat.{ℕ}
+use mathlib.Core.Path.{_≡_}
+use mathlib.Core.List.{List, [], _∷_, _++_}
+use lib.ListN.{length, take}
+use Rattle.jacobian.specs.{Row.filled, Classes.u-row, Classes.Three, declared.Class.Class, declared.row.RowPair.RowPair}
+
+-- the first n numbers of a row of three, then 1
+pub record Led (n : ℕ) (r t : List ℕ) : Type 0 where
+  pub is : t ≡ filled (take n r ++ 1 ∷ [])
+  pub three : length r ≡ 3
+
+-- the numbers of a row of three
+pub record Widened (r t : List ℕ) : Type 0 where
+  pub is : t ≡ filled r
+  pub three : length r ≡ 3
+
+-- the rows are the pair of the class
+pub record RowsOf (a : Class) (r : RowPair) : Type 0 where
+  pub u-is : r .u ≡ filled (u-row a)
+  pub v-is : r .v ≡ filled (a .v)
+  pub three : Three a

@@ -1,0 +1,77 @@
+-- A body that is read and a field that is written determine each other.
+use Prim.Native.Nat.{ℕ, _+_, _^_, _≤_, _<_}
+use mathlib.Core.Path.{_≡_, sym, ap, ap₂, subst₂, _∙_}
+use mathlib.Core.Bool.{true}
+use mathlib.Core.List.{List, _∷_, _++_}
+use native.Mathlib.Omega.{arith}
+use lib.ListN.{length, getD}
+use lib.Seq.{take-length}
+use Rattle.stored_form.specs.{Number.number-of, Number.bytes-of, Number.Bytes, Number.part, Reading.found, Head.allowed, Head.body-length}
+use Rattle.stored_form.specs.{Head.head-at, Head.body-at, Head.head-bytes, Head.stored, Head.Stands}
+use Rattle.stored_form.proofs.{Digits.bytes-number, Digits.number-bytes-small, Digits.part-bytes, Parts.part-part, Parts.part-add, Parts.part-cons}
+use Rattle.stored_form.proofs.{Parts.length-part, Parts.getD-part, Parts.stands-within, Readings.then-found, Readings.both-found}
+use Rattle.stored_form.proofs.{Readings.same-found, Heads.Whole, Heads.head-found, Heads.head-whole}
+
+pub length-stored : (tag : ℕ) (body : List ℕ) → length (stored tag body) ≡ 3 + length body
+unfolding stored head-bytes bytes-of
+length-stored tag body = omega arith
+
+-- ---- what was read was written so
+
+pub record Written (tag : ℕ) (s : List ℕ) (at : ℕ) (body : List ℕ) (next : ℕ) : Type 0 where
+  pub stands : Stands s at (stored tag body)
+  pub ends : next ≡ at + length (stored tag body)
+  pub allows : allowed tag (length body) ≡ true
+  pub bytes : Bytes body
+
+-- the three bytes of a head that was found
+head-stands : (tag : ℕ) (s : List ℕ) (at n next : ℕ) → Bytes s → at + 3 ≤ length s → Whole tag s at n next → part s at 3 ≡ head-bytes tag n
+unfolding head-bytes body-length
+head-stands tag s at n next b fits w =
+    let p : List ℕ = part s (at + 1) 2 in
+    let len : length p ≡ 2 = length-part s (at + 1) 2 (omega arith) in
+    let two : bytes-of 2 n ≡ p =
+    ap (bytes-of 2) (w .said) ∙ ap (λ (k : ℕ). bytes-of k (number-of p)) (sym len) ∙ bytes-number p (part-bytes s b (at + 1) 2) in
+    part-cons s at 2 (omega arith) ∙ ap₂ (λ (x : ℕ) (xs : List ℕ). x ∷ xs) (w .due) (sym two)
+
+whole-written : (tag : ℕ) (s : List ℕ) (at n next : ℕ) → Bytes s → Whole tag s at n next → Written tag s at (part s (at + 3) n) next
+unfolding stored
+whole-written tag s at n next b w =
+    let fits : at + 3 + n ≤ length s = omega arith in
+    let len : length (part s (at + 3) n) ≡ n = length-part s (at + 3) n fits in
+    let long : length (stored tag (part s (at + 3) n)) ≡ 3 + n = length-stored tag (part s (at + 3) n) ∙ ap (λ (k : ℕ). 3 + k) len in
+    record {
+      stands =
+          ap (part s at) long ∙ part-add s at 3 n
+          ∙ ap (λ (h : List ℕ). h ++ part s (at + 3) n) (head-stands tag s at n next b (omega arith) w ∙ ap (head-bytes tag) (sym len));
+      ends = omega arith;
+      allows = rw len (w .allows);
+      bytes = part-bytes s b (at + 3) n;
+    }
+
+pub body-written : (tag : ℕ) (s : List ℕ) (at : ℕ) {body : List ℕ} {next : ℕ} → Bytes s → body-at tag s at ≡ found body next → Written tag s at body next
+unfolding body-at
+body-written tag s at {body} {next} b h =
+    let p = both-found (λ n next. found (part s (at + 3) n) next) (head-at tag s at) h in
+    let e = same-found (p .3) in
+    subst₂ (λ (x : List ℕ) (y : ℕ). Written tag s at x y) (e .0) (e .1) (whole-written tag s at (p .0) (p .1) b (head-found tag s at (p .2)))
+
+-- ---- what was written is read so
+
+pub body-read : (tag : ℕ) (s : List ℕ) (at : ℕ) (body : List ℕ) → allowed tag (length body) ≡ true → length body < 256 ^ 2 → Stands s at (stored tag body) →
+    body-at tag s at ≡ found body (at + length (stored tag body))
+unfolding stored head-bytes bytes-of body-at body-length
+body-read tag s at body a small h =
+    let n : ℕ = length body in
+    let long : length (stored tag body) ≡ 3 + n = length-stored tag body in
+    let within : at + length (stored tag body) ≤ length s = stands-within s at tag (bytes-of 2 n ++ body) h in
+    let fits : at + 3 + n ≤ length s = omega arith in
+    let all : part s at (3 + n) ≡ stored tag body = ap (part s at) (sym long) ∙ h in
+    let e : at + 0 ≡ at = omega arith in
+    let first : getD s at 0 ≡ tag =
+    ap (λ (i : ℕ). getD s i 0) (sym e) ∙ sym (getD-part s at (3 + n) 0 (omega arith)) ∙ ap (λ (l : List ℕ). getD l 0 0) all in
+    let two : part s (at + 1) 2 ≡ bytes-of 2 n = sym (part-part s at (3 + n) 1 2 (omega arith)) ∙ ap (λ (l : List ℕ). part l 1 2) all in
+    let said : n ≡ number-of (part s (at + 1) 2) = sym (ap number-of two ∙ number-bytes-small 2 n small) in
+    let rest : part s (at + 3) n ≡ body = sym (part-part s at (3 + n) 3 n (omega arith)) ∙ ap (λ (l : List ℕ). part l 3 n) all ∙ take-length body in
+    let ends : at + 3 + n ≡ at + length (stored tag body) = omega arith in
+    then-found _ (head-whole tag s at said (omega arith) first a fits) ∙ ap₂ (λ (x : List ℕ) (y : ℕ). found x y) rest ends

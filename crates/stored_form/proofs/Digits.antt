@@ -1,0 +1,115 @@
+-- Numbers as bytes, high byte first: the number of bytes is bounded by their count, one more byte is one more digit, and
+-- a number below 256^k and its k bytes determine each other.
+use Prim.Native.Nat.{ℕ, zero, suc, _+_, _*_, _/_, _%_, _^_, _≤_, _<_}
+use mathlib.Core.Path.{_≡_, refl, sym, ap, ap₂, _∙_}
+use mathlib.Core.List.{List, [], _∷_, _++_}
+use native.Mathlib.Nat.{pow-suc, pow-succ', mul-assoc, mod-eq-of-lt, mul-add-div-right, mul-add-mod-self-right, pow-le-pow-right, lt-of-lt-of-le}
+use native.Mathlib.Numerals.{add-one}
+use native.Mathlib.Omega.{arith}
+use lib.Dec.{lit<}
+use lib.Arith.{digits-lt, digits-div, mod-mul}
+use lib.ListN.{length, getD, take, drop, length-append, length-take, length-drop}
+use lib.Seq.{take-suc, getD-drop}
+use Rattle.stored_form.specs.Number.{number-of, bytes-of, Bytes, part}
+
+pow-pos : (k : ℕ) → 0 < 256 ^ k
+pow-pos zero = lit< tt
+pow-pos (suc k) = rw pow-suc (omega (arith, pow-pos k))
+
+-- ---- the number of bytes
+
+pub number-lt : (bs : List ℕ) → Bytes bs → number-of bs < 256 ^ length bs
+unfolding number-of
+number-lt [] h = lit< tt
+number-lt (b ∷ bs) h = rw pow-succ' (digits-lt (h 0) (number-lt bs (λ i. h (suc i))))
+
+pub number-snoc : (bs : List ℕ) (b : ℕ) → number-of (bs ++ b ∷ []) ≡ number-of bs * 256 + b
+unfolding number-of
+number-snoc [] b = omega arith
+number-snoc (a ∷ bs) b =
+    let e : a * (256 ^ length bs * 256) ≡ (a * 256 ^ length bs) * 256 = sym (mul-assoc a (256 ^ length bs) 256) in
+    ap₂ (λ (l r : ℕ). a * 256 ^ l + r) (length-append bs (b ∷ [])) (number-snoc bs b)
+    ∙ rw (add-one, pow-suc, e) (omega arith)
+
+-- ---- k bytes of a number
+
+pub length-bytes : (k n : ℕ) → length (bytes-of k n) ≡ k
+unfolding bytes-of
+length-bytes zero n = refl
+length-bytes (suc k) n = ap suc (length-bytes k n)
+
+pub number-bytes : (k n : ℕ) → number-of (bytes-of k n) ≡ n % 256 ^ k
+unfolding number-of bytes-of
+number-bytes zero n = omega arith
+number-bytes (suc k) n =
+    let low : number-of (bytes-of k n) ≡ n % 256 ^ k = number-bytes k n in
+    ap₂ (λ (l r : ℕ). (n / 256 ^ k % 256) * 256 ^ l + r) (length-bytes k n) low
+    ∙ sym (ap (λ (m : ℕ). n % m) (pow-succ' 256 k) ∙ mod-mul n (lit< tt) (pow-pos k))
+
+pub number-bytes-small : (k n : ℕ) → n < 256 ^ k → number-of (bytes-of k n) ≡ n
+number-bytes-small k n h = number-bytes k n ∙ mod-eq-of-lt h
+
+-- what stands above the k lowest bytes does not count
+bytes-above : (k q r : ℕ) → bytes-of k (q * 256 ^ k + r) ≡ bytes-of k r
+unfolding bytes-of
+bytes-above zero q r = refl
+bytes-above (suc k) q r =
+    let e : q * 256 ^ suc k + r ≡ (q * 256) * 256 ^ k + r = rw (pow-succ', mul-assoc) refl in
+    rw e (ap₂ (λ (x : ℕ) (xs : List ℕ). x ∷ xs)
+    (ap (λ (x : ℕ). x % 256) (mul-add-div-right (pow-pos k) (q * 256) r) ∙ mul-add-mod-self-right q 256 (r / 256 ^ k))
+    (bytes-above k (q * 256) r))
+
+pub bytes-number : (bs : List ℕ) → Bytes bs → bytes-of (length bs) (number-of bs) ≡ bs
+unfolding number-of bytes-of
+bytes-number [] h = refl
+bytes-number (b ∷ bs) h =
+    let small : number-of bs < 256 ^ length bs = number-lt bs (λ i. h (suc i)) in
+    ap₂ (λ (x : ℕ) (xs : List ℕ). x ∷ xs)
+    (ap (λ (x : ℕ). x % 256) (digits-div b small) ∙ mod-eq-of-lt (h 0))
+    (bytes-above (length bs) b (number-of bs) ∙ bytes-number bs (λ i. h (suc i)))
+
+-- ---- bytes of a list
+
+take-bytes : (k : ℕ) (l : List ℕ) → Bytes l → Bytes (take k l)
+take-bytes zero l h i = lit< tt
+take-bytes (suc k) [] h i = lit< tt
+take-bytes (suc k) (x ∷ l) h zero = h 0
+take-bytes (suc k) (x ∷ l) h (suc i) = take-bytes k l (λ j. h (suc j)) i
+
+pub part-bytes : (s : List ℕ) → Bytes s → (at k : ℕ) → Bytes (part s at k)
+part-bytes s h at k = take-bytes k (drop at s) (λ i. rw getD-drop (h (at + i)))
+
+-- one more byte of a list
+pub number-more : (s : List ℕ) (at i : ℕ) → at + i < length s →
+    number-of (part s at (i + 1)) ≡ number-of (part s at i) * 256 + getD s (at + i) 0
+number-more s at i h =
+    rw (add-one, take-suc (drop at s) i 0 (rw length-drop (omega arith)), getD-drop) (number-snoc (part s at i) _)
+
+-- up to eight bytes fit 64 bits
+pub number-fits : (s : List ℕ) → Bytes s → (at k : ℕ) → k ≤ 8 → number-of (part s at k) < 2 ^ 64
+number-fits s h at k le =
+    lt-of-lt-of-le (number-lt (part s at k) (part-bytes s h at k))
+    (pow-le-pow-right {n = 256} (lit< tt) {j = 8} (rw length-take (omega arith)))
+
+-- a turn of the loop that reads k bytes: the next number fits, and is the number of one more byte
+pub turn-fits : (s : List ℕ) → Bytes s → (at k i n : ℕ) → k ≤ 8 → at + k ≤ length s → i < k → n ≡ number-of (part s at i) →
+    n * 256 + getD s (at + i) 0 < 2 ^ 64
+turn-fits s h at k i n le fits lt e =
+    rw (e, ← number-more s at i (omega arith)) (number-fits s h at (i + 1) (omega arith))
+
+pub turn : (s : List ℕ) (at k i n b : ℕ) → at + k ≤ length s → i < k → n ≡ number-of (part s at i) → b ≡ getD s (at + i) 0 →
+    n * 256 + b ≡ number-of (part s at (i + 1))
+turn s at k i n b fits lt e f = rw (e, f) (sym (number-more s at i (omega arith)))
+
+-- ---- one byte and two bytes, as the code writes them
+
+pub one-byte : (n : ℕ) → n < 256 → n ≡ n / 256 ^ 0 % 256
+one-byte n h = omega arith
+
+pub two-bytes : (n : ℕ) → n < 256 ^ 2 → n / 256 ∷ n % 256 ∷ [] ≡ bytes-of 2 n
+unfolding bytes-of
+two-bytes n h = ap₂ (λ (x y : ℕ). x ∷ y ∷ []) (omega arith) (omega arith)
+
+pub two-bytes-small : (n : ℕ) → n < 256 → 0 ∷ n ∷ [] ≡ bytes-of 2 n
+unfolding bytes-of
+two-bytes-small n h = ap₂ (λ (x y : ℕ). x ∷ y ∷ []) (omega arith) (omega arith)

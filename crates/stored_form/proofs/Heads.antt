@@ -1,0 +1,63 @@
+-- The head of a field: what each check says where the ones before it held, and what holds of a head that was found.
+use Prim.Native.Nat.{ℕ, _+_, _≤_, _<_}
+use mathlib.Core.Path.{_≡_, sym}
+use mathlib.Core.Bool.{true, false, not}
+use mathlib.Core.List.{List}
+use lib.Dec.{eqb, ltb}
+use lib.ListN.{length, getD}
+use borrow.Author.Tests.{lt-ltb, le-ltb, eq-eqb, ne-eqb, ltb-false, eqb-true, not-false}
+use Rattle.stored_form.specs.Reading.{Reading, found, refused, refuse}
+use Rattle.stored_form.specs.Head.{allowed, body-length, head-at}
+use Rattle.stored_form.proofs.Readings.{refuse-found, same-found}
+
+module _ (tag : ℕ) (s : List ℕ) (at : ℕ) where
+  pub head-102 : length s < at + 3 → head-at tag s at ≡ refused 102
+  unfolding head-at
+  head-102 h = rw (lt-ltb (length s) (at + 3) h)
+
+  pub head-103 : at + 3 ≤ length s → (getD s at 0 ≡ tag → ⊥) → head-at tag s at ≡ refused 103
+  unfolding head-at
+  head-103 h t = rw (le-ltb (length s) (at + 3) h, ne-eqb (getD s at 0) tag t)
+
+  -- the checks of a length n that was read from the head
+  module _ {n : ℕ} (read : n ≡ body-length s at) (fits : at + 3 ≤ length s) (due : getD s at 0 ≡ tag) where
+    pub head-104 : allowed tag n ≡ false → head-at tag s at ≡ refused 104
+    unfolding head-at
+    head-104 a = rw (le-ltb (length s) (at + 3) fits, eq-eqb (getD s at 0) tag due, ← read, a)
+
+    pub head-105 : allowed tag n ≡ true → length s < at + 3 + n → head-at tag s at ≡ refused 105
+    unfolding head-at
+    head-105 a b = rw (le-ltb (length s) (at + 3) fits, eq-eqb (getD s at 0) tag due, ← read, a, lt-ltb (length s) (at + 3 + n) b)
+
+    pub head-whole : allowed tag n ≡ true → at + 3 + n ≤ length s → head-at tag s at ≡ found n (at + 3 + n)
+    unfolding head-at
+    head-whole a b = rw (le-ltb (length s) (at + 3) fits, eq-eqb (getD s at 0) tag due, ← read, a, le-ltb (length s) (at + 3 + n) b)
+
+-- what holds of a head that was found
+pub record Whole (tag : ℕ) (s : List ℕ) (at n next : ℕ) : Type 0 where
+  pub due : getD s at 0 ≡ tag
+  pub said : n ≡ body-length s at
+  pub allows : allowed tag n ≡ true
+  pub ends : next ≡ at + 3 + n
+  pub fits : next ≤ length s
+
+pub head-found : (tag : ℕ) (s : List ℕ) (at : ℕ) {n next : ℕ} → head-at tag s at ≡ found n next → Whole tag s at n next
+unfolding head-at
+head-found tag s at {n} {next} h =
+    let len = body-length s at in
+    let whole : Reading ℕ = found len (at + 3 + len) in
+    let r₄ : Reading ℕ = refuse 105 (ltb (length s) (at + 3 + len)) whole in
+    let r₃ : Reading ℕ = refuse 104 (not (allowed tag len)) r₄ in
+    let r₂ : Reading ℕ = refuse 103 (not (eqb (getD s at 0) tag)) r₃ in
+    let p₁ = refuse-found 102 (ltb (length s) (at + 3)) r₂ h in
+    let p₂ = refuse-found 103 (not (eqb (getD s at 0) tag)) r₃ (p₁ .1) in
+    let p₃ = refuse-found 104 (not (allowed tag len)) r₄ (p₂ .1) in
+    let p₄ = refuse-found 105 (ltb (length s) (at + 3 + len)) whole (p₃ .1) in
+    let e = same-found (p₄ .1) in
+    record {
+      due = eqb-true _ _ (not-false _ (p₂ .0));
+      said = sym (e .0);
+      allows = rw (← (e .0)) (not-false _ (p₃ .0));
+      ends = rw (← (e .0)) (sym (e .1));
+      fits = rw (← (e .1)) (ltb-false _ _ (p₄ .0));
+    }

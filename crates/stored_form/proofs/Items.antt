@@ -1,0 +1,114 @@
+-- Elements as bytes: those of a part, of two parts, and the rows of coefficients that the code reads.
+use Prim.Native.Nat.{ℕ, zero, suc, _+_, _*_, _-_, _/_, _≤_}
+use mathlib.Core.Path.{_≡_, refl, sym, ap, ap₂, _∙_}
+use mathlib.Core.List.{List, [], _∷_, _++_}
+use native.Mathlib.Nat.{suc-add}
+use native.Mathlib.Omega.{arith}
+use mathlib.Core.Bool.{true}
+use lib.Dec.{lit≤}
+use lib.ListN.{length, take, drop}
+use lib.Seq.{take-take, drop-drop, take-at, drop-at}
+use Rattle.stored_form.specs.{Number.number-of, Number.part, Elements.elements, Classes.curve-said, Classes.row-said, Classes.class-said}
+use Rattle.stored_form.specs.{Head.class-length}
+use Rattle.jacobian.specs.{declared.Class.Class, declared.Curve.Curve}
+use Rattle.stored_form.proofs.{Parts.drop-take, Parts.length-part, Lengths.class-length-le}
+
+pub length-elements : (k : ℕ) (s : List ℕ) → length (elements k s) ≡ k
+unfolding elements
+length-elements zero s = refl
+length-elements (suc k) s = ap suc (length-elements k (drop 8 s))
+
+-- bytes past the elements do not count
+pub elements-take : (k m : ℕ) (s : List ℕ) → 8 * k ≤ m → elements k (take m s) ≡ elements k s
+unfolding elements
+elements-take zero m s h = refl
+elements-take (suc k) m s h =
+    ap₂ (λ (x : ℕ) (xs : List ℕ). x ∷ xs)
+    (ap number-of (take-take 8 m s (omega arith)))
+    (ap (elements k) (drop-take 8 m s) ∙ elements-take k (m - 8) (drop 8 s) (omega arith))
+
+pub elements-add : (j k : ℕ) (s : List ℕ) → elements (j + k) s ≡ elements j s ++ elements k (drop (8 * j) s)
+unfolding elements
+elements-add zero k s = let e : 0 + k ≡ k = omega arith in rw e
+elements-add (suc j) k s =
+    let e : suc j + k ≡ suc (j + k) = suc-add j k in
+    let f : 8 + 8 * j ≡ 8 * suc j = omega arith in
+    rw e (ap (λ (xs : List ℕ). number-of (take 8 s) ∷ xs)
+    (elements-add j k (drop 8 s) ∙ ap (λ (t : List ℕ). elements j (drop 8 s) ++ elements k t) (drop-drop (8 * j) 8 s ∙ ap (λ (i : ℕ). drop i s) f)))
+
+-- one element more, at a place
+pub elements-cons : (k : ℕ) (s : List ℕ) (at : ℕ) → elements (suc k) (drop at s) ≡ number-of (part s at 8) ∷ elements k (drop (at + 8) s)
+unfolding elements
+elements-cons k s at = ap (λ (t : List ℕ). number-of (part s at 8) ∷ elements k t) (drop-drop 8 at s)
+
+-- ---- what the code reads
+
+module _ (s : List ℕ) (at : ℕ) {a : ℕ} (e : a ≡ number-of (part s at 8)) where
+  one-element : elements 1 (drop at s) ≡ a ∷ []
+  unfolding elements
+  one-element = ap (λ (x : ℕ). x ∷ []) (sym e)
+
+  module _ {b : ℕ} (f : b ≡ number-of (part s (at + 8) 8)) where
+    two-elements : elements 2 (drop at s) ≡ a ∷ b ∷ []
+    unfolding elements
+    two-elements = elements-cons 1 s at ∙ ap₂ (λ (x y : ℕ). x ∷ y ∷ []) (sym e) (sym f)
+
+    module _ {c : ℕ} (g : c ≡ number-of (part s (at + 16) 8)) where
+      three-elements : elements 3 (drop at s) ≡ a ∷ b ∷ c ∷ []
+      unfolding elements
+      three-elements =
+          let i : at + 16 ≡ at + 8 + 8 = omega arith in
+          elements-cons 2 s at
+          ∙ ap (λ (xs : List ℕ). number-of (part s at 8) ∷ xs) (elements-cons 1 s (at + 8))
+          ∙ ap₂ (λ (x : ℕ) (xs : List ℕ). x ∷ xs) (sym e)
+          (ap₂ (λ (x y : ℕ). x ∷ y ∷ []) (sym f) (sym (g ∙ ap (λ (j : ℕ). number-of (part s j 8)) i)))
+
+      -- three elements are a curve's
+      pub curve-is : (d : ℕ) → _≡_ {A = Curve} (record { degree = d; f3 = a; f1 = b; f0 = c }) (curve-said d (part s at 24))
+      unfolding curve-said
+      curve-is d = rw (elements-take 3 24 (drop at s) (lit≤ tt), three-elements)
+
+-- the rows of up to three elements
+module _ (s : List ℕ) (at : ℕ) {n : ℕ} where
+  pub row-0 : n ≡ 0 → 0 ∷ 0 ∷ 0 ∷ [] ≡ row-said (elements n (drop at s))
+  unfolding row-said elements
+  row-0 h = rw h
+
+  pub row-1 : {a : ℕ} → a ≡ number-of (part s at 8) → n ≡ 1 → a ∷ 0 ∷ 0 ∷ [] ≡ row-said (elements n (drop at s))
+  unfolding row-said
+  row-1 e h = rw (h, one-element s at e)
+
+  pub row-2 : {a b : ℕ} → a ≡ number-of (part s at 8) → b ≡ number-of (part s (at + 8) 8) → n ≡ 2 →
+      b ∷ a ∷ 0 ∷ [] ≡ row-said (elements n (drop at s))
+  unfolding row-said
+  row-2 e f h = rw (h, two-elements s at e f)
+
+  pub row-3 : {a b c : ℕ} → a ≡ number-of (part s at 8) → b ≡ number-of (part s (at + 8) 8) → c ≡ number-of (part s (at + 16) 8) → n ≡ 3 →
+      c ∷ b ∷ a ∷ [] ≡ row-said (elements n (drop at s))
+  unfolding row-said
+  row-3 e f g h = rw (h, three-elements s at e f g)
+
+-- two rows are a class's
+module _ (s : List ℕ) (at len : ℕ) (ok : class-length len ≡ true) (within : at + len ≤ length s) where
+  pub row-asks : (len / 16 ≤ 3) × (at + 8 * (len / 16) ≤ length s)
+  row-asks = let h : len ≤ 48 = class-length-le len ok in omega arith
+
+  pub row-asks-2 : (len / 16 ≤ 3) × (at + 8 * (len / 16) + 8 * (len / 16) ≤ length s)
+  row-asks-2 = let h : len ≤ 48 = class-length-le len ok in omega arith
+
+  -- the elements of the body
+  body-elements : elements (len / 16 + len / 16) (part s at len) ≡ elements (len / 16) (drop at s) ++ elements (len / 16) (drop (at + 8 * (len / 16)) s)
+  body-elements =
+      let n = len / 16 in
+      elements-take (n + n) len (drop at s) (omega arith)
+      ∙ elements-add n n (drop at s)
+      ∙ ap (λ (t : List ℕ). elements n (drop at s) ++ elements n t) (drop-drop (8 * n) at s)
+
+  pub class-is : {u v : List ℕ} → u ≡ row-said (elements (len / 16) (drop at s)) → v ≡ row-said (elements (len / 16) (drop (at + 8 * (len / 16)) s)) →
+      _≡_ {A = Class} (record { degree = len / 16; u = u; v = v }) (class-said (part s at len))
+  unfolding class-said
+  class-is e f =
+      let n = len / 16 in
+      let xs = elements n (drop at s) in
+      let ys = elements n (drop (at + 8 * n) s) in
+      rw (length-part s at len within, body-elements, take-at xs ys n (length-elements n (drop at s)), drop-at xs ys n (length-elements n (drop at s)), e, f)

@@ -1,0 +1,69 @@
+-- Readings one after the other: what a check or a field that was passed says.
+use Prim.Native.Nat.{ℕ, zero, suc}
+use mathlib.Core.Path.{_≡_, refl, sym, ap, _∙_}
+use mathlib.Core.Bool.{Bool, true, false}
+use native.Mathlib.Omega.{arith}
+use Rattle.stored_form.specs.Reading.{Reading, found, refused, refuse, due, _then_, number}
+
+module _ {A : Type 0} where
+  pub found-not-refused : {k next : ℕ} {a : A} → _≡_ {A = Reading A} (refused k) (found a next) → ⊥
+  found-not-refused h = let z : _≡_ {A = ℕ} 0 1 = cc in omega arith
+
+  -- checks made elsewhere
+  pub due-some : (n : ℕ) (r : Reading A) → (n ≡ 0 → ⊥) → due n r ≡ refused n
+  unfolding due
+  due-some zero r h = absurd (h refl)
+  due-some (suc n) r h = refl
+
+  pub due-none : (n : ℕ) (r : Reading A) → n ≡ 0 → due n r ≡ r
+  unfolding due
+  due-none n r e = rw e
+
+  pub due-found : (n : ℕ) (r : Reading A) {a : A} {next : ℕ} → due n r ≡ found a next → (n ≡ 0) × (r ≡ found a next)
+  unfolding due
+  due-found zero r h = (refl, h)
+  due-found (suc n) r h = absurd (found-not-refused h)
+
+  pub same-found : {a b : A} {m n : ℕ} → found a m ≡ found b n → (a ≡ b) × (m ≡ n)
+  same-found h = (cc, cc)
+
+  -- a check that was passed
+  pub refuse-found : (k : ℕ) (b : Bool) (r : Reading A) {a : A} {next : ℕ} → refuse k b r ≡ found a next → (b ≡ false) × (r ≡ found a next)
+  refuse-found k true r h = absurd (found-not-refused h)
+  refuse-found k false r h = (refl, h)
+
+module _ {A B : Type 0} (f : A → ℕ → Reading B) where
+  pub then-found : {x : Reading A} {a : A} {next : ℕ} → x ≡ found a next → (x then f) ≡ f a next
+  unfolding _then_
+  then-found e = rw e
+
+  pub then-refused : {x : Reading A} {k : ℕ} → x ≡ refused k → (x then f) ≡ refused k
+  unfolding _then_
+  then-refused e = rw e
+
+  -- both were found
+  pub both-found : (x : Reading A) {b : B} {next : ℕ} → (x then f) ≡ found b next → (a : A) × (n : ℕ) × (x ≡ found a n) × (f a n ≡ found b next)
+  unfolding _then_
+  both-found (found a n) h = (a, n, refl, h)
+  both-found (refused k) h = absurd (found-not-refused h)
+
+  -- a check goes before what follows it
+  pub then-refuse : (k : ℕ) (b : Bool) (a : A) (next : ℕ) → (refuse k b (found a next) then f) ≡ refuse k b (f a next)
+  unfolding _then_
+  then-refuse k true a next = refl
+  then-refuse k false a next = refl
+
+  pub then-same : (x : Reading A) {g : A → ℕ → Reading B} → ((a : A) (n : ℕ) → f a n ≡ g a n) → (x then f) ≡ (x then g)
+  unfolding _then_
+  then-same (found a n) e = e a n
+  then-same (refused k) e = refl
+
+pub then-assoc : {A B C : Type 0} (x : Reading A) (f : A → ℕ → Reading B) (g : B → ℕ → Reading C) →
+    (x then f then g) ≡ (x then λ a n. f a n then g)
+unfolding _then_
+then-assoc (found a n) f g = refl
+then-assoc (refused k) f g = refl
+
+-- a refusal and its number
+pub refused-number : {A : Type 0} {x : Reading A} {n k : ℕ} → x ≡ refused n → k ≡ number x → x ≡ refused k
+refused-number e q = e ∙ sym (ap refused (q ∙ ap number e))

@@ -1,0 +1,16 @@
+-- `classes::operation_at` meets its contract: the tag allows the lengths of a class.
+use borrow.Author.Needs.{needs}
+use mathlib.Core.Path.{refl}
+use Rattle.stored_form.specs.Head.{allowed}
+use Rattle.stored_form.proofs.classes.operation_at.Statement.{statement}
+use Rattle.stored_form.proofs.classes.operation_at.Tie as tie
+
+tagged-at-requires : tie.Need-tagged-at-requires
+unfolding allowed
+tagged-at-requires c κs = λ n. refl
+
+returns : tie.Need-returns
+returns c = search needs
+
+pub operation-at-spec : {M : Type 1} → statement M
+operation-at-spec = tie.close (tie.spec tagged-at-requires returns)

@@ -1,0 +1,60 @@
+-- `classes::row_at` meets its contract.
+use borrow.Author.Needs.{needs}
+use native.Mathlib.Omega.{arith}
+use mathlib.Core.Path.{_≡_}
+use Rattle.stored_form.proofs.Items.{row-0, row-1, row-2, row-3}
+use Rattle.stored_form.proofs.classes.row_at.Statement.{statement}
+use Rattle.stored_form.proofs.classes.row_at.Tie as tie
+
+returns : tie.Need-returns
+returns c = let a = c .before .before .args in row-0 (a .s .now) (a .at) (c .if1 .taken)
+
+number-at-requires : tie.Need-number-at-requires
+number-at-requires c κs = search needs
+
+returns-2 : tie.Need-returns-2
+returns-2 c =
+    let one = c .before in
+    let a = one .before .before .before .args in
+    row-1 (a .s .now) (a .at) (one .number-at .ensures) (c .if2 .taken)
+
+add-number-at : tie.Need-add-number-at
+add-number-at c = search needs
+
+number-at-requires-2 : tie.Need-number-at-requires-2
+number-at-requires-2 c κs = search needs
+
+returns-3 : tie.Need-returns-3
+returns-3 c =
+    let two = c .before in
+    let one = two .before .before in
+    let a = one .before .before .before .args in
+    row-2 (a .s .now) (a .at) (one .number-at .ensures) (two .number-at2 .ensures) (c .if3 .taken)
+
+add-number-at-2 : tie.Need-add-number-at-2
+add-number-at-2 c = search needs
+
+number-at-requires-3 : tie.Need-number-at-requires-3
+number-at-requires-3 c κs = search needs
+
+returns-4 : tie.Need-returns-4
+returns-4 c =
+    let two = c .before .before in
+    let one = two .before .before in
+    let a = one .before .before .before .args in
+    let e : a .n ≡ 3 = omega arith in
+    row-3 (a .s .now) (a .at) (one .number-at .ensures) (two .number-at2 .ensures) (c .number-at3 .ensures) e
+
+pub row-at-spec : {M : Type 1} → statement M
+row-at-spec =
+    tie.close
+    (tie.spec
+    returns
+    number-at-requires
+    returns-2
+    add-number-at
+    number-at-requires-2
+    returns-3
+    add-number-at-2
+    number-at-requires-3
+    returns-4)

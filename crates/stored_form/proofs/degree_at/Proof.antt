@@ -1,0 +1,64 @@
+-- `degree_at` meets its contract.
+use borrow.Author.Needs.{needs}
+use mathlib.Core.Path.{_≡_, sym, ap, _∙_}
+use native.Mathlib.Omega.{arith}
+use Rattle.stored_form.specs.Reading.{found, number}
+use Rattle.stored_form.specs.Head.{head-at, head-read}
+use Rattle.stored_form.proofs.Readings.{refused-number}
+use Rattle.stored_form.proofs.Readers.{degree-refused, degree-readable, degree-5, degree-61, degree-106}
+use Rattle.stored_form.proofs.degree_at.Statement.{statement}
+use Rattle.stored_form.proofs.degree_at.Tie as tie
+
+head-at-requires : tie.Need-head-at-requires
+head-at-requires c κs = search needs
+
+enum-known-h : tie.Need-enum-known-h
+enum-known-h c = search needs
+
+enum-told : tie.Need-enum-told
+enum-told c = search needs
+
+head-refusal-requires : tie.Need-head-refusal-requires
+head-refusal-requires c κs = search needs
+
+returns : tie.Need-returns
+returns c =
+    let told = c .before in
+    let head = told .before .before .head-at .ensures in
+    sym (degree-refused _ _ (refused-number (sym head ∙ ap head-read (told .enum-told .given .1)) (c .head-refusal .ensures ∙ ap number head)))
+
+-- the head that was found
+head : (c : tie.After-known-told) →
+    let a = c .before .before .before .before .before .args in
+    head-at 0x40 (a .s .now) (a .at .at) ≡ found (c .before .h .given .0 .0) (c .before .h .given .0 .1 .0 .at)
+head c = sym (c .before .before .before .head-at .ensures) ∙ ap head-read (c .before .h .given .1)
+
+add-number-at : tie.Need-add-number-at
+add-number-at c = omega (arith, degree-readable _ _ (head c))
+
+number-at-requires : tie.Need-number-at-requires
+number-at-requires c κs = let r = degree-readable _ _ (head c) in (r .short, r .within)
+
+returns-2 : tie.Need-returns-2
+returns-2 c = sym (degree-5 _ _ (head (c .before .before)) (c .before .number-at .ensures) (c .if1 .taken))
+
+returns-3 : tie.Need-returns-3
+returns-3 c = sym (degree-61 _ _ (head (c .before .before .before)) (c .before .before .number-at .ensures) (c .if2 .taken))
+
+returns-4 : tie.Need-returns-4
+returns-4 c = sym (degree-106 _ _ (head (c .before .before .before)) (c .before .before .number-at .ensures) (c .before .if1 .left) (c .if2 .left))
+
+pub degree-at-spec : {M : Type 1} → statement M
+degree-at-spec =
+    tie.close
+    (tie.spec
+    head-at-requires
+    enum-known-h
+    enum-told
+    head-refusal-requires
+    returns
+    add-number-at
+    number-at-requires
+    returns-2
+    returns-3
+    returns-4)

@@ -1,0 +1,80 @@
+-- `numbers::number_at` meets its contract: after i turns n is the number of the first i bytes.
+use borrow.Author.Needs.{needs}
+use Prim.Native.Nat.{ℕ, _+_, _*_, _^_, _≤_, _<_, _-_}
+use mathlib.Core.Path.{_≡_, ap, _∙_}
+use lib.ListN.{getD}
+use native.Mathlib.Omega.{arith}
+use Rattle.stored_form.specs.Number.{number-of, part}
+use Rattle.stored_form.proofs.Digits.{turn, turn-fits}
+use Rattle.stored_form.proofs.numbers.number_at.Statement.{statement}
+use Rattle.stored_form.proofs.numbers.number_at.Tie as tie
+
+abbrev Inv-loop : tie.InvT-loop
+Inv-loop s at k n₀ i₀ n i = (i ≤ k) × (n ≡ number-of (part s at i))
+
+abbrev μ-loop : tie.MeasureT-loop
+μ-loop s at k n₀ i₀ n i = k - i
+
+loop-holds : tie.Need-loop-holds Inv-loop μ-loop
+unfolding number-of
+loop-holds c = search needs
+
+-- the number that a turn makes fits
+fits : (c : tie.In-loop Inv-loop μ-loop) →
+    let a = c .before .before .before .args in
+    c .before .loop .n * 256 + getD (a .s .now) (a .at + c .before .loop .i) 0 < 2 ^ 64
+fits c =
+    let start = c .before .before .before in
+    turn-fits (start .args .s .now) (λ i. c .before .before .shared-slice-known .given i .fits) (start .args .at) (start .args .k) _ _
+    (start .pre .0) (start .pre .1) (c .loop-test .taken) (c .before .loop .inv .1)
+
+mul-n : tie.Need-mul-n Inv-loop μ-loop
+mul-n c = omega (arith, fits c)
+
+add-wide : tie.Need-add-wide Inv-loop μ-loop
+add-wide c = search needs
+
+shared-slice-read-wide : tie.Need-shared-slice-read-wide Inv-loop μ-loop
+shared-slice-read-wide c = search needs
+
+wide-requires : tie.Need-wide-requires Inv-loop μ-loop
+wide-requires c κs = search needs
+
+add-n : tie.Need-add-n Inv-loop μ-loop
+add-n c = omega (arith, fits (c .before .before), c .wide .ensures)
+
+add-i : tie.Need-add-i Inv-loop μ-loop
+add-i c = search needs
+
+loop-less : tie.Need-loop-less Inv-loop μ-loop
+loop-less c = search needs
+
+loop-again : tie.Need-loop-again Inv-loop μ-loop
+loop-again c =
+    let head = c .before .before .before in
+    let start = head .before .before in
+    (search needs, turn (start .args .s .now) (start .args .at) (start .args .k) _ _ _ (start .pre .1) (c .before .before .loop-test .taken) (head .loop .inv .1) (c .wide .ensures))
+
+returns : tie.Need-returns Inv-loop μ-loop
+returns c =
+    let head = c .before in
+    let start = head .before .before in
+    let e : head .loop .i ≡ start .args .k = omega arith in
+    head .loop .inv .1 ∙ ap (λ (k : ℕ). number-of (part (start .args .s .now) (start .args .at) k)) e
+
+pub number-at-spec : {M : Type 1} → statement M
+number-at-spec =
+    tie.close
+    (tie.spec
+    Inv-loop
+    μ-loop
+    loop-holds
+    mul-n
+    add-wide
+    shared-slice-read-wide
+    wide-requires
+    add-n
+    add-i
+    loop-less
+    loop-again
+    returns)

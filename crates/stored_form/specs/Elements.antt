@@ -1,0 +1,15 @@
+-- Elements as bytes, eight each, high byte first (document 01, 'Stored form').
+use Prim.Native.Nat.{ℕ, zero, suc}
+use mathlib.Core.List.{List, [], _∷_, _++_}
+use lib.ListN.{take, drop}
+use Rattle.stored_form.specs.Number.{number-of, bytes-of}
+
+-- the k elements that bytes say
+unfoldable pub elements : ℕ → List ℕ → List ℕ
+elements zero s = []
+elements (suc k) s = number-of (take 8 s) ∷ elements k (drop 8 s)
+
+-- the bytes of elements
+unfoldable pub element-bytes : List ℕ → List ℕ
+element-bytes [] = []
+element-bytes (x ∷ xs) = bytes-of 8 x ++ element-bytes xs

@@ -1,0 +1,60 @@
+-- Tags, the lengths that each allows, and the head of a field (document 01, 'Stored form' and 'In checking order').
+use Prim.Native.Nat.{ℕ, _+_}
+use mathlib.Core.Path.{_≡_}
+use mathlib.Core.Bool.{Bool, false, not, cond, _||_}
+use mathlib.Core.List.{List, _∷_, _++_}
+use lib.ListN.{length, getD}
+use lib.Dec.{eqb, leb, ltb}
+use Rattle.stored_form.specs.Number.{number-of, bytes-of, part}
+use Rattle.stored_form.specs.Reading.{Reading, found, refused, refuse, _then_}
+use Rattle.stored_form.specs.declared.Head.{Head}
+use Rattle.stored_form.specs.declared.Head.the-variants.{Body, Refused}
+
+-- the lengths of a class of degree 0 to 3
+unfoldable pub class-length : ℕ → Bool
+class-length n = eqb n 0 || eqb n 16 || eqb n 32 || eqb n 48
+
+-- which lengths a tag allows
+unfoldable pub allowed : ℕ → ℕ → Bool
+allowed tag n =
+    cond (eqb tag 0x40) (eqb n 1)
+    (cond (eqb tag 0x41) (eqb n 24)
+    (cond (eqb tag 0x46) (leb n 255)
+    (cond (eqb tag 0x42) (eqb n 2)
+    (cond (eqb tag 0x43 || eqb tag 0x44) (class-length n)
+    false))))
+
+-- the length that the head at a place says
+unfoldable pub body-length : List ℕ → ℕ → ℕ
+body-length s at = number-of (part s (at + 1) 2)
+
+-- the head at a place where a tag is due: the body's length and the place after the body
+unfoldable pub head-at : ℕ → List ℕ → ℕ → Reading ℕ
+head-at tag s at =
+    let n = body-length s at in
+    refuse 102 (ltb (length s) (at + 3))
+    (refuse 103 (not (eqb (getD s at 0) tag))
+    (refuse 104 (not (allowed tag n))
+    (refuse 105 (ltb (length s) (at + 3 + n))
+    (found n (at + 3 + n)))))
+
+-- the body of the field at a place
+unfoldable pub body-at : ℕ → List ℕ → ℕ → Reading (List ℕ)
+body-at tag s at = head-at tag s at then λ n next. found (part s (at + 3) n) next
+
+-- what each case of the code's answer says
+abbrev pub head-read : Head → Reading ℕ
+head-read (Body n next) = found n (next .at)
+head-read (Refused n) = refused n
+
+-- a head as it is written: the tag, and the body's length in two bytes
+unfoldable pub head-bytes : ℕ → ℕ → List ℕ
+head-bytes tag n = tag ∷ bytes-of 2 n
+
+-- a field as it is written
+unfoldable pub stored : ℕ → List ℕ → List ℕ
+stored tag body = head-bytes tag (length body) ++ body
+
+-- these bytes stand at a place
+abbrev pub Stands : List ℕ → ℕ → List ℕ → Type 0
+Stands s at xs = part s at (length xs) ≡ xs

@@ -1,0 +1,47 @@
+//! Makes cases of the program `class_trial`: `class_vectors KIND FOLDER [F3 F1 F0]` writes what the program is given to
+//! FOLDER/stdin and what it owes for that to FOLDER/stdout. The kinds are
+//!
+//! - `stored`, the cases that are kept with the program;
+//! - `thousand`, doubles and halves over GF(2^61);
+//! - `common`, six calls in the common case over GF(2^61), for bench/classes;
+//! - those of the sweep over every class of a curve of the bench field, which take the curve's coefficients.
+
+use reference::class_cases::{drawn, stored, sweep, Case, CurveValues};
+use reference::field::BENCH;
+use std::fs::write;
+use std::path::Path;
+
+/// What the program is given, and what it owes for that.
+fn made(kind: &str, coefficients: &[u64]) -> Option<(Vec<u8>, String)> {
+    let cases = match (kind, coefficients) {
+        ("stored", []) => return Some(stored()),
+        ("thousand", []) => drawn::thousand(),
+        ("common", []) => drawn::common(),
+        (_, &[f3, f1, f0]) if sweep::KINDS.contains(&kind) => {
+            sweep::cases(kind, CurveValues::new(BENCH, f3, f1, f0))
+        }
+        _ => return None,
+    };
+    Some((cases.iter().flat_map(Case::bytes).collect(), cases.into_iter().map(|case| case.line).collect()))
+}
+
+fn run(words: &[String]) -> Option<()> {
+    let [kind, folder, coefficients @ ..] = words else { return None };
+    let numbers: Vec<u64> = coefficients.iter().map(|word| word.parse().ok()).collect::<Option<_>>()?;
+    let (input, output) = made(kind, &numbers)?;
+    for (name, bytes) in [("stdin", input), ("stdout", output.into_bytes())] {
+        write(Path::new(folder).join(name), bytes).expect("the folder takes the file");
+    }
+    Some(())
+}
+
+fn main() {
+    let words: Vec<String> = std::env::args().skip(1).collect();
+    if run(&words).is_none() {
+        eprintln!(
+            "usage: class_vectors stored | thousand | common FOLDER, or KIND FOLDER F3 F1 F0 with KIND one of"
+        );
+        eprintln!("{}", sweep::KINDS.join(" "));
+        std::process::exit(2);
+    }
+}

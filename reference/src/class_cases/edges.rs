@@ -1,0 +1,183 @@
+//! Every refusal of the calls by value at its edges, and the order of the checks: 106 and 107 for the curve, then 104,
+//! 110 and 111 for each class, the first class before the second is begun.
+
+use super::{Case, ClassValues, CurveValues, CALLS, CALLS_ON_TWO, CURVE, HALF, NEUTRAL, SUBTRACT_AND_HALVE};
+use crate::field::{Field, BENCH, WIDE};
+
+/// No class by its degree, by what stands beyond it, and by the size of its numbers.
+const NONSENSE: ClassValues = ClassValues { degree: u64::MAX, u: [u64::MAX; 3], v: [u64::MAX; 3] };
+
+/// Is the call one whose answer is not known before it is made: a half of classes that are accepted, and not neutral?
+fn open_half(call: u8, curve: CurveValues, a: ClassValues, b: ClassValues) -> bool {
+    let accepted = |class: ClassValues| curve.curve().is_ok_and(|curve| class.class(&curve).is_ok());
+    match call {
+        HALF => accepted(a) && a != NEUTRAL,
+        SUBTRACT_AND_HALVE => accepted(a) && accepted(b) && [a, b] != [NEUTRAL; 2],
+        _ => false,
+    }
+}
+
+/// Every call on the class, with the neutral class as the second of the calls on two; the calls on one are given nonsense
+/// there.
+fn every_call(curve: CurveValues, a: ClassValues) -> Vec<Case> {
+    let second = |call| if CALLS_ON_TWO.contains(&call) { NEUTRAL } else { NONSENSE };
+    let calls = CALLS.filter(|&call| !open_half(call, curve, a, second(call)));
+    calls.map(|call| Case::new(call, curve, a, second(call))).collect()
+}
+
+/// The largest element, and the smallest number that is none.
+fn around(field: Field) -> [u64; 2] {
+    [(1 << field.degree) - 1, 1 << field.degree]
+}
+
+/// 106, whatever else is wrong.
+fn degrees() -> Vec<Case> {
+    let mut cases = vec![];
+    for degree in [0, 4, 6, 60, 62, 255] {
+        for f3 in [0, u64::MAX] {
+            for a in [NEUTRAL, NONSENSE] {
+                let curve = CurveValues { degree, f3, f1: 0, f0: 0 };
+                cases.extend(every_call(curve, a));
+                cases.push(Case::new(CURVE, curve, a, NONSENSE));
+            }
+        }
+    }
+    cases
+}
+
+/// 107 for each coefficient, before anything of the class.
+fn coefficients(field: Field) -> Vec<Case> {
+    let mut cases = vec![];
+    for n in around(field).into_iter().chain([u64::MAX]) {
+        for [f3, f1, f0] in [[n, 0, 0], [0, n, 0], [0, 0, n]] {
+            let curve = CurveValues::new(field, f3, f1, f0);
+            cases.extend(every_call(curve, NEUTRAL));
+            cases.extend(every_call(curve, NONSENSE));
+            cases.push(Case::new(CURVE, curve, NONSENSE, NONSENSE));
+        }
+    }
+    cases
+}
+
+/// 104 for a degree above 3, and for a number other than 0 beyond the degree, an element or not.
+fn shapes(field: Field) -> Vec<Case> {
+    let curve = CurveValues::new(field, 0, 0, 0);
+    let mut cases = vec![];
+    for degree in [4, 256, 1 << 32, u64::MAX] {
+        cases.extend(every_call(curve, ClassValues { degree, ..NEUTRAL }));
+        cases.extend(every_call(curve, ClassValues { degree, ..NONSENSE }));
+    }
+    for degree in 0..3 {
+        let class = ClassValues { degree: degree as u64, ..NEUTRAL };
+        for i in degree..3 {
+            for n in [1, around(field)[1]] {
+                let (mut in_u, mut in_v) = (class, class);
+                in_u.u[i] = n;
+                in_v.v[i] = n;
+                cases.extend(every_call(curve, in_u));
+                cases.extend(every_call(curve, in_v));
+            }
+        }
+    }
+    cases
+}
+
+/// 110 for each coefficient, before 111; the largest element passes. On f = x^7 the class [x^n, 0] is accepted, and
+/// with another number in place of a 0 mostly not.
+fn numbers(field: Field) -> Vec<Case> {
+    let curve = CurveValues::new(field, 0, 0, 0);
+    let mut cases = vec![];
+    for degree in 1..=3 {
+        let class = ClassValues { degree: degree as u64, ..NEUTRAL };
+        cases.extend(every_call(curve, class));
+        for i in 0..degree {
+            for n in [1].into_iter().chain(around(field)) {
+                let (mut in_u, mut in_v) = (class, class);
+                in_u.u[i] = n;
+                in_v.v[i] = n;
+                cases.extend(every_call(curve, in_u));
+                cases.extend(every_call(curve, in_v));
+            }
+        }
+    }
+    cases
+}
+
+/// The class [x + m, m] of the largest element m, on the curve through that point with the largest f3 and f1.
+fn largest(field: Field) -> Vec<Case> {
+    let m = around(field)[0];
+    let f = CurveValues::new(field, m, m, 0).curve().expect("the curve is accepted").f;
+    let f0 = f.at(field, m) ^ field.square(m) ^ m;
+    every_call(CurveValues::new(field, m, m, f0), ClassValues { degree: 1, u: [m, 0, 0], v: [m, 0, 0] })
+}
+
+/// Calls on two classes where one is refused or both are: the first class is done with before the second is begun.
+fn two_classes(field: Field) -> Vec<Case> {
+    let curve = CurveValues::new(field, 0, 0, 0);
+    let accepted = ClassValues { degree: 1, ..NEUTRAL };
+    let shape = ClassValues { degree: 4, ..NEUTRAL };
+    let beyond = ClassValues { u: [0, 0, 1], ..accepted };
+    let number = ClassValues { v: [around(field)[1], 0, 0], ..accepted };
+    let no_divisor = ClassValues { u: [1, 0, 0], ..accepted };
+    let values = [NEUTRAL, accepted, shape, beyond, number, no_divisor, NONSENSE];
+    let mut cases = vec![];
+    for call in CALLS_ON_TWO {
+        for a in values {
+            let seconds = values.into_iter().filter(|&b| !open_half(call, curve, a, b));
+            cases.extend(seconds.map(|b| Case::new(call, curve, a, b)));
+        }
+    }
+    cases
+}
+
+pub fn cases() -> Vec<Case> {
+    let mut cases = degrees();
+    for field in [BENCH, WIDE] {
+        for part in [coefficients, shapes, numbers, largest, two_classes] {
+            cases.extend(part(field));
+        }
+    }
+    cases
+}
+
+#[cfg(test)]
+mod tests {
+    use super::super::SUM;
+    use super::*;
+
+    fn line(curve: CurveValues, a: ClassValues, b: ClassValues) -> String {
+        Case::new(SUM, curve, a, b).line
+    }
+
+    /// Refusals written out by hand, at the edges that document 01 names and in its order.
+    #[test]
+    fn refusals_by_hand() {
+        let curve = CurveValues { degree: 5, f3: 31, f1: 0, f0: 0 };
+        assert_eq!(line(curve, NEUTRAL, NEUTRAL), "0::\n");
+        assert_eq!(line(CurveValues { f3: 32, ..curve }, NONSENSE, NEUTRAL), "refused 107\n");
+        assert_eq!(line(CurveValues { degree: 6, f3: 64, ..curve }, NONSENSE, NEUTRAL), "refused 106\n");
+        let class = |degree, u, v| ClassValues { degree, u, v };
+        assert_eq!(line(curve, class(4, [0; 3], [0; 3]), NONSENSE), "refused 104\n");
+        assert_eq!(line(curve, class(0, [0, 0, 32], [0; 3]), NONSENSE), "refused 104\n");
+        assert_eq!(line(curve, class(2, [32, 0, 0], [0, 0, 1]), NONSENSE), "refused 104\n");
+        assert_eq!(line(curve, class(1, [32, 0, 0], [0; 3]), NONSENSE), "refused 110\n");
+        assert_eq!(line(curve, class(1, [0; 3], [31, 0, 0]), NONSENSE), "refused 111\n");
+        assert_eq!(line(curve, class(1, [0; 3], [1, 0, 0]), NONSENSE), "refused 104\n");
+        assert_eq!(line(curve, class(1, [0; 3], [1, 0, 0]), NEUTRAL), "1:0:1\n");
+    }
+
+    /// The sums of two classes meet each refusal at each of the two places, and both orders of any two.
+    #[test]
+    fn refusals_of_two_classes() {
+        let sums = two_classes(WIDE).into_iter().filter(|case| case.call == SUM);
+        let lines: Vec<String> = sums.map(|case| case.line).collect();
+        let row = |i: usize| lines[7 * i..7 * i + 7].to_vec();
+        let second = ["refused 104\n", "refused 104\n", "refused 110\n", "refused 111\n", "refused 104\n"];
+        for i in [0, 1] {
+            assert_eq!(row(i)[2..], second);
+        }
+        for (i, refusal) in second.iter().enumerate() {
+            assert_eq!(row(i + 2), [*refusal; 7]);
+        }
+    }
+}
