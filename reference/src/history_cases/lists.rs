@@ -111,9 +111,10 @@ impl Ground<'_> {
     }
 }
 
-/// How a list is drawn: how many of sixteen calls are commits, and how many calls there are.
-#[derive(Clone, Copy)]
+/// How a list is drawn: the count that it starts from, how many of sixteen calls are commits, and how many calls there
+/// are.
 struct Shape {
+    count: u64,
     commits: u64,
     calls: usize,
 }
@@ -149,10 +150,10 @@ fn step(trial: &mut Trial, random: &mut Random, ground: &Ground, call: u8) {
     }
 }
 
-/// A list from a start at this count, and taking it back.
-fn list(trial: &mut Trial, random: &mut Random, ground: &Ground, count: u64, shape: Shape) {
+/// A list, and taking it back.
+fn list(trial: &mut Trial, random: &mut Random, ground: &Ground, shape: Shape) {
     let seal = if random.number() & 3 == 0 { Class::neutral() } else { ground.class(random) };
-    trial.start(RegisterValues { curve: ground.values, count, seal: (&seal).into() });
+    trial.start(RegisterValues { curve: ground.values, count: shape.count, seal: (&seal).into() });
     for _ in 0..shape.calls {
         let call = if random.number() % 16 < shape.commits { COMMIT } else { UNDO };
         step(trial, random, ground, call);
@@ -167,8 +168,8 @@ fn on_curve(trial: &mut Trial, random: &mut Random, values: CurveValues, lists: 
     for i in 0..lists {
         let between = random.number() % (LIMIT + 1);
         let count = [0, LIMIT - 4, 2, between][i % 4];
-        let commits = [16, 8, 3, 12, 16, 10][i % 6];
-        list(trial, random, &ground, count, Shape { commits, calls });
+        let commits = [16, 16, 3, 8, 8, 12][i % 6];
+        list(trial, random, &ground, Shape { count, commits, calls });
     }
 }
 
@@ -180,12 +181,11 @@ fn drawn(random: &mut Random) -> CurveValues {
 pub fn stored(trial: &mut Trial) {
     let mut random = Random::new(91);
     for [f3, f1, f0] in [[0, 0, 0], [12, 25, 6]] {
-        on_curve(trial, &mut random, CurveValues::new(BENCH, f3, f1, f0), 3, 10);
+        on_curve(trial, &mut random, CurveValues::new(BENCH, f3, f1, f0), 4, 10);
     }
-    on_curve(trial, &mut random, CurveValues::new(WIDE, 0, 0, 1), 3, 10);
-    for _ in 0..2 {
-        let values = drawn(&mut random);
-        on_curve(trial, &mut random, values, 2, 10);
+    let wide = [CurveValues::new(WIDE, 0, 0, 1), drawn(&mut random), drawn(&mut random)];
+    for values in wide {
+        on_curve(trial, &mut random, values, 4, 10);
     }
 }
 
