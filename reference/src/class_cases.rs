@@ -58,7 +58,7 @@ impl CurveValues {
         CurveValues { degree: field.degree as u8, f3, f1, f0 }
     }
 
-    fn bytes(&self) -> Vec<u8> {
+    pub fn bytes(&self) -> Vec<u8> {
         [vec![self.degree], [self.f3, self.f1, self.f0].map(u64::to_be_bytes).concat()].concat()
     }
 
@@ -85,7 +85,7 @@ impl From<&Class> for ClassValues {
 }
 
 impl ClassValues {
-    fn bytes(&self) -> Vec<u8> {
+    pub fn bytes(&self) -> Vec<u8> {
         [vec![self.degree], self.u.to_vec(), self.v.to_vec()]
             .concat()
             .into_iter()
@@ -114,6 +114,15 @@ impl ClassValues {
             Err(111)
         }
     }
+
+    /// Degree, u and v with a colon between, the coefficients below x^n from the highest power down.
+    pub fn printed(&self, n: usize) -> String {
+        let row = |row: [u64; 3]| {
+            let numbers: Vec<String> = row[..n].iter().rev().map(|c| format!("{c:x}")).collect();
+            numbers.join(",")
+        };
+        format!("{}:{}:{}", self.degree, row(self.u), row(self.v))
+    }
 }
 
 /// A case, and the line that is owed for it, with its end.
@@ -126,15 +135,9 @@ pub struct Case {
     pub line: String,
 }
 
-/// A class as the walk report prints it: degree, u and v with a colon between, coefficients from the highest power
-/// down.
+/// A class as the walk report prints it.
 pub fn printed(class: &Class) -> String {
-    let values = ClassValues::from(class);
-    let row = |row: [u64; 3]| {
-        let numbers: Vec<String> = row[..class.degree()].iter().rev().map(|c| format!("{c:x}")).collect();
-        numbers.join(",")
-    };
-    format!("{}:{}:{}", values.degree, row(values.u), row(values.v))
+    ClassValues::from(class).printed(class.degree())
 }
 
 /// A class with the number of reduction steps that led to it.

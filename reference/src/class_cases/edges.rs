@@ -5,7 +5,7 @@ use super::{Case, ClassValues, CurveValues, CALLS, CALLS_ON_TWO, CURVE, HALF, NE
 use crate::field::{Field, BENCH, WIDE};
 
 /// No class by its degree, by what stands beyond it, and by the size of its numbers.
-const NONSENSE: ClassValues = ClassValues { degree: u64::MAX, u: [u64::MAX; 3], v: [u64::MAX; 3] };
+pub const NONSENSE: ClassValues = ClassValues { degree: u64::MAX, u: [u64::MAX; 3], v: [u64::MAX; 3] };
 
 /// Is the call one whose answer is not known before it is made: a half of classes that are accepted, and not neutral?
 fn open_half(call: u8, curve: CurveValues, a: ClassValues, b: ClassValues) -> bool {
