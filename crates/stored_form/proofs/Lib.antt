@@ -10,3 +10,5 @@ pub mod RoundTrips
 pub mod Verdicts
 pub mod Items
 pub mod ClassReaders
+pub mod Stores
+pub mod ClassBytes

@@ -1,15 +1,16 @@
 // The fields of a curve and of a class: 0x41, 0x43 and 0x44.
-ghost use Prim.Native.Nat.{ℕ, _+_, _*_, _≤_};
+ghost use Prim.Native.Nat.{ℕ, _+_, _*_, _≤_, _<_, min};
 ghost use mathlib.Core.Path.{_≡_};
 ghost use mathlib.Core.Bool.{true};
-ghost use lib.ListN.{length, drop};
+ghost use lib.ListN.{length, drop, getD};
+ghost use lib.Seq.{sets};
 ghost use Rattle.jacobian.specs.Curves.{curve-refusal};
 ghost use Rattle.jacobian.specs.Answer.{refusal};
-ghost use Rattle.stored_form.specs.Number.{part};
+ghost use Rattle.stored_form.specs.Number.{part, bytes-of};
 ghost use Rattle.stored_form.specs.Reading.{refused};
 ghost use Rattle.stored_form.specs.Head.{allowed, class-length};
-ghost use Rattle.stored_form.specs.Elements.{elements};
-ghost use Rattle.stored_form.specs.Classes.{curve-said, curve-at, curve-read, row-said, class-said, class-at, class-read, class-answer};
+ghost use Rattle.stored_form.specs.Elements.{elements, element-bytes};
+ghost use Rattle.stored_form.specs.Classes.{curve-said, curve-at, curve-read, row-said, class-said, class-at, class-read, class-answer, row-written, class-field, in-row};
 use crate::Cursor;
 use crate::Head;
 use crate::numbers;
@@ -174,4 +175,75 @@ pub fn operation_at(s: &[u8], at: Cursor, c: Curve) -> ClassRead
     ensures { λ r. ⌜ class-read r ≡ class-answer (class-at 0x44 c (now (s .entry)) (at .at)) ⌝ }
 {
     tagged_at(s, at, crate::OPERATION, c)
+}
+
+// The byte of an element at a place of its eight, high byte first.
+fn byte_of(x: u64, i: usize) -> u8
+    requires { ⌜ i < 8 ⌝ }
+    ensures { λ r. ⌜ r ≡ getD (bytes-of 8 x) i 0 ⌝ }
+{
+    ((x >> (56 - 8 * i)) % 256) as u8
+}
+
+// A row with an element stored from a place on.
+fn put_element(d: [u8; 51], at: usize, x: u64) -> [u8; 51]
+    requires { ⌜ at + 8 ≤ 51 ⌝ }
+    ensures { λ r. ⌜ r ≡ sets d at (bytes-of 8 x) ⌝ }
+{
+    let mut r = d;
+    let mut i = 0;
+    while i < 8 {
+        r[at + i] = byte_of(x, i);
+        i += 1;
+    }
+    r
+}
+
+// A row with the coefficients below the degree n stored from a place on, highest power first.
+fn put_row(d: [u8; 51], at: usize, n: usize, r: [u64; 3]) -> [u8; 51]
+    requires { ⌜ (n ≤ 3) × (at + 8 * n ≤ 51) ⌝ }
+    ensures { λ t. ⌜ (t ≡ sets d at (element-bytes (row-written n r))) × (length r ≡ 3) ⌝ }
+{
+    if n == 0 {
+        return d;
+    }
+    let a = put_element(d, at, r[n - 1]);
+    if n == 1 {
+        return a;
+    }
+    let b = put_element(a, at + 8, r[n - 2]);
+    if n == 2 {
+        return b;
+    }
+    let c = put_element(b, at + 16, r[0]);
+    c
+}
+
+// How many coefficients a row has below a degree.
+fn below(degree: u64) -> usize
+    ensures { λ r. ⌜ r ≡ min degree 3 ⌝ }
+{
+    if degree < 3 {
+        return degree as usize;
+    }
+    3
+}
+
+// The field of a class.
+pub fn class_field(a: Class) -> ClassField
+    ensures { λ r. ⌜ r ≡ in-row (class-field 0x43 a) ⌝ }
+{
+    let n = below(a.degree);
+    let mut d = [0u8; 51];
+    d[0] = crate::CLASS;
+    d[1] = 0;
+    d[2] = (16 * n) as u8;
+    let u = a.u;
+    let v = a.v;
+    let first = put_row(d, 3, n, u);
+    let both = put_row(first, 3 + 8 * n, n, v);
+    ClassField {
+        len: 3 + 16 * n,
+        bytes: both,
+    }
 }

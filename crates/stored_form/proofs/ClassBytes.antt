@@ -1,0 +1,146 @@
+-- The row of bytes that a class's field is laid out in, as the code fills it.
+use Prim.Native.Nat.{ℕ, zero, suc, _+_, _*_, _-_, _≤_, min}
+use mathlib.Core.Path.{_≡_, refl, sym, ap, ap₂, _∙_}
+use mathlib.Core.List.{List, [], _∷_, _++_, append-nil, append-assoc, reverse}
+use native.Mathlib.Nat.{zero-add}
+use native.Mathlib.Decide.{decLe}
+use native.Mathlib.Omega.{arith}
+use lib.ListN.{length, getD, take, drop, replicate, length-append, length-take, length-reverse}
+use lib.Seq.{sets, sets-eq, take-all}
+use Rattle.jacobian.specs.declared.Class.{Class}
+use Rattle.jacobian.proofs.ByValue.Threes.{by-three}
+use Rattle.stored_form.specs.Number.{bytes-of}
+use Rattle.stored_form.specs.Head.{head-bytes, stored}
+use Rattle.stored_form.specs.Elements.{element-bytes}
+use Rattle.stored_form.specs.Classes.{row-written, class-field, in-row}
+use Rattle.stored_form.specs.declared.classes.ClassField.{ClassField}
+use Rattle.stored_form.proofs.Digits.{length-bytes, two-bytes-small}
+use Rattle.stored_form.proofs.Stores.{sets-append}
+use Rattle.stored_form.proofs.Bodies.{length-stored}
+
+-- ---- the bytes of elements
+
+pub length-element-bytes : (xs : List ℕ) → length (element-bytes xs) ≡ 8 * length xs
+unfolding element-bytes
+length-element-bytes [] = refl
+length-element-bytes (x ∷ xs) =
+    let e : length (element-bytes xs) ≡ 8 * length xs = length-element-bytes xs in
+    let f : length (bytes-of 8 x) ≡ 8 = length-bytes 8 x in
+    length-append (bytes-of 8 x) (element-bytes xs) ∙ omega arith
+
+pub element-bytes-append : (xs ys : List ℕ) → element-bytes (xs ++ ys) ≡ element-bytes xs ++ element-bytes ys
+unfolding element-bytes
+element-bytes-append [] ys = refl
+element-bytes-append (x ∷ xs) ys =
+    ap (λ (l : List ℕ). bytes-of 8 x ++ l) (element-bytes-append xs ys) ∙ sym (append-assoc (bytes-of 8 x) (element-bytes xs) (element-bytes ys))
+
+-- one element more
+module _ (d : List ℕ) (at : ℕ) (xs : List ℕ) (x : ℕ) where
+  put-more : {a b : List ℕ} {k : ℕ} → a ≡ sets d at (element-bytes xs) → k ≡ at + 8 * length xs → b ≡ sets a k (bytes-of 8 x) →
+      b ≡ sets d at (element-bytes (xs ++ x ∷ []))
+  unfolding element-bytes
+  put-more {k = k} e j f =
+      let place : k ≡ at + length (element-bytes xs) = j ∙ ap (λ (i : ℕ). at + i) (sym (length-element-bytes xs)) in
+      f
+      ∙ ap₂ (λ (l : List ℕ) (i : ℕ). sets l i (bytes-of 8 x)) e place
+      ∙ sets-append d at (element-bytes xs) (bytes-of 8 x)
+      ∙ ap (sets d at) (sym (element-bytes-append xs (x ∷ []) ∙ ap (λ (l : List ℕ). element-bytes xs ++ l) (append-nil (bytes-of 8 x))))
+
+-- ---- the coefficients below a degree of up to three
+
+module _ (d : List ℕ) (at : ℕ) where
+  abbrev Puts : ℕ → List ℕ → List ℕ → Type 0
+  Puts n r t = t ≡ sets d at (element-bytes (row-written n r))
+
+  nothing : d ≡ sets d at (element-bytes [])
+  unfolding element-bytes
+  nothing = refl
+
+  one : {a : List ℕ} (r : List ℕ) → length r ≡ 3 → a ≡ sets d at (bytes-of 8 (getD r 0 0)) → Puts 1 r a
+  unfolding row-written
+  one {a} = by-three (λ r. a ≡ sets d at (bytes-of 8 (getD r 0 0)) → Puts 1 r a) (λ x y z. put-more d at [] x nothing (omega arith))
+
+  two : {a b : List ℕ} (r : List ℕ) → length r ≡ 3 → a ≡ sets d at (bytes-of 8 (getD r 1 0)) → b ≡ sets a (at + 8) (bytes-of 8 (getD r 0 0)) → Puts 2 r b
+  unfolding row-written
+  two {a} {b} =
+      by-three (λ r. a ≡ sets d at (bytes-of 8 (getD r 1 0)) → b ≡ sets a (at + 8) (bytes-of 8 (getD r 0 0)) → Puts 2 r b)
+      (λ x y z e. put-more d at (y ∷ []) x (put-more d at [] y nothing (omega arith) e) (omega arith))
+
+  three : {a b c : List ℕ} (r : List ℕ) → length r ≡ 3 → a ≡ sets d at (bytes-of 8 (getD r 2 0)) → b ≡ sets a (at + 8) (bytes-of 8 (getD r 1 0)) →
+      c ≡ sets b (at + 16) (bytes-of 8 (getD r 0 0)) → Puts 3 r c
+  unfolding row-written
+  three {a} {b} {c} =
+      by-three
+      (λ r. a ≡ sets d at (bytes-of 8 (getD r 2 0)) → b ≡ sets a (at + 8) (bytes-of 8 (getD r 1 0)) → c ≡ sets b (at + 16) (bytes-of 8 (getD r 0 0)) → Puts 3 r c)
+      (λ x y z e f. put-more d at (z ∷ y ∷ []) x (put-more d at (z ∷ []) y (put-more d at [] z nothing (omega arith) e) (omega arith) f) (omega arith))
+
+  -- as the code says it, with n
+  module _ (r : List ℕ) (long : length r ≡ 3) {n : ℕ} where
+    pub put-0 : n ≡ 0 → Puts n r d
+    unfolding row-written element-bytes
+    put-0 h = rw h
+
+    pub put-1 : {a : List ℕ} → n ≡ 1 → a ≡ sets d at (bytes-of 8 (getD r (n - 1) 0)) → Puts n r a
+    put-1 h e = rw h (one r long (rw h at e))
+
+    pub put-2 : {a b : List ℕ} → n ≡ 2 → a ≡ sets d at (bytes-of 8 (getD r (n - 1) 0)) → b ≡ sets a (at + 8) (bytes-of 8 (getD r (n - 2) 0)) → Puts n r b
+    put-2 h e f = rw h (two r long (rw h at e) (rw h at f))
+
+    pub put-3 : {a b c : List ℕ} → n ≡ 3 → a ≡ sets d at (bytes-of 8 (getD r (n - 1) 0)) → b ≡ sets a (at + 8) (bytes-of 8 (getD r (n - 2) 0)) →
+        c ≡ sets b (at + 16) (bytes-of 8 (getD r 0 0)) → Puts n r c
+    put-3 h e f g = rw h (three r long (rw h at e) (rw h at f) g)
+
+-- ---- the whole field
+
+drop-replicate : (k n : ℕ) → drop {A = ℕ} k (replicate n 0) ≡ replicate (n - k) 0
+drop-replicate zero n = let e : n - 0 ≡ n = omega arith in rw e
+drop-replicate (suc k) zero = let e : 0 - suc k ≡ 0 = omega arith in rw e
+drop-replicate (suc k) (suc n) = let e : suc n - suc k ≡ n - k = omega arith in rw e (drop-replicate k n)
+
+-- a row of three has no more coefficients than three
+below-three : (r : List ℕ) (n : ℕ) → length r ≡ 3 → row-written (min n 3) r ≡ row-written n r
+unfolding row-written
+below-three r n h = ap reverse (firsts (decLe n 3))
+  where
+    firsts : Dec (n ≤ 3) → take (min n 3) r ≡ take n r
+    firsts (yes le) = let e : min n 3 ≡ n = omega arith in rw e
+    firsts (no gt) =
+        let e : min n 3 ≡ 3 = omega arith in
+        ap (λ (k : ℕ). take k r) e ∙ take-all 3 r (omega arith) ∙ sym (take-all n r (omega arith))
+
+length-written : (r : List ℕ) (n : ℕ) → length r ≡ 3 → n ≤ 3 → length (row-written n r) ≡ n
+unfolding row-written
+length-written r n h le = length-reverse (take n r) ∙ length-take n r ∙ omega arith
+
+pub class-laid : (a : Class) (n : ℕ) {first both : List ℕ} → n ≡ min (a .degree) 3 →
+    (first ≡ sets (sets (replicate 51 0) 0 (0x43 ∷ 0 ∷ 16 * n ∷ [])) 3 (element-bytes (row-written n (a .u)))) × (length (a .u) ≡ 3) →
+    (both ≡ sets first (3 + 8 * n) (element-bytes (row-written n (a .v)))) × (length (a .v) ≡ 3) →
+    _≡_ {A = ClassField} (record { len = 3 + 16 * n; bytes = both }) (in-row (class-field 0x43 a))
+unfolding class-field stored head-bytes in-row
+class-laid a n {first} {both} e f g =
+    let zeros : List ℕ = replicate 51 0 in
+    let X : List ℕ = element-bytes (row-written n (a .u)) in
+    let Y : List ℕ = element-bytes (row-written n (a .v)) in
+    let F : List ℕ = stored 0x43 (X ++ Y) in
+    let H : List ℕ = 0x43 ∷ 0 ∷ 16 * n ∷ [] in
+    let low : n ≤ 3 = omega arith in
+    let x : length X ≡ 8 * n = length-element-bytes (row-written n (a .u)) ∙ ap (λ (k : ℕ). 8 * k) (length-written (a .u) n (f .1) low) in
+    let y : length Y ≡ 8 * n = length-element-bytes (row-written n (a .v)) ∙ ap (λ (k : ℕ). 8 * k) (length-written (a .v) n (g .1) low) in
+    let len : length (X ++ Y) ≡ 16 * n = length-append X Y ∙ omega arith in
+    let long : length F ≡ 3 + 16 * n = length-stored 0x43 (X ++ Y) ∙ ap (λ (k : ℕ). 3 + k) len in
+    let head : H ≡ head-bytes 0x43 (length (X ++ Y)) =
+    ap (λ (l : List ℕ). 0x43 ∷ l) (two-bytes-small (16 * n) (omega arith)) ∙ ap (head-bytes 0x43) (sym len) in
+    let fills : both ≡ F ++ replicate (51 - length F) 0 =
+    g .0
+    ∙ ap₂ (λ (l : List ℕ) (k : ℕ). sets l (3 + k) Y) (f .0) (sym x)
+    ∙ sets-append (sets zeros 0 H) 3 X Y
+    ∙ sets-append zeros 0 H (X ++ Y)
+    ∙ ap (λ (l : List ℕ). sets zeros 0 (l ++ (X ++ Y))) head
+    ∙ sets-eq F zeros 0 (omega arith)
+    ∙ ap (λ (k : ℕ). F ++ drop k zeros) (zero-add (length F))
+    ∙ ap (λ (l : List ℕ). F ++ l) (drop-replicate (length F) 51) in
+    let said : stored 0x43 (X ++ Y) ≡ class-field 0x43 a =
+    ap₂ (λ (l r : List ℕ). stored 0x43 (element-bytes l ++ element-bytes r))
+    (ap (λ (k : ℕ). row-written k (a .u)) e ∙ below-three (a .u) (a .degree) (f .1))
+    (ap (λ (k : ℕ). row-written k (a .v)) e ∙ below-three (a .v) (a .degree) (g .1)) in
+    ap₂ (λ (l : ℕ) (b : List ℕ). record { len = l; bytes = b }) (sym long) fills ∙ ap in-row said

@@ -1,0 +1,52 @@
+-- Runs of stores in a row: one after the other, an element's bytes, the coefficients of a class.
+use Prim.Native.Nat.{ℕ, zero, suc, _+_, _*_, _-_, _/_, _%_, _^_, _≤_, _<_}
+use mathlib.Core.Path.{_≡_, refl, sym, ap, ap₂, _∙_}
+use mathlib.Core.List.{List, [], _∷_, _++_}
+use native.Mathlib.Nat.{add-zero}
+use native.Mathlib.Numerals.{add-one}
+use native.Mathlib.Omega.{arith}
+use lib.ListN.{length, getD, take, set}
+use lib.Seq.{sets, take-suc, length-take-le}
+use Rattle.stored_form.specs.Number.{bytes-of}
+use Rattle.stored_form.proofs.Digits.{length-bytes}
+
+pub sets-append : (d : List ℕ) (at : ℕ) (xs ys : List ℕ) → sets (sets d at xs) (at + length xs) ys ≡ sets d at (xs ++ ys)
+sets-append d at [] ys = rw add-zero
+sets-append d at (x ∷ xs) ys =
+    let e : at + suc (length xs) ≡ suc at + length xs = omega arith in
+    rw e (sets-append (set d at x) (suc at) xs ys)
+
+-- ---- the bytes of an element
+
+-- by cases of a number below 8
+below-eight : (P : ℕ → Type 0) → P 0 → P 1 → P 2 → P 3 → P 4 → P 5 → P 6 → P 7 → (i : ℕ) → i < 8 → P i
+below-eight P p₀ p₁ p₂ p₃ p₄ p₅ p₆ p₇ zero h = p₀
+below-eight P p₀ p₁ p₂ p₃ p₄ p₅ p₆ p₇ (suc zero) h = p₁
+below-eight P p₀ p₁ p₂ p₃ p₄ p₅ p₆ p₇ (suc (suc zero)) h = p₂
+below-eight P p₀ p₁ p₂ p₃ p₄ p₅ p₆ p₇ (suc (suc (suc zero))) h = p₃
+below-eight P p₀ p₁ p₂ p₃ p₄ p₅ p₆ p₇ (suc (suc (suc (suc zero)))) h = p₄
+below-eight P p₀ p₁ p₂ p₃ p₄ p₅ p₆ p₇ (suc (suc (suc (suc (suc zero))))) h = p₅
+below-eight P p₀ p₁ p₂ p₃ p₄ p₅ p₆ p₇ (suc (suc (suc (suc (suc (suc zero)))))) h = p₆
+below-eight P p₀ p₁ p₂ p₃ p₄ p₅ p₆ p₇ (suc (suc (suc (suc (suc (suc (suc zero))))))) h = p₇
+below-eight P p₀ p₁ p₂ p₃ p₄ p₅ p₆ p₇ (suc (suc (suc (suc (suc (suc (suc (suc i)))))))) h = absurd (omega arith)
+
+pub byte-is : (x i : ℕ) → i < 8 → x / 2 ^ (56 - 8 * i) % 256 ≡ getD (bytes-of 8 x) i 0
+unfolding bytes-of
+byte-is x = below-eight (λ i. x / 2 ^ (56 - 8 * i) % 256 ≡ getD (bytes-of 8 x) i 0) refl refl refl refl refl refl refl refl
+
+-- a turn of the loop that stores them
+pub store-more : (d : List ℕ) (at x i b : ℕ) {r : List ℕ} → i < 8 → r ≡ sets d at (take i (bytes-of 8 x)) → b ≡ getD (bytes-of 8 x) i 0 →
+    set r (at + i) b ≡ sets d at (take (i + 1) (bytes-of 8 x))
+store-more d at x i b {r} h e f =
+    let xs = bytes-of 8 x in
+    let long : length xs ≡ 8 = length-bytes 8 x in
+    let len : length (take i xs) ≡ i = length-take-le i xs (omega arith) in
+    let more : take (i + 1) xs ≡ take i xs ++ getD xs i 0 ∷ [] = ap (λ (k : ℕ). take k xs) (add-one i) ∙ take-suc xs i 0 (omega arith) in
+    ap₂ (λ (l : List ℕ) (y : ℕ). set l (at + i) y) e f
+    ∙ ap (λ (k : ℕ). sets (sets d at (take i xs)) (at + k) (getD xs i 0 ∷ [])) (sym len)
+    ∙ sets-append d at (take i xs) (getD xs i 0 ∷ [])
+    ∙ ap (sets d at) (sym more)
+
+pub store-all : (d : List ℕ) (at x i : ℕ) {r : List ℕ} → 8 ≤ i → i ≤ 8 → r ≡ sets d at (take i (bytes-of 8 x)) → r ≡ sets d at (bytes-of 8 x)
+unfolding bytes-of
+store-all d at x i h k e = let z : i ≡ 8 = omega arith in e ∙ ap (λ (j : ℕ). sets d at (take j (bytes-of 8 x))) z

@@ -1,0 +1,55 @@
+-- `classes::put_element` meets its contract: after i turns the first i bytes are stored.
+use borrow.Author.Needs.{needs}
+use Prim.Native.Nat.{_≤_, _-_}
+use mathlib.Core.Path.{_≡_, refl}
+use lib.ListN.{take}
+use lib.Seq.{sets}
+use Rattle.stored_form.specs.Number.{bytes-of}
+use Rattle.stored_form.proofs.Stores.{store-more, store-all}
+use Rattle.stored_form.proofs.classes.put_element.Statement.{statement}
+use Rattle.stored_form.proofs.classes.put_element.Tie as tie
+
+abbrev Inv-loop : tie.InvT-loop
+Inv-loop at x r₀ i₀ r i = (i ≤ 8) × (r ≡ sets r₀ at (take i (bytes-of 8 x)))
+
+abbrev μ-loop : tie.MeasureT-loop
+μ-loop at x r₀ i₀ r i = 8 - i
+
+loop-holds : tie.Need-loop-holds Inv-loop μ-loop
+loop-holds c = (search needs, refl)
+
+byte-of-requires : tie.Need-byte-of-requires Inv-loop μ-loop
+byte-of-requires c κs = search needs
+
+add-r : tie.Need-add-r Inv-loop μ-loop
+add-r c = search needs
+
+array-write-r : tie.Need-array-write-r Inv-loop μ-loop
+array-write-r c = search needs
+
+add-i : tie.Need-add-i Inv-loop μ-loop
+add-i c = search needs
+
+loop-less : tie.Need-loop-less Inv-loop μ-loop
+loop-less c = search needs
+
+loop-again : tie.Need-loop-again Inv-loop μ-loop
+loop-again c = (search needs, store-more _ _ _ _ _ (c .before .loop-test .taken) (c .before .before .loop .inv .1) (c .byte-of .ensures))
+
+returns : tie.Need-returns Inv-loop μ-loop
+returns c = store-all _ _ _ _ (c .loop-test .left) (c .before .loop .inv .0) (c .before .loop .inv .1)
+
+pub put-element-spec : {M : Type 1} → statement M
+put-element-spec =
+    tie.close
+    (tie.spec
+    Inv-loop
+    μ-loop
+    loop-holds
+    byte-of-requires
+    add-r
+    array-write-r
+    add-i
+    loop-less
+    loop-again
+    returns)
