@@ -19,10 +19,12 @@ uint32_t class_membership(uint8_t d, const uint64_t *f, const uint64_t *a);
 uint32_t class_double(uint8_t d, const uint64_t *f, const uint64_t *a, uint64_t *r);
 uint32_t class_half(uint8_t d, const uint64_t *f, const uint64_t *a, uint64_t *r);
 uint32_t class_sum(uint8_t d, const uint64_t *f, const uint64_t *a, const uint64_t *b, uint64_t *r);
+uint32_t class_double_and_add(uint8_t d, const uint64_t *f, const uint64_t *a, const uint64_t *b, uint64_t *r);
+uint32_t class_subtract_and_halve(uint8_t d, const uint64_t *f, const uint64_t *a, const uint64_t *b, uint64_t *r);
 uint64_t element_product(uint8_t d, uint64_t a, uint64_t b);
 }
 
-enum { DEGREE = 61, CLASSES = 400, ROUNDS = 100 };
+enum { DEGREE = 61, CLASSES = 100, ROUNDS = 300 };
 
 // Numbers that look random and are the same in every run: splitmix64 from a fixed seed.
 static uint64_t drawn() {
@@ -140,27 +142,45 @@ static void hold(bool held, const char *what, int i) {
     exit(1);
 }
 
+// Each call on each class, and on it and the next, held to NTL.
 static void compare() {
     for (int i = 0; i < CLASSES; i++) {
         int j = (i + 1) % CLASSES;
-        Class r;
-        hold(class_membership(DEGREE, curve, classes[i].numbers) == 0, "membership", i);
-        hold(class_double(DEGREE, curve, classes[i].numbers, r.numbers) == 0, "double", i);
-        hold(r == class_of(double_by_ntl(pairs[i])), "double", i);
-        hold(class_sum(DEGREE, curve, classes[i].numbers, classes[j].numbers, r.numbers) == 0, "sum", i);
-        hold(r == class_of(sum_by_ntl(pairs[i], pairs[j])), "sum", i);
-        hold(class_half(DEGREE, curve, classes[i].numbers, r.numbers) == 0, "half", i);
+        const uint64_t *a = classes[i].numbers, *b = classes[j].numbers;
+        Pair sum = sum_by_ntl(pairs[i], pairs[j]), twice = double_by_ntl(pairs[i]);
+        Class r, back;
+        hold(class_membership(DEGREE, curve, a) == 0, "membership", i);
+        hold(class_double(DEGREE, curve, a, r.numbers) == 0 && r == class_of(twice), "double", i);
+        hold(class_sum(DEGREE, curve, a, b, r.numbers) == 0 && r == class_of(sum), "sum", i);
+        hold(class_half(DEGREE, curve, a, r.numbers) == 0, "half", i);
         hold(classes[i] == class_of(double_by_ntl(pair_of(r))), "half", i);
+        hold(class_double_and_add(DEGREE, curve, a, b, r.numbers) == 0, "double and add", i);
+        hold(r == class_of(sum_by_ntl(twice, pairs[j])), "double and add", i);
+        hold(class_subtract_and_halve(DEGREE, curve, r.numbers, b, back.numbers) == 0, "subtract and halve", i);
+        hold(back == classes[i], "subtract and halve", i);
     }
 }
 
-enum Operation { PRODUCT, MEMBERSHIP, DOUBLE, HALF, SUM, NTL_DOUBLE, NTL_SUM, OPERATIONS };
+enum Operation {
+    PRODUCT,
+    MEMBERSHIP,
+    DOUBLE,
+    HALF,
+    SUM,
+    DOUBLE_AND_ADD,
+    SUBTRACT_AND_HALVE,
+    NTL_DOUBLE,
+    NTL_SUM,
+    NTL_DOUBLE_AND_ADD,
+    OPERATIONS
+};
 
-// One round: the operation on every class, a sum on each class and the next.
+// One round: the operation on every class, or on each class and the next.
 static uint64_t round_of(int operation, uint64_t x) {
     Class r;
     for (int i = 0; i < CLASSES; i++) {
-        const uint64_t *a = classes[i].numbers, *b = classes[(i + 1) % CLASSES].numbers;
+        int j = (i + 1) % CLASSES;
+        const uint64_t *a = classes[i].numbers, *b = classes[j].numbers;
         switch (operation) {
         case PRODUCT:
             for (int k = 0; k < 10; k++) x = element_product(DEGREE, x, a[1]);
@@ -169,16 +189,26 @@ static uint64_t round_of(int operation, uint64_t x) {
         case DOUBLE: x += class_double(DEGREE, curve, a, r.numbers); break;
         case HALF: x += class_half(DEGREE, curve, a, r.numbers); break;
         case SUM: x += class_sum(DEGREE, curve, a, b, r.numbers); break;
+        case DOUBLE_AND_ADD: x += class_double_and_add(DEGREE, curve, a, b, r.numbers); break;
+        case SUBTRACT_AND_HALVE: x += class_subtract_and_halve(DEGREE, curve, a, b, r.numbers); break;
         case NTL_DOUBLE: x += deg(double_by_ntl(pairs[i]).u); break;
-        default: x += deg(sum_by_ntl(pairs[i], pairs[(i + 1) % CLASSES]).u); break;
+        case NTL_SUM: x += deg(sum_by_ntl(pairs[i], pairs[j]).u); break;
+        default: x += deg(sum_by_ntl(double_by_ntl(pairs[i]), pairs[j]).u); break;
         }
     }
     return x;
 }
 
+static void print_line(const char *name, double time, double product, double by_ntl) {
+    printf("  %-18s   %19.1f", name, time / product);
+    if (by_ntl > 0) printf("   %19.2f", by_ntl / time);
+    printf("\n");
+}
+
+// The processor's time, so that what else runs on the machine counts little.
 static double now() {
     timespec t;
-    clock_gettime(CLOCK_MONOTONIC, &t);
+    clock_gettime(CLOCK_PROCESS_CPUTIME_ID, &t);
     return t.tv_sec + t.tv_nsec * 1e-9;
 }
 
@@ -199,10 +229,12 @@ int main() {
         }
     }
     printf("GF(2^61), %d classes of degree 3; the checks that a call makes are timed with it\n", CLASSES);
-    printf("               in element products   NTL with Cantor's rule and no checks, in calls\n");
-    printf("  membership   %19.1f\n", least[MEMBERSHIP] / least[PRODUCT]);
-    printf("  double       %19.1f   %19.2f\n", least[DOUBLE] / least[PRODUCT], least[NTL_DOUBLE] / least[DOUBLE]);
-    printf("  half         %19.1f\n", least[HALF] / least[PRODUCT]);
-    printf("  sum          %19.1f   %19.2f\n", least[SUM] / least[PRODUCT], least[NTL_SUM] / least[SUM]);
+    printf("                       in element products   NTL with Cantor's rule and no checks, in calls\n");
+    print_line("membership", least[MEMBERSHIP], least[PRODUCT], 0);
+    print_line("double", least[DOUBLE], least[PRODUCT], least[NTL_DOUBLE]);
+    print_line("half", least[HALF], least[PRODUCT], 0);
+    print_line("sum", least[SUM], least[PRODUCT], least[NTL_SUM]);
+    print_line("double and add", least[DOUBLE_AND_ADD], least[PRODUCT], least[NTL_DOUBLE_AND_ADD]);
+    print_line("subtract and halve", least[SUBTRACT_AND_HALVE], least[PRODUCT], 0);
     return 0;
 }

@@ -27,8 +27,12 @@ pub const HALF_OF_DOUBLE: u8 = 6;
 pub const DOUBLE_OF_HALF: u8 = 7;
 pub const DOUBLE_IN_STEPS: u8 = 8;
 pub const SUM_IN_STEPS: u8 = 9;
-/// All of them.
-pub const CALLS: std::ops::RangeInclusive<u8> = 1..=9;
+pub const DOUBLE_AND_ADD: u8 = 10;
+pub const SUBTRACT_AND_HALVE: u8 = 11;
+pub const CURVE: u8 = 12;
+/// The calls on classes, all but that on the curve alone; and of these the calls on two.
+pub const CALLS: std::ops::RangeInclusive<u8> = 1..=11;
+pub const CALLS_ON_TWO: [u8; 4] = [SUM, SUM_IN_STEPS, DOUBLE_AND_ADD, SUBTRACT_AND_HALVE];
 
 /// Degree and coefficients as a caller hands them over; they need not be those of a curve.
 #[derive(Clone, Copy, Debug, PartialEq, Eq)]
@@ -54,7 +58,7 @@ impl CurveValues {
         CurveValues { degree: field.degree as u8, f3, f1, f0 }
     }
 
-    fn bytes(&self) -> Vec<u8> {
+    pub fn bytes(&self) -> Vec<u8> {
         [vec![self.degree], [self.f3, self.f1, self.f0].map(u64::to_be_bytes).concat()].concat()
     }
 
@@ -81,7 +85,7 @@ impl From<&Class> for ClassValues {
 }
 
 impl ClassValues {
-    fn bytes(&self) -> Vec<u8> {
+    pub fn bytes(&self) -> Vec<u8> {
         [vec![self.degree], self.u.to_vec(), self.v.to_vec()]
             .concat()
             .into_iter()
@@ -110,6 +114,15 @@ impl ClassValues {
             Err(111)
         }
     }
+
+    /// Degree, u and v with a colon between, the coefficients below x^n from the highest power down.
+    pub fn printed(&self, n: usize) -> String {
+        let row = |row: [u64; 3]| {
+            let numbers: Vec<String> = row[..n].iter().rev().map(|c| format!("{c:x}")).collect();
+            numbers.join(",")
+        };
+        format!("{}:{}:{}", self.degree, row(self.u), row(self.v))
+    }
 }
 
 /// A case, and the line that is owed for it, with its end.
@@ -122,15 +135,9 @@ pub struct Case {
     pub line: String,
 }
 
-/// A class as the walk report prints it: degree, u and v with a colon between, coefficients from the highest power
-/// down.
+/// A class as the walk report prints it.
 pub fn printed(class: &Class) -> String {
-    let values = ClassValues::from(class);
-    let row = |row: [u64; 3]| {
-        let numbers: Vec<String> = row[..class.degree()].iter().rev().map(|c| format!("{c:x}")).collect();
-        numbers.join(",")
-    };
-    format!("{}:{}:{}", values.degree, row(values.u), row(values.v))
+    ClassValues::from(class).printed(class.degree())
 }
 
 /// A class with the number of reduction steps that led to it.
@@ -138,21 +145,27 @@ fn printed_with_steps(reduced: &Reduced) -> String {
     format!("{} {}", printed(&reduced.class), reduced.steps)
 }
 
-/// What a call answers, a refusal as its number. A half and a double that follow each other give the class back. A half
-/// alone is answered of the neutral class only: any other case of it is made from its answer, by `Case::half`.
+/// What a call answers, a refusal as its number. A half and a double that follow each other give the class back. Any
+/// other half is answered of the neutral class only: its cases are made from their answer, by `Case::half` and
+/// `Case::halved_difference`.
 fn answer(call: u8, curve: CurveValues, a: ClassValues, b: ClassValues) -> Result<String, u32> {
     let curve = curve.curve()?;
+    if call == CURVE {
+        return Ok("accepted".to_string());
+    }
     let a = a.class(&curve)?;
+    let b = if CALLS_ON_TWO.contains(&call) { b.class(&curve)? } else { Class::neutral() };
     match call {
         MEMBERSHIP => Ok("accepted".to_string()),
         OPPOSITE => Ok(printed(&curve.opposite(&a))),
         DOUBLE => Ok(printed(&curve.double(&a))),
-        HALF if a == Class::neutral() => Ok(printed(&a)),
-        SUM => Ok(printed(&curve.sum(&a, &b.class(&curve)?))),
+        SUM => Ok(printed(&curve.sum(&a, &b))),
         HALF_OF_DOUBLE | DOUBLE_OF_HALF => Ok(printed(&a)),
         DOUBLE_IN_STEPS => Ok(printed_with_steps(&curve.double_in_steps(&a))),
-        SUM_IN_STEPS => Ok(printed_with_steps(&curve.sum_in_steps(&a, &b.class(&curve)?))),
-        _ => panic!("no answer to call {call} on {a:?}"),
+        SUM_IN_STEPS => Ok(printed_with_steps(&curve.sum_in_steps(&a, &b))),
+        DOUBLE_AND_ADD => Ok(printed(&curve.sum(&curve.double(&a), &b))),
+        HALF | SUBTRACT_AND_HALVE if a == b && b == Class::neutral() => Ok(printed(&a)),
+        _ => panic!("no answer to call {call} on {a:?} and {b:?}"),
     }
 }
 
@@ -182,6 +195,15 @@ impl Case {
         Case { call: HALF, curve, a: class.into(), b: NEUTRAL, line }
     }
 
+    /// The class from which the second is subtracted and the half taken, made from the second and the answer.
+    pub fn halved_difference(curve: CurveValues, half: &Class, second: &Class) -> Case {
+        let on = curve.curve().expect("the curve is accepted");
+        let first = on.sum(&on.double(half), second);
+        assert!(is_half(&on, half, &on.difference(&first, second)));
+        let line = format!("{}\n", printed(half));
+        Case { call: SUBTRACT_AND_HALVE, curve, a: (&first).into(), b: second.into(), line }
+    }
+
     pub fn bytes(&self) -> Vec<u8> {
         [vec![self.call], self.curve.bytes(), self.a.bytes(), self.b.bytes()].concat()
     }
@@ -191,7 +213,7 @@ impl Case {
 fn no_calls() -> Vec<Case> {
     let curve = CurveValues { degree: 5, f3: 0, f1: 0, f0: 0 };
     let line = "no such call\n".to_string();
-    [0, 10, 255].map(|call| Case { call, curve, a: NEUTRAL, b: NEUTRAL, line: line.clone() }).to_vec()
+    [0, 13, 255].map(|call| Case { call, curve, a: NEUTRAL, b: NEUTRAL, line: line.clone() }).to_vec()
 }
 
 /// The stored cases, in their order.
@@ -241,18 +263,22 @@ mod tests {
         assert_eq!(ClassValues::from(&Class::neutral()), NEUTRAL);
     }
 
-    /// Every call meets every refusal and an answer, over both fields; and nothing but these.
+    /// Every call on classes meets every refusal and an answer, over both fields; that on the curve those of the curve.
     #[test]
     fn every_outcome_of_every_call() {
         let cases = stored_cases();
-        for call in CALLS {
+        for call in CALLS.chain([CURVE]) {
             for degree in [5, 61] {
                 let wanted = |case: &&Case| case.call == call && case.curve.degree == degree;
                 let lines: Vec<&str> = cases.iter().filter(wanted).map(|case| case.line.as_str()).collect();
-                for number in [104, 107, 110, 111] {
-                    assert!(lines.contains(&format!("refused {number}\n").as_str()), "{call} {degree} {number}");
+                for number in [104, 106, 107, 110, 111] {
+                    let due = if call == CURVE { number == 107 } else { number != 106 };
+                    assert_eq!(
+                        lines.contains(&format!("refused {number}\n").as_str()),
+                        due,
+                        "{call} {degree} {number}"
+                    );
                 }
-                assert!(!lines.contains(&"refused 106\n"));
                 assert!(lines.iter().filter(|line| !line.starts_with("refused")).count() > 1);
             }
             let others = cases.iter().filter(|case| case.call == call && ![5, 61].contains(&case.curve.degree));

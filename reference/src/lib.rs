@@ -9,6 +9,7 @@
 //! - `bench_classes`: every reduced class of a curve over the bench field.
 //! - `element_cases`: the cases that the program `element_trial` is run on, and the lines that it owes.
 //! - `class_cases`: the same for the program `class_trial`: calls on classes.
+//! - `history_cases`: the same for the program `history_trial`: commits and undos on a register, and taking them back.
 //! - `random`: a small generator with a fixed seed, for cases that are the same in every run.
 
 pub mod bench_classes;
@@ -16,6 +17,7 @@ pub mod class_cases;
 pub mod element_cases;
 pub mod field;
 pub mod halving;
+pub mod history_cases;
 pub mod jacobian;
 pub mod polynomial;
 pub mod random;

@@ -1,12 +1,18 @@
 // Answers calls on classes that it reads from standard input, one line for each.
 //
-// A case is 138 bytes: the call (1 membership, 2 opposite, 3 double, 4 half, 5 sum, 6 half of the double, 7 double of
-// the half, 8 double with its reduction steps, 9 sum with its reduction steps), the degree d, f3, f1 and f0, and two
-// classes; the calls on one class leave the second aside. A class is its degree, u0, u1, u2, v0, v1 and v2. All numbers
-// but d take eight bytes, high byte first.
+// A case is 138 bytes: the call, the degree d, f3, f1 and f0, and two classes; the calls on one class leave the second
+// aside. A class is its degree, u0, u1, u2, v0, v1 and v2. All numbers but d take eight bytes, high byte first. The
+// calls are
+//
+//     1 membership                            7 double of the half
+//     2 opposite                              8 double, with its reduction steps
+//     3 double                                9 sum, with its reduction steps
+//     4 half                                 10 double of the first class, and the second added
+//     5 sum                                  11 the second class subtracted from the first, and the half
+//     6 half of the double                   12 is the curve accepted?
 //
 // The line is the class as degree, u and v with a colon between, coefficients from the highest power down in
-// hexadecimal with commas between, then for 8 and 9 a space and the number of steps; `accepted` for a member; or
+// hexadecimal with commas between, then for 8 and 9 a space and the number of steps; for 1 and 12 `accepted`; or
 // `refused` and the refusal's number. Another byte in the call's place is answered by `no such call`, and fewer than
 // 138 bytes at the end by `cut short`.
 ghost use Prim.Native.Nat.{_≤_};
@@ -104,7 +110,7 @@ fn write_refusal(number: u32) {
     io::print_decimal(STDOUT_FILENO, number as u64);
 }
 
-// Writes what membership answers.
+// Writes what a call that gives no class answers.
 fn write_outcome(outcome: Outcome) {
     match outcome {
         Outcome::Accepted => {
@@ -172,6 +178,9 @@ fn answer_call(call: u8, curve: Curve, a: Class, b: Class) {
         7 => write_answer(double_of_half(curve, a)),
         8 => write_counted(jacobian::counted_double(curve, a)),
         9 => write_counted(jacobian::counted_sum(curve, a, b)),
+        10 => write_answer(jacobian::double_and_add(curve, a, b)),
+        11 => write_answer(jacobian::subtract_and_halve(curve, a, b)),
+        12 => write_outcome(jacobian::accepts_curve(curve)),
         _ => {
             io::write_all(STDOUT_FILENO, b"no such call");
         }

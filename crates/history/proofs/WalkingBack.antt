@@ -9,7 +9,7 @@ use lib.ListN.{length, take, getD, length-map}
 use Rattle.class_group.specs.Walk.{All, none, more, walk}
 use Rattle.jacobian.specs.Answer.{accepted, Reply}
 use Rattle.history.specs.Register.{limit, earlier}
-use Rattle.history.specs.Calls.{Call, undo, class, back, Event, run, last, newest, backs, taken-back, turned, classes, OnlyCommits, seals-back, walk-back, steps-back}
+use Rattle.history.specs.Calls.{Call, undo, class, back, Event, run, last, newest, backs, taken-back, turned, classes, OnlyCommits, seals-back, walk-back, steps-back, met}
 use Rattle.history.specs.declared.Register.{Register}
 use Rattle.history.proofs.Steps.{undos-steps, undos-few, steps-walk, walk-at, steps-take}
 use Rattle.history.proofs.TakingBack.{Fits, all-map, last-curve, taken-back-turned, taken-back-accepted}
@@ -30,8 +30,8 @@ module _ (r : Register) (cs : List Call) (fits : Fits r cs) (only : OnlyCommits 
   undos-accepted = rw undos-are at (taken-back-accepted r cs fits)
 
   -- the steps of the walk are all accepted, and answer the seals just before the commits
-  pub walk-steps : steps-back (r .curve) (last r cs .seal) (classes (newest r cs)) ≡ map (λ e. record { outcome = accepted; class = e .before .seal }) (newest r cs)
-  unfolding turned
+  pub walk-steps : steps-back (r .curve) (last r cs .seal) (classes (newest r cs)) ≡ map met (newest r cs)
+  unfolding turned met
   walk-steps =
       ap (λ c. steps-back c (last r cs .seal) (classes (newest r cs))) (sym (last-curve r cs))
       ∙ undos-steps (last r cs) (classes (newest r cs)) undos-accepted
@@ -40,11 +40,11 @@ module _ (r : Register) (cs : List Call) (fits : Fits r cs) (only : OnlyCommits 
 
   -- all seals of the walk, the last seal first
   pub walk-meets : walk (earlier (r .curve)) (last r cs .seal) (classes (newest r cs)) ≡ seals-back r cs
-  unfolding seals-back
+  unfolding seals-back met
   walk-meets =
-      steps-walk (r .curve) (last r cs .seal) (classes (newest r cs)) (rw walk-steps (all-map (λ e. record { outcome = accepted; class = e .before .seal }) (λ e. refl) (newest r cs)))
+      steps-walk (r .curve) (last r cs .seal) (classes (newest r cs)) (rw walk-steps (all-map met (λ e. refl) (newest r cs)))
       ∙ ap (λ l. last r cs .seal ∷ map (λ x. x .class) l) walk-steps
-      ∙ ap (λ l. last r cs .seal ∷ l) (map-map (λ (x : Reply). x .class) (λ e. record { outcome = accepted; class = e .before .seal }) (newest r cs))
+      ∙ ap (λ l. last r cs .seal ∷ l) (map-map (λ (x : Reply). x .class) met (newest r cs))
 
   -- the walk over the k newest classes ends in the seal just before the k-th newest commit, and for k = 0 in the last seal
   pub walk-ends : (k : ℕ) → k ≤ length (newest r cs)
@@ -56,7 +56,7 @@ module _ (r : Register) (cs : List Call) (fits : Fits r cs) (only : OnlyCommits 
 
   -- and no step of it is refused
   pub walk-part : (k : ℕ) → steps-back (r .curve) (last r cs .seal) (take k (classes (newest r cs)))
-      ≡ take k (map (λ e. record { outcome = accepted; class = e .before .seal }) (newest r cs))
+      ≡ take k (map met (newest r cs))
   walk-part k = steps-take (r .curve) (last r cs .seal) (classes (newest r cs)) k ∙ ap (take k) walk-steps
 
   -- no more commits were accepted than the limit

@@ -86,3 +86,7 @@ walk-back c seal ops = after (earlier c) seal ops
 unfoldable pub steps-back : Curve → Class → List Class → List Reply
 steps-back c seal [] = []
 steps-back c seal (a ∷ ops) = let s = subtract-and-halve-answer c seal a in s ∷ steps-back c (s .class) ops
+
+-- the answer that the step back over a commit is to give: accepted, with the seal just before the commit
+unfoldable pub met : Event → Reply
+met e = record { outcome = accepted; class = e .before .seal }

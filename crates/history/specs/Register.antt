@@ -11,12 +11,13 @@ use Rattle.jacobian.specs.declared.Curve.{Curve}
 use Rattle.jacobian.specs.declared.Class.{Class}
 use Rattle.jacobian.specs.declared.Outcome.{Outcome}
 use Rattle.jacobian.specs.declared.Outcome.the-variants.{Accepted, Refused}
+use Rattle.stored_form.specs.Fields.{count-limit}
 use Rattle.history.specs.declared.Register.{Register}
 use Rattle.history.specs.declared.RegisterAnswer.{RegisterAnswer}
 
--- the most operations that a register counts
-unfoldable pub limit : ℕ
-limit = 1024
+-- the most operations that a register counts: as many as the stored count may say
+abbrev pub limit : ℕ
+limit = count-limit
 
 -- ---- seals
 -- the seal after a commit: twice the seal plus the operation's class

@@ -29,8 +29,8 @@ pub struct RegisterAnswer {
     pub register: Register,
 }
 
-// The most operations that a register counts.
-const LIMIT: u64 = 1024;
+// The most operations that a register counts: as many as the stored count may say.
+const LIMIT: u64 = stored_form::COUNT_LIMIT;
 
 // The number of a refusal, and 0 for an acceptance.
 fn outcome_number(o: Outcome) -> u32

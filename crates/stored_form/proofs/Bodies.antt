@@ -6,13 +6,11 @@ use mathlib.Core.List.{List, _∷_, _++_}
 use native.Mathlib.Omega.{arith}
 use lib.ListN.{length, getD}
 use lib.Seq.{take-length}
-use Rattle.stored_form.specs.Number.{number-of, bytes-of, Bytes, part}
-use Rattle.stored_form.specs.Reading.{found}
-use Rattle.stored_form.specs.Head.{allowed, body-length, head-at, body-at, head-bytes, stored, Stands}
-use Rattle.stored_form.proofs.Digits.{bytes-number, number-bytes-small, part-bytes}
-use Rattle.stored_form.proofs.Parts.{part-part, part-add, part-cons, length-part, getD-part, stands-within}
-use Rattle.stored_form.proofs.Readings.{then-found, both-found, same-found}
-use Rattle.stored_form.proofs.Heads.{Whole, head-found, head-whole}
+use Rattle.stored_form.specs.{Number.number-of, Number.bytes-of, Number.Bytes, Number.part, Reading.found, Head.allowed, Head.body-length}
+use Rattle.stored_form.specs.{Head.head-at, Head.body-at, Head.head-bytes, Head.stored, Head.Stands}
+use Rattle.stored_form.proofs.{Digits.bytes-number, Digits.number-bytes-small, Digits.part-bytes, Parts.part-part, Parts.part-add, Parts.part-cons}
+use Rattle.stored_form.proofs.{Parts.length-part, Parts.getD-part, Parts.stands-within, Readings.then-found, Readings.both-found}
+use Rattle.stored_form.proofs.{Readings.same-found, Heads.Whole, Heads.head-found, Heads.head-whole}
 
 pub length-stored : (tag : ℕ) (body : List ℕ) → length (stored tag body) ≡ 3 + length body
 unfolding stored head-bytes bytes-of

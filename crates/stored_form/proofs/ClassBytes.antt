@@ -1,38 +1,18 @@
 -- The row of bytes that a class's field is laid out in, as the code fills it.
 use Prim.Native.Nat.{ℕ, zero, suc, _+_, _*_, _-_, _≤_, min}
 use mathlib.Core.Path.{_≡_, refl, sym, ap, ap₂, _∙_}
-use mathlib.Core.List.{List, [], _∷_, _++_, append-nil, append-assoc, reverse}
+use mathlib.Core.List.{List, [], _∷_, _++_, append-nil, reverse}
 use native.Mathlib.Nat.{zero-add}
 use native.Mathlib.Decide.{decLe}
 use native.Mathlib.Omega.{arith}
 use lib.ListN.{length, getD, take, drop, replicate, length-append, length-take, length-reverse}
 use lib.Seq.{sets, sets-eq, take-all}
-use Rattle.jacobian.specs.declared.Class.{Class}
-use Rattle.jacobian.proofs.ByValue.Threes.{by-three}
-use Rattle.stored_form.specs.Number.{bytes-of}
-use Rattle.stored_form.specs.Head.{head-bytes, stored}
-use Rattle.stored_form.specs.Elements.{element-bytes}
-use Rattle.stored_form.specs.Classes.{row-written, class-field, in-row}
-use Rattle.stored_form.specs.declared.classes.ClassField.{ClassField}
-use Rattle.stored_form.proofs.Digits.{length-bytes, two-bytes-small}
-use Rattle.stored_form.proofs.Stores.{sets-append}
-use Rattle.stored_form.proofs.Bodies.{length-stored}
-
--- ---- the bytes of elements
-
-pub length-element-bytes : (xs : List ℕ) → length (element-bytes xs) ≡ 8 * length xs
-unfolding element-bytes
-length-element-bytes [] = refl
-length-element-bytes (x ∷ xs) =
-    let e : length (element-bytes xs) ≡ 8 * length xs = length-element-bytes xs in
-    let f : length (bytes-of 8 x) ≡ 8 = length-bytes 8 x in
-    length-append (bytes-of 8 x) (element-bytes xs) ∙ omega arith
-
-pub element-bytes-append : (xs ys : List ℕ) → element-bytes (xs ++ ys) ≡ element-bytes xs ++ element-bytes ys
-unfolding element-bytes
-element-bytes-append [] ys = refl
-element-bytes-append (x ∷ xs) ys =
-    ap (λ (l : List ℕ). bytes-of 8 x ++ l) (element-bytes-append xs ys) ∙ sym (append-assoc (bytes-of 8 x) (element-bytes xs) (element-bytes ys))
+use Rattle.jacobian.specs.{declared.Class.Class}
+use Rattle.jacobian.proofs.{ByValue.Threes.by-three}
+use Rattle.stored_form.specs.{Number.bytes-of, Head.head-bytes, Head.stored, Elements.element-bytes, Classes.row-written, Classes.class-field}
+use Rattle.stored_form.specs.{Classes.in-row, declared.classes.ClassField.ClassField}
+use Rattle.stored_form.proofs.{Digits.two-bytes-small, ElementBytes.length-element-bytes, ElementBytes.element-bytes-append, Stores.sets-append}
+use Rattle.stored_form.proofs.{Bodies.length-stored}
 
 -- one element more
 module _ (d : List ℕ) (at : ℕ) (xs : List ℕ) (x : ℕ) where
@@ -97,6 +77,10 @@ drop-replicate zero n = let e : n - 0 ≡ n = omega arith in rw e
 drop-replicate (suc k) zero = let e : 0 - suc k ≡ 0 = omega arith in rw e
 drop-replicate (suc k) (suc n) = let e : suc n - suc k ≡ n - k = omega arith in rw e (drop-replicate k n)
 
+pub length-row : (n : ℕ) (r : List ℕ) → length r ≡ 3 → n ≤ 3 → length (row-written n r) ≡ n
+unfolding row-written
+length-row n r h le = length-reverse (take n r) ∙ length-take n r ∙ omega arith
+
 -- a row of three has no more coefficients than three
 below-three : (r : List ℕ) (n : ℕ) → length r ≡ 3 → row-written (min n 3) r ≡ row-written n r
 unfolding row-written
@@ -107,10 +91,6 @@ below-three r n h = ap reverse (firsts (decLe n 3))
     firsts (no gt) =
         let e : min n 3 ≡ 3 = omega arith in
         ap (λ (k : ℕ). take k r) e ∙ take-all 3 r (omega arith) ∙ sym (take-all n r (omega arith))
-
-length-written : (r : List ℕ) (n : ℕ) → length r ≡ 3 → n ≤ 3 → length (row-written n r) ≡ n
-unfolding row-written
-length-written r n h le = length-reverse (take n r) ∙ length-take n r ∙ omega arith
 
 pub class-laid : (a : Class) (n : ℕ) {first both : List ℕ} → n ≡ min (a .degree) 3 →
     (first ≡ sets (sets (replicate 51 0) 0 (0x43 ∷ 0 ∷ 16 * n ∷ [])) 3 (element-bytes (row-written n (a .u)))) × (length (a .u) ≡ 3) →
@@ -124,8 +104,8 @@ class-laid a n {first} {both} e f g =
     let F : List ℕ = stored 0x43 (X ++ Y) in
     let H : List ℕ = 0x43 ∷ 0 ∷ 16 * n ∷ [] in
     let low : n ≤ 3 = omega arith in
-    let x : length X ≡ 8 * n = length-element-bytes (row-written n (a .u)) ∙ ap (λ (k : ℕ). 8 * k) (length-written (a .u) n (f .1) low) in
-    let y : length Y ≡ 8 * n = length-element-bytes (row-written n (a .v)) ∙ ap (λ (k : ℕ). 8 * k) (length-written (a .v) n (g .1) low) in
+    let x : length X ≡ 8 * n = length-element-bytes (row-written n (a .u)) ∙ ap (λ (k : ℕ). 8 * k) (length-row n (a .u) (f .1) low) in
+    let y : length Y ≡ 8 * n = length-element-bytes (row-written n (a .v)) ∙ ap (λ (k : ℕ). 8 * k) (length-row n (a .v) (g .1) low) in
     let len : length (X ++ Y) ≡ 16 * n = length-append X Y ∙ omega arith in
     let long : length F ≡ 3 + 16 * n = length-stored 0x43 (X ++ Y) ∙ ap (λ (k : ℕ). 3 + k) len in
     let head : H ≡ head-bytes 0x43 (length (X ++ Y)) =

@@ -5,17 +5,12 @@ use mathlib.Core.Bool.{true}
 use mathlib.Core.List.{List}
 use native.Mathlib.Omega.{arith}
 use lib.ListN.{length}
-use Rattle.jacobian.specs.Curves.{curve-refusal}
-use Rattle.jacobian.specs.Answer.{refusal, neutral-class}
-use Rattle.jacobian.specs.declared.Curve.{Curve}
-use Rattle.jacobian.specs.declared.Class.{Class}
-use Rattle.stored_form.specs.Number.{part}
-use Rattle.stored_form.specs.Reading.{found, refused}
-use Rattle.stored_form.specs.Head.{head-at, body-at, allowed, class-length}
-use Rattle.stored_form.specs.Classes.{curve-said, curve-at, class-said, class-at, ClassReading, class-answer}
-use Rattle.stored_form.proofs.Readings.{then-found, then-refused, due-some, due-none}
-use Rattle.stored_form.proofs.Lengths.{curve-length}
-use Rattle.stored_form.proofs.Heads.{head-found}
+use Rattle.jacobian.specs.{Curves.curve-refusal, Answer.refusal, Answer.neutral-class, declared.Curve.Curve, declared.Class.Class}
+use Rattle.stored_form.specs.{Number.part, Reading.found, Reading.refused, Head.head-at, Head.body-at, Head.allowed, Head.class-length}
+use Rattle.stored_form.specs.{Classes.curve-said, Classes.curve-at, Classes.class-said, Classes.class-at, Classes.ClassReading}
+use Rattle.stored_form.specs.{Classes.class-answer}
+use Rattle.stored_form.proofs.{Readings.then-found, Readings.then-refused, Readings.due-some, Readings.due-none, Lengths.curve-length}
+use Rattle.stored_form.proofs.{Heads.head-found}
 
 module _ (s : List ℕ) (at : ℕ) where
   -- ---- the curve

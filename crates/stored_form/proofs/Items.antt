@@ -8,14 +8,10 @@ use mathlib.Core.Bool.{true}
 use lib.Dec.{lit≤}
 use lib.ListN.{length, take, drop}
 use lib.Seq.{take-take, drop-drop, take-at, drop-at}
-use Rattle.stored_form.specs.Number.{number-of, part}
-use Rattle.stored_form.specs.Elements.{elements}
-use Rattle.stored_form.specs.Classes.{curve-said, row-said, class-said}
-use Rattle.stored_form.specs.Head.{class-length}
-use Rattle.jacobian.specs.declared.Class.{Class}
-use Rattle.jacobian.specs.declared.Curve.{Curve}
-use Rattle.stored_form.proofs.Parts.{drop-take, length-part}
-use Rattle.stored_form.proofs.Lengths.{class-length-le}
+use Rattle.stored_form.specs.{Number.number-of, Number.part, Elements.elements, Classes.curve-said, Classes.row-said, Classes.class-said}
+use Rattle.stored_form.specs.{Head.class-length}
+use Rattle.jacobian.specs.{declared.Class.Class, declared.Curve.Curve}
+use Rattle.stored_form.proofs.{Parts.drop-take, Parts.length-part, Lengths.class-length-le}
 
 pub length-elements : (k : ℕ) (s : List ℕ) → length (elements k s) ≡ k
 unfolding elements

@@ -11,4 +11,7 @@ pub mod Verdicts
 pub mod Items
 pub mod ClassReaders
 pub mod Stores
+pub mod ElementBytes
 pub mod ClassBytes
+pub mod CurveRoundTrips
+pub mod ClassRoundTrips

@@ -7,13 +7,9 @@ use native.Mathlib.Omega.{arith}
 use lib.ListN.{length, getD}
 use lib.Seq.{drop-cons}
 use borrow.Author.Tests.{lt-ltb, le-ltb, lt-leb, le-leb, ne-eqb}
-use Rattle.stored_form.specs.Number.{number-of, part}
-use Rattle.stored_form.specs.Reading.{found, refused}
-use Rattle.stored_form.specs.Head.{head-at, body-at}
-use Rattle.stored_form.specs.Fields.{degree-at, count-at, count-limit, printable, drawing-place}
-use Rattle.stored_form.proofs.Readings.{then-found, then-refused}
-use Rattle.stored_form.proofs.Lengths.{degree-length, count-length}
-use Rattle.stored_form.proofs.Heads.{head-found}
+use Rattle.stored_form.specs.{Number.number-of, Number.part, Reading.found, Reading.refused, Head.head-at, Head.body-at, Fields.degree-at}
+use Rattle.stored_form.specs.{Fields.count-at, Fields.count-limit, Fields.printable, Fields.drawing-place}
+use Rattle.stored_form.proofs.{Readings.then-found, Readings.then-refused, Lengths.degree-length, Lengths.count-length, Heads.head-found}
 
 -- the bytes of a part that are left decide whether all are printable
 module _ (s : List ℕ) (at k i : ℕ) (within : at + k ≤ length s) (lt : i < k) where

@@ -8,14 +8,13 @@ use native.Mathlib.Omega.{arith}
 use lib.Dec.{eqb, ltb, lit<}
 use lib.ListN.{length}
 use borrow.Author.Tests.{eqb-true, ltb-false, le-ltb, le-leb, not-false}
-use Rattle.stored_form.specs.Number.{number-of, bytes-of, Bytes, part}
-use Rattle.stored_form.specs.Reading.{found, refuse, _then_}
-use Rattle.stored_form.specs.Head.{allowed, head-at, body-at, stored, Stands}
-use Rattle.stored_form.specs.Fields.{degree-at, degree-field, count-limit, count-at, count-field, printable, drawing-place, drawing-at, drawing-field}
-use Rattle.stored_form.proofs.Digits.{bytes-number, number-bytes-small, length-bytes}
-use Rattle.stored_form.proofs.Readings.{then-found, both-found, then-refuse, then-same, then-assoc, same-found, refuse-found}
-use Rattle.stored_form.proofs.Lengths.{degree-length, count-length}
-use Rattle.stored_form.proofs.Bodies.{Written, body-written, body-read}
+use Rattle.stored_form.specs.{Number.number-of, Number.bytes-of, Number.Bytes, Number.part, Reading.found, Reading.refuse, Reading._then_}
+use Rattle.stored_form.specs.{Head.allowed, Head.head-at, Head.body-at, Head.stored, Head.Stands, Fields.degree-at, Fields.degree-field}
+use Rattle.stored_form.specs.{Fields.count-limit, Fields.count-at, Fields.count-field, Fields.printable, Fields.drawing-place, Fields.drawing-at}
+use Rattle.stored_form.specs.{Fields.drawing-field}
+use Rattle.stored_form.proofs.{Digits.bytes-number, Digits.number-bytes-small, Digits.length-bytes, Readings.then-found, Readings.both-found}
+use Rattle.stored_form.proofs.{Readings.then-refuse, Readings.then-same, Readings.then-assoc, Readings.same-found, Readings.refuse-found}
+use Rattle.stored_form.proofs.{Lengths.degree-length, Lengths.count-length, Bodies.Written, Bodies.body-written, Bodies.body-read}
 
 -- a field that stands at a place, and ends at the next
 pub record Field (s : List ℕ) (at : ℕ) (bytes : List ℕ) (next : ℕ) : Type 0 where

@@ -4,8 +4,8 @@
 //! then u need not have roots.
 
 use super::{
-    Case, CurveValues, DOUBLE, DOUBLE_IN_STEPS, DOUBLE_OF_HALF, HALF_OF_DOUBLE, MEMBERSHIP, OPPOSITE, SUM,
-    SUM_IN_STEPS,
+    Case, CurveValues, DOUBLE, DOUBLE_AND_ADD, DOUBLE_IN_STEPS, DOUBLE_OF_HALF, HALF_OF_DOUBLE, MEMBERSHIP,
+    OPPOSITE, SUM, SUM_IN_STEPS,
 };
 use crate::field::WIDE;
 use crate::halving::HalfByFrobenius;
@@ -38,8 +38,9 @@ fn class_of_kind(random: &mut Random, curve: &Curve, kind: &[usize]) -> (Class, 
     (class, points.into_iter().next().unwrap_or_else(Class::neutral))
 }
 
-/// Every call on a class: the half of its double, and sums with itself, its opposite, the neutral class, another class,
-/// and classes that share a root with it, by a point of it and by that point's opposite.
+/// Every call on a class: the half of its double, doubled with another class added and back, and sums with itself, its
+/// opposite, the neutral class, another class, and classes that share a root with it, by a point of it and by that
+/// point's opposite.
 fn on_class(random: &mut Random, values: CurveValues, curve: &Curve, kind: &[usize]) -> Vec<Case> {
     let (class, shared) = class_of_kind(random, curve, kind);
     let other_kind = KINDS[(random.number() % 8) as usize];
@@ -55,6 +56,8 @@ fn on_class(random: &mut Random, values: CurveValues, curve: &Curve, kind: &[usi
         cases.push(Case::on_two(SUM, values, &class, second));
     }
     cases.push(Case::on_two(SUM_IN_STEPS, values, &class, &other));
+    cases.push(Case::on_two(DOUBLE_AND_ADD, values, &class, &other));
+    cases.push(Case::halved_difference(values, &class, &other));
     for root in [&shared, &shared_opposite] {
         cases.push(Case::on_two(SUM, values, &class, &curve.sum(root, &beside)));
         cases.push(Case::on_two(SUM, values, &curve.sum(root, &beside), &class));
@@ -110,18 +113,20 @@ pub fn thousand() -> Vec<Case> {
     cases
 }
 
-/// Membership, double, half and sum in the common case, two classes of degree 3 on each of sixteen curves; for what
-/// counts the calls on elements.
+/// Six calls in the common case, on two classes of degree 3 of each of eight curves; for what counts the calls on
+/// elements.
 pub fn common() -> Vec<Case> {
     let mut random = Random::new(64);
     let mut cases = vec![];
-    for _ in 0..16 {
+    for _ in 0..8 {
         let (values, curve) = drawn_curve(&mut random);
         let [class, other] = [0; 2].map(|_| class_of_kind(&mut random, &curve, KINDS[7]).0);
         cases.push(Case::on(MEMBERSHIP, values, &class));
         cases.push(Case::on(DOUBLE, values, &class));
         cases.push(Case::half(values, &curve.double(&class), &class));
         cases.push(Case::on_two(SUM, values, &class, &other));
+        cases.push(Case::on_two(DOUBLE_AND_ADD, values, &class, &other));
+        cases.push(Case::halved_difference(values, &class, &other));
     }
     cases
 }

@@ -1,19 +1,27 @@
 //! Every refusal of the calls by value at its edges, and the order of the checks: 106 and 107 for the curve, then 104,
 //! 110 and 111 for each class, the first class before the second is begun.
 
-use super::{Case, ClassValues, CurveValues, CALLS, HALF, NEUTRAL, SUM, SUM_IN_STEPS};
+use super::{Case, ClassValues, CurveValues, CALLS, CALLS_ON_TWO, CURVE, HALF, NEUTRAL, SUBTRACT_AND_HALVE};
 use crate::field::{Field, BENCH, WIDE};
 
-/// Values in the place of a class that no check but that of the curve passes over.
-const NONSENSE: ClassValues = ClassValues { degree: u64::MAX, u: [u64::MAX; 3], v: [u64::MAX; 3] };
+/// No class by its degree, by what stands beyond it, and by the size of its numbers.
+pub const NONSENSE: ClassValues = ClassValues { degree: u64::MAX, u: [u64::MAX; 3], v: [u64::MAX; 3] };
 
-/// Every call on the class, the sums with the neutral class. The calls on one class are given nonsense in the place of
-/// the second. The half of an accepted class other than the neutral one is left to the cases that are made from their
-/// answer.
+/// Is the call one whose answer is not known before it is made: a half of classes that are accepted, and not neutral?
+fn open_half(call: u8, curve: CurveValues, a: ClassValues, b: ClassValues) -> bool {
+    let accepted = |class: ClassValues| curve.curve().is_ok_and(|curve| class.class(&curve).is_ok());
+    match call {
+        HALF => accepted(a) && a != NEUTRAL,
+        SUBTRACT_AND_HALVE => accepted(a) && accepted(b) && [a, b] != [NEUTRAL; 2],
+        _ => false,
+    }
+}
+
+/// Every call on the class, with the neutral class as the second of the calls on two; the calls on one are given nonsense
+/// there.
 fn every_call(curve: CurveValues, a: ClassValues) -> Vec<Case> {
-    let accepted = curve.curve().is_ok_and(|curve| a.class(&curve).is_ok());
-    let calls = CALLS.filter(|&call| !(call == HALF && accepted && a != NEUTRAL));
-    let second = |call| if [SUM, SUM_IN_STEPS].contains(&call) { NEUTRAL } else { NONSENSE };
+    let second = |call| if CALLS_ON_TWO.contains(&call) { NEUTRAL } else { NONSENSE };
+    let calls = CALLS.filter(|&call| !open_half(call, curve, a, second(call)));
     calls.map(|call| Case::new(call, curve, a, second(call))).collect()
 }
 
@@ -28,7 +36,9 @@ fn degrees() -> Vec<Case> {
     for degree in [0, 4, 6, 60, 62, 255] {
         for f3 in [0, u64::MAX] {
             for a in [NEUTRAL, NONSENSE] {
-                cases.extend(every_call(CurveValues { degree, f3, f1: 0, f0: 0 }, a));
+                let curve = CurveValues { degree, f3, f1: 0, f0: 0 };
+                cases.extend(every_call(curve, a));
+                cases.push(Case::new(CURVE, curve, a, NONSENSE));
             }
         }
     }
@@ -43,6 +53,7 @@ fn coefficients(field: Field) -> Vec<Case> {
             let curve = CurveValues::new(field, f3, f1, f0);
             cases.extend(every_call(curve, NEUTRAL));
             cases.extend(every_call(curve, NONSENSE));
+            cases.push(Case::new(CURVE, curve, NONSENSE, NONSENSE));
         }
     }
     cases
@@ -57,10 +68,10 @@ fn shapes(field: Field) -> Vec<Case> {
         cases.extend(every_call(curve, ClassValues { degree, ..NONSENSE }));
     }
     for degree in 0..3 {
+        let class = ClassValues { degree: degree as u64, ..NEUTRAL };
         for i in degree..3 {
             for n in [1, around(field)[1]] {
-                let (mut in_u, mut in_v) = (ClassValues { degree: degree as u64, ..NEUTRAL }, NEUTRAL);
-                in_v.degree = degree as u64;
+                let (mut in_u, mut in_v) = (class, class);
                 in_u.u[i] = n;
                 in_v.v[i] = n;
                 cases.extend(every_call(curve, in_u));
@@ -100,7 +111,7 @@ fn largest(field: Field) -> Vec<Case> {
     every_call(CurveValues::new(field, m, m, f0), ClassValues { degree: 1, u: [m, 0, 0], v: [m, 0, 0] })
 }
 
-/// Sums where one class is refused or both are: the first class is done with before the second is begun.
+/// Calls on two classes where one is refused or both are: the first class is done with before the second is begun.
 fn two_classes(field: Field) -> Vec<Case> {
     let curve = CurveValues::new(field, 0, 0, 0);
     let accepted = ClassValues { degree: 1, ..NEUTRAL };
@@ -109,7 +120,14 @@ fn two_classes(field: Field) -> Vec<Case> {
     let number = ClassValues { v: [around(field)[1], 0, 0], ..accepted };
     let no_divisor = ClassValues { u: [1, 0, 0], ..accepted };
     let values = [NEUTRAL, accepted, shape, beyond, number, no_divisor, NONSENSE];
-    values.iter().flat_map(|&a| values.map(|b| Case::new(SUM, curve, a, b))).collect()
+    let mut cases = vec![];
+    for call in CALLS_ON_TWO {
+        for a in values {
+            let seconds = values.into_iter().filter(|&b| !open_half(call, curve, a, b));
+            cases.extend(seconds.map(|b| Case::new(call, curve, a, b)));
+        }
+    }
+    cases
 }
 
 pub fn cases() -> Vec<Case> {
@@ -124,6 +142,7 @@ pub fn cases() -> Vec<Case> {
 
 #[cfg(test)]
 mod tests {
+    use super::super::SUM;
     use super::*;
 
     fn line(curve: CurveValues, a: ClassValues, b: ClassValues) -> String {
@@ -150,7 +169,8 @@ mod tests {
     /// The sums of two classes meet each refusal at each of the two places, and both orders of any two.
     #[test]
     fn refusals_of_two_classes() {
-        let lines: Vec<String> = two_classes(WIDE).into_iter().map(|case| case.line).collect();
+        let sums = two_classes(WIDE).into_iter().filter(|case| case.call == SUM);
+        let lines: Vec<String> = sums.map(|case| case.line).collect();
         let row = |i: usize| lines[7 * i..7 * i + 7].to_vec();
         let second = ["refused 104\n", "refused 104\n", "refused 110\n", "refused 111\n", "refused 104\n"];
         for i in [0, 1] {

@@ -1,15 +1,15 @@
 //! Every class of a curve over the bench field, call by call. These cases are made when they are run, and not stored.
 
 use super::{
-    Case, ClassValues, CurveValues, DOUBLE, DOUBLE_IN_STEPS, DOUBLE_OF_HALF, HALF_OF_DOUBLE, MEMBERSHIP, NEUTRAL,
-    OPPOSITE, SUM, SUM_IN_STEPS,
+    Case, ClassValues, CurveValues, DOUBLE, DOUBLE_AND_ADD, DOUBLE_IN_STEPS, DOUBLE_OF_HALF, HALF_OF_DOUBLE,
+    MEMBERSHIP, NEUTRAL, OPPOSITE, SUM, SUM_IN_STEPS,
 };
 use crate::bench_classes::all_classes;
 use crate::field::BENCH;
 use crate::jacobian::{Class, Curve};
 
 /// What is run on every class D of a curve.
-pub const KINDS: [&str; 14] = [
+pub const KINDS: [&str; 16] = [
     "membership",
     "opposite",
     "double",
@@ -22,13 +22,15 @@ pub const KINDS: [&str; 14] = [
     "sum-with-opposite",
     "double-in-steps",
     "sum-in-steps",
+    "double-and-add",
+    "subtract-and-halve",
     "double-and-half",
     "pairs",
 ];
 
 /// The case of a kind on the class at place i of a curve's list. `half` is called on the double of D, which meets every
-/// class once, since doubling is one to one. A sum is with a class far off in the list, or with the next one, which
-/// mostly has the same u.
+/// class once, since doubling is one to one. The second class is one far off in the list, or the next one, which mostly
+/// has the same u.
 fn on_class(kind: &str, values: CurveValues, curve: &Curve, classes: &[Class], i: usize) -> Case {
     let class = &classes[i];
     let at = |place: usize| &classes[place % classes.len()];
@@ -42,6 +44,8 @@ fn on_class(kind: &str, values: CurveValues, curve: &Curve, classes: &[Class], i
         "sum" => Case::on_two(SUM, values, class, at(12345 * i + 7)),
         "double-in-steps" => Case::on(DOUBLE_IN_STEPS, values, class),
         "sum-in-steps" => Case::on_two(SUM_IN_STEPS, values, class, at(12345 * i + 7)),
+        "double-and-add" => Case::on_two(DOUBLE_AND_ADD, values, class, at(12345 * i + 7)),
+        "subtract-and-halve" => Case::halved_difference(values, class, at(12345 * i + 7)),
         "sum-with-next" => Case::on_two(SUM, values, class, at(i + 1)),
         "sum-with-itself" => Case::on_two(SUM, values, class, class),
         "sum-with-opposite" => Case::on_two(SUM, values, class, &curve.opposite(class)),

@@ -1,7 +1,8 @@
 -- `Register::commit` meets its contract: by the count a refusal of its own, or what follows the step of the seal.
 use native.Mathlib.Omega.{arith}
 use mathlib.Core.Path.{sym, _∙_}
-use Rattle.history.specs.Register.{limit, commit-answer}
+use Rattle.stored_form.specs.Fields.{count-limit}
+use Rattle.history.specs.Register.{commit-answer}
 use Rattle.history.proofs.Registers.{at-number}
 use Rattle.history.proofs.Numbers.{positive, commit-above, commit-at}
 use Rattle.history.proofs.Answers.{commit-followed}
@@ -16,7 +17,7 @@ kept-requires : tie.Need-kept-requires
 kept-requires c κs = positive _ 108 (c .count-refusal .ensures)
 
 returns : tie.Need-returns
-unfolding commit-answer limit
+unfolding commit-answer count-limit
 returns c =
     let s = c .before .before .before .before .before in
     at-number (s .args .self) _ (c .before .count-refusal .ensures ∙ sym (commit-above (s .args .self) (s .args .class) (c .before .before .if1 .taken))) (c .kept .ensures _)
@@ -28,7 +29,7 @@ kept-requires-2 : tie.Need-kept-requires-2
 kept-requires-2 c κs = positive _ 113 (c .edge-refusal .ensures)
 
 returns-2 : tie.Need-returns-2
-unfolding commit-answer limit
+unfolding commit-answer count-limit
 returns-2 c =
     let s = c .before .before .before .before .before .before in
     at-number (s .args .self) _ (c .before .edge-refusal .ensures ∙ sym (commit-at (s .args .self) (s .args .class) (c .before .before .if2 .taken))) (c .kept2 .ensures _)
@@ -43,7 +44,7 @@ followed-requires : tie.Need-followed-requires
 followed-requires c κs = search needs
 
 returns-3 : tie.Need-returns-3
-unfolding limit
+unfolding count-limit
 returns-3 c =
     let s = c .before .before .before .before .before .before in
     let l = c .before .before .before .if1 .left in

@@ -1,0 +1,165 @@
+-- The stored form of a class and its value determine each other: what is read was written so, and what is written is read so.
+use Prim.Native.Nat.{ℕ, zero, suc, _+_, _*_, _/_, _^_, _≤_}
+use mathlib.Core.Path.{_≡_, refl, sym, ap, ap₂, _∙_, subst, subst₂}
+use mathlib.Core.Bool.{true}
+use mathlib.Core.List.{List, [], _∷_, _++_}
+use native.Mathlib.Omega.{arith}
+use lib.Dec.{lit≤}
+use lib.ListN.{length, getD, take, drop, length-append, length-take, length-drop, take-append-drop}
+use lib.Seq.{take-at, drop-at}
+use Rattle.jacobian.specs.{Answer.refusal, declared.Curve.Curve, declared.Class.Class}
+use Rattle.jacobian.proofs.{ByValue.Degrees.by-degree, ByValue.Threes.by-three, ByValue.Answers.passes, Representation.Form.Three}
+use Rattle.stored_form.specs.{Number.Bytes, Reading.found, Head.allowed, Head.class-length, Head.body-at, Head.stored, Head.Stands}
+use Rattle.stored_form.specs.{Elements.elements, Elements.element-bytes}
+use Rattle.stored_form.specs.Classes.{row-said, class-said, class-at, row-written, class-field}
+use Rattle.stored_form.proofs.{Readings.then-found, Readings.both-found, Readings.due-found, Readings.due-none, Readings.same-found}
+use Rattle.stored_form.proofs.{Lengths.class-length-le, Lengths.class-length-even, Items.length-elements, ClassBytes.length-row}
+use Rattle.stored_form.proofs.ElementBytes.{Small, small-of, small-take, small-append, small-reversed, elements-bytes, bytes-elements, fits, length-element-bytes, element-bytes-append}
+use Rattle.stored_form.proofs.{Bodies.body-written, Bodies.body-read, RoundTrips.Field}
+
+-- ---- rows and the order in which they are stored
+
+-- up to three coefficients, highest power first, as a row and back
+row-back : (xs : List ℕ) → length xs ≤ 3 → row-written (length xs) (row-said xs) ≡ xs
+unfolding row-written row-said
+row-back [] h = refl
+row-back (x ∷ []) h = refl
+row-back (x ∷ y ∷ []) h = refl
+row-back (x ∷ y ∷ z ∷ []) h = refl
+row-back (x ∷ y ∷ z ∷ w ∷ xs) h = absurd (omega arith)
+
+row-ahead : (n : ℕ) (r : List ℕ) → length r ≡ 3 → n ≤ 3 → ((i : ℕ) → n ≤ i → getD r i 0 ≡ 0) → row-said (row-written n r) ≡ r
+unfolding row-written row-said
+row-ahead n r long le =
+    by-three (λ r. ((i : ℕ) → n ≤ i → getD r i 0 ≡ 0) → row-said (row-written n r) ≡ r) (λ x y z. go n le x y z) r long
+  where
+    go : (n : ℕ) → n ≤ 3 → (x y z : ℕ) → ((i : ℕ) → n ≤ i → getD (x ∷ y ∷ z ∷ []) i 0 ≡ 0) → row-said (row-written n (x ∷ y ∷ z ∷ [])) ≡ x ∷ y ∷ z ∷ []
+    go zero le x y z h = rw (h 0 (lit≤ tt), h 1 (lit≤ tt), h 2 (lit≤ tt))
+    go (suc zero) le x y z h = rw (h 1 (lit≤ tt), h 2 (lit≤ tt))
+    go (suc (suc zero)) le x y z h = rw (h 2 (lit≤ tt))
+    go (suc (suc (suc zero))) le x y z h = refl
+    go (suc (suc (suc (suc n)))) le x y z h = absurd (omega arith)
+
+-- ---- a class
+
+class-field-said : (tag : ℕ) (body : List ℕ) → class-length (length body) ≡ true → Bytes body → class-field tag (class-said body) ≡ stored tag body
+unfolding class-field class-said
+class-field-said tag body ok b =
+    let n = length body / 16 in
+    let es = elements (n + n) body in
+    let low : length body ≤ 48 = class-length-le (length body) ok in
+    let even : 16 * n ≡ length body = class-length-even (length body) ok in
+    let all : length es ≡ n + n = length-elements (n + n) body in
+    let first : length (take n es) ≡ n = length-take n es ∙ omega arith in
+    let second : length (drop n es) ≡ n = length-drop n es ∙ omega arith in
+    let u : row-written n (row-said (take n es)) ≡ take n es =
+    ap (λ (k : ℕ). row-written k (row-said (take n es))) (sym first) ∙ row-back (take n es) (omega arith) in
+    let v : row-written n (row-said (drop n es)) ≡ drop n es =
+    ap (λ (k : ℕ). row-written k (row-said (drop n es))) (sym second) ∙ row-back (drop n es) (omega arith) in
+    ap (stored tag)
+    (ap₂ (λ (xs ys : List ℕ). element-bytes xs ++ element-bytes ys) u v
+    ∙ sym (element-bytes-append (take n es) (drop n es))
+    ∙ ap element-bytes (take-append-drop n es)
+    ∙ bytes-elements (n + n) body (omega arith) b)
+
+-- a class by value whose coefficients fit, three places to a row and 0 past the degree
+record Shaped (a : Class) : Type 0 where
+  three : Three a
+  low : a .degree ≤ 3
+  u-blank : (i : ℕ) → a .degree ≤ i → getD (a .u) i 0 ≡ 0
+  v-blank : (i : ℕ) → a .degree ≤ i → getD (a .v) i 0 ≡ 0
+  u-fits : Small (a .u)
+  v-fits : Small (a .v)
+
+shaped : (c : Curve) (a : Class) → Three a → refusal c a ≡ 0 → Shaped a
+shaped c a three ok =
+    let p = passes c a (sym ok) refl in
+    let small = by-degree (λ d. 2 ^ d ≤ 2 ^ 61) (lit≤ tt) (lit≤ tt) (c .degree) (p .0 .accepted) in
+    record {
+      three = three;
+      low = p .1 .shape .low;
+      u-blank = p .1 .shape .u-blank;
+      v-blank = p .1 .shape .v-blank;
+      u-fits = small-of (a .u) (λ i. fits (c .degree) small (p .1 .range .u-below i));
+      v-fits = small-of (a .v) (λ i. fits (c .degree) small (p .1 .range .v-below i));
+    }
+
+-- its body
+abbrev body-of : Class → List ℕ
+body-of a = element-bytes (row-written (a .degree) (a .u)) ++ element-bytes (row-written (a .degree) (a .v))
+
+length-body : (a : Class) → Shaped a → length (body-of a) ≡ 16 * a .degree
+length-body a h =
+    let n = a .degree in
+    let x : length (element-bytes (row-written n (a .u))) ≡ 8 * n =
+    length-element-bytes (row-written n (a .u)) ∙ ap (λ (k : ℕ). 8 * k) (length-row n (a .u) (h .three .u-three) (h .low)) in
+    let y : length (element-bytes (row-written n (a .v))) ≡ 8 * n =
+    length-element-bytes (row-written n (a .v)) ∙ ap (λ (k : ℕ). 8 * k) (length-row n (a .v) (h .three .v-three) (h .low)) in
+    length-append (element-bytes (row-written n (a .u))) (element-bytes (row-written n (a .v))) ∙ omega arith
+
+row-small : (n : ℕ) (r : List ℕ) → Small r → Small (row-written n r)
+unfolding row-written
+row-small n r h = small-reversed (take n r) [] (small-take n r h) tt
+
+-- the elements of its body
+body-elements : (a : Class) → Shaped a →
+    elements (a .degree + a .degree) (body-of a) ≡ row-written (a .degree) (a .u) ++ row-written (a .degree) (a .v)
+body-elements a h =
+    let n = a .degree in
+    let us = row-written n (a .u) in
+    let vs = row-written n (a .v) in
+    let u : length us ≡ n = length-row n (a .u) (h .three .u-three) (h .low) in
+    let v : length vs ≡ n = length-row n (a .v) (h .three .v-three) (h .low) in
+    let both : length (us ++ vs) ≡ n + n = length-append us vs ∙ omega arith in
+    ap₂ (λ (k : ℕ) (bs : List ℕ). elements k bs) (sym both) (sym (element-bytes-append us vs))
+    ∙ elements-bytes (us ++ vs) (small-append us vs (row-small n (a .u) (h .u-fits)) (row-small n (a .v) (h .v-fits)))
+
+class-said-field : (a : Class) → Shaped a → class-said (body-of a) ≡ a
+unfolding class-said
+class-said-field a h =
+    let n = a .degree in
+    let us = row-written n (a .u) in
+    let vs = row-written n (a .v) in
+    let u : length us ≡ n = length-row n (a .u) (h .three .u-three) (h .low) in
+    let count : length (body-of a) / 16 ≡ n = omega (arith, length-body a h) in
+    rw (
+      count,
+      body-elements a h,
+      take-at us vs n u,
+      drop-at us vs n u,
+      row-ahead n (a .u) (h .three .u-three) (h .low) (h .u-blank),
+      row-ahead n (a .v) (h .three .v-three) (h .low) (h .v-blank),
+    )
+
+class-length-of : (n : ℕ) → n ≤ 3 → class-length (16 * n) ≡ true
+unfolding class-length
+class-length-of zero h = refl
+class-length-of (suc zero) h = refl
+class-length-of (suc (suc zero)) h = refl
+class-length-of (suc (suc (suc zero))) h = refl
+class-length-of (suc (suc (suc (suc n)))) h = absurd (omega arith)
+
+module _ (tag : ℕ) (lengths : (n : ℕ) → allowed tag n ≡ class-length n) (c : Curve) (s : List ℕ) (at : ℕ) where
+  pub class-written : {a : Class} {next : ℕ} → Bytes s → class-at tag c s at ≡ found a next → (refusal c a ≡ 0) × Field s at (class-field tag a) next
+  unfolding class-at
+  class-written {a} {next} b h =
+      let p = both-found _ (body-at tag s at) h in
+      let q = due-found (refusal c (class-said (p .0))) (found (class-said (p .0)) (p .1)) (p .3) in
+      let e = same-found (q .1) in
+      let w = body-written tag s at b (p .2) in
+      let said = class-field-said tag (p .0) (sym (lengths (length (p .0))) ∙ w .allows) (w .bytes) in (
+        ap (refusal c) (sym (e .0)) ∙ q .0,
+        subst₂ (λ (a : Class) (n : ℕ). Field s at (class-field tag a) n) (e .0) (e .1)
+            (subst (λ (bs : List ℕ). Field s at bs (p .1)) (sym said) (record { stands = w .stands; ends = w .ends })),
+      )
+
+  pub class-read-back : (a : Class) → Three a → refusal c a ≡ 0 → Stands s at (class-field tag a) → class-at tag c s at ≡ found a (at + length (class-field tag a))
+  unfolding class-at class-field
+  class-read-back a three ok h =
+      let k = shaped c a three ok in
+      let len : length (body-of a) ≡ 16 * a .degree = length-body a k in
+      let allows : allowed tag (length (body-of a)) ≡ true =
+      lengths (length (body-of a)) ∙ ap class-length len ∙ class-length-of (a .degree) (k .low) in
+      let low : a .degree ≤ 3 = k .low in
+      then-found _ (body-read tag s at (body-of a) allows (omega arith) h)
+      ∙ rw (class-said-field a k) (due-none _ _ ok)

@@ -1,0 +1,44 @@
+//! Makes cases of the program `history_trial`: `history_vectors KIND FOLDER` writes what the program is given to
+//! FOLDER/stdin and what it owes for that to FOLDER/stdout. The kinds are
+//!
+//! - `stored`, the cases that are kept with the program;
+//! - `bench`, `known-halves` and `wide`, lists of calls that are taken back: over the bench field, on curves over
+//!   GF(2^61) where every half is known, and on any curve over GF(2^61);
+//! - `full`, 1,024 commits and the way back;
+//! - `every-class`, an undo with every class of f = x^7 over the bench field.
+
+use reference::history_cases::{lists, stored, Trial};
+use std::fs::write;
+use std::path::Path;
+
+fn made(kind: &str) -> Option<Trial> {
+    let run = match kind {
+        "stored" => return Some(stored()),
+        "bench" => lists::bench,
+        "known-halves" => lists::known_halves,
+        "wide" => lists::wide,
+        "full" => lists::full,
+        "every-class" => lists::every_class,
+        _ => return None,
+    };
+    let mut trial = Trial::new();
+    run(&mut trial);
+    Some(trial)
+}
+
+fn main() {
+    let words: Vec<String> = std::env::args().skip(1).collect();
+    let wanted = match &words[..] {
+        [kind, folder] => made(kind).map(|trial| (trial, Path::new(folder))),
+        _ => None,
+    };
+    let Some((trial, folder)) = wanted else {
+        eprintln!(
+            "usage: history_vectors KIND FOLDER with KIND one of stored bench known-halves wide full every-class"
+        );
+        std::process::exit(2);
+    };
+    for (name, bytes) in [("stdin", trial.input), ("stdout", trial.output.into_bytes())] {
+        write(folder.join(name), bytes).expect("the folder takes the file");
+    }
+}
