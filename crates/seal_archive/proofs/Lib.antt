@@ -1,0 +1,5 @@
+-- Laws of the records and of the byte calls.
+pub mod Readers
+pub mod Copies
+pub mod Writers
+pub mod Outcomes

@@ -1,0 +1,48 @@
+-- `calls::put_class` meets its contract.
+use Rattle.seal_archive.specs.Calls.{write-class}
+use Rattle.seal_archive.proofs.Writers.{put-refused, row-within, class-put}
+use borrow.Author.Needs.{needs}
+use Rattle.seal_archive.proofs.calls.put_class.Statement.{statement}
+use Rattle.seal_archive.proofs.calls.put_class.Tie as tie
+
+enum-told : tie.Need-enum-told
+enum-told c = search needs
+
+enum-told-2 : tie.Need-enum-told-2
+enum-told-2 c = search needs
+
+outcome-number-requires : tie.Need-outcome-number-requires
+outcome-number-requires c κs = search needs
+
+returns : tie.Need-returns
+unfolding write-class
+returns c = put-refused _ _ (c .before .enum-told2 .given .1) (c .outcome-number .ensures)
+
+class-field-requires : tie.Need-class-field-requires
+class-field-requires c κs = search needs
+
+put-row-requires : tie.Need-put-row-requires
+put-row-requires c κs = (row-within _ (c .before .before .class-field .ensures), c .before .before .before .before .before .before .before .pre)
+
+same-length : tie.Need-same-length
+same-length c = search needs
+
+returns-2 : tie.Need-returns-2
+unfolding write-class
+returns-2 c =
+    let put = c .before .before in
+    let field = put .before .before .before in
+    class-put _ (field .before .enum-told .given .1) _ (field .class-field .ensures) (c .before .before .before .before .before .before .before .before .before .before .pre) (put .put-row .ensures)
+
+pub put-class-spec : {M : Type 1} → statement M
+put-class-spec =
+    tie.close
+    (tie.spec
+    enum-told
+    enum-told-2
+    outcome-number-requires
+    returns
+    class-field-requires
+    put-row-requires
+    same-length
+    returns-2)

@@ -1,0 +1,64 @@
+-- `calls::seal_sum` meets its contract.
+use mathlib.Core.Path.{ap, _∙_}
+use Rattle.seal_archive.specs.Calls.{class-room, write-class, sum-call}
+use Rattle.seal_archive.proofs.Outcomes.{place-refused, place-found, short, unread, answers}
+use borrow.Author.Needs.{needs}
+use Rattle.seal_archive.proofs.calls.seal_sum.Statement.{statement}
+use Rattle.seal_archive.proofs.calls.seal_sum.Tie as tie
+
+returns : tie.Need-returns
+unfolding sum-call class-room
+returns c = short _ _ _ (c .if1 .taken)
+
+sum-record-requires : tie.Need-sum-record-requires
+sum-record-requires c κs = search needs
+
+enum-told : tie.Need-enum-told
+enum-told c = search needs
+
+enum-told-2 : tie.Need-enum-told-2
+enum-told-2 c = search needs
+
+place-number-requires : tie.Need-place-number-requires
+place-number-requires c κs = search needs
+
+returns-2 : tie.Need-returns-2
+unfolding sum-call class-room
+returns-2 c =
+    let told = c .before in
+    let read = told .before .before .before .before .before in
+    unread _ _ _ (read .before .if1 .left) (place-refused (read .sum-record .result .place) _ (read .sum-record .ensures) (told .enum-told2 .given .1) (c .place-number .ensures))
+
+sum-requires : tie.Need-sum-requires
+sum-requires c κs = search needs
+
+put-class-requires : tie.Need-put-class-requires
+put-class-requires c κs = search needs
+
+same-length : tie.Need-same-length
+same-length c = search needs
+
+returns-3 : tie.Need-returns-3
+unfolding sum-call class-room
+returns-3 c =
+    let put = c .before .before in
+    let done = put .before .before in
+    let told = done .before in
+    let read = told .before .before .before .before .before in
+    answers _ _ _ (read .before .if1 .left) (place-found (read .sum-record .result .place) _ (read .sum-record .ensures) (told .enum-told .given .1))
+    (put .put-class .ensures ∙ ap (write-class _) (done .sum .ensures))
+
+pub seal-sum-spec : {M : Type 1} → statement M
+seal-sum-spec =
+    tie.close
+    (tie.spec
+    returns
+    sum-record-requires
+    enum-told
+    enum-told-2
+    place-number-requires
+    returns-2
+    sum-requires
+    put-class-requires
+    same-length
+    returns-3)

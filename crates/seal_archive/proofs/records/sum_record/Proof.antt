@@ -1,0 +1,153 @@
+-- `records::sum_record` meets its contract.
+use mathlib.Core.Path.{_≡_, sym, ap, _∙_}
+use Rattle.stored_form.specs.Reading.{found}
+use Rattle.stored_form.specs.Classes.{curve-read, class-at}
+use Rattle.stored_form.proofs.Readings.{then-found, then-refused}
+use Rattle.seal_archive.specs.Records.{curve-first, ended, sum-record}
+use Rattle.seal_archive.proofs.Readers.{refused-by, class-refused-by, class-found-by, bytes-remain, at-end}
+use borrow.Author.Needs.{needs}
+use Rattle.seal_archive.proofs.records.sum_record.Statement.{statement}
+use Rattle.seal_archive.proofs.records.sum_record.Tie as tie
+
+curve-first-requires : tie.Need-curve-first-requires
+curve-first-requires c κs = search needs
+
+enum-known-c : tie.Need-enum-known-c
+enum-known-c c = search needs
+
+enum-told : tie.Need-enum-told
+enum-told c = search needs
+
+curve-number-requires : tie.Need-curve-number-requires
+curve-number-requires c κs = search needs
+
+-- the curve that was found
+first : (c : tie.After-known-told) →
+    curve-first (c .before .before .before .before .before .args .s .now) ≡ found (c .before .c .given .0 .0) (c .before .c .given .0 .1 .0 .at)
+first c = sym (c .before .before .before .curve-first .ensures) ∙ ap curve-read (c .before .c .given .1)
+
+sum-refused-requires : tie.Need-sum-refused-requires
+sum-refused-requires c κs = search needs
+
+returns : tie.Need-returns
+unfolding sum-record
+returns c =
+    let told = c .before .before in
+    c .sum-refused .ensures
+    ∙ sym (then-refused _ (refused-by (told .before .before .curve-first .ensures) (ap curve-read (told .enum-told .given .1)) (c .before .curve-number .ensures)))
+
+class-at-requires : tie.Need-class-at-requires
+class-at-requires c κs = search needs
+
+enum-known-place : tie.Need-enum-known-place
+enum-known-place c = search needs
+
+enum-told-2 : tie.Need-enum-told-2
+enum-told-2 c = search needs
+
+place-number-requires : tie.Need-place-number-requires
+place-number-requires c κs = search needs
+
+sum-refused-requires-2 : tie.Need-sum-refused-requires-2
+sum-refused-requires-2 c κs = search needs
+
+returns-2 : tie.Need-returns-2
+unfolding sum-record
+returns-2 c =
+    let told = c .before .before in
+    let read = told .before .before .before in
+    c .sum-refused2 .ensures
+    ∙ sym (then-found _ (first (read .before))
+    ∙ then-refused _ (class-refused-by (read .class-at .result) (read .class-at .ensures) (told .enum-told2 .given .1) (c .before .place-number .ensures)))
+
+-- the first class that was found
+second : (c : tie.After-known-told2) →
+    let read = c .before .before .before .before in
+    let k = read .before in
+    class-at 0x43 (k .before .c .given .0 .0) (k .before .before .before .before .before .args .s .now) (k .before .c .given .0 .1 .0 .at)
+    ≡ found (read .class-at .result .class) (c .before .place .given .0 .0 .at)
+second c = let read = c .before .before .before .before in class-found-by (read .class-at .result) (read .class-at .ensures) (c .before .place .given .1)
+
+class-at-requires-2 : tie.Need-class-at-requires-2
+class-at-requires-2 c κs = search needs
+
+enum-known-last : tie.Need-enum-known-last
+enum-known-last c = search needs
+
+enum-told-3 : tie.Need-enum-told-3
+enum-told-3 c = search needs
+
+place-number-requires-2 : tie.Need-place-number-requires-2
+place-number-requires-2 c κs = search needs
+
+sum-refused-requires-3 : tie.Need-sum-refused-requires-3
+sum-refused-requires-3 c κs = search needs
+
+returns-3 : tie.Need-returns-3
+unfolding sum-record
+returns-3 c =
+    let told = c .before .before in
+    let read = told .before .before .before in
+    c .sum-refused3 .ensures
+    ∙ sym (then-found _ (first (read .before .before .before .before .before .before))
+    ∙ then-found _ (second (read .before))
+    ∙ then-refused _ (class-refused-by (read .class-at2 .result) (read .class-at2 .ensures) (told .enum-told3 .given .1) (c .before .place-number2 .ensures)))
+
+-- both classes, and what is left to check
+classes-first : (c : tie.After-known-told3) →
+    let read = c .before .before .before .before in
+    let other = read .before .before .before .before .before in
+    let k = other .before in
+    let s = k .before .before .before .before .before .args .s .now in
+    sum-record s ≡ ended s (record { curve = k .before .c .given .0 .0; first = other .class-at .result .class; second = read .class-at2 .result .class }) (c .before .last .given .0 .0 .at)
+unfolding sum-record
+classes-first c =
+    let read = c .before .before .before .before in
+    then-found _ (first (read .before .before .before .before .before .before))
+    ∙ then-found _ (second (read .before))
+    ∙ then-found _ (class-found-by (read .class-at2 .result) (read .class-at2 .ensures) (c .before .last .given .1))
+
+end-at-requires : tie.Need-end-at-requires
+end-at-requires c κs = search needs
+
+sum-refused-requires-4 : tie.Need-sum-refused-requires-4
+sum-refused-requires-4 c κs = search needs
+
+returns-4 : tie.Need-returns-4
+unfolding sum-record
+returns-4 c =
+    let ends = c .before .before in
+    c .sum-refused4 .ensures ∙ sym (classes-first (ends .before) ∙ bytes-remain _ _ _ (ends .end-at .ensures) (c .before .if1 .taken))
+
+returns-5 : tie.Need-returns-5
+unfolding sum-record
+returns-5 c =
+    let ends = c .before in
+    sym (classes-first (ends .before) ∙ at-end _ _ _ (ends .end-at .ensures) (c .if1 .left))
+
+pub sum-record-spec : {M : Type 1} → statement M
+sum-record-spec =
+    tie.close
+    (tie.spec
+    curve-first-requires
+    enum-known-c
+    enum-told
+    curve-number-requires
+    sum-refused-requires
+    returns
+    class-at-requires
+    enum-known-place
+    enum-told-2
+    place-number-requires
+    sum-refused-requires-2
+    returns-2
+    class-at-requires-2
+    enum-known-last
+    enum-told-3
+    place-number-requires-2
+    sum-refused-requires-3
+    returns-3
+    end-at-requires
+    sum-refused-requires-4
+    returns-4
+    returns-5)

@@ -1,0 +1,75 @@
+-- The records that the byte calls take (document 01, 'Stored form' and 'In checking order').
+use Prim.Native.Nat.{ℕ}
+use mathlib.Core.List.{List}
+use Rattle.jacobian.specs.declared.Curve.{Curve}
+use Rattle.jacobian.specs.declared.Class.{Class}
+use Rattle.history.specs.declared.Register.{Register}
+use Rattle.stored_form.specs.Reading.{Reading, found, refused, due, _then_}
+use Rattle.stored_form.specs.Fields.{degree-at, count-at, end-due}
+use Rattle.stored_form.specs.Classes.{curve-at, class-at}
+use Rattle.stored_form.specs.declared.classes.Place.{Place}
+use Rattle.stored_form.specs.declared.classes.Place.the-variants.{Next, Refused}
+use Rattle.seal_archive.specs.declared.records.ClassRecord.{ClassRecord}
+use Rattle.seal_archive.specs.declared.records.SumRecord.{SumRecord}
+use Rattle.seal_archive.specs.declared.records.RegisterRecord.{RegisterRecord}
+
+-- ---- what the records hold
+
+pub record OneClass : Type 0 where
+  pub curve : Curve
+  pub class : Class
+
+pub record TwoClasses : Type 0 where
+  pub curve : Curve
+  pub first : Class
+  pub second : Class
+
+pub record Operation : Type 0 where
+  pub register : Register
+  pub class : Class
+
+-- ---- the records, field by field
+
+-- every record begins with the degree and the curve
+unfoldable pub curve-first : List ℕ → Reading Curve
+curve-first s = degree-at s 0 then λ d next. curve-at d s next
+
+-- nothing follows the last field
+unfoldable pub ended : {A : Type 0} → List ℕ → A → ℕ → Reading A
+ended s a end = due (end-due s end) (found a end)
+
+unfoldable pub class-record : List ℕ → Reading OneClass
+class-record s =
+    curve-first s then λ c at-class.
+    class-at 0x43 c s at-class then λ a end.
+    ended s (record { curve = c; class = a }) end
+
+unfoldable pub sum-record : List ℕ → Reading TwoClasses
+sum-record s =
+    curve-first s then λ c at-first.
+    class-at 0x43 c s at-first then λ a at-second.
+    class-at 0x43 c s at-second then λ b end.
+    ended s (record { curve = c; first = a; second = b }) end
+
+unfoldable pub register-record : List ℕ → Reading Operation
+register-record s =
+    curve-first s then λ c at-count.
+    count-at s at-count then λ n at-seal.
+    class-at 0x43 c s at-seal then λ seal at-class.
+    class-at 0x44 c s at-class then λ a end.
+    ended s (record { register = record { curve = c; count = n; seal = seal }; class = a }) end
+
+-- ---- what the code's answers say
+
+abbrev pub at-place : {A : Type 0} → Place → A → Reading A
+at-place (Next next) a = found a (next .at)
+at-place (Refused n) a = refused n
+
+abbrev pub class-record-read : ClassRecord → Reading OneClass
+class-record-read r = at-place (r .place) (record { curve = r .curve; class = r .class })
+
+abbrev pub sum-record-read : SumRecord → Reading TwoClasses
+sum-record-read r = at-place (r .place) (record { curve = r .curve; first = r .first; second = r .second })
+
+abbrev pub register-record-read : RegisterRecord → Reading Operation
+register-record-read r = at-place (r .place) (record { register = r .register; class = r .class })

@@ -1,0 +1,3 @@
+// The calls for C on byte areas.
+pub mod calls;
+mod records;
