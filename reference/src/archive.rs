@@ -15,13 +15,17 @@ pub struct Archive {
 }
 
 impl Archive {
-    pub fn bytes(&self) -> Vec<u8> {
+    /// The fields, each with its head.
+    pub fn fields(&self) -> Vec<Vec<u8>> {
         let count = u16::try_from(self.operations.len()).expect("the count takes two bytes");
-        let mut bytes =
-            [curve_fields(&self.curve), drawing_field(&self.drawing), count_field(count), class_field(&self.seal)]
-                .concat();
-        bytes.extend(self.operations.iter().flat_map(operation_field));
-        bytes
+        let mut fields = curve_fields(&self.curve).to_vec();
+        fields.extend([drawing_field(&self.drawing), count_field(count), class_field(&self.seal)]);
+        fields.extend(self.operations.iter().map(operation_field));
+        fields
+    }
+
+    pub fn bytes(&self) -> Vec<u8> {
+        self.fields().concat()
     }
 
     pub fn read(input: &[u8]) -> Result<Archive, Refusal> {

@@ -11,7 +11,7 @@ use crate::archive::{report, Archive};
 use crate::calls::{answer, seal_after_commit, Call, CALLS};
 use crate::jacobian::Class;
 use crate::random::Random;
-use crate::stored::{class_field, count_field, curve_field, degree_field, drawing_field, operation_field};
+use crate::stored::{class_field, count_field, curve_fields, operation_field};
 use mutation::mutated;
 use pool::{pools, Pool};
 
@@ -52,8 +52,7 @@ fn count(random: &mut Random) -> u16 {
 
 /// The fields of a record that is in stored form.
 fn record(random: &mut Random, pool: &Pool, call: Call) -> Vec<Vec<u8>> {
-    let [f3, f1, f0] = [3, 1, 0].map(|i| pool.curve.f.coefficient(i));
-    let mut fields = vec![degree_field(pool.curve.field.degree as u8), curve_field(f3, f1, f0)];
+    let mut fields = curve_fields(&pool.curve).to_vec();
     let (first, second) = (random.pick(&pool.classes), random.pick(&pool.classes));
     match call {
         Call::Commit | Call::Undo => {
@@ -140,12 +139,7 @@ pub fn archives(number: usize) -> Vec<(Vec<u8>, String)> {
         let drawing: Vec<u8> = (0..random.below(39)).map(|_| 0x20 + random.below(95) as u8).collect();
         let seal = random.pick(&pool.classes).clone();
         let archive = Archive { curve: pool.curve.clone(), drawing, seal, operations };
-        let [f3, f1, f0] = [3, 1, 0].map(|i| pool.curve.f.coefficient(i));
-        let mut fields = vec![degree_field(pool.curve.field.degree as u8), curve_field(f3, f1, f0)];
-        fields.extend([drawing_field(&archive.drawing), count_field(count as u16), class_field(&archive.seal)]);
-        fields.extend(archive.operations.iter().map(operation_field));
-        assert_eq!(fields.concat(), archive.bytes());
-        let bytes = mutated(&mut random, fields, pool);
+        let bytes = mutated(&mut random, archive.fields(), pool);
         let report = report(&bytes);
         (bytes, report)
     };
@@ -155,11 +149,14 @@ pub fn archives(number: usize) -> Vec<(Vec<u8>, String)> {
 #[cfg(test)]
 mod tests {
     use super::*;
+    use crate::field::BENCH;
+    use crate::jacobian::Curve;
     use std::collections::HashSet;
 
     #[test]
     fn bytes_of_a_case() {
-        let input = [degree_field(5), curve_field(0, 0, 0), class_field(&Class::neutral())].concat();
+        let curve = Curve::new(BENCH, 0, 0, 0);
+        let input = [curve_fields(&curve).concat(), class_field(&Class::neutral())].concat();
         let case = ByteCase::new(Call::Double, input.clone(), 51);
         let owed = [vec![3, 0, 0, 0, 51, 0, 0, 0, 34, 0, 0, 0, 3], input, vec![0x43, 0, 0]].concat();
         assert_eq!(case.bytes(), owed);

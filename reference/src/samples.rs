@@ -13,12 +13,7 @@ use crate::random::Random;
 
 /// The sum of a number of points of the curve.
 fn of_points(random: &mut Random, curve: &Curve, number: usize) -> Class {
-    let mut class = Class::neutral();
-    for _ in 0..number {
-        let point = std::iter::repeat_with(|| curve.point(random.element(curve.field))).flatten().next();
-        class = curve.sum(&class, &point.expect("the curve has points"));
-    }
-    class
+    (0..number).fold(Class::neutral(), |sum, _| curve.sum(&sum, &curve.drawn_point(random)))
 }
 
 /// The archive after these operations, oldest first, from a first seal.
@@ -26,10 +21,6 @@ fn committed(curve: Curve, drawing: &str, first: &Class, oldest_first: &[Class])
     let seal = oldest_first.iter().fold(first.clone(), |seal, next| seal_after_commit(&curve, &seal, next));
     let operations = oldest_first.iter().rev().cloned().collect();
     Archive { curve, drawing: drawing.as_bytes().to_vec(), seal, operations }
-}
-
-fn drawn_curve(random: &mut Random) -> Curve {
-    Curve::new(WIDE, random.element(WIDE), random.element(WIDE), random.element(WIDE))
 }
 
 fn document_01() -> Archive {
@@ -44,14 +35,14 @@ fn document_01() -> Archive {
 
 fn empty() -> Archive {
     let mut random = Random::new(81);
-    let curve = drawn_curve(&mut random);
+    let curve = Curve::drawn(&mut random, WIDE);
     let seal = of_points(&mut random, &curve, 3);
     committed(curve, "", &seal, &[])
 }
 
 fn dozen() -> (Class, Archive) {
     let mut random = Random::new(82);
-    let curve = drawn_curve(&mut random);
+    let curve = Curve::drawn(&mut random, WIDE);
     let [hole, slot, bend, cut] = [1, 2, 3, 5].map(|number| of_points(&mut random, &curve, number));
     let view = Class::neutral();
     let (unbend, uncut) = (curve.opposite(&bend), curve.opposite(&cut));
@@ -63,7 +54,7 @@ fn dozen() -> (Class, Archive) {
 
 fn full() -> (Class, Archive) {
     let mut random = Random::new(83);
-    let curve = drawn_curve(&mut random);
+    let curve = Curve::drawn(&mut random, WIDE);
     let parts: Vec<Class> = (0..16).map(|i| of_points(&mut random, &curve, 1 + i % 5)).collect();
     let mut operations: Vec<Class> = vec![];
     for _ in 0..1024 {

@@ -77,9 +77,9 @@ pub fn operation_field(class: &Class) -> Vec<u8> {
 }
 
 /// The degree and the curve, with which every record begins.
-pub fn curve_fields(curve: &Curve) -> Vec<u8> {
+pub fn curve_fields(curve: &Curve) -> [Vec<u8>; 2] {
     let [f3, f1, f0] = [3, 1, 0].map(|i| curve.f.coefficient(i));
-    [degree_field(curve.field.degree as u8), curve_field(f3, f1, f0)].concat()
+    [degree_field(curve.field.degree as u8), curve_field(f3, f1, f0)]
 }
 
 /// What is left of an input.

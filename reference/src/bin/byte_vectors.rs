@@ -1,4 +1,4 @@
-//! Prints cases of the byte calls, records mutated or not, for tests/seal_calls.c: `byte_vectors N` the first N, in the
+//! Prints cases of the byte calls, records mutated or not, for tests/seal_calls: `byte_vectors N` the first N, in the
 //! bytes that `ByteCase::bytes` gives.
 
 use reference::byte_cases::Mutated;

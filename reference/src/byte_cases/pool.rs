@@ -11,23 +11,15 @@ pub struct Pool {
     pub classes: Vec<Class>,
 }
 
-fn point(random: &mut Random, curve: &Curve) -> Class {
-    loop {
-        if let Some(point) = curve.point(random.element(curve.field)) {
-            return if random.below(2) == 0 { point } else { curve.opposite(&point) };
-        }
-    }
-}
-
 impl Pool {
     /// The neutral class, halves of points, and sums of one to four points with their doubles.
     fn new(random: &mut Random, curve: Curve) -> Pool {
         let mut classes = vec![Class::neutral(); 2];
-        classes.extend((0..2).map(|_| half(&curve, &point(random, &curve))));
+        classes.extend((0..2).map(|_| half(&curve, &curve.drawn_point(random))));
         for _ in 0..4 {
             let mut sum = Class::neutral();
             for _ in 0..4 {
-                sum = curve.sum(&sum, &point(random, &curve));
+                sum = curve.sum(&sum, &curve.drawn_point(random));
                 classes.extend([sum.clone(), curve.double(&sum)]);
             }
         }
@@ -35,11 +27,10 @@ impl Pool {
     }
 }
 
-/// A curve with coefficients drawn at random; it has a point.
+/// A drawn curve that has a point, which over the bench field not every curve has.
 fn drawn_curve(random: &mut Random, field: Field) -> Curve {
     loop {
-        let [f3, f1, f0] = [0; 3].map(|_| random.element(field));
-        let curve = Curve::new(field, f3, f1, f0);
+        let curve = Curve::drawn(random, field);
         if field == WIDE || (0..32).any(|a| curve.point(a).is_some()) {
             return curve;
         }

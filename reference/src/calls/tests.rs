@@ -37,7 +37,8 @@ fn record(call: Call, field: Field) -> Vec<u8> {
 
 /// A record of the register's calls.
 fn register(count: u16, seal: &Class, operation: &Class) -> Vec<u8> {
-    [curve_fields(&curve_a(BENCH)), count_field(count), class_field(seal), operation_field(operation)].concat()
+    [curve_fields(&curve_a(BENCH)).concat(), count_field(count), class_field(seal), operation_field(operation)]
+        .concat()
 }
 
 /// The answer with an output that is long enough; a refusal changes no byte.
@@ -63,7 +64,7 @@ fn twelve_examples() {
         let (a, b) = (curve_a(field), Curve::new(field, 0, 0, 1));
         let answer = |call, curve: &Curve, classes: &[&Class]| {
             let classes: Vec<u8> = classes.iter().flat_map(|class| class_field(class)).collect();
-            run(call, &[curve_fields(curve), classes].concat(), &[9; 60])
+            run(call, &[curve_fields(curve).concat(), classes].concat(), &[9; 60])
         };
         let owed = |class: &Class| {
             let mut output = class_field(class);
@@ -235,7 +236,8 @@ fn commit_and_undo() {
         let mut seal = Class::neutral();
         for count in 0..20 {
             let record = |count, seal: &Class| {
-                [curve_fields(&curve), count_field(count), class_field(seal), operation_field(&point)].concat()
+                [curve_fields(&curve).concat(), count_field(count), class_field(seal), operation_field(&point)]
+                    .concat()
             };
             let (_, after) = answer(Call::Commit, &record(count, &seal), 56);
             assert!(after.starts_with(&count_field(count + 1)));

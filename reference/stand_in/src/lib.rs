@@ -1,6 +1,6 @@
-//! The seven byte calls of the reference under the C names of include/seal.h, as a static library. It stands in for the
-//! proved library where the C test is tested itself: the variable SEAL_FAULT, one of `FAULTS`, makes the calls wrong in one
-//! way, and the test has to fail.
+//! The seven byte calls of the reference under the C names of include/seal.h, as a static library. It stands in for
+//! the proved library where tests/seal_calls is tested itself: the variable SEAL_FAULT, one of `FAULTS`, makes the calls
+//! wrong in one way, and that test has to fail.
 
 use reference::calls::{answer, Call};
 use std::sync::OnceLock;
