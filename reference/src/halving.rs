@@ -15,6 +15,7 @@ use crate::bench_classes::all_classes;
 use crate::field::Field;
 use crate::jacobian::{Class, Curve};
 use crate::polynomial::Polynomial;
+use crate::random::Random;
 
 /// Is `claimed` the half of `class`?
 pub fn is_half(curve: &Curve, claimed: &Class, class: &Class) -> bool {
@@ -69,7 +70,8 @@ pub fn half(curve: &Curve, class: &Class) -> Class {
     if *class == Class::neutral() {
         return class.clone();
     }
-    let points = (0..32).filter_map(|a| curve.point(a));
+    let mut random = Random::new(9);
+    let points = (0..64).filter_map(|_| curve.point(random.element(curve.field)));
     let steps = std::iter::once(Class::neutral()).chain(points).chain(std::iter::repeat(class.clone()));
     let mut shift = Class::neutral();
     for step in steps.take(10_000) {
@@ -162,7 +164,6 @@ impl HalfByFrobenius<'_> {
 mod tests {
     use super::*;
     use crate::field::{BENCH, WIDE};
-    use crate::random::Random;
 
     fn curves_over_two(field: Field) -> Vec<Curve> {
         (0..8).map(|i| Curve::new(field, i & 1, i >> 1 & 1, i >> 2)).collect()
@@ -262,6 +263,25 @@ mod tests {
                 assert_eq!(half(&curve, &curve.double(&class)), class);
                 class = curve.sum(&class, &curve.point(random.element(WIDE)).unwrap_or_else(Class::neutral));
             }
+        }
+    }
+
+    /// Classes of small order over the wide field: every class with coefficients 0 and 1 on a curve with such.
+    #[test]
+    fn halves_of_small_order() {
+        for curve in curves_over_two(WIDE) {
+            let mut number = 0;
+            for degree in 0..4 {
+                for (u, v) in (0..1 << degree).flat_map(|u| (0..1 << degree).map(move |v| (u, v))) {
+                    let bits = |n: u64| (0..degree).map(|i| n >> i & 1).collect::<Vec<u64>>();
+                    let class = Class::new([bits(u), vec![1]].concat(), bits(v));
+                    if curve.is_member(&class) {
+                        assert!(is_half(&curve, &half(&curve, &class), &class));
+                        number += 1;
+                    }
+                }
+            }
+            assert!(number > 1);
         }
     }
 
