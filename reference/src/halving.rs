@@ -1,7 +1,10 @@
-//! Halves, found from the group and not by halving rules: three ways, each for the curves that it fits.
+//! Halves, found from the group and not by halving rules by degree: four ways, each for the curves that it fits.
 //!
 //! - Any curve: a claimed half is one if it is a reduced class whose double is the class given (`is_half`). A case
 //!   for a half is so made from its answer, by doubling.
+//! - Any curve: for a class D of degree 3 a function of the curve with the divisor D + 2E is sought, by linear equations
+//!   on the square roots of its coefficients; then 2 (-E) = D. Where that fails, as for every D of lower degree, it is
+//!   tried on D + 2T for one class T after another, and T taken away again. What is answered has passed `is_half`.
 //! - The bench field: the number n of classes is counted and odd, so the half is the multiple by (n + 1) / 2.
 //! - A curve with coefficients in GF(2), over either field: squaring every coefficient is a map F of the group that
 //!   satisfies F^6 + a1 F^5 + a2 F^4 + a3 F^3 + 2 a2 F^2 + 4 a1 F + 8 = 0, where the a are got from the numbers of
@@ -11,10 +14,75 @@
 use crate::bench_classes::all_classes;
 use crate::field::Field;
 use crate::jacobian::{Class, Curve};
+use crate::polynomial::Polynomial;
+use crate::random::Random;
 
 /// Is `claimed` the half of `class`?
 pub fn is_half(curve: &Curve, claimed: &Class, class: &Class) -> bool {
     curve.is_member(claimed) && curve.double(claimed) == *class
+}
+
+/// The class -E where a function of the curve, a u + b (y + v) with a and b of degree at most 1, has the divisor
+/// [u, v] + 2E and b no root on E. It is sought for u of degree 3 alone.
+///
+/// The norm of a u + b (y + v), divided by u, is n = a^2 u + a b + b^2 w with w = (v^2 + v + f) / u of degree 4. It is a
+/// square where its coefficients of x^5, x^3 and x vanish. The first two are sums of squares, which give a1 and a0 from b1
+/// and b0; in the third the products cancel, so that it is b0^2 p + b1^2 q = 0.
+fn generic_half(curve: &Curve, class: &Class) -> Option<Class> {
+    let k = curve.field;
+    let Class { u, v } = class;
+    if class.degree() != 3 {
+        return None;
+    }
+    let w = v.square(k).add(v).add(&curve.f).exact_quotient(k, u);
+    let [root_u1, root_w1, root_w3] =
+        [u.coefficient(1), w.coefficient(1), w.coefficient(3)].map(|c| k.square_root(c));
+    // a1 = r b1 and a0 = r b0 + s b1
+    let (r, s) = (root_w3, root_w1 ^ k.mul(root_u1, root_w3));
+    // a0^2 u1 + a0 b1 + a1 b0 + b0^2 w1 = b0^2 p + b1^2 q
+    let p = k.mul(k.square(r), u.coefficient(1)) ^ w.coefficient(1);
+    let q = k.mul(k.square(s), u.coefficient(1)) ^ s;
+    let (b0, b1) = if p == 0 && q == 0 { (1, 0) } else { (k.square_root(q), k.square_root(p)) };
+    let (a0, a1) = (k.mul(r, b0) ^ k.mul(s, b1), k.mul(r, b1));
+    let (a, b) = (Polynomial::new(vec![a0, a1]), Polynomial::new(vec![b0, b1]));
+
+    let n = a.square(k).mul(k, u).add(&a.mul(k, &b)).add(&b.square(k).mul(k, &w)).monic(k);
+    let e = Polynomial::new(n.coefficients().iter().step_by(2).map(|&c| k.square_root(c)).collect());
+    if e.is_zero() || e.square(k) != n {
+        return None;
+    }
+    // on E: y = v + a u / b
+    let (g, inverse, _) = Polynomial::extended_gcd(k, &b, &e);
+    if g != Polynomial::one() {
+        return None;
+    }
+    let y = v.add(&a.mul(k, u).mul(k, &inverse)).remainder(k, &e);
+    let half = curve.opposite(&Class { u: e, v: y });
+    if is_half(curve, &half, class) {
+        Some(half)
+    } else {
+        None
+    }
+}
+
+/// The half of a class, on any curve.
+pub fn half(curve: &Curve, class: &Class) -> Class {
+    if *class == Class::neutral() {
+        return class.clone();
+    }
+    let mut random = Random::new(9);
+    let points = (0..64).filter_map(|_| curve.point(random.element(curve.field)));
+    let steps = std::iter::once(Class::neutral()).chain(points).chain(std::iter::repeat(class.clone()));
+    let mut shift = Class::neutral();
+    for step in steps.take(10_000) {
+        shift = curve.sum(&shift, &step);
+        if let Some(half) = generic_half(curve, &curve.sum(class, &curve.double(&shift))) {
+            let half = curve.difference(&half, &shift);
+            assert!(is_half(curve, &half, class));
+            return half;
+        }
+    }
+    panic!("no half found for {class:?} on {curve:?}")
 }
 
 /// Halves on a curve over the bench field, from the number of its classes.
@@ -96,7 +164,6 @@ impl HalfByFrobenius<'_> {
 mod tests {
     use super::*;
     use crate::field::{BENCH, WIDE};
-    use crate::random::Random;
 
     fn curves_over_two(field: Field) -> Vec<Curve> {
         (0..8).map(|i| Curve::new(field, i & 1, i >> 1 & 1, i >> 2)).collect()
@@ -165,6 +232,56 @@ mod tests {
             for class in all_classes(&curve).iter().step_by(311) {
                 assert!(is_half(&curve, &by_order.half(class), class));
             }
+        }
+    }
+
+    /// The half on any curve is that from the number of classes; bench curves with many points and with few.
+    #[test]
+    fn halves_on_any_bench_curve() {
+        let mut random = Random::new(7);
+        for i in 0..12 {
+            let curve = if i < 4 {
+                Curve::new(BENCH, 0, i & 1, i >> 1)
+            } else {
+                Curve::with_all(BENCH, [0; 7].map(|_: u64| random.element(BENCH)))
+            };
+            let classes = all_classes(&curve);
+            for class in classes.iter().take(40).chain(classes.iter().skip(40).step_by(409)) {
+                assert!(is_half(&curve, &half(&curve, class), class));
+            }
+        }
+    }
+
+    /// The half on any curve, of classes whose half is known, on the wide field.
+    #[test]
+    fn halves_of_doubles_on_the_wide_field() {
+        let mut random = Random::new(8);
+        for _ in 0..20 {
+            let curve = Curve::with_all(WIDE, [0; 7].map(|_: u64| random.element(WIDE)));
+            let mut class = Class::neutral();
+            for _ in 0..5 {
+                assert_eq!(half(&curve, &curve.double(&class)), class);
+                class = curve.sum(&class, &curve.point(random.element(WIDE)).unwrap_or_else(Class::neutral));
+            }
+        }
+    }
+
+    /// Classes of small order over the wide field: every class with coefficients 0 and 1 on a curve with such.
+    #[test]
+    fn halves_of_small_order() {
+        for curve in curves_over_two(WIDE) {
+            let mut number = 0;
+            for degree in 0..4 {
+                for (u, v) in (0..1 << degree).flat_map(|u| (0..1 << degree).map(move |v| (u, v))) {
+                    let bits = |n: u64| (0..degree).map(|i| n >> i & 1).collect::<Vec<u64>>();
+                    let class = Class::new([bits(u), vec![1]].concat(), bits(v));
+                    if curve.is_member(&class) {
+                        assert!(is_half(&curve, &half(&curve, &class), &class));
+                        number += 1;
+                    }
+                }
+            }
+            assert!(number > 1);
         }
     }
 

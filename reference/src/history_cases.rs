@@ -16,6 +16,7 @@ use crate::class_cases::edges::NONSENSE;
 use crate::class_cases::{ClassValues, CurveValues};
 use crate::halving::is_half;
 use crate::jacobian::{Class, Curve};
+use crate::stored::COUNT_LIMIT;
 
 pub const START: u8 = 0;
 pub const COMMIT: u8 = 1;
@@ -23,7 +24,7 @@ pub const UNDO: u8 = 2;
 pub const SHOW: u8 = 3;
 
 /// The most operations that a register counts.
-pub const LIMIT: u64 = 1024;
+pub const LIMIT: u64 = COUNT_LIMIT as u64;
 
 /// A register as a caller hands it over; it need not pass the checks.
 #[derive(Clone, Copy, Debug, PartialEq, Eq)]

@@ -3,6 +3,7 @@
 
 use crate::field::Field;
 use crate::polynomial::Polynomial;
+use crate::random::Random;
 
 /// y^2 + y = f(x) over a field, f monic of degree 7.
 #[derive(Clone, Debug, PartialEq, Eq)]
@@ -154,13 +155,27 @@ impl Curve {
         let y = self.field.root_of_artin_schreier(self.f.at(self.field, a))?;
         Some(Class::new(vec![a, 1], vec![y]))
     }
+
+    /// A curve whose three coefficients are drawn from the whole field.
+    pub fn drawn(random: &mut Random, field: Field) -> Curve {
+        let [f3, f1, f0] = [0; 3].map(|_| random.element(field));
+        Curve::new(field, f3, f1, f0)
+    }
+
+    /// The class of a drawn point of the curve, which has to have one.
+    pub fn drawn_point(&self, random: &mut Random) -> Class {
+        loop {
+            if let Some(point) = self.point(random.element(self.field)) {
+                return if random.below(2) == 0 { point } else { self.opposite(&point) };
+            }
+        }
+    }
 }
 
 #[cfg(test)]
 mod tests {
     use super::*;
     use crate::field::{BENCH, WIDE};
-    use crate::random::Random;
 
     const FIELDS: [Field; 2] = [BENCH, WIDE];
 

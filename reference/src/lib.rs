@@ -10,9 +10,17 @@
 //! - `element_cases`: the cases that the program `element_trial` is run on, and the lines that it owes.
 //! - `class_cases`: the same for the program `class_trial`: calls on classes.
 //! - `history_cases`: the same for the program `history_trial`: commits and undos on a register, and taking them back.
+//! - `stored`: the stored form's writer and checking reader.
+//! - `calls`: the seven calls on byte areas.
+//! - `archive`: the archive, its walk and the walk report.
+//! - `byte_cases`: records and archives, mutated or not, and what the byte calls and the walk report owe for them.
+//! - `samples`: the archives that are kept in examples/.
 //! - `random`: a small generator with a fixed seed, for cases that are the same in every run.
 
+pub mod archive;
 pub mod bench_classes;
+pub mod byte_cases;
+pub mod calls;
 pub mod class_cases;
 pub mod element_cases;
 pub mod field;
@@ -21,3 +29,5 @@ pub mod history_cases;
 pub mod jacobian;
 pub mod polynomial;
 pub mod random;
+pub mod samples;
+pub mod stored;

@@ -19,6 +19,16 @@ impl Random {
         z ^ z >> 31
     }
 
+    /// A number below n, which is small.
+    pub fn below(&mut self, n: usize) -> usize {
+        (self.number() % n as u64) as usize
+    }
+
+    /// One of a row.
+    pub fn pick<'a, T>(&mut self, row: &'a [T]) -> &'a T {
+        &row[self.below(row.len())]
+    }
+
     /// An element, drawn from the whole field.
     pub fn element(&mut self, field: Field) -> u64 {
         self.number() >> (64 - field.degree)

@@ -18,18 +18,9 @@ const KINDS: [&[usize]; 8] = [&[], &[1], &[1, 1], &[2], &[1, 1, 1], &[2, 1], &[3
 /// How many curves are drawn; on each there is one class of every kind.
 const CURVES: usize = 25;
 
-/// The class of a point of the curve, or of its opposite.
-fn point(random: &mut Random, curve: &Curve) -> Class {
-    loop {
-        if let Some(point) = curve.point(random.element(WIDE)) {
-            return if random.number() & 1 == 0 { point } else { curve.opposite(&point) };
-        }
-    }
-}
-
 /// The sum of points, each taken as often as the kind says, and the first of the points.
 fn class_of_kind(random: &mut Random, curve: &Curve, kind: &[usize]) -> (Class, Class) {
-    let points: Vec<Class> = kind.iter().map(|_| point(random, curve)).collect();
+    let points: Vec<Class> = kind.iter().map(|_| curve.drawn_point(random)).collect();
     let mut class = Class::neutral();
     for (point, &times) in points.iter().zip(kind) {
         class = curve.sum(&class, &curve.multiple(times as u128, point));
@@ -45,7 +36,7 @@ fn on_class(random: &mut Random, values: CurveValues, curve: &Curve, kind: &[usi
     let (class, shared) = class_of_kind(random, curve, kind);
     let other_kind = KINDS[(random.number() % 8) as usize];
     let other = class_of_kind(random, curve, other_kind).0;
-    let beside = point(random, curve);
+    let beside = curve.drawn_point(random);
     let opposite = curve.opposite(&class);
     let shared_opposite = curve.opposite(&shared);
     let mut cases: Vec<Case> = [MEMBERSHIP, OPPOSITE, DOUBLE, HALF_OF_DOUBLE, DOUBLE_OF_HALF, DOUBLE_IN_STEPS]

@@ -1,0 +1,103 @@
+/* Seals of a model's history: the seven calls on byte areas of the proved library seal_archive.
+ *
+ * To build and link (x86-64 Linux, nothing else is linked):
+ *
+ *     rt staticlib seal_archive
+ *     cc -Iinclude model.c target/staticlib/libseal_archive.a
+ *
+ * Stored form. A field is a one-byte tag, a two-byte length and a body, high byte first. An element takes eight bytes,
+ * high byte first.
+ *
+ *     tag    body                                                       lengths allowed
+ *     0x40   degree d of the field, 5 or 61                             1
+ *     0x41   f3, f1, f0 of the curve y^2 + y = x^7 + f3 x^3 + f1 x + f0 24
+ *     0x42   count of operations, at most 1,024                         2
+ *     0x43   a class: u below its leading term, highest power first,    0, 16, 32, 48
+ *            then v likewise; the neutral class has length 0
+ *     0x44   an operation's class, as 0x43                              0, 16, 32, 48
+ *
+ * Answers. A call that is accepted writes at the start of the output and answers how many bytes it wrote, at most 56;
+ * seal_membership writes nothing and answers 0. A call that is refused answers the refusal's number, 101 or more, and
+ * has changed no byte. No call changes the input, nor a byte of the output after those it wrote.
+ *
+ * Areas. The input may hold anything: nothing has to be checked before a call. The one duty of the caller is to hand
+ * over areas that are his, as long as said, and do not overlap. An empty area may be NULL with length 0. No area needs
+ * an alignment. The calls keep nothing from one to the next.
+ */
+#ifndef SEAL_H
+#define SEAL_H
+
+#include <stddef.h>
+#include <stdint.h>
+
+#ifdef __cplusplus
+extern "C" {
+#endif
+
+/* Tags. */
+#define SEAL_TAG_DEGREE 0x40
+#define SEAL_TAG_CURVE 0x41
+#define SEAL_TAG_COUNT 0x42
+#define SEAL_TAG_CLASS 0x43
+#define SEAL_TAG_OPERATION 0x44
+
+/* How long an output must be, and so how long one is always long enough. */
+#define SEAL_CLASS_OUTPUT 51    /* opposite, sum, double, half: one 0x43 */
+#define SEAL_REGISTER_OUTPUT 56 /* commit, undo: 0x42, then 0x43 */
+
+/* The most operations that a register counts. */
+#define SEAL_COUNT_LIMIT 1024
+
+/* The refusals, in checking order. The input's fields are read in order, and each goes through 102 to 111 before the
+ * next is begun. */
+#define SEAL_OUTPUT_TOO_SHORT 101  /* the output has fewer than 51 bytes, or 56 for commit and undo */
+#define SEAL_HEAD_CUT 102          /* the input ends before the three bytes of a field's head */
+#define SEAL_WRONG_TAG 103         /* the tag is not the one due there */
+#define SEAL_WRONG_LENGTH 104      /* the length is not allowed for the tag */
+#define SEAL_BODY_CUT 105          /* the input ends before the body does */
+#define SEAL_WRONG_DEGREE 106      /* the degree is neither 5 nor 61 */
+#define SEAL_CURVE_COEFFICIENT 107 /* a curve coefficient is 2^d or more */
+#define SEAL_DRAWING_NUMBER 108    /* a drawing number byte lies outside 0x20 to 0x7E; in archives alone */
+#define SEAL_COUNT_TOO_HIGH 109    /* the count exceeds 1,024 */
+#define SEAL_CLASS_COEFFICIENT 110 /* a class coefficient is 2^d or more */
+#define SEAL_NOT_A_CLASS 111       /* u does not divide v^2 + v + f */
+#define SEAL_BYTES_REMAIN 112      /* bytes remain after the last field */
+#define SEAL_UNDO_AT_ZERO 113      /* an undo is called at count 0 */
+#define SEAL_COMMIT_AT_LIMIT 114   /* a commit is called at count 1,024 */
+
+/* Is an answer a refusal? */
+#define SEAL_IS_REFUSAL(answer) ((answer) >= SEAL_OUTPUT_TOO_SHORT)
+
+/* Is the class one of the curve?
+ * Reads 0x40, 0x41, 0x43; writes nothing and answers 0. Refusals: 102 to 107, 110 to 112. */
+uint32_t seal_membership(const uint8_t *in, size_t in_len);
+
+/* The opposite of a class.
+ * Reads 0x40, 0x41, 0x43; writes 0x43. Refusals: 101 to 107, 110 to 112. */
+uint32_t seal_opposite(const uint8_t *in, size_t in_len, uint8_t *out, size_t out_len);
+
+/* The sum of two classes.
+ * Reads 0x40, 0x41, 0x43, 0x43; writes 0x43. Refusals: 101 to 107, 110 to 112. */
+uint32_t seal_sum(const uint8_t *in, size_t in_len, uint8_t *out, size_t out_len);
+
+/* Twice a class.
+ * Reads 0x40, 0x41, 0x43; writes 0x43. Refusals: 101 to 107, 110 to 112. */
+uint32_t seal_double(const uint8_t *in, size_t in_len, uint8_t *out, size_t out_len);
+
+/* The half of a class: the one class whose double it is.
+ * Reads 0x40, 0x41, 0x43; writes 0x43. Refusals: 101 to 107, 110 to 112. */
+uint32_t seal_half(const uint8_t *in, size_t in_len, uint8_t *out, size_t out_len);
+
+/* The register after an operation: twice the seal plus the operation's class, and the count one higher.
+ * Reads 0x40, 0x41, 0x42, 0x43 (the seal), 0x44; writes 0x42, 0x43. Refusals: 101 to 107, 109 to 112, 114. */
+uint32_t seal_commit(const uint8_t *in, size_t in_len, uint8_t *out, size_t out_len);
+
+/* The register before an operation: the half of the seal less the operation's class, and the count one lower.
+ * Reads 0x40, 0x41, 0x42, 0x43 (the seal), 0x44; writes 0x42, 0x43. Refusals: 101 to 107, 109 to 113. */
+uint32_t seal_undo(const uint8_t *in, size_t in_len, uint8_t *out, size_t out_len);
+
+#ifdef __cplusplus
+}
+#endif
+
+#endif

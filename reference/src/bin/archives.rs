@@ -1,0 +1,34 @@
+//! Makes archives and the reports that `walkreport` owes for them: `archives samples FOLDER` those that are kept in
+//! examples/, `archives N FOLDER` the first N of the mutated ones. Each is written to FOLDER/NAME.bin, its report to
+//! FOLDER/NAME.report.
+
+use reference::archive::report;
+use reference::byte_cases::archives;
+use reference::samples::samples;
+use std::fs::write;
+use std::path::Path;
+
+fn made(kind: &str) -> Option<Vec<(String, Vec<u8>, String)>> {
+    if kind == "samples" {
+        let with_report = |(name, bytes): (&str, Vec<u8>)| (name.to_string(), bytes.clone(), report(&bytes));
+        return Some(samples().map(|(name, archive)| with_report((name, archive.bytes()))).to_vec());
+    }
+    let cases = archives(kind.parse().ok()?).into_iter().enumerate();
+    Some(cases.map(|(i, (bytes, report))| (format!("{i:05}"), bytes, report)).collect())
+}
+
+fn main() {
+    let words: Vec<String> = std::env::args().skip(1).collect();
+    let made = match &words[..] {
+        [kind, folder] => made(kind).map(|made| (made, Path::new(folder))),
+        _ => None,
+    };
+    let Some((made, folder)) = made else {
+        eprintln!("usage: archives samples | N FOLDER");
+        std::process::exit(2);
+    };
+    for (name, bytes, report) in made {
+        write(folder.join(format!("{name}.bin")), bytes).expect("the folder takes the file");
+        write(folder.join(format!("{name}.report")), report).expect("the folder takes the file");
+    }
+}

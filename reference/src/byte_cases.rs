@@ -1,0 +1,200 @@
+//! Records of the seven byte calls and archives, most of them mutated, with what the calls and the walk report owe for
+//! them. They are made by a generator with a fixed seed, so that the first n are the same in every run.
+//!
+//! - `pool`: curves over both fields with classes of every degree, from which the records are made.
+//! - `mutation`: what is done to the fields and to the bytes of a record.
+
+pub mod mutation;
+pub mod pool;
+
+use crate::archive::{report, Archive};
+use crate::calls::{answer, seal_after_commit, Call, CALLS};
+use crate::jacobian::Class;
+use crate::random::Random;
+use crate::stored::{class_field, count_field, curve_fields, operation_field};
+use mutation::mutated;
+use pool::{pools, Pool};
+
+/// A call, and what it owes: the answer, and the bytes written, of which a refusal has none.
+#[derive(Clone, Debug, PartialEq, Eq)]
+pub struct ByteCase {
+    pub call: Call,
+    pub input: Vec<u8>,
+    pub output_length: usize,
+    pub answer: u32,
+    pub written: Vec<u8>,
+}
+
+impl ByteCase {
+    pub fn new(call: Call, input: Vec<u8>, output_length: usize) -> ByteCase {
+        let (answer, written) = answer(call, &input, output_length);
+        ByteCase { call, input, output_length, answer, written }
+    }
+
+    /// The case in a file: the call's place in `CALLS` in one byte; the lengths of output and input, and the answer, in
+    /// four bytes each, high byte first; the input; the bytes written, which are as many as the answer says where it is
+    /// no refusal.
+    pub fn bytes(&self) -> Vec<u8> {
+        let call = CALLS.iter().position(|&call| call == self.call).expect("the row has every call") as u8;
+        let numbers = [self.output_length as u32, self.input.len() as u32, self.answer].map(u32::to_be_bytes);
+        [&[call], &numbers.concat()[..], &self.input, &self.written].concat()
+    }
+}
+
+/// Counts, those at the edges often.
+fn count(random: &mut Random) -> u16 {
+    match random.below(4) {
+        0 => *random.pick(&[0, 1, 1023, 1024]),
+        1 => *random.pick(&[2, 255, 256, 1022]),
+        _ => random.below(1025) as u16,
+    }
+}
+
+/// The fields of a record that is in stored form.
+fn record(random: &mut Random, pool: &Pool, call: Call) -> Vec<Vec<u8>> {
+    let mut fields = curve_fields(&pool.curve).to_vec();
+    let (first, second) = (random.pick(&pool.classes), random.pick(&pool.classes));
+    match call {
+        Call::Commit | Call::Undo => {
+            // half of the undos take back what was a commit
+            let back = call == Call::Undo && random.below(2) == 0;
+            let seal = if back { seal_after_commit(&pool.curve, first, second) } else { first.clone() };
+            fields.extend([count_field(count(random)), class_field(&seal), operation_field(second)]);
+        }
+        Call::Sum => {
+            let second = match random.below(4) {
+                0 => first.clone(),
+                1 => pool.curve.opposite(first),
+                _ => second.clone(),
+            };
+            fields.extend([class_field(first), class_field(&second)]);
+        }
+        _ => fields.push(class_field(first)),
+    }
+    fields
+}
+
+/// The length of an output area: mostly enough, else at the edge and below.
+fn output_length(random: &mut Random, call: Call) -> usize {
+    let bound = call.output_bound();
+    if bound == 0 {
+        return 0;
+    }
+    match random.below(12) {
+        0 => *random.pick(&[0, 1, 50, 55, bound - 1]),
+        1 => random.below(bound + 20),
+        2..=6 => bound,
+        _ => bound + random.below(50),
+    }
+}
+
+/// Cases without end.
+pub struct Mutated {
+    random: Random,
+    pools: Vec<Pool>,
+}
+
+impl Mutated {
+    pub fn new() -> Mutated {
+        Mutated { random: Random::new(71), pools: pools() }
+    }
+}
+
+impl Default for Mutated {
+    fn default() -> Mutated {
+        Mutated::new()
+    }
+}
+
+impl Iterator for Mutated {
+    type Item = ByteCase;
+
+    fn next(&mut self) -> Option<ByteCase> {
+        let random = &mut self.random;
+        let pool = random.pick(&self.pools);
+        let call = *random.pick(&CALLS);
+        let fields = record(random, pool, call);
+        let input = mutated(random, fields, pool);
+        let length = output_length(random, call);
+        Some(ByteCase::new(call, input, length))
+    }
+}
+
+/// Some archives, mutated or not, each with its report.
+pub fn archives(number: usize) -> Vec<(Vec<u8>, String)> {
+    let mut random = Random::new(72);
+    let pools = pools();
+    let mut one = || {
+        let pool = random.pick(&pools);
+        let count = random.below(9);
+        let mut operations: Vec<Class> = vec![];
+        for _ in 0..count {
+            let next = match (random.below(5), operations.last()) {
+                (0, Some(last)) => pool.curve.opposite(last),
+                (1, _) => Class::neutral(),
+                _ => random.pick(&pool.classes).clone(),
+            };
+            operations.push(next);
+        }
+        let drawing: Vec<u8> = (0..random.below(39)).map(|_| 0x20 + random.below(95) as u8).collect();
+        let seal = random.pick(&pool.classes).clone();
+        let archive = Archive { curve: pool.curve.clone(), drawing, seal, operations };
+        let bytes = mutated(&mut random, archive.fields(), pool);
+        let report = report(&bytes);
+        (bytes, report)
+    };
+    (0..number).map(|_| one()).collect()
+}
+
+#[cfg(test)]
+mod tests {
+    use super::*;
+    use crate::field::BENCH;
+    use crate::jacobian::Curve;
+    use std::collections::HashSet;
+
+    #[test]
+    fn bytes_of_a_case() {
+        let curve = Curve::new(BENCH, 0, 0, 0);
+        let input = [curve_fields(&curve).concat(), class_field(&Class::neutral())].concat();
+        let case = ByteCase::new(Call::Double, input.clone(), 51);
+        let owed = [vec![3, 0, 0, 0, 51, 0, 0, 0, 34, 0, 0, 0, 3], input, vec![0x43, 0, 0]].concat();
+        assert_eq!(case.bytes(), owed);
+        assert_eq!(ByteCase::new(Call::Undo, vec![], 56).bytes(), [6, 0, 0, 0, 56, 0, 0, 0, 0, 0, 0, 0, 102]);
+    }
+
+    /// Among the first ten thousand every call meets every refusal that it can give, and writes classes of every degree
+    /// over both fields.
+    #[test]
+    fn every_outcome_of_every_call() {
+        let cases: Vec<ByteCase> = Mutated::new().take(10_000).collect();
+        for call in CALLS {
+            let met: HashSet<u32> = cases.iter().filter(|case| case.call == call).map(|case| case.answer).collect();
+            let mut owed = HashSet::from([102, 103, 104, 105, 106, 107, 110, 111, 112]);
+            owed.extend(match call {
+                Call::Membership => vec![0],
+                Call::Commit => vec![101, 109, 114, 8, 24, 40, 56],
+                Call::Undo => vec![101, 109, 113, 8, 24, 40, 56],
+                _ => vec![101, 3, 19, 35, 51],
+            });
+            assert_eq!(met, owed, "{call:?}");
+            for degree in [5, 61] {
+                let accepted =
+                    |case: &&ByteCase| case.call == call && case.answer <= 100 && case.input[3] == degree;
+                assert!(cases.iter().filter(accepted).count() > 50, "{call:?} {degree}");
+            }
+        }
+    }
+
+    /// Among the first three hundred archives the report meets every refusal that it can give, and every letter.
+    #[test]
+    fn every_outcome_of_the_report() {
+        let reports: Vec<String> = archives(300).into_iter().map(|(_, report)| report).collect();
+        for number in 102..=112 {
+            assert!(reports.contains(&format!("refused {number}\n")), "{number}");
+        }
+        for letter in [" . ", " R ", " M ", " - "] {
+            assert!(reports.iter().filter(|report| report.contains(letter)).count() > 5, "{letter}");
+        }
+    }
+}

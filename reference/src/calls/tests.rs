@@ -1,0 +1,251 @@
+//! The byte calls: document 01's examples, every refusal at its edges, the order of the checks.
+
+use super::*;
+use crate::field::{Field, BENCH, WIDE};
+use crate::stored::{curve_field, curve_fields, degree_field, field, operation_field, CLASS, OPERATION};
+
+const CLASS_CALLS: [Call; 4] = [Call::Opposite, Call::Sum, Call::Double, Call::Half];
+
+fn curve_a(field: Field) -> Curve {
+    Curve::new(field, 0, 0, 0)
+}
+
+/// [x, 0], which is on f = x^7.
+fn x() -> Class {
+    Class::new(vec![0, 1], vec![])
+}
+
+/// The fields of an accepted record: every class is [x, 0] on f = x^7, the count 7.
+fn fields(call: Call, field: Field) -> Vec<Vec<u8>> {
+    let coefficients = curve_field(0, 0, 0);
+    let mut fields = vec![degree_field(field.degree as u8), coefficients];
+    if call.is_of_register() {
+        fields.push(count_field(7));
+    }
+    fields.push(class_field(&x()));
+    match call {
+        Call::Sum => fields.push(class_field(&x())),
+        Call::Commit | Call::Undo => fields.push(operation_field(&x())),
+        _ => {}
+    }
+    fields
+}
+
+fn record(call: Call, field: Field) -> Vec<u8> {
+    fields(call, field).concat()
+}
+
+/// A record of the register's calls.
+fn register(count: u16, seal: &Class, operation: &Class) -> Vec<u8> {
+    [curve_fields(&curve_a(BENCH)).concat(), count_field(count), class_field(seal), operation_field(operation)]
+        .concat()
+}
+
+/// The answer with an output that is long enough; a refusal changes no byte.
+fn answered(call: Call, input: &[u8]) -> u32 {
+    let output: Vec<u8> = (0..80).collect();
+    let (answer, after) = run(call, input, &output);
+    assert_eq!(after.len(), 80);
+    let written = if answer > 100 { 0 } else { answer as usize };
+    assert_eq!(after[written..], output[written..]);
+    answer
+}
+
+/// Document 01's twelve examples, over both fields.
+#[test]
+fn twelve_examples() {
+    let class = |u: &[u64], v: &[u64]| Class::new([u, &[1]].concat(), v.to_vec());
+    let (one, x, x_one) = (Class::neutral(), class(&[0], &[]), class(&[0], &[1]));
+    let (x2, x3, x3_one) = (class(&[0, 0], &[]), class(&[0, 0, 0], &[]), class(&[0, 0, 0], &[1]));
+    let (b1, b1_one, b2) = (class(&[1], &[]), class(&[1], &[1]), class(&[1, 0], &[1, 1]));
+    let (b3, b3_one) = (class(&[1, 0, 1], &[]), class(&[1, 0, 1], &[1]));
+    let (b4, b4_opposite) = (class(&[1, 1, 1], &[0, 1]), class(&[1, 1, 1], &[1, 1]));
+    for field in [BENCH, WIDE] {
+        let (a, b) = (curve_a(field), Curve::new(field, 0, 0, 1));
+        let answer = |call, curve: &Curve, classes: &[&Class]| {
+            let classes: Vec<u8> = classes.iter().flat_map(|class| class_field(class)).collect();
+            run(call, &[curve_fields(curve).concat(), classes].concat(), &[9; 60])
+        };
+        let owed = |class: &Class| {
+            let mut output = class_field(class);
+            let length = output.len() as u32;
+            output.resize(60, 9);
+            (length, output)
+        };
+        assert_eq!(answer(Call::Double, &a, &[&x]), owed(&x2), "1");
+        assert_eq!(answer(Call::Double, &a, &[&x2]), owed(&x3_one), "2");
+        assert_eq!(answer(Call::Double, &a, &[&x3_one]), owed(&x), "3");
+        assert_eq!(answer(Call::Half, &a, &[&one]), owed(&one), "4");
+        assert_eq!(answer(Call::Half, &b, &[&b2]), owed(&b1), "5");
+        assert_eq!(answer(Call::Half, &b, &[&b3]), owed(&b2), "6");
+        assert_eq!(answer(Call::Half, &b, &[&b4]), owed(&b3), "7");
+        assert_eq!(answer(Call::Sum, &a, &[&x, &x_one]), owed(&one), "8");
+        assert_eq!(answer(Call::Sum, &a, &[&x3, &x3]), owed(&x_one), "9");
+        assert_eq!(answer(Call::Sum, &b, &[&b2, &b1_one]), owed(&b1), "10");
+        assert_eq!(answer(Call::Sum, &b, &[&b3, &b4_opposite]), owed(&b3_one), "11");
+        assert_eq!(answer(Call::Membership, &a, &[&x]), (0, vec![9; 60]), "12");
+        assert_eq!(answer(Call::Membership, &b, &[&x]), (111, vec![9; 60]), "12");
+        assert_eq!(answer(Call::Opposite, &a, &[&x]), owed(&x_one));
+        assert_eq!(answer(Call::Opposite, &a, &[&one]), owed(&one), "not [1, 1]");
+    }
+}
+
+/// 101 at its edges, and before any byte of the input is looked at.
+#[test]
+fn output_bounds() {
+    for (calls, bound) in [(&CLASS_CALLS[..], 51), (&[Call::Commit, Call::Undo][..], 56)] {
+        for &call in calls {
+            let input = record(call, BENCH);
+            for length in 0..bound {
+                assert_eq!(run(call, &input, &vec![1; length]), (101, vec![1; length]));
+                assert_eq!(answer(call, &[], length).0, 101);
+            }
+            assert!(answer(call, &input, bound).0 <= 100);
+            assert_eq!(answer(call, &[], bound).0, 102);
+        }
+    }
+    assert_eq!(run(Call::Membership, &record(Call::Membership, BENCH), &[]), (0, vec![]));
+    assert_eq!(run(Call::Membership, &[], &[]), (102, vec![]));
+}
+
+/// Each field cut, with a wrong tag, a wrong length, and followed by nonsense that comes later in the order.
+#[test]
+fn heads_of_every_field() {
+    for call in CALLS {
+        let fields = fields(call, WIDE);
+        for (i, part) in fields.iter().enumerate() {
+            let before = fields[..i].concat();
+            let with = |part: &[u8]| answered(call, &[&before, part, &[0xff; 9][..]].concat());
+            let alone = |part: &[u8]| answered(call, &[&before, part].concat());
+            for length in 0..3 {
+                assert_eq!(alone(&part[..length]), 102);
+                assert_eq!(alone(&vec![0; length]), 102);
+            }
+            for tag in (0..=255).filter(|&tag| tag != part[0]) {
+                assert_eq!(with(&[tag, 0xff, 0xff]), 103);
+            }
+            for length in 0..=300u16 {
+                let allowed: &[u16] = match part[0] {
+                    0x40 => &[1],
+                    0x41 => &[24],
+                    0x42 => &[2],
+                    _ => &[0, 16, 32, 48],
+                };
+                let [high, low] = length.to_be_bytes();
+                if !allowed.contains(&length) {
+                    assert_eq!(alone(&[part[0], high, low]), 104);
+                } else if length > 0 {
+                    for body in 0..length as usize {
+                        assert_eq!(alone(&[&[part[0], high, low], &vec![0xff; body][..]].concat()), 105);
+                    }
+                }
+            }
+        }
+        let whole = fields.concat();
+        for rest in [&[0][..], &[0x43], &[0xff; 3], &[0; 100], &whole] {
+            assert_eq!(answered(call, &[&whole, rest].concat()), 112);
+        }
+    }
+}
+
+/// 106, 107, 109, 110 and 111 in every field that can have them, the next field being cut off.
+#[test]
+fn bodies_of_every_field() {
+    for call in CALLS {
+        for d in [BENCH, WIDE] {
+            let least = 1u64 << d.degree;
+            let fields = fields(call, d);
+            for (i, part) in fields.iter().enumerate() {
+                let with = |part: Vec<u8>| answered(call, &[fields[..i].concat(), part].concat());
+                let numbers = |numbers: &[u64]| {
+                    let body: Vec<u8> = numbers.iter().flat_map(|n| n.to_be_bytes()).collect();
+                    with(field(part[0], &body))
+                };
+                match part[0] {
+                    0x40 => {
+                        for degree in (0..=255).filter(|degree| ![5, 61].contains(degree)) {
+                            assert_eq!(with(degree_field(degree)), 106);
+                        }
+                    }
+                    0x41 => {
+                        for place in 0..3 {
+                            let mut row = [0; 3];
+                            row[place] = least;
+                            assert_eq!(numbers(&row), 107);
+                            row[place] = least - 1;
+                            assert_eq!(numbers(&row), 102);
+                        }
+                    }
+                    0x42 => {
+                        assert_eq!(with(count_field(1025)), 109);
+                        assert_eq!(with(count_field(1024)), 102);
+                    }
+                    CLASS | OPERATION => {
+                        for degree in 1..=3 {
+                            for place in 0..2 * degree {
+                                let mut row = vec![1; 2 * degree];
+                                row[place] = least;
+                                assert_eq!(numbers(&row), 110, "before 111");
+                                row[place] = least - 1;
+                                assert_ne!(numbers(&row), 110);
+                            }
+                        }
+                        assert_eq!(numbers(&[1, 0]), 111);
+                    }
+                    tag => panic!("{tag}"),
+                }
+            }
+        }
+    }
+}
+
+/// Document 01's edges of the count.
+#[test]
+fn counts() {
+    let (input, neutral) = (x(), Class::neutral());
+    let commit = |count| run(Call::Commit, &register(count, &input, &neutral), &[0; 56]);
+    let undo = |count| run(Call::Undo, &register(count, &curve_a(BENCH).double(&input), &neutral), &[0; 56]);
+    let starts = |(answer, output): (u32, Vec<u8>), count: u16, class: &Class| {
+        let owed = [count_field(count), class_field(class)].concat();
+        answer as usize == owed.len() && output.starts_with(&owed)
+    };
+    let double = curve_a(BENCH).double(&input);
+    assert!(starts(commit(0), 1, &double));
+    assert!(starts(commit(1023), 1024, &double));
+    assert_eq!(commit(1024), (114, vec![0; 56]));
+    assert_eq!(commit(1025), (109, vec![0; 56]));
+    assert!(starts(undo(1024), 1023, &input));
+    assert!(starts(undo(1), 0, &input));
+    assert_eq!(undo(0), (113, vec![0; 56]));
+    assert_eq!(undo(1025), (109, vec![0; 56]));
+    // 113 and 114 come last
+    let longer = |count| [register(count, &input, &neutral), vec![0]].concat();
+    assert_eq!(answered(Call::Undo, &longer(0)), 112);
+    assert_eq!(answered(Call::Commit, &longer(1024)), 112);
+    let off_curve = Class::new(vec![1, 1], vec![]);
+    assert_eq!(answered(Call::Undo, &register(0, &input, &off_curve)), 111);
+    assert_eq!(answered(Call::Commit, &register(1024, &off_curve, &input)), 111);
+}
+
+/// An undo takes back a commit; the longest output has 56 bytes, that of a class 51.
+#[test]
+fn commit_and_undo() {
+    for field in [BENCH, WIDE] {
+        let curve = Curve::new(field, 5, 19, 0);
+        let point = (0..32).find_map(|a| curve.point(a)).expect("the curve has a point");
+        let mut seal = Class::neutral();
+        for count in 0..20 {
+            let record = |count, seal: &Class| {
+                [curve_fields(&curve).concat(), count_field(count), class_field(seal), operation_field(&point)]
+                    .concat()
+            };
+            let (_, after) = answer(Call::Commit, &record(count, &seal), 56);
+            assert!(after.starts_with(&count_field(count + 1)));
+            let next = Reader::new(&after[5..]).class(&curve).expect("the new seal is a class");
+            let back = [count_field(count), class_field(&seal)].concat();
+            assert_eq!(answer(Call::Undo, &record(count + 1, &next), 56), (back.len() as u32, back));
+            seal = next;
+        }
+        assert_eq!(seal.degree(), 3);
+    }
+}

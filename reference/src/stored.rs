@@ -1,0 +1,296 @@
+//! The stored form (document 01, 'Stored form' and 'In checking order'): a writer, and a reader that refuses.
+//!
+//! A field is a one-byte tag, a two-byte length and a body, high byte first; an element takes eight bytes. The reader
+//! takes the fields in their order and does with each all the checks from 102 to 111 before it begins the next.
+
+use crate::field::Field;
+use crate::jacobian::{Class, Curve};
+
+pub const DEGREE: u8 = 0x40;
+pub const CURVE: u8 = 0x41;
+pub const COUNT: u8 = 0x42;
+pub const CLASS: u8 = 0x43;
+pub const OPERATION: u8 = 0x44;
+pub const DRAWING: u8 = 0x46;
+
+/// The most operations that a register counts and an archive keeps.
+pub const COUNT_LIMIT: u16 = 1024;
+
+/// The longest drawing number.
+pub const DRAWING_LIMIT: usize = 255;
+
+/// A refusal's number, 101 to 114.
+pub type Refusal = u32;
+
+/// May the body of a field with this tag have this length?
+fn allowed(tag: u8, length: usize) -> bool {
+    match tag {
+        DEGREE => length == 1,
+        CURVE => length == 24,
+        DRAWING => length <= DRAWING_LIMIT,
+        COUNT => length == 2,
+        CLASS | OPERATION => [0, 16, 32, 48].contains(&length),
+        _ => panic!("no tag {tag:#x}"),
+    }
+}
+
+/// A field with any tag and body.
+pub fn field(tag: u8, body: &[u8]) -> Vec<u8> {
+    let length = u16::try_from(body.len()).expect("the body's length takes two bytes");
+    [&[tag], &length.to_be_bytes()[..], body].concat()
+}
+
+fn elements(numbers: &[u64]) -> Vec<u8> {
+    numbers.iter().flat_map(|number| number.to_be_bytes()).collect()
+}
+
+pub fn degree_field(degree: u8) -> Vec<u8> {
+    field(DEGREE, &[degree])
+}
+
+pub fn curve_field(f3: u64, f1: u64, f0: u64) -> Vec<u8> {
+    field(CURVE, &elements(&[f3, f1, f0]))
+}
+
+pub fn drawing_field(number: &[u8]) -> Vec<u8> {
+    field(DRAWING, number)
+}
+
+pub fn count_field(count: u16) -> Vec<u8> {
+    field(COUNT, &count.to_be_bytes())
+}
+
+/// A class under a tag: u below its leading term, highest power first, then v likewise.
+fn class_under(tag: u8, class: &Class) -> Vec<u8> {
+    let downward = || (0..class.degree()).rev();
+    let u = downward().map(|i| class.u.coefficient(i));
+    let v = downward().map(|i| class.v.coefficient(i));
+    field(tag, &elements(&u.chain(v).collect::<Vec<u64>>()))
+}
+
+pub fn class_field(class: &Class) -> Vec<u8> {
+    class_under(CLASS, class)
+}
+
+pub fn operation_field(class: &Class) -> Vec<u8> {
+    class_under(OPERATION, class)
+}
+
+/// The degree and the curve, with which every record begins.
+pub fn curve_fields(curve: &Curve) -> [Vec<u8>; 2] {
+    let [f3, f1, f0] = [3, 1, 0].map(|i| curve.f.coefficient(i));
+    [degree_field(curve.field.degree as u8), curve_field(f3, f1, f0)]
+}
+
+/// What is left of an input.
+pub struct Reader<'a> {
+    rest: &'a [u8],
+}
+
+impl<'a> Reader<'a> {
+    pub fn new(input: &'a [u8]) -> Reader<'a> {
+        Reader { rest: input }
+    }
+
+    /// The body of the next field, which is due to have this tag: 102, 103, 104, 105.
+    fn body(&mut self, due: u8) -> Result<&'a [u8], Refusal> {
+        let &[tag, high, low, ref rest @ ..] = self.rest else { return Err(102) };
+        let length = u16::from_be_bytes([high, low]) as usize;
+        if tag != due {
+            return Err(103);
+        }
+        if !allowed(tag, length) {
+            return Err(104);
+        }
+        if rest.len() < length {
+            return Err(105);
+        }
+        let (body, rest) = rest.split_at(length);
+        self.rest = rest;
+        Ok(body)
+    }
+
+    /// The elements in a body; the refusal given if one is none.
+    fn numbers(field: Field, body: &[u8], refusal: Refusal) -> Result<Vec<u64>, Refusal> {
+        let number = |bytes: &[u8]| bytes.iter().fold(0, |number, &byte| number << 8 | byte as u64);
+        let numbers: Vec<u64> = body.chunks(8).map(number).collect();
+        if numbers.iter().all(|&number| field.contains(number)) {
+            Ok(numbers)
+        } else {
+            Err(refusal)
+        }
+    }
+
+    /// The degree's field, 106, and the curve's, 107.
+    pub fn curve(&mut self) -> Result<Curve, Refusal> {
+        let field = Field::of_degree(self.body(DEGREE)?[0]).ok_or(106u32)?;
+        let coefficients = Reader::numbers(field, self.body(CURVE)?, 107)?;
+        Ok(Curve::new(field, coefficients[0], coefficients[1], coefficients[2]))
+    }
+
+    /// 108.
+    pub fn drawing(&mut self) -> Result<&'a [u8], Refusal> {
+        let number = self.body(DRAWING)?;
+        if number.iter().all(|byte| (0x20..=0x7e).contains(byte)) {
+            Ok(number)
+        } else {
+            Err(108)
+        }
+    }
+
+    /// 109.
+    pub fn count(&mut self) -> Result<u16, Refusal> {
+        let body = self.body(COUNT)?;
+        let count = u16::from_be_bytes([body[0], body[1]]);
+        if count <= COUNT_LIMIT {
+            Ok(count)
+        } else {
+            Err(109)
+        }
+    }
+
+    /// 110, 111.
+    fn class_under(&mut self, tag: u8, curve: &Curve) -> Result<Class, Refusal> {
+        let numbers = Reader::numbers(curve.field, self.body(tag)?, 110)?;
+        let (high_u, high_v) = numbers.split_at(numbers.len() / 2);
+        let rising = |row: &[u64]| row.iter().rev().copied().collect::<Vec<u64>>();
+        let class = Class::new([rising(high_u), vec![1]].concat(), rising(high_v));
+        if curve.is_member(&class) {
+            Ok(class)
+        } else {
+            Err(111)
+        }
+    }
+
+    pub fn class(&mut self, curve: &Curve) -> Result<Class, Refusal> {
+        self.class_under(CLASS, curve)
+    }
+
+    pub fn operation(&mut self, curve: &Curve) -> Result<Class, Refusal> {
+        self.class_under(OPERATION, curve)
+    }
+
+    /// 112.
+    pub fn end(&self) -> Result<(), Refusal> {
+        if self.rest.is_empty() {
+            Ok(())
+        } else {
+            Err(112)
+        }
+    }
+}
+
+#[cfg(test)]
+mod tests {
+    use super::*;
+    use crate::field::{BENCH, WIDE};
+
+    fn read_class(body: &[u8], curve: &Curve) -> Result<Class, Refusal> {
+        Reader::new(&field(CLASS, body)).class(curve)
+    }
+
+    #[test]
+    fn bytes_by_hand() {
+        assert_eq!(degree_field(61), [0x40, 0, 1, 61]);
+        assert_eq!(count_field(0x0102), [0x42, 0, 2, 1, 2]);
+        assert_eq!(drawing_field(b"A1"), [0x46, 0, 2, 0x41, 0x31]);
+        assert_eq!(class_field(&Class::neutral()), [0x43, 0, 0]);
+        let curve = curve_field(0x0102030405060708, 9, 10);
+        assert_eq!(curve[..12], [0x41, 0, 24, 1, 2, 3, 4, 5, 6, 7, 8, 0]);
+        assert_eq!((curve[18], curve[26], curve.len()), (9, 10, 27));
+        // [x^2 + 3 x + 4, 5 x + 6]
+        let class = operation_field(&Class::new(vec![4, 3, 1], vec![6, 5]));
+        assert_eq!(class[..3], [0x44, 0, 32]);
+        assert_eq!([10, 18, 26, 34].map(|i| class[i]), [3, 4, 5, 6]);
+        assert_eq!(class.len(), 35);
+    }
+
+    /// Every class of a bench curve is read back from the bytes that store it.
+    #[test]
+    fn form_and_class() {
+        let curve = Curve::new(BENCH, 5, 19, 0);
+        for class in crate::bench_classes::all_classes(&curve) {
+            let stored = class_field(&class);
+            let mut reader = Reader::new(&stored);
+            assert_eq!(reader.class(&curve), Ok(class));
+            assert_eq!(reader.end(), Ok(()));
+        }
+    }
+
+    #[test]
+    fn heads() {
+        for length in 0..3 {
+            assert_eq!(Reader::new(&[0xff; 2][..length.min(2)]).count(), Err(102));
+            assert_eq!(Reader::new(&count_field(1)[..length]).count(), Err(102));
+        }
+        assert_eq!(Reader::new(&[0x41, 0, 1]).count(), Err(103), "the tag before the length");
+        assert_eq!(Reader::new(&[0x42, 0, 1]).count(), Err(104), "the length before the body");
+        assert_eq!(Reader::new(&[0x42, 0, 3, 0, 0, 0]).count(), Err(104));
+        assert_eq!(Reader::new(&[0x42, 1, 2, 0, 0]).count(), Err(104));
+        assert_eq!(Reader::new(&[0x42, 0, 2]).count(), Err(105));
+        assert_eq!(Reader::new(&[0x42, 0, 2, 0xff]).count(), Err(105), "the body's end before its content");
+        assert_eq!(Reader::new(&[0x42, 0, 2, 0, 7]).count(), Ok(7));
+        let curve = Curve::new(BENCH, 0, 0, 0);
+        for length in 0..50 {
+            let expected = if [0, 16, 32, 48].contains(&length) { Err(105) } else { Err(104) };
+            let cut = &field(CLASS, &vec![0; length])[..3 + length.saturating_sub(1)];
+            if length > 0 {
+                assert_eq!(Reader::new(cut).class(&curve), expected);
+            }
+        }
+    }
+
+    #[test]
+    fn bodies() {
+        for degree in 0..=255 {
+            let bytes = [degree_field(degree), curve_field(0, 0, 0)].concat();
+            let expected = if [5, 61].contains(&degree) { None } else { Some(106) };
+            assert_eq!(Reader::new(&bytes).curve().err(), expected);
+        }
+        for (field, least) in [(BENCH, 32), (WIDE, 1 << 61)] {
+            let read = |f3, f1, f0| {
+                let bytes = [degree_field(field.degree as u8), curve_field(f3, f1, f0)].concat();
+                Reader::new(&bytes).curve()
+            };
+            assert_eq!(read(least - 1, least - 1, least - 1).unwrap().f.coefficient(3), least - 1);
+            for above in [least, 1 << 63, u64::MAX] {
+                assert_eq!(read(above, 0, 0), Err(107));
+                assert_eq!(read(0, above, 0), Err(107));
+                assert_eq!(read(0, 0, above), Err(107));
+            }
+        }
+        for byte in 0..=255 {
+            let bytes = drawing_field(&[b'a', byte]);
+            let expected = if (0x20..0x7f).contains(&byte) { Ok(&bytes[3..]) } else { Err(108) };
+            assert_eq!(Reader::new(&bytes).drawing(), expected);
+        }
+        assert_eq!(Reader::new(&drawing_field(&[b' '; 255])).drawing().unwrap().len(), 255);
+        assert_eq!(Reader::new(&drawing_field(&[b' '; 256])).drawing(), Err(104));
+        assert_eq!(Reader::new(&count_field(1024)).count(), Ok(1024));
+        assert_eq!(Reader::new(&count_field(1025)).count(), Err(109));
+        assert_eq!(Reader::new(&count_field(65535)).count(), Err(109));
+    }
+
+    #[test]
+    fn classes() {
+        let curve = Curve::new(BENCH, 0, 0, 0);
+        assert_eq!(read_class(&[], &curve), Ok(Class::neutral()));
+        // 110 at each of six places, before 111; the largest element there is no refusal by 110
+        for i in 0..6 {
+            let mut numbers = [0u64; 6];
+            numbers[i] = 31;
+            assert_ne!(read_class(&elements(&numbers), &curve), Err(110));
+            for above in [32, 1 << 61, u64::MAX] {
+                numbers[i] = above;
+                assert_eq!(read_class(&elements(&numbers), &curve), Err(110));
+            }
+        }
+        // [x, 0] is on A, [x + 1, 0] is not, [x, 1] is, [x, 2] is not
+        assert!(read_class(&elements(&[0, 0]), &curve).is_ok());
+        assert_eq!(read_class(&elements(&[1, 0]), &curve), Err(111));
+        assert!(read_class(&elements(&[0, 1]), &curve).is_ok());
+        assert_eq!(read_class(&elements(&[0, 2]), &curve), Err(111));
+        // example 12: [x, 0] is not on B
+        assert_eq!(read_class(&elements(&[0, 0]), &Curve::new(BENCH, 0, 0, 1)), Err(111));
+    }
+}

@@ -1,0 +1,104 @@
+//! The seven byte calls of the reference under the C names of include/seal.h, as a static library. It stands in for
+//! the proved library where tests/seal_calls is tested itself: the variable SEAL_FAULT, one of `FAULTS`, makes the calls
+//! wrong in one way, and that test has to fail.
+
+use reference::calls::{answer, Call};
+use std::sync::OnceLock;
+
+/// The faults, by name.
+/// - `bound`: an output one byte too short is accepted where it would hold what is written.
+/// - `scratch`: a refusal leaves a byte changed.
+/// - `beyond`: one byte after those written is changed.
+/// - `order`: bytes that remain after the last field are refused before the class is checked.
+/// - `limit`: a commit is still accepted at count 1,024.
+/// - `input`: a byte of the input is written and written back.
+/// - `over-read`: one byte after the input is read.
+/// - `half`: the half of a class of degree 1 is that class.
+const FAULTS: [&str; 8] = ["bound", "scratch", "beyond", "order", "limit", "input", "over-read", "half"];
+
+/// The fault that is asked for.
+fn fault() -> &'static str {
+    static FAULT: OnceLock<String> = OnceLock::new();
+    let name = FAULT.get_or_init(|| std::env::var("SEAL_FAULT").unwrap_or_default());
+    assert!(name.is_empty() || FAULTS.contains(&name.as_str()), "SEAL_FAULT is one of {FAULTS:?}");
+    name
+}
+
+/// An answer that is wrong in the way asked for.
+fn faulty(call: Call, input: &[u8], length: usize) -> (u32, Vec<u8>) {
+    let right = answer(call, input, length);
+    match fault() {
+        "bound" if length + 1 == call.output_bound() => {
+            let (number, bytes) = answer(call, input, length + 1);
+            if bytes.len() <= length {
+                return (number, bytes);
+            }
+        }
+        "order" if right.0 == 111 && call.output_bound() < 56 && input[33] == 16 && input.len() > 31 + 19 => {
+            return (112, vec![]);
+        }
+        "limit" if right.0 == 114 => {
+            let mut lower = input.to_vec();
+            lower[34..36].copy_from_slice(&1023u16.to_be_bytes());
+            let (number, mut bytes) = answer(call, &lower, length);
+            bytes[3..5].copy_from_slice(&1025u16.to_be_bytes());
+            return (number, bytes);
+        }
+        "half" if call == Call::Half && right.0 <= 100 && input[33] == 16 => {
+            return (19, input[31..].to_vec());
+        }
+        _ => {}
+    }
+    right
+}
+
+/// # Safety
+/// The areas are as long as said and do not overlap.
+unsafe fn run(call: Call, input: *const u8, input_length: usize, output: *mut u8, output_length: usize) -> u32 {
+    // an empty area may be null, which a slice must not be
+    let bytes = if input_length == 0 { &[] } else { std::slice::from_raw_parts(input, input_length) };
+    let (answer, written) = faulty(call, bytes, output_length);
+    std::ptr::copy_nonoverlapping(written.as_ptr(), output, written.len());
+    match fault() {
+        "scratch" if answer > 100 && output_length > 0 => *output.add(output_length - 1) ^= 1,
+        "beyond" if answer <= 100 && written.len() < output_length => *output.add(written.len()) ^= 1,
+        "input" if input_length > 0 => {
+            let first = input as *mut u8;
+            let kept = first.read_volatile();
+            first.write_volatile(!kept);
+            first.write_volatile(kept);
+        }
+        "over-read" if input_length > 0 => {
+            std::hint::black_box(input.add(input_length).read_volatile());
+        }
+        _ => {}
+    }
+    answer
+}
+
+/// # Safety
+/// The area is as long as said.
+#[no_mangle]
+pub unsafe extern "C" fn seal_membership(input: *const u8, input_length: usize) -> u32 {
+    run(Call::Membership, input, input_length, std::ptr::null_mut(), 0)
+}
+
+macro_rules! exported {
+    ($($name:ident $call:ident),*) => {$(
+        /// # Safety
+        /// The areas are as long as said and do not overlap.
+        #[no_mangle]
+        pub unsafe extern "C" fn $name(
+            input: *const u8,
+            input_length: usize,
+            output: *mut u8,
+            output_length: usize,
+        ) -> u32 {
+            run(Call::$call, input, input_length, output, output_length)
+        }
+    )*};
+}
+
+exported!(
+    seal_opposite Opposite, seal_sum Sum, seal_double Double, seal_half Half, seal_commit Commit, seal_undo Undo
+);

@@ -1,0 +1,119 @@
+/* The records of records.h. */
+#include "records.h"
+#include "classes.h"
+#include "seal.h"
+
+#include <stdlib.h>
+
+void put(struct bytes *b, int byte) {
+    if (b->length >= sizeof b->at)
+        abort();
+    b->at[b->length++] = (uint8_t)byte;
+}
+
+void put_head(struct bytes *b, int tag, size_t length) {
+    put(b, tag);
+    put(b, (int)(length >> 8));
+    put(b, (int)(length & 0xff));
+}
+
+void put_number(struct bytes *b, uint64_t n) {
+    for (int shift = 56; shift >= 0; shift -= 8)
+        put(b, (int)(n >> shift & 0xff));
+}
+
+void put_degree(struct bytes *b, int d) {
+    put_head(b, SEAL_TAG_DEGREE, 1);
+    put(b, d);
+}
+
+void put_curve(struct bytes *b, uint64_t f3, uint64_t f1, uint64_t f0) {
+    put_head(b, SEAL_TAG_CURVE, 24);
+    put_number(b, f3);
+    put_number(b, f1);
+    put_number(b, f0);
+}
+
+void put_count(struct bytes *b, int count) {
+    put_head(b, SEAL_TAG_COUNT, 2);
+    put(b, count >> 8);
+    put(b, count & 0xff);
+}
+
+void put_class(struct bytes *b, int tag, struct class class) {
+    put_head(b, tag, (size_t)(16 * class.degree));
+    for (int i = 0; i < 2 * class.degree; i++)
+        put_number(b, class.row[i]);
+}
+
+struct record accepted(enum call call, int d) {
+    struct record r = {0};
+    put_degree(&r.field[0], d);
+    put_curve(&r.field[1], 0, 0, 0);
+    if (call == COMMIT || call == UNDO) {
+        put_count(&r.field[2], 7);
+        put_class(&r.field[3], SEAL_TAG_CLASS, x_0);
+        put_class(&r.field[4], SEAL_TAG_OPERATION, x_0);
+        r.fields = 5;
+    } else {
+        put_class(&r.field[2], SEAL_TAG_CLASS, x_0);
+        put_class(&r.field[3], SEAL_TAG_CLASS, x_0);
+        r.fields = call == SUM ? 4 : 3;
+    }
+    return r;
+}
+
+void append(struct bytes *b, const struct bytes *more) {
+    for (size_t i = 0; i < more->length; i++)
+        put(b, more->at[i]);
+}
+
+void append_fields(struct bytes *b, const struct record *r, int from, int to) {
+    for (int i = from; i < to; i++)
+        append(b, &r->field[i]);
+}
+
+struct bytes owed_of_accepted(enum call call) {
+    struct bytes b = {0};
+    switch (call) {
+    case OPPOSITE: put_class(&b, SEAL_TAG_CLASS, x_1); break;
+    case SUM:
+    case DOUBLE: put_class(&b, SEAL_TAG_CLASS, xx_0); break;
+    case HALF: put_class(&b, SEAL_TAG_CLASS, xxx_1); break; /* example 3 */
+    case COMMIT:                                            /* [x^2, 0] + [x, 0] is [x^3, 0] */
+        put_count(&b, 8);
+        put_class(&b, SEAL_TAG_CLASS, xxx_0);
+        break;
+    case UNDO: /* [x, 0] less itself is neutral, and so is its half */
+        put_count(&b, 6);
+        put_class(&b, SEAL_TAG_CLASS, neutral);
+        break;
+    default: break;
+    }
+    return b;
+}
+
+void refused(enum call call, const struct bytes *in, uint32_t number) {
+    expect(call, in->at, in->length, output_bound(call), number, NULL);
+}
+
+const int degrees[2] = {5, 61};
+
+struct bytes with_row(const struct record *r, int f, const uint64_t *row, int numbers) {
+    struct bytes b = {0};
+    append_fields(&b, r, 0, f);
+    put_head(&b, r->field[f].at[0], (size_t)(8 * numbers));
+    for (int i = 0; i < numbers; i++)
+        put_number(&b, row[i]);
+    return b;
+}
+
+struct bytes register_record(int d, int count, struct class seal, struct class operation) {
+    struct bytes b = {0};
+    put_degree(&b, d);
+    put_curve(&b, 0, 0, 0);
+    put_count(&b, count);
+    put_class(&b, SEAL_TAG_CLASS, seal);
+    put_class(&b, SEAL_TAG_OPERATION, operation);
+    return b;
+}

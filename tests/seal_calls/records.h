@@ -1,0 +1,55 @@
+/* Records in stored form, put together field by field, right ones and wrong ones. */
+#ifndef RECORDS_H
+#define RECORDS_H
+
+#include "check.h"
+
+/* Bytes that are put together; a field's head is three bytes. */
+struct bytes {
+    size_t length;
+    uint8_t at[AREA];
+};
+
+void put(struct bytes *b, int byte);
+void put_head(struct bytes *b, int tag, size_t length);
+void put_number(struct bytes *b, uint64_t n);
+void put_degree(struct bytes *b, int d);
+void put_curve(struct bytes *b, uint64_t f3, uint64_t f1, uint64_t f0);
+void put_count(struct bytes *b, int count);
+void append(struct bytes *b, const struct bytes *more);
+
+/* A class in stored order: u below its leading term from the highest power down, then v likewise. */
+struct class {
+    int degree;
+    uint64_t row[6];
+};
+
+void put_class(struct bytes *b, int tag, struct class class);
+
+/* The fields of an accepted record on f = x^7, one by one: classes [x, 0], count 7. */
+struct record {
+    int fields;
+    struct bytes field[5];
+};
+
+struct record accepted(enum call call, int d);
+
+/* Appends the fields from one to before another. */
+void append_fields(struct bytes *b, const struct record *r, int from, int to);
+
+/* What the call on an accepted record writes: examples 1 and 3 of document 01, and the definitions. */
+struct bytes owed_of_accepted(enum call call);
+
+/* An accepted record up to a field, and that field with another row of numbers as its body. */
+struct bytes with_row(const struct record *r, int f, const uint64_t *row, int numbers);
+
+/* A record of a register on f = x^7. */
+struct bytes register_record(int d, int count, struct class seal, struct class operation);
+
+/* Holds a call to a refusal, with an output that is just long enough. */
+void refused(enum call call, const struct bytes *in, uint32_t number);
+
+/* The degrees of the two fields. */
+extern const int degrees[2];
+
+#endif
