@@ -11,11 +11,11 @@ use Rattle.jacobian.specs.declared.Outcome.the-variants.{Accepted, Refused}
 use Rattle.jacobian.specs.declared.Outcome as jacobian
 use Rattle.jacobian.specs.declared.Class.{Class}
 use Rattle.history.specs.declared.Register.{Register}
-use Rattle.history.specs.Register.{limit, number, RegisterReply, commit-answer, undo-answer, commit-refusal, undo-refusal, committed, undone, moved}
+use Rattle.history.specs.Register.{number, RegisterReply, commit-answer, undo-answer, commit-refusal, undo-refusal, committed, undone, moved}
 use Rattle.history.proofs.Registers.{follows-accepted, follows-zero, commit-passes, undo-passes}
 use Rattle.stored_form.specs.Number.{bytes-of}
 use Rattle.stored_form.specs.Head.{stored, head-bytes}
-use Rattle.stored_form.specs.Fields.{count-field}
+use Rattle.stored_form.specs.Fields.{count-limit, count-field}
 use Rattle.stored_form.specs.Classes.{in-row}
 use Rattle.stored_form.specs.declared.classes.ClassField.{ClassField}
 use Rattle.stored_form.proofs.Stores.{sets-append}
@@ -89,7 +89,7 @@ keeps-room room at out xs {after} le e = let l : length after ≡ length out = a
 
 module _ (g : Register) (a : Class) {x : RegisterReply} where
   pub commit-count : x ≡ commit-answer g a → x .outcome ≡ accepted → x .register .count < 65536
-  unfolding commit-answer committed moved limit
+  unfolding commit-answer committed moved count-limit
   commit-count e f =
       let z : commit-refusal g a ≡ 0 = follows-accepted (commit-refusal g a) g (committed g a) (sym (ap (λ (y : RegisterReply). y .outcome) e) ∙ f) in
       let p = commit-passes g a z in
@@ -97,7 +97,7 @@ module _ (g : Register) (a : Class) {x : RegisterReply} where
       omega (arith, p .bound)
 
   pub undo-count : x ≡ undo-answer g a → x .outcome ≡ accepted → x .register .count < 65536
-  unfolding undo-answer undone moved limit
+  unfolding undo-answer undone moved count-limit
   undo-count e f =
       let z : undo-refusal g a ≡ 0 = follows-accepted (undo-refusal g a) g (undone g a) (sym (ap (λ (y : RegisterReply). y .outcome) e) ∙ f) in
       let p = undo-passes g a z in
