@@ -3,3 +3,6 @@ pub mod Readers
 pub mod Copies
 pub mod Writers
 pub mod Outcomes
+pub mod Written
+pub mod ByteRegister
+pub mod ByteHalving

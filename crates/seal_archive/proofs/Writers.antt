@@ -16,7 +16,7 @@ use Rattle.history.proofs.Registers.{follows-accepted, follows-zero, commit-pas
 use Rattle.stored_form.specs.Fields.{count-limit}
 use Rattle.stored_form.specs.Number.{bytes-of}
 use Rattle.stored_form.specs.Head.{stored, head-bytes}
-use Rattle.stored_form.specs.Fields.{count-field}
+use Rattle.stored_form.specs.Fields.{count-limit, count-field}
 use Rattle.stored_form.specs.Classes.{in-row}
 use Rattle.stored_form.specs.declared.classes.ClassField.{ClassField}
 use Rattle.stored_form.proofs.Stores.{sets-append}

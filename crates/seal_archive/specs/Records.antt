@@ -1,12 +1,12 @@
 -- The records that the byte calls take (document 01, 'Stored form' and 'In checking order').
 use Prim.Native.Nat.{ℕ}
-use mathlib.Core.List.{List}
+use mathlib.Core.List.{List, _++_}
 use Rattle.jacobian.specs.declared.Curve.{Curve}
 use Rattle.jacobian.specs.declared.Class.{Class}
 use Rattle.history.specs.declared.Register.{Register}
 use Rattle.stored_form.specs.Reading.{Reading, found, refused, due, _then_}
-use Rattle.stored_form.specs.Fields.{degree-at, count-at, end-due}
-use Rattle.stored_form.specs.Classes.{curve-at, class-at}
+use Rattle.stored_form.specs.Fields.{degree-at, degree-field, count-at, count-field, end-due}
+use Rattle.stored_form.specs.Classes.{curve-at, curve-field, class-at, class-field}
 use Rattle.stored_form.specs.declared.classes.Place.{Place}
 use Rattle.stored_form.specs.declared.classes.Place.the-variants.{Next, Refused}
 use Rattle.seal_archive.specs.declared.records.ClassRecord.{ClassRecord}
@@ -58,6 +58,15 @@ register-record s =
     class-at 0x43 c s at-seal then λ seal at-class.
     class-at 0x44 c s at-class then λ a end.
     ended s (record { register = record { curve = c; count = n; seal = seal }; class = a }) end
+
+-- ---- the records as they are written
+
+unfoldable pub class-record-bytes : Curve → Class → List ℕ
+class-record-bytes c a = degree-field (c .degree) ++ curve-field c ++ class-field 0x43 a
+
+unfoldable pub register-record-bytes : Register → Class → List ℕ
+register-record-bytes g a =
+    degree-field (g .curve .degree) ++ curve-field (g .curve) ++ count-field (g .count) ++ class-field 0x43 (g .seal) ++ class-field 0x44 a
 
 -- ---- what the code's answers say
 
