@@ -1,0 +1,5 @@
+-- Laws of readings one after the other and of writing into a lent area.
+pub mod Writing
+pub mod Readings
+pub mod Marks
+pub mod Lines
