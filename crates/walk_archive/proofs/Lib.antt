@@ -3,3 +3,5 @@ pub mod Writing
 pub mod Readings
 pub mod Marks
 pub mod Lines
+pub mod Walks
+pub mod Reports

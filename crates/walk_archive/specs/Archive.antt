@@ -59,13 +59,17 @@ operations-at (suc n) c s at =
 unfoldable pub last-operations-at : ℕ → Curve → List ℕ → ℕ → Reading (List Class)
 last-operations-at n c s at = operations-at n c s at then λ ops next. due (end-due s next) (found ops next)
 
+unfoldable pub archive-of : List ℕ → Opening → List Class → Archive
+archive-of s o ops =
+    let p = o .label .drawing in
+    record { curve = o .curve; drawing = part s (p .start) (p .len); seal = o .seal; operations = ops }
+
 -- the whole archive
 unfoldable pub read-archive : List ℕ → Reading Archive
 read-archive s =
     opening-at s 0 then λ o at.
     last-operations-at (o .label .count) (o .curve) s at then λ ops end.
-    let p = o .label .drawing in
-    found (record { curve = o .curve; drawing = part s (p .start) (p .len); seal = o .seal; operations = ops }) end
+    found (archive-of s o ops) end
 
 -- the number of an archive's refusal, and 0 where it is accepted
 unfoldable pub archive-refusal : List ℕ → ℕ

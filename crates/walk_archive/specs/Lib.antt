@@ -3,3 +3,4 @@ pub mod Archive
 pub mod Walk
 pub mod Report
 pub mod Text
+pub mod Steps

@@ -1,6 +1,6 @@
 -- The bytes of the walk report (document 01, 'The walk report').
 use Prim.Native.Nat.{ℕ, zero, suc, _+_, _/_, _%_}
-use mathlib.Core.Bool.{true, false, cond}
+use mathlib.Core.Bool.{cond}
 use mathlib.Core.List.{List, [], _∷_, _++_}
 use lib.ListN.{length, getD, drop}
 use lib.Dec.{ltb}
@@ -86,15 +86,16 @@ report s = text-of (read-archive s)
 unfoldable pub room : ℕ
 room = 163840
 
+-- the answer, and the area afterwards
 pub record Outcome : Type 0 where
   pub answer : ℕ
   pub after : List ℕ
+
+abbrev pub outcome : ℕ → List ℕ → Outcome
+outcome n d = record { answer = n; after = d }
 
 -- the report at the front of the area and its length; an area without room is left as it is, and the answer is 0
 unfoldable pub report-answer : List ℕ → List ℕ → Outcome
 report-answer s d =
     let xs = report s in
-    elim (ltb (length d) room) [
-      | true ↦ record { answer = 0; after = d }
-      | false ↦ record { answer = length xs; after = xs ++ drop (length xs) d }
-    ]
+    cond (ltb (length d) room) (outcome 0 d) (outcome (length xs) (xs ++ drop (length xs) d))

@@ -3,9 +3,13 @@ ghost use mathlib.Core.Path.{_≡_};
 ghost use mathlib.Core.List.{List};
 ghost use Prim.Native.Nat.{ℕ, _+_, _≤_, _<_};
 ghost use Rattle.jacobian.specs.declared.Class.{Class as Value};
+ghost use lib.ListN.{length};
 ghost use Rattle.stored_form.specs.Reading.{found, refused, number};
 ghost use Rattle.stored_form.specs.Classes.{curve-read};
 ghost use Rattle.walk_archive.specs.Archive.{curve-first, counted-at, label-at, label-read, sealed-at, labelled-at, opening-at, opening-read, place-number, operations-at, last-operations-at, archive-refusal};
+ghost use Rattle.walk_archive.specs.Report.{room, outcome, report-answer};
+ghost use Rattle.walk_archive.specs.Steps.{Bounded, Reported};
+use crate::walk::Walk;
 use jacobian::Class;
 use jacobian::Curve;
 use stored_form::Count;
@@ -18,6 +22,7 @@ use stored_form::classes::Place;
 
 mod letters;
 mod text;
+mod walk;
 
 // Where the drawing number stands, and the count of operations.
 pub struct Label {
@@ -185,4 +190,57 @@ pub fn archive_due(s: &[u8]) -> u32
     let curve = opening.curve;
     let label = opening.label;
     operations_due(s, next, curve, label.count)
+}
+
+// The report of an archive whose checks are made, in an area with room for it.
+fn put_walk(s: &[u8], out: &mut [u8], o: Opening, first: Cursor) -> usize
+    requires { ⌜ (room ≤ length (now out)) × Bounded (now s) o ⌝ }
+    ensures { λ r. ⌜ Reported (now (s .entry)) o (first .at) (now (out .entry)) (now (out .exit)) r ⌝ }
+{
+    let curve = o.curve;
+    let label = o.label;
+    let seal = o.seal;
+    let drawing = label.drawing;
+    let count = label.count;
+    let start = drawing.start;
+    let stop = start + drawing.len;
+    let head = text::put_first_line(out, 0, count as u64, &s[start..stop]);
+    let to = text::put_line(out, head, 0, b'.', seal);
+    let w = Walk {
+        from: first.at,
+        seal: seal,
+        undone: 0,
+        to: to,
+    };
+    let end = walk::put_lines(s, out, curve, w, count);
+    end
+}
+
+// Room for every report.
+pub const ROOM: usize = 163840;
+
+// The report of an archive at the front of the area, and its length; an area without room is left as it is, and the answer is 0.
+pub fn report(s: &[u8], out: &mut [u8]) -> usize
+    ensures { λ r. ⌜ outcome r (now (out .exit)) ≡ report-answer (now (s .entry)) (now (out .entry)) ⌝ }
+{
+    if out.len() < ROOM {
+        return 0;
+    }
+    let o = opening_at(s, Cursor { at: 0 });
+    let p = o.place;
+    let opening = o.opening;
+    let Place::Next(next) = p else {
+        let n = place_refusal(p);
+        let end = text::put_refusal(out, 0, n);
+        return end;
+    };
+    let curve = opening.curve;
+    let label = opening.label;
+    let n = operations_due(s, next, curve, label.count);
+    if n != 0 {
+        let end = text::put_refusal(out, 0, n);
+        return end;
+    }
+    let end = put_walk(s, out, opening, next);
+    end
 }
