@@ -5,3 +5,4 @@ pub mod Marks
 pub mod Lines
 pub mod Walks
 pub mod Reports
+pub mod Seals

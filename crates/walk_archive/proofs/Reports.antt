@@ -1,7 +1,7 @@
 -- The whole report: the bounds that reading proves, and the parts of the report one after the other.
 use Prim.Native.Nat.{ℕ, zero, suc, _+_, _-_, _≤_, _<_}
 use mathlib.Core.Path.{_≡_, refl, sym, ap, ap₂, _∙_}
-use mathlib.Core.Bool.{Bool, true, false, not}
+use mathlib.Core.Bool.{Bool, true, false, not, cond}
 use lib.Dec.{eqb, ltb}
 use mathlib.Core.List.{List, [], _∷_, _++_}
 use native.Mathlib.Omega.{arith}
@@ -200,3 +200,16 @@ opening-refused s e = then-refused _ e
 pub operations-refused : (s : List ℕ) {o : Opening} {at n : ℕ} → opening-at s 0 ≡ found o at → (n ≡ 0 → ⊥) → n ≡ number (last-operations-at (o .label .count) (o .curve) s at) → read-archive s ≡ refused n
 unfolding read-archive
 operations-refused s {o} {at} x h e = then-found _ x ∙ then-refused _ (some-refused (last-operations-at (o .label .count) (o .curve) s at) h e)
+
+-- ---- for callers
+
+within-cases : (b : Bool) (xs d e : List ℕ) (r : ℕ) → outcome r e ≡ cond b (outcome 0 d) (outcome (length xs) (xs ++ drop (length xs) d)) → r ≤ length e
+within-cases true xs d e r h = omega (arith, ap (λ (o : Outcome). o .answer) h)
+within-cases false xs d e r h =
+    let area : e ≡ xs ++ drop (length xs) d = ap (λ (o : Outcome). o .after) h in
+    omega (arith, ap (λ (o : Outcome). o .answer) h, ap length area, length-append xs (drop (length xs) d))
+
+-- the report lies within the area
+pub answer-within : (s d e : List ℕ) (r : ℕ) → outcome r e ≡ report-answer s d → r ≤ length e
+unfolding report-answer
+answer-within s d e r h = within-cases (ltb (length d) room) (report s) d e r h

@@ -45,6 +45,12 @@ class-text a = decimal (a .degree) ++ 0x3A ∷ row-text (a .degree) (a .u) ++ 0x
 unfoldable pub line : ℕ → ℕ → Class → List ℕ
 line k mark seal = decimal k ++ 0x20 ∷ mark ∷ 0x20 ∷ class-text seal ++ 0x0A ∷ []
 
+-- one line for each seal, counted from k, with its letter
+unfoldable pub lines-of : ℕ → List ℕ → List Class → List ℕ
+lines-of k (mark ∷ marks) (seal ∷ seals) = line k mark seal ++ lines-of (k + 1) marks seals
+lines-of k [] seals = []
+lines-of k (mark ∷ marks) [] = []
+
 -- a blank and a part of the line; nothing for an empty part
 unfoldable pub part-text : List ℕ → List ℕ
 part-text [] = []

@@ -36,3 +36,8 @@ mark opposed a = cond opposed 0x52 (cond (eqb (a .degree) 0) 0x4D 0x2D)
 -- the letter of an operation, given the older ones
 unfoldable pub letter : Curve → Class → List Class → ℕ
 letter c a older = mark (opposes c a older) a
+
+-- the letters of operations, newest first
+unfoldable pub letters : Curve → List Class → List ℕ
+letters c [] = []
+letters c (a ∷ older) = letter c a older ∷ letters c older
