@@ -1,0 +1,8 @@
+-- Laws of readings one after the other and of writing into a lent area.
+pub mod Writing
+pub mod Readings
+pub mod Marks
+pub mod Lines
+pub mod Walks
+pub mod Reports
+pub mod Seals

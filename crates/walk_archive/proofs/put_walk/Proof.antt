@@ -1,0 +1,69 @@
+-- `put_walk` meets its contract.
+use native.Mathlib.Omega.{arith}
+use Rattle.walk_archive.specs.Report.{room}
+use Rattle.walk_archive.proofs.Writing.{wrote-length}
+use Rattle.walk_archive.proofs.Reports.{piece-length, walk-reported}
+use borrow.Author.Needs.{needs}
+use Rattle.walk_archive.proofs.put_walk.Statement.{statement}
+use Rattle.walk_archive.proofs.put_walk.Tie as tie
+
+add-stop : tie.Need-add-stop
+add-stop c = search needs
+
+cast-put-first-line : tie.Need-cast-put-first-line
+cast-put-first-line c = search needs
+
+sub-put-first-line : tie.Need-sub-put-first-line
+sub-put-first-line c = search needs
+
+part-put-first-line-start : tie.Need-part-put-first-line-start
+part-put-first-line-start c = search needs
+
+part-put-first-line-end : tie.Need-part-put-first-line-end
+part-put-first-line-end c = search needs
+
+put-first-line-requires : tie.Need-put-first-line-requires
+unfolding room
+put-first-line-requires c κs =
+    let start = c .before .before .before .before .before .before .before .before .before in
+    let drawing = start .args .o .label .drawing in
+    (omega (arith, start .pre .0), omega (arith, start .pre .1 .name, piece-length (start .args .s .now) (drawing .start) (drawing .len) (start .pre .1 .within)))
+
+put-line-requires : tie.Need-put-line-requires
+unfolding room
+put-line-requires c κs =
+    let start = c .before .before .before .before .before .before .before .before .before .before .before .before .before in
+    let head = c .before .before .before .put-first-line .ensures in
+    omega (arith, start .pre .0, head .place, head .short, wrote-length head)
+
+put-lines-requires : tie.Need-put-lines-requires
+unfolding room
+put-lines-requires c κs =
+    let start = c .before .before .before .before .before .before .before .before .before .before .before .before .before .before .before .before .before in
+    let head = c .before .before .before .before .before .before .before .put-first-line .ensures in
+    let line = c .before .before .before .put-line .ensures in
+    let bound = start .pre .1 .count in
+    (omega (arith, start .pre .0, bound, head .place, head .short, wrote-length head, line .place, line .short, wrote-length line), omega (arith, bound))
+
+same-length : tie.Need-same-length
+same-length c = search needs
+
+returns : tie.Need-returns
+returns c =
+    let start = c .before .before .before .before .before .before .before .before .before .before .before .before .before .before .before .before .before .before .before .before in
+    walk-reported (start .args .s .now) (start .args .o) (start .args .first .at) (c .before .before .before .before .before .before .before .before .before .before .put-first-line .ensures) (c .before .before .before .before .before .before .put-line .ensures) (c .before .before .put-lines .ensures)
+
+pub put-walk-spec : {M : Type 1} → statement M
+put-walk-spec =
+    tie.close
+    (tie.spec
+    add-stop
+    cast-put-first-line
+    sub-put-first-line
+    part-put-first-line-start
+    part-put-first-line-end
+    put-first-line-requires
+    put-line-requires
+    put-lines-requires
+    same-length
+    returns)

@@ -1,0 +1,18 @@
+-- `text::put_hexadecimal` meets its contract.
+use Rattle.walk_archive.specs.Report.{hexadecimal}
+use borrow.Author.Needs.{needs}
+use Rattle.walk_archive.proofs.text.put_hexadecimal.Statement.{statement}
+use Rattle.walk_archive.proofs.text.put_hexadecimal.Tie as tie
+
+put-digits-requires : tie.Need-put-digits-requires
+put-digits-requires c κs = search needs
+
+same-length : tie.Need-same-length
+same-length c = search needs
+
+returns : tie.Need-returns
+unfolding hexadecimal
+returns c = c .before .before .put-digits .ensures
+
+pub put-hexadecimal-spec : {M : Type 1} → statement M
+put-hexadecimal-spec = tie.close (tie.spec put-digits-requires same-length returns)
