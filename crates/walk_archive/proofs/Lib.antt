@@ -6,3 +6,4 @@ pub mod Lines
 pub mod Walks
 pub mod Reports
 pub mod Seals
+pub mod Demand3

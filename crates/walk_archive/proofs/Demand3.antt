@@ -1,0 +1,41 @@
+-- Demand 3 of archives (document 01, 'The register'): where the accepted calls of a list are all commits, an accepted archive, whatever its drawing number, with
+-- the register's curve, its last seal and all their classes, newest first, has for k operations undone the seal just before the k-th newest commit,
+-- and for k = 0 the last seal (`archive-seals`: all its seals; `archive-seal`: the one for k).
+use Prim.Native.Nat.{ℕ}
+use mathlib.Core.Path.{_≡_, refl, sym, _∙_, ap}
+use mathlib.Core.List.{List, [], _∷_, map, map-map}
+use lib.ListN.{getD}
+use Rattle.jacobian.specs.Answer.{Reply}
+use Rattle.jacobian.specs.declared.{Curve.Curve, Class.Class}
+use Rattle.history.specs.Calls.{Call, OnlyCommits, last, newest, classes, seals-back, steps-back, met}
+use Rattle.history.specs.declared.Register.{Register}
+use Rattle.history.proofs.{TakingBack.Fits, WalkingBack.walk-steps}
+use Rattle.stored_form.specs.Reading.{found}
+use Rattle.walk_archive.specs.{Archive.Archive, Archive.read-archive, Walk.seal-before, Walk.seals}
+
+-- the seals of a walk are the last one and what its steps answer
+seals-steps : (c : Curve) (seal : Class) (ops : List Class) → seals c seal ops ≡ seal ∷ map (λ (x : Reply). x .class) (steps-back c seal ops)
+unfolding seals seal-before steps-back
+seals-steps c seal [] = refl
+seals-steps c seal (a ∷ older) = ap (λ l. seal ∷ l) (seals-steps c (seal-before c seal a) older)
+
+-- an archive holds what is left of a list of calls
+pub record Keeps (a : Archive) (r : Register) (cs : List Call) : Type 0 where
+  pub curve-kept : a .curve ≡ r .curve
+  pub seal-kept : a .seal ≡ last r cs .seal
+  pub operations-kept : a .operations ≡ classes (newest r cs)
+
+module _ (r : Register) (cs : List Call) (fits : Fits r cs) (only : OnlyCommits (newest r cs)) where
+  walk-seals : seals (r .curve) (last r cs .seal) (classes (newest r cs)) ≡ seals-back r cs
+  unfolding seals-back met
+  walk-seals =
+      seals-steps (r .curve) (last r cs .seal) (classes (newest r cs))
+      ∙ ap (λ l. last r cs .seal ∷ map (λ (x : Reply). x .class) l) (walk-steps r cs fits only)
+      ∙ ap (λ l. last r cs .seal ∷ l) (map-map (λ (x : Reply). x .class) met (newest r cs))
+
+  module _ (s : List ℕ) {a : Archive} {end : ℕ} (reads : read-archive s ≡ found a end) (keeps : Keeps a r cs) where
+    pub archive-seals : seals (a .curve) (a .seal) (a .operations) ≡ seals-back r cs
+    archive-seals = rw (keeps .curve-kept, keeps .seal-kept, keeps .operations-kept) walk-seals
+
+    pub archive-seal : (k : ℕ) → getD (seals (a .curve) (a .seal) (a .operations)) k (a .seal) ≡ getD (seals-back r cs) k (a .seal)
+    archive-seal k = ap (λ l. getD l k (a .seal)) archive-seals
