@@ -1,5 +1,5 @@
 -- A curve by value: which are refused, and the f of those that are not (document 01, 'Curves and classes', 'In checking order').
--- Nothing else names the coefficients f3, f1 and f0.
+-- No other definition or theorem of classes or registers names the coefficients f3, f1 and f0; the stored form's curve field does, to read and to write them.
 use Prim.Native.Nat.{ℕ, _^_}
 use mathlib.Core.{Bool._||_, List.List, List.[], List._∷_}
 use lib.{Dec.eqb, ListN.getD}
