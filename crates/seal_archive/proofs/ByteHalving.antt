@@ -1,9 +1,9 @@
 -- Byte double and byte half undo each other (demand 3). For every record that is read, where the outputs have 51 bytes: half on the record rebuilt from
 -- double's output writes the record's class field to the byte (`half-of-double-bytes`), and double on the record rebuilt from half's output likewise
--- (`double-of-half-bytes`); neither is refused. The half's record is the only one of that curve whose byte double is the input's class
--- field (`only-half-bytes`).
+-- (`double-of-half-bytes`). Neither is refused (`double-answers`, `half-answers`). The half's record is the only one of that curve whose byte double
+-- is the input's class field (`only-half-bytes`).
 use Prim.Native.Nat.{ℕ, _≤_}
-use mathlib.Core.Path.{_≡_, refl, sym, ap, ap₂, _∙_}
+use mathlib.Core.Path.{_≡_, refl, sym, ap, _∙_, subst}
 use mathlib.Core.List.{List, _++_}
 use lib.ListN.{length, take, drop, take-append-drop}
 use lib.Seq.{take-append-seam, take-at, drop-at}
@@ -16,8 +16,9 @@ use Rattle.jacobian.proofs.ByValue.Checks.{then-zero}
 use Rattle.jacobian.proofs.Calls.{Accepts, gives, double-gives, half-gives, double-accepts, half-accepts, double-of-half, half-of-double}
 use Rattle.stored_form.specs.{Number.Bytes, Number.bytes-of, Reading.found, Head.stored, Head.head-bytes, Elements.element-bytes}
 use Rattle.stored_form.specs.{Fields.degree-field, Classes.curve-field, Classes.curve-first-fields, Classes.class-field}
+use Rattle.stored_form.proofs.ClassRoundTrips.{class-short}
 use Rattle.seal_archive.specs.Records.{OneClass, class-record, class-record-bytes}
-use Rattle.seal_archive.specs.Calls.{Outcome, write, on, lent, for, class-room, write-class, double-call, half-call}
+use Rattle.seal_archive.specs.Calls.{Outcome, write, on, class-room, write-class, class-call, double-call, half-call}
 use Rattle.seal_archive.proofs.Outcomes.{answers}
 use Rattle.seal_archive.proofs.Written.{ClassStored, curve-passes, class-record-written, class-record-back}
 
@@ -40,10 +41,6 @@ first-length : (c : Curve) → length (curve-first-fields c) ≡ 31
 unfolding curve-first-fields degree-field curve-field stored head-bytes element-bytes bytes-of
 first-length c = refl
 
--- a call on one class, by the answer that it writes
-abbrev call : (Curve → Class → Reply) → List ℕ → List ℕ → Outcome
-call f s out = lent class-room out (for out (class-record s) λ r. write-class out (f (r .curve) (r .class)))
-
 module _ {s : List ℕ} {r : OneClass} (h : ClassStored s r) where
   first-is : first-fields s ≡ curve-first-fields (r .curve)
   unfolding class-record-bytes
@@ -59,8 +56,8 @@ module _ {s : List ℕ} {r : OneClass} (h : ClassStored s r) where
 
   -- what a call writes whose answer gives a class
   call-writes : (f : Curve → Class → Reply) (out : List ℕ) → class-room ≤ length out → {x : Class} → f (r .curve) (r .class) ≡ gives x →
-      call f s out ≡ write (class-field 0x43 x) out
-  unfolding write-class on
+      class-call f s out ≡ write (class-field 0x43 x) out
+  unfolding class-call write-class on
   call-writes f out room e = sym (answers _ _ _ room (class-record-back h) refl) ∙ ap (write-class out) e
 
   -- the record rebuilt from it
@@ -74,47 +71,70 @@ module _ {s : List ℕ} {r : OneClass} (h : ClassStored s r) where
         passes = rw (curve-passes _ _ (h .passes)) (ok .passes);
       }
 
+  -- its length
+  answers-length : (f : Curve → Class → Reply) (out : List ℕ) → class-room ≤ length out → {x : Class} → f (r .curve) (r .class) ≡ gives x →
+      Accepts (r .curve) (curve-passes _ _ (h .passes)) x → class-call f s out .answer ≤ class-room
+  unfolding class-room write
+  answers-length f out room e ok =
+      subst (λ (n : ℕ). n ≤ 51) (sym (ap (λ (o : Outcome). o .answer) (call-writes f out room e)))
+      (class-short 0x43 (r .curve) _ (ok .three) (rebuilt-stored out ok .passes))
+
 module _ {s : List ℕ} {r : OneClass} (h : ClassStored s r) (f g : Curve → Class → Reply) (out last : List ℕ) (room : class-room ≤ length out) (room' : class-room ≤ length last) where
   -- where one answer takes the other back, so does its call
   taken-back : {x : Class} → f (r .curve) (r .class) ≡ gives x → Accepts (r .curve) (curve-passes _ _ (h .passes)) x → g (r .curve) x ≡ gives (r .class) →
-      call g (rebuilt s (call f s out)) last ≡ write (last-field s) last
+      class-call g (rebuilt s (class-call f s out)) last ≡ write (last-field s) last
   taken-back {x} e ok back =
-      ap (λ (o : Outcome). call g (rebuilt s o) last) (call-writes h f out room e)
+      ap (λ (o : Outcome). class-call g (rebuilt s o) last) (call-writes h f out room e)
       ∙ call-writes (rebuilt-stored h out ok) g last room' back
       ∙ ap (λ (l : List ℕ). write l last) (sym (last-is h))
 
 gives-class : {x : Reply} {a : Class} → x ≡ gives a → x ≡ gives (x .class)
 gives-class e = e ∙ sym (ap (λ (y : Reply). gives (y .class)) e)
 
--- a record in stored form that is read, and outputs of at least 51 bytes
-module _ (s : List ℕ) (bytes : Bytes s) {r : OneClass} {end : ℕ} (read : class-record s ≡ found r end) (out last : List ℕ) (room : class-room ≤ length out) (room' : class-room ≤ length last) where
+-- a record that is read
+module _ (s : List ℕ) (bytes : Bytes s) {r : OneClass} {end : ℕ} (read : class-record s ≡ found r end) where
   is-stored : ClassStored s r
   is-stored = class-record-written bytes read .0
 
-  pub half-of-double-bytes : half-call (rebuilt s (double-call s out)) last ≡ write (last-field s) last
-  unfolding half-call double-call
-  half-of-double-bytes =
-      let k = curve-passes _ _ (is-stored .passes) in
-      let ok = accepts is-stored in
-      taken-back is-stored double-answer half-answer out last room room'
-      (gives-class (double-gives (r .curve) k ok)) (double-accepts (r .curve) k ok) (half-of-double (r .curve) k ok)
+  abbrev passes : curve-refusal (r .curve) ≡ 0
+  passes = curve-passes _ _ (is-stored .passes)
 
-  pub double-of-half-bytes : double-call (rebuilt s (half-call s out)) last ≡ write (last-field s) last
-  unfolding half-call double-call
-  double-of-half-bytes =
-      let k = curve-passes _ _ (is-stored .passes) in
-      let ok = accepts is-stored in
-      taken-back is-stored half-answer double-answer out last room room'
-      (gives-class (half-gives (r .curve) k ok)) (half-accepts (r .curve) k ok) (double-of-half (r .curve) k ok)
+  doubled : double-answer (r .curve) (r .class) ≡ gives (double-answer (r .curve) (r .class) .class)
+  doubled = gives-class (double-gives (r .curve) passes (accepts is-stored))
 
-  -- the half's record is the only one that has the same degree and curve and whose double is the input's class field
-  pub only-half-bytes : (t : List ℕ) → first-fields t ≡ first-fields s → double-call s out ≡ write (last-field t) out → s ≡ rebuilt t (half-call t last)
-  only-half-bytes t same double =
-      let back : rebuilt s (double-call s out) ≡ t =
-      ap (rebuilt s) double ∙ rebuilt-write s (last-field t) out ∙ ap (λ (l : List ℕ). l ++ last-field t) (sym same) ∙ take-append-drop 31 t in
-      sym (
-      ap (rebuilt t) (ap (λ (l : List ℕ). half-call l last) (sym back) ∙ half-of-double-bytes)
-      ∙ rebuilt-write t (last-field s) last
-      ∙ ap (λ (l : List ℕ). l ++ last-field s) same
-      ∙ take-append-drop 31 s
-      )
+  halved : half-answer (r .curve) (r .class) ≡ gives (half-answer (r .curve) (r .class) .class)
+  halved = gives-class (half-gives (r .curve) passes (accepts is-stored))
+
+  module _ (out : List ℕ) (room : class-room ≤ length out) where
+    -- the answer is a length of at most 51
+    pub double-answers : double-call s out .answer ≤ class-room
+    unfolding double-call
+    double-answers = answers-length is-stored double-answer out room doubled (double-accepts (r .curve) passes (accepts is-stored))
+
+    pub half-answers : half-call s out .answer ≤ class-room
+    unfolding half-call
+    half-answers = answers-length is-stored half-answer out room halved (half-accepts (r .curve) passes (accepts is-stored))
+
+    module _ (last : List ℕ) (room' : class-room ≤ length last) where
+      pub half-of-double-bytes : half-call (rebuilt s (double-call s out)) last ≡ write (last-field s) last
+      unfolding half-call double-call
+      half-of-double-bytes =
+          let ok = accepts is-stored in
+          taken-back is-stored double-answer half-answer out last room room' doubled (double-accepts (r .curve) passes ok) (half-of-double (r .curve) passes ok)
+
+      pub double-of-half-bytes : double-call (rebuilt s (half-call s out)) last ≡ write (last-field s) last
+      unfolding half-call double-call
+      double-of-half-bytes =
+          let ok = accepts is-stored in
+          taken-back is-stored half-answer double-answer out last room room' halved (half-accepts (r .curve) passes ok) (double-of-half (r .curve) passes ok)
+
+      -- the half's record is the only one that has the same degree and curve and whose double is the input's class field
+      pub only-half-bytes : (t : List ℕ) → first-fields t ≡ first-fields s → double-call s out ≡ write (last-field t) out → s ≡ rebuilt t (half-call t last)
+      only-half-bytes t same double =
+          let back : rebuilt s (double-call s out) ≡ t =
+          ap (rebuilt s) double ∙ rebuilt-write s (last-field t) out ∙ ap (λ (l : List ℕ). l ++ last-field t) (sym same) ∙ take-append-drop 31 t in
+          sym
+          (ap (rebuilt t) (ap (λ (l : List ℕ). half-call l last) (sym back) ∙ half-of-double-bytes)
+          ∙ rebuilt-write t (last-field s) last
+          ∙ ap (λ (l : List ℕ). l ++ last-field s) same
+          ∙ take-append-drop 31 s)

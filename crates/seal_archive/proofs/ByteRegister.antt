@@ -18,7 +18,7 @@ use Rattle.stored_form.specs.Reading.{found}
 use Rattle.stored_form.specs.Fields.{count-field}
 use Rattle.stored_form.specs.Classes.{class-field}
 use Rattle.seal_archive.specs.Records.{Operation, register-record, register-record-bytes}
-use Rattle.seal_archive.specs.Calls.{Outcome, refuse, write, on, register-room, write-register, commit-call, undo-call}
+use Rattle.seal_archive.specs.Calls.{Outcome, refuse, write, on, register-room, write-register, register-call, commit-call, undo-call}
 use Rattle.seal_archive.proofs.Outcomes.{answers}
 use Rattle.seal_archive.proofs.Written.{register-record-back}
 
@@ -41,11 +41,11 @@ module _ (out : List ℕ) (x : RegisterReply) where
 
 module _ (s out : List ℕ) (room : register-room ≤ length out) {r : Operation} {end : ℕ} (e : register-record s ≡ found r end) where
   pub commit-of-record : commit-call s out ≡ write-register out (commit-answer (r .register) (r .class))
-  unfolding commit-call
+  unfolding commit-call register-call
   commit-of-record = sym (answers _ _ _ room e refl)
 
   pub undo-of-record : undo-call s out ≡ write-register out (undo-answer (r .register) (r .class))
-  unfolding undo-call
+  unfolding undo-call register-call
   undo-of-record = sym (answers _ _ _ room e refl)
 
 -- ---- values in stored form that the register call accepts

@@ -15,7 +15,7 @@ use Rattle.stored_form.specs.Classes.{row-said, class-said, class-at, ro
 use Rattle.stored_form.proofs.{Readings.then-found, Readings.both-found, Readings.due-found, Readings.due-none, Readings.same-found}
 use Rattle.stored_form.proofs.{Lengths.class-length-le, Lengths.class-length-even, Items.length-elements, ClassBytes.length-row}
 use Rattle.stored_form.proofs.ElementBytes.{Small, small-of, small-take, small-append, small-reversed, elements-bytes, bytes-elements, fits, length-element-bytes, element-bytes-append}
-use Rattle.stored_form.proofs.{Bodies.body-written, Bodies.body-read, RoundTrips.Field}
+use Rattle.stored_form.proofs.{Bodies.length-stored, Bodies.body-written, Bodies.body-read, RoundTrips.Field}
 
 -- ---- rows and the order in which they are stored
 
@@ -145,6 +145,16 @@ row-three es =
     let all : List ℕ = reverse es ++ 0 ∷ 0 ∷ 0 ∷ [] in
     let long : length all ≡ length (reverse es) + 3 = length-append (reverse es) (0 ∷ 0 ∷ 0 ∷ []) in
     length-take 3 all ∙ omega arith
+
+-- the field of a class that is not refused has at most 51 bytes
+pub class-short : (tag : ℕ) (c : Curve) (a : Class) → Three a → refusal c a ≡ 0 → length (class-field tag a) ≤ 51
+unfolding class-field
+class-short tag c a three ok =
+    let k = shaped c a three ok in
+    let low : a .degree ≤ 3 = k .low in
+    let body : length (body-of a) ≡ 16 * a .degree = length-body a k in
+    let all : length (stored tag (body-of a)) ≡ 3 + length (body-of a) = length-stored tag (body-of a) in
+    omega arith
 
 -- a class that is read has three numbers in each row
 pub class-three : (tag : ℕ) (c : Curve) (s : List ℕ) (at : ℕ) {a : Class} {next : ℕ} → class-at tag c s at ≡ found a next → Three a
