@@ -1,4 +1,4 @@
-//! The cases of the program `class_trial`: calls on classes, in the bytes that it reads, and the line that it owes for
+//! The cases of the program `conformance`: calls on classes, in the bytes that it reads, and the line that it owes for
 //! each.
 //!
 //! A case is 138 bytes: the call, the degree d, f3, f1 and f0, and two classes; the calls on one class leave the second
