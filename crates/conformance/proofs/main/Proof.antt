@@ -1,7 +1,7 @@
--- `class_trial::main` is safe and ends. The measure is the number of turns that are left, and nothing has to hold from turn to turn.
+-- `conformance::main` is safe and ends. The measure is the number of turns that are left, and nothing has to hold from turn to turn.
 use native.Mathlib.Omega.{arith}
-use Rattle.class_trial.proofs.main.Statement.{statement}
-use Rattle.class_trial.proofs.main.Tie as tie
+use Rattle.conformance.proofs.main.Statement.{statement}
+use Rattle.conformance.proofs.main.Tie as tie
 
 abbrev Inv-loop : tie.InvT-loop
 Inv-loop turns₀ turns = Unit {0}
