@@ -7,3 +7,8 @@ pub mod Walks
 pub mod Reports
 pub mod Seals
 pub mod Demand3
+pub mod ArchiveFields
+pub mod ArchiveRoundTrips
+pub mod ArchiveBytes
+pub mod Digits
+pub mod Kept
