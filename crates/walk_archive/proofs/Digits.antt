@@ -50,8 +50,8 @@ module _ (base : ℕ) (least : 2 ≤ base) (most : base ≤ 16) where
 
 pub decimal-said : (n : ℕ) → n < 2 ^ 64 → said 10 (decimal n) ≡ n
 unfolding decimal
-decimal-said n h = digits-said 10 (lit≤ tt) (lit≤ tt) 20 n (lit< tt) (lt-of-lt-of-le h (lit≤ tt))
+decimal-said n h = digits-said 10 (lit≤ tt) (lit≤ tt) _ n (lit< tt) (lt-of-lt-of-le h (lit≤ tt))
 
 pub hexadecimal-said : (n : ℕ) → n < 2 ^ 64 → said 16 (hexadecimal n) ≡ n
 unfolding hexadecimal
-hexadecimal-said n h = digits-said 16 (lit≤ tt) (lit≤ tt) 16 n (lit< tt) (lt-of-lt-of-le h (lit≤ tt))
+hexadecimal-said n h = digits-said 16 (lit≤ tt) (lit≤ tt) _ n (lit< tt) (lt-of-lt-of-le h (lit≤ tt))
