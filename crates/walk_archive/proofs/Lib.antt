@@ -10,5 +10,6 @@ pub mod Demand3
 pub mod ArchiveFields
 pub mod ArchiveRoundTrips
 pub mod ArchiveBytes
+pub mod ArchiveLength
 pub mod Digits
 pub mod Kept
