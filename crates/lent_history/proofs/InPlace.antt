@@ -1,24 +1,53 @@
+-- A call in place says what the call by value says, and a refusal leaves the lent register unchanged (`refusal-leaves`).
 -- Demand 3 on a list in which each call is by value or in place (document 01, 'The register'): what happens is what happens with all calls by value
 -- (`happened-run`), so each theorem of the crate history on a list holds of it.
 -- `taken-back-turned`: taking the accepted calls back, newest first, each by value or in place, does to each call what `turned` says. So none is refused
 -- (`taken-back-accepted`), each brings back the register just before the call that it takes back (`taken-back-registers`), and all of them the first one
 -- (`taken-back-all`). `failing`, `failing-stays`: a register that itself fails a check is refused by every call and stays as it was. `curve-kept`: degree and
--- curve never change. `walk-steps`, `walk-meets`, `walk-ends`: where only commits were accepted, the walk back from the register's seal.
-use Prim.Native.Nat.{ℕ, _≤_}
+-- curve never change. `walk-steps`, `walk-meets`, `walk-ends`, `walk-part`: where only commits were accepted, the walk back from the register's seal.
+use Prim.Native.Nat.{ℕ, suc, _≤_}
 use mathlib.Core.Path.{_≡_, refl, sym, _∙_, ap, ap₂, subst}
 use mathlib.Core.List.{List, [], _∷_, map, map-map, reverse}
 use lib.ListN.{length, take, getD}
 use Rattle.class_group.specs.Walk.{All, walk, after}
-use Rattle.jacobian.specs.Answer.{accepted, refused}
-use Rattle.history.specs.Register.{RegisterReply, register-refusal, earlier}
-use Rattle.history.specs.Calls.{Call, answer, Event, event, run, last, accepted-of, newest, backs, taken-back, turned, classes, OnlyCommits, walk-back, steps-back, met, seals-back}
+use Rattle.jacobian.specs.Answer.{accepted, refused, verdict-of}
+use Rattle.jacobian.specs.declared.Class.{Class}
+use Rattle.history.specs.Register.{RegisterReply, register-reply, register-refusal, commit-answer, undo-answer, earlier}
+use Rattle.history.specs.Calls.{Call, commit, undo, answer, Event, event, run, last, accepted-of, newest, backs, taken-back, turned, classes, OnlyCommits, walk-back, steps-back, met, seals-back}
 use Rattle.history.specs.declared.Register.{Register}
+use Rattle.history.specs.declared.RegisterAnswer.{RegisterAnswer}
+use Rattle.history.proofs.Chain.{refused-stays}
 use Rattle.history.proofs.TakingBack as history
 use Rattle.history.proofs.TakingBack.{Fits, all-map}
 use Rattle.history.proofs.Failing.{failing-run, failing-last}
 use Rattle.history.proofs.WalkingBack as walking
-use Rattle.lent_history.specs.InPlace.{Made, call, said, Session, happened, left-by, newest-made}
+use Rattle.lent_history.specs.InPlace.{in-place, Made, by-value, lent, call, said, Session, happened, left-by, newest-made}
 
+-- ---- one call
+-- what a session asks of a call is the equation of its contract
+module _ (r : Register) (a : Class) where
+  pub commit-by-value : (x : RegisterAnswer) → register-reply x ≡ commit-answer r a → said (by-value (commit a) x) ≡ answer r (commit a)
+  unfolding said answer
+  commit-by-value x e = e
+
+  pub undo-by-value : (x : RegisterAnswer) → register-reply x ≡ undo-answer r a → said (by-value (undo a) x) ≡ answer r (undo a)
+  unfolding said answer
+  undo-by-value x e = e
+
+  pub commit-lent : (n : ℕ) (left : Register) → in-place n left ≡ commit-answer r a → said (lent (commit a) n left) ≡ answer r (commit a)
+  unfolding said answer
+  commit-lent n left e = e
+
+  pub undo-lent : (n : ℕ) (left : Register) → in-place n left ≡ undo-answer r a → said (lent (undo a) n left) ≡ answer r (undo a)
+  unfolding said answer
+  undo-lent n left e = e
+
+-- on a refusal the lent register is unchanged
+pub refusal-leaves : (r : Register) (c : Call) (n : ℕ) (left : Register) → in-place (suc n) left ≡ answer r c → left ≡ r
+unfolding in-place verdict-of
+refusal-leaves r c n left e = ap (λ (x : RegisterReply). x .register) e ∙ refused-stays r c (suc n) (sym (ap (λ (x : RegisterReply). x .outcome) e))
+
+-- ---- a list of calls
 -- the calls of the list, by value or in place
 abbrev pub calls : List Made → List Call
 calls ms = map call ms
@@ -102,3 +131,8 @@ module _ (r : Register) (ms : List Made) (s : Session r ms) (fits : Fits r (call
     walk-ends =
         carried (λ es t. (k : ℕ) → k ≤ length es → walk-back (r .curve) (t .seal) (take k (classes es)) ≡ getD (t .seal ∷ map (λ e. e .before .seal) es) k (t .seal))
         (walking.walk-ends r (calls ms) fits only-by-value)
+
+    -- and no step of it is refused
+    pub walk-part : (k : ℕ) → steps-back (r .curve) (left-by r ms .seal) (take k (classes (newest-made r ms))) ≡ take k (map met (newest-made r ms))
+    walk-part =
+        carried (λ es t. (k : ℕ) → steps-back (r .curve) (t .seal) (take k (classes es)) ≡ take k (map met es)) (walking.walk-part r (calls ms) fits only-by-value)
