@@ -15,11 +15,11 @@ use Rattle.binary_field.proofs.Linear.{Additive, basis}
 use Rattle.binary_field.proofs.Spread.{spread-sum}
 
 -- ---- two additive maps are equal below 2^d where a computed test finds them equal at t^0 .. t^(d-1)
-same : (ℕ → ℕ) → (ℕ → ℕ) → ℕ → Bool
+unfoldable pub same : (ℕ → ℕ) → (ℕ → ℕ) → ℕ → Bool
 same f g zero = true
 same f g (suc k) = eqb (f (2 ^ k)) (g (2 ^ k)) && same f g k
 
-same-at : (f g : ℕ → ℕ) (k : ℕ) → T (same f g k) → (i : ℕ) → i < k → f (2 ^ i) ≡ g (2 ^ i)
+pub same-at : (f g : ℕ → ℕ) (k : ℕ) → T (same f g k) → (i : ℕ) → i < k → f (2 ^ i) ≡ g (2 ^ i)
 unfolding same
 same-at f g zero t i h = absurd (omega arith)
 same-at f g (suc k) t i h = at (eqb (f (2 ^ k)) (g (2 ^ k))) refl t (same-at f g k) (decLt i k)

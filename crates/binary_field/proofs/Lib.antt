@@ -21,3 +21,4 @@ pub mod Halves
 pub mod ChainSteps
 pub mod Evens
 pub mod Roots
+pub mod Multisquares
