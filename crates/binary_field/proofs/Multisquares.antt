@@ -14,11 +14,10 @@ use Rattle.binary_field.specs.Carryless.{_⊕_}
 use Rattle.binary_field.specs.Element.{squarings}
 use Rattle.binary_field.specs.Multisquaring.{Multisquares}
 use Rattle.binary_field.proofs.Sums.{sum-comm, sum-shifted}
-use Rattle.binary_field.proofs.Linear.{additive-zero, basis, combine, combine-additive}
+use Rattle.binary_field.proofs.Linear.{additive-zero, basis, same, same-at, combine, combine-additive}
 use Rattle.binary_field.proofs.FastInverse.{spreadings, spreadings-squarings}
 use Rattle.binary_field.proofs.Products.{low-lt}
 use Rattle.binary_field.proofs.Power.{squarings-sum}
-use Rattle.binary_field.proofs.Evens.{same, same-at}
 use Rattle.binary_field.proofs.Table.{every, each-entry}
 
 -- the entries of the digits 1, 2, 4 and 8 at k places
@@ -35,7 +34,7 @@ unfolding digit
 digit-lt n h =
     lt-of-lt-of-le (shl-lt 4 (4 * (n / 16)) (omega arith)) (pow-mono {j = 64} (omega arith))
 
--- the test of the entries of the powers of t, and the test of all
+-- the test at the powers of t, and the test of all entries
 unfoldable pub powers-test : List ℕ → Bool
 powers-test xs = same (spreadings 61 6) (combine (powers 16 xs)) 64
 

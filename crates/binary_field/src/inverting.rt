@@ -40,7 +40,7 @@ fn inverse_5(a: u64, table: &[u16; 256]) -> u64
     squaring::square_of(5, a4, table)
 }
 
-// The same by six squarings at once: a squared 6 n times.
+// a squared 6 n times, six times at once.
 fn sixfold_squarings_of(a: u64, n: u8, sixfold: &[u64; 256]) -> u64
     requires { ⌜ (a < 2 ^ 61) × Multisquares (now sixfold) ⌝ }
     ensures { λ r. ⌜ (r ≡ squarings 61 (n * 6) a) × (r < 2 ^ 61) ⌝ }

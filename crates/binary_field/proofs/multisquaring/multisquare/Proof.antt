@@ -1,14 +1,11 @@
 -- `multisquare` meets its contract: after i turns the loop holds what the i lowest digits give.
 use mathlib.Core.Path.{_≡_}
 use Prim.Native.Nat.{_≤_, _<_, _-_, _*_, _/_, _%_, _^_}
-use borrow.Author.Needs.{needs}
 use native.Mathlib.Omega.{arith}
 use Rattle.binary_field.specs.Element.{squarings}
 use Rattle.binary_field.proofs.Multisquares.{place-lt, no-digit, one-digit-more, all-digits}
 use Rattle.binary_field.proofs.multisquaring.multisquare.Statement.{statement}
 use Rattle.binary_field.proofs.multisquaring.multisquare.Tie as tie
-use Rattle.binary_field.proofs.multisquaring.multisquare.Reads as reads
-use Rattle.binary_field.proofs.multisquaring.multisquare.Lts as lts
 
 abbrev Inv-loop : tie.InvT-loop
 Inv-loop a table r₀ i₀ r i = (i ≤ 16) × (r ≡ squarings 61 6 (a % 2 ^ (4 * i)))

@@ -2,15 +2,12 @@
 use mathlib.Core.Path.{refl}
 use Rattle.binary_field.specs.Carryless.{_⊕_, spread, reduce, remainder, digits, digits-to}
 use Rattle.binary_field.specs.Element.{low}
-use Rattle.binary_field.proofs.Linear.{combine}
+use Rattle.binary_field.proofs.Linear.{same, combine}
 use Rattle.binary_field.proofs.FastInverse.{spreadings}
-use Rattle.binary_field.proofs.Evens.{same}
 use Rattle.binary_field.proofs.Table.{every}
 use Rattle.binary_field.proofs.Multisquares.{powers, digit, powers-test, sums-test, by-tests}
 use Rattle.binary_field.proofs.multisquaring.multisquares.Statement.{statement}
 use Rattle.binary_field.proofs.multisquaring.multisquares.Tie as tie
-use Rattle.binary_field.proofs.multisquaring.multisquares.Reads as reads
-use Rattle.binary_field.proofs.multisquaring.multisquares.Lts as lts
 
 returns : tie.Need-returns
 unfolding powers digit powers-test sums-test same every spreadings low spread remainder reduce digits digits-to combine _⊕_
