@@ -1,10 +1,11 @@
 -- The digits at even places: the code brings them together in ever longer runs; and a number is its digits at even places,
 -- spread, and those at odd places, spread and moved up by one. Both are equations of additive maps, tested at each power of t.
 use mathlib.Core.Path.{_≡_, refl, ap, ap₂, sym, _∙_}
-use Prim.Native.Nat.{ℕ, zero, suc, _*_, _/_, _%_, _^_, _<_, _≤_}
+use Prim.Native.Nat.{ℕ, zero, suc, _+_, _*_, _/_, _%_, _^_, _<_, _≤_}
 use native.Mathlib.Omega.{arith}
 use lib.Arith.{bin-ind}
 use lib.Bits.{bitAnd, and-shr, and-mod}
+use lib.Pow.{pow-pos}
 use Rattle.binary_field.specs.Carryless.{_⊕_, spread, digits, digits-to}
 use Rattle.binary_field.specs.Spreading.{evens}
 use Rattle.binary_field.proofs.Sums.{bit-cases, bit-lt, same-digits, sum-half, sum-odd, sum-shr, sum-double, sum-middle, sum-self, zero-sum, double-plus-sum}
@@ -19,7 +20,7 @@ and-sum-bits =
     (bit-cases (λ y. (m : ℕ) → m < 2 → bitAnd (1 ⊕ y) m ≡ bitAnd 1 m ⊕ bitAnd y m)
     (bit-cases (λ m. bitAnd 1 m ≡ bitAnd 1 m ⊕ 0) refl refl) (bit-cases (λ m. 0 ≡ bitAnd 1 m ⊕ bitAnd 1 m) refl refl))
 
-and-sum : (a b m : ℕ) → bitAnd (a ⊕ b) m ≡ bitAnd a m ⊕ bitAnd b m
+pub and-sum : (a b m : ℕ) → bitAnd (a ⊕ b) m ≡ bitAnd a m ⊕ bitAnd b m
 and-sum =
     bin-ind (λ (n : ℕ). (b m : ℕ) → bitAnd (n ⊕ b) m ≡ bitAnd n m ⊕ bitAnd b m)
     (λ b m. ap (λ (x : ℕ). bitAnd x m) (zero-sum b) ∙ sym (zero-sum (bitAnd b m)))
@@ -74,3 +75,12 @@ pub evens-le : (k n : ℕ) → evens k n ≤ n
 unfolding evens
 evens-le zero n = omega arith
 evens-le (suc k) n = omega (arith, evens-le k (n / 4))
+
+pub evens-lt : (j k n : ℕ) → n < 2 ^ (k + k) → evens j n < 2 ^ k
+unfolding evens
+evens-lt zero k n h = pow-pos k
+evens-lt (suc j) zero n h = omega (arith, evens-le j (n / 4))
+evens-lt (suc j) (suc k) n h =
+    let e : suc k + suc k ≡ suc (suc (k + k)) = omega arith in
+    let g : n < 2 ^ suc (suc (k + k)) = rw e at h in
+    omega (arith, evens-lt j k (n / 4) (omega arith))
