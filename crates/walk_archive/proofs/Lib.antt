@@ -2,6 +2,7 @@
 pub mod Writing
 pub mod Readings
 pub mod ReaderSteps
+pub mod Windows
 pub mod Marks
 pub mod Lines
 pub mod Walks
