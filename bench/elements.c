@@ -1,7 +1,8 @@
 /* Measures the calls on elements against each other and against a plain loop, in one run, and prints ratios.
  *
  * Each operation runs as a chain, every call on what the last one answered, so that no two overlap. The operations
- * take turns, and the least time of all rounds counts. Before that the two products are held to each other. */
+ * take turns, and the least time of all rounds counts; rounds are short, so that some of them run undisturbed. Before
+ * that the two products are held to each other. */
 #include <stdint.h>
 #include <stdio.h>
 #include <stdlib.h>
@@ -12,7 +13,7 @@ uint64_t element_square(uint8_t d, uint64_t a);
 uint64_t element_square_root(uint8_t d, uint64_t a);
 uint64_t element_inverse(uint8_t d, uint64_t a);
 
-enum { ROUNDS = 25, CALLS = 20000 };
+enum { ROUNDS = 500, CALLS = 1000 };
 
 static uint64_t modulus_of(unsigned d) {
     return d == 5 ? UINT64_C(1) << 5 | 0x5 : UINT64_C(1) << 61 | 0x27;
