@@ -1,6 +1,7 @@
 -- Laws of readings one after the other and of writing into a lent area.
 pub mod Writing
 pub mod Readings
+pub mod ReaderSteps
 pub mod Marks
 pub mod Lines
 pub mod Walks
