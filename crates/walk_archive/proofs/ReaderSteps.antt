@@ -6,14 +6,14 @@ use mathlib.Core.List.{List, [], _∷_}
 use native.Mathlib.Omega.{arith}
 use lib.ListN.{length}
 use borrow.Author.Tests.{ltb-false}
-use Rattle.stored_form.specs.{Number.part, Number.number-of, Reading.Reading, Reading.found, Reading.refused, Reading.due, Reading._then_, Reading.number, Head.head-at, Head.body-at, Fields.printable, Fields.degree-at, Fields.drawing-place, Fields.drawing-at, Fields.count-at, Fields.count-limit, Fields.end-due, Classes.curve-at, Classes.class-at}
+use Rattle.stored_form.specs.{Number.part, Number.number-of, Reading.Reading, Reading.found, Reading.refused, Reading.due, Reading._then_, Reading.number, Head.head-at, Head.body-at, Fields.printable, Fields.degree-at, Fields.drawing-place, Fields.drawing-at, Fields.count-at, Fields.count-limit, Fields.end-due, Classes.curve-at, Classes.curve-first, Classes.class-at}
 use Rattle.stored_form.proofs.{Readings.then-found, Readings.then-refused, Readings.both-found, Readings.same-found, Readings.refuse-found, Readings.due-found, Readings.then-assoc, Readings.then-same, Heads.head-found, Lengths.drawing-length}
 use Rattle.jacobian.specs.declared.{Curve.Curve, Class.Class}
 use Rattle.stored_form.specs.declared.{Cursor.Cursor, Part.Part, classes.Place.Place}
 use Rattle.stored_form.specs.declared.classes.Place.the-variants as place
 use Rattle.walk_archive.specs.declared.reader.{Due.Due, Opening.Opening, Reader.Reader, Advance.Advance}
 use Rattle.walk_archive.specs.declared.reader.Due.the-variants as awaits
-use Rattle.walk_archive.specs.Archive.{Archive, curve-first, operations-at, read-archive, archive-refusal}
+use Rattle.walk_archive.specs.Archive.{Archive, operations-at, read-archive, archive-refusal}
 use Rattle.walk_archive.specs.Reader.{reader, with-curve, with-drawing, with-count, with-seal, read-at, step, pending, reader-placed, advance-read, place-number, Bounded, archive-of, Accepted, Agrees}
 
 -- ---- the step of a field
@@ -112,7 +112,7 @@ count-bounded s at e =
     let same = same-found (r .1) .0 in
     omega (arith, ltb-false 1024 (number-of (b .0)) (r .0), same)
 
-drawing-bounded : (s : List ℕ) (at : ℕ) {p : Part} {next : ℕ} → drawing-place s at ≡ found p next → (p .len ≤ 255) × (p .start + p .len ≤ length s)
+pub drawing-bounded : (s : List ℕ) (at : ℕ) {p : Part} {next : ℕ} → drawing-place s at ≡ found p next → (p .len ≤ 255) × (p .start + p .len ≤ length s)
 unfolding drawing-place
 drawing-bounded s at {p} e =
     let head = both-found _ (head-at 0x46 s at) e in

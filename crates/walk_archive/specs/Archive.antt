@@ -2,8 +2,8 @@
 use Prim.Native.Nat.{ℕ, zero, suc}
 use mathlib.Core.List.{List, [], _∷_}
 use Rattle.stored_form.specs.Reading.{Reading, found, due, _then_, number}
-use Rattle.stored_form.specs.Fields.{degree-at, drawing-at, count-at, end-due}
-use Rattle.stored_form.specs.Classes.{curve-at, class-at}
+use Rattle.stored_form.specs.Fields.{drawing-at, count-at, end-due}
+use Rattle.stored_form.specs.Classes.{curve-first, class-at}
 use Rattle.jacobian.specs.declared.Curve.{Curve}
 use Rattle.jacobian.specs.declared.Class.{Class}
 
@@ -13,10 +13,6 @@ pub record Archive : Type 0 where
   pub drawing : List ℕ
   pub seal : Class
   pub operations : List Class
-
--- 0x40 and 0x41
-unfoldable pub curve-first : List ℕ → ℕ → Reading Curve
-curve-first s at = degree-at s at then λ d next. curve-at d s next
 
 -- as many 0x44 as the count says
 unfoldable pub operations-at : ℕ → Curve → List ℕ → ℕ → Reading (List Class)
