@@ -166,7 +166,10 @@ fn read_operation(left: u16, o: Opening, s: &[u8], at: Cursor) -> Advance
     let p = a.place;
     match p {
         Place::Refused(n) => stopped(o, n),
-        Place::Next(next) => moved(Due::Operations(left - 1), o, next),
+        Place::Next(next) => {
+            let older = left - 1;
+            moved(Due::Operations(older), o, next)
+        }
     }
 }
 

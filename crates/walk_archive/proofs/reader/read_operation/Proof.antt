@@ -30,8 +30,8 @@ stopped-requires c κs = search needs
 enum-known-p-2 : tie.Need-enum-known-p-2
 enum-known-p-2 c = search needs
 
-sub-t13 : tie.Need-sub-t13
-sub-t13 c = search needs
+sub-older : tie.Need-sub-older
+sub-older c = search needs
 
 moved-requires : tie.Need-moved-requires
 moved-requires c κs = search needs
@@ -63,7 +63,7 @@ read-operation-spec =
     enum-known-p
     stopped-requires
     enum-known-p-2
-    sub-t13
+    sub-older
     moved-requires
     returns-2
     returns-3)
