@@ -112,7 +112,7 @@ count-bounded s at e =
     let same = same-found (r .1) .0 in
     omega (arith, ltb-false 1024 (number-of (b .0)) (r .0), same)
 
-drawing-bounded : (s : List ℕ) (at : ℕ) {p : Part} {next : ℕ} → drawing-place s at ≡ found p next → (p .len ≤ 255) × (p .start + p .len ≤ length s)
+pub drawing-bounded : (s : List ℕ) (at : ℕ) {p : Part} {next : ℕ} → drawing-place s at ≡ found p next → (p .len ≤ 255) × (p .start + p .len ≤ length s)
 unfolding drawing-place
 drawing-bounded s at {p} e =
     let head = both-found _ (head-at 0x46 s at) e in
