@@ -24,6 +24,7 @@ mod sums;
 use crate::reduction::CountedRows;
 use crate::row::RowPair;
 
+#[repr(C)]
 pub struct Curve {
     pub degree: u8,
     pub f3: u64,
@@ -31,6 +32,7 @@ pub struct Curve {
     pub f0: u64,
 }
 
+#[repr(C)]
 pub struct Class {
     pub degree: u64,
     pub u: [u64; 3],
