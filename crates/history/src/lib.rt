@@ -16,7 +16,8 @@ use jacobian::ClassAnswer;
 use jacobian::Curve;
 use jacobian::Outcome;
 
-// The degree and the curve, the count of operations and the seal; no operation.
+// The degree and the curve, the count of operations and the seal; no operation. In C's layout, since a host keeps one and lends it.
+#[repr(C)]
 pub struct Register {
     pub curve: Curve,
     pub count: u64,

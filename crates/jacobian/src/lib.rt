@@ -24,6 +24,7 @@ mod sums;
 use crate::reduction::CountedRows;
 use crate::row::RowPair;
 
+// The layout of a curve and of a class is C's: a register in C's layout holds them.
 #[repr(C)]
 pub struct Curve {
     pub degree: u8,

@@ -1,2 +1,3 @@
-// The lent forms of the history: a walk over a lent row of classes.
+// The lent forms of the history: commit and undo on a register that the host lends, and a walk over a row of classes that it lends.
+pub mod register;
 pub mod walk;

@@ -18,13 +18,13 @@ pub struct RowWalk {
 const LIMIT: u64 = stored_form::COUNT_LIMIT;
 
 // The refusal that is due before the first step, which itself checks the curve and the last seal.
-fn opening_refusal(curve: Curve, last: Class, n: usize) -> u32
-    ensures { λ r. ⌜ r ≡ opening-refusal curve last n ⌝ }
+fn opening_refusal(curve: Curve, last: Class, classes: usize) -> u32
+    ensures { λ r. ⌜ r ≡ opening-refusal curve last classes ⌝ }
 {
-    if n == 0 {
+    if classes == 0 {
         return history::class_refusal(curve, last);
     }
-    if n as u64 > LIMIT {
+    if classes as u64 > LIMIT {
         return history::count_refusal(curve);
     }
     0
@@ -47,22 +47,22 @@ fn standing(n: u32, seal: Class) -> RowWalk
     }
 }
 
-// A walk over n classes before its first step.
-fn opened(curve: Curve, last: Class, n: usize) -> RowWalk
-    ensures { λ r. ⌜ reached r ≡ replied (opening-refusal curve last n) last ⌝ }
+// A walk over so many classes, before its first step.
+fn opened(curve: Curve, last: Class, classes: usize) -> RowWalk
+    ensures { λ r. ⌜ reached r ≡ replied (opening-refusal curve last classes) last ⌝ }
 {
-    let due = opening_refusal(curve, last, n);
+    let due = opening_refusal(curve, last, classes);
     standing(due, last)
 }
 
-// How many steps a walk over n classes has to make: none after a refusal.
-fn turns(w: RowWalk, n: usize) -> usize
-    ensures { λ r. ⌜ r ≡ turns-due (verdict-of (w .refusal)) n ⌝ }
+// How many steps an opened walk over so many classes has to make: none after a refusal.
+fn turns(w: RowWalk, classes: usize) -> usize
+    ensures { λ r. ⌜ r ≡ turns-due (verdict-of (w .refusal)) classes ⌝ }
 {
     if w.refusal != 0 {
         return 0;
     }
-    n
+    classes
 }
 
 // One step back, unless the walk was refused before.

@@ -18,7 +18,7 @@ use Rattle.stored_form.specs.Reading.{found}
 use Rattle.stored_form.specs.Fields.{count-field}
 use Rattle.stored_form.specs.Classes.{class-field}
 use Rattle.seal_archive.specs.Records.{Operation, register-record, register-record-bytes}
-use Rattle.seal_archive.specs.Calls.{Outcome, refuse, write, on, register-room, write-register, commit-call, undo-call}
+use Rattle.seal_archive.specs.Calls.{Outcome, refuse, write, on, register-room, write-register, register-call, commit-call, undo-call}
 use Rattle.seal_archive.proofs.Outcomes.{answers}
 use Rattle.seal_archive.proofs.Written.{register-record-back}
 
@@ -41,21 +41,29 @@ module _ (out : List ℕ) (x : RegisterReply) where
 
 module _ (s out : List ℕ) (room : register-room ≤ length out) {r : Operation} {end : ℕ} (e : register-record s ≡ found r end) where
   pub commit-of-record : commit-call s out ≡ write-register out (commit-answer (r .register) (r .class))
-  unfolding commit-call
+  unfolding commit-call register-call
   commit-of-record = sym (answers _ _ _ room e refl)
 
   pub undo-of-record : undo-call s out ≡ write-register out (undo-answer (r .register) (r .class))
-  unfolding undo-call
+  unfolding undo-call register-call
   undo-of-record = sym (answers _ _ _ room e refl)
 
 -- ---- values in stored form that the register call accepts
 
 module _ (g : Register) (a : Class) (threes : Three (g .seal) × Three a) where
-  both-pass : {Bound : Type 0} → Passing Bound g a → (end : ℕ) × (register-record (register-record-bytes g a) ≡ found (record { register = g; class = a }) end)
+  both-pass : {Bound : Type 0} → Passing Bound g a →
+      register-record (register-record-bytes g a) ≡ found (record { register = g; class = a }) (length (register-record-bytes g a))
   unfolding refusal _then_
   both-pass p =
       let curve-ok = p .register .curve-passes in
-      register-record-back g a threes (p .register .count-passes) (rw curve-ok (p .register .seal-passes)) (rw curve-ok (p .class-passes))
+      register-record-back (record {
+        bytes = refl;
+        few = p .register .count-passes;
+        seal-three = threes .0;
+        class-three = threes .1;
+        seal-passes = rw curve-ok (p .register .seal-passes);
+        class-passes = rw curve-ok (p .class-passes);
+      })
 
   module _ (out : List ℕ) (room : register-room ≤ length out) where
     pub commit-accepts : commit-answer g a .outcome ≡ accepted →
@@ -63,11 +71,11 @@ module _ (g : Register) (a : Class) (threes : Three (g .seal) × Three a) where
     unfolding commit-answer
     commit-accepts e =
         let read = both-pass (commit-passes g a (follows-accepted (commit-refusal g a) g (committed g a) e)) in
-        commit-of-record (register-record-bytes g a) out room (read .1) ∙ written out (commit-answer g a) e
+        commit-of-record (register-record-bytes g a) out room read ∙ written out (commit-answer g a) e
 
     pub undo-accepts : undo-answer g a .outcome ≡ accepted →
         undo-call (register-record-bytes g a) out ≡ write (register-fields (undo-answer g a .register)) out
     unfolding undo-answer
     undo-accepts e =
         let read = both-pass (undo-passes g a (follows-accepted (undo-refusal g a) g (undone g a) e)) in
-        undo-of-record (register-record-bytes g a) out room (read .1) ∙ written out (undo-answer g a) e
+        undo-of-record (register-record-bytes g a) out room read ∙ written out (undo-answer g a) e

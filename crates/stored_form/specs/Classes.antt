@@ -5,6 +5,7 @@ use mathlib.Core.List.{List, [], _∷_, _++_, reverse}
 use lib.ListN.{length, getD, take, drop, replicate}
 use Rattle.stored_form.specs.Reading.{Reading, found, refused, due, _then_}
 use Rattle.stored_form.specs.Head.{body-at, stored}
+use Rattle.stored_form.specs.Fields.{degree-at, degree-field}
 use Rattle.stored_form.specs.Elements.{elements, element-bytes}
 use Rattle.jacobian.specs.Curves.{curve-refusal}
 use Rattle.jacobian.specs.Answer.{refusal, neutral-class}
@@ -33,6 +34,13 @@ curve-at d s at =
 
 unfoldable pub curve-field : Curve → List ℕ
 curve-field c = stored 0x41 (element-bytes (c .f3 ∷ c .f1 ∷ c .f0 ∷ []))
+
+-- the degree and the curve, with which every record begins
+unfoldable pub curve-first : List ℕ → ℕ → Reading Curve
+curve-first s at = degree-at s at then λ d next. curve-at d s next
+
+unfoldable pub curve-first-fields : Curve → List ℕ
+curve-first-fields c = degree-field (c .degree) ++ curve-field c
 
 -- ---- a class: u below its leading term, highest power first, then v likewise
 

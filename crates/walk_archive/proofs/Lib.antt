@@ -7,3 +7,9 @@ pub mod Walks
 pub mod Reports
 pub mod Seals
 pub mod Demand3
+pub mod ArchiveFields
+pub mod ArchiveRoundTrips
+pub mod ArchiveBytes
+pub mod ArchiveLength
+pub mod Digits
+pub mod Kept

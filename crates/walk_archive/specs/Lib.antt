@@ -4,3 +4,5 @@ pub mod Walk
 pub mod Report
 pub mod Text
 pub mod Steps
+pub mod Written
+pub mod Numerals

@@ -1,9 +1,9 @@
 -- `records::class_record` meets its contract.
 use mathlib.Core.Path.{_≡_, sym, ap, _∙_}
 use Rattle.stored_form.specs.Reading.{found}
-use Rattle.stored_form.specs.Classes.{curve-read, class-at}
+use Rattle.stored_form.specs.Classes.{curve-first, curve-read, class-at}
 use Rattle.stored_form.proofs.Readings.{then-found, then-refused}
-use Rattle.seal_archive.specs.Records.{curve-first, ended, class-record}
+use Rattle.seal_archive.specs.Records.{ended, class-record}
 use Rattle.seal_archive.proofs.Readers.{refused-by, class-refused-by, class-found-by, bytes-remain, at-end}
 use borrow.Author.Needs.{needs}
 use Rattle.seal_archive.proofs.records.class_record.Statement.{statement}
@@ -23,7 +23,7 @@ curve-number-requires c κs = search needs
 
 -- the curve that was found
 first : (c : tie.After-known-told) →
-    curve-first (c .before .before .before .before .before .args .s .now) ≡ found (c .before .c .given .0 .0) (c .before .c .given .0 .1 .0 .at)
+    curve-first (c .before .before .before .before .before .args .s .now) 0 ≡ found (c .before .c .given .0 .0) (c .before .c .given .0 .1 .0 .at)
 first c = sym (c .before .before .before .curve-first .ensures) ∙ ap curve-read (c .before .c .given .1)
 
 class-refused-requires : tie.Need-class-refused-requires

@@ -2,9 +2,9 @@
 use mathlib.Core.Path.{_≡_, sym, ap, _∙_}
 use Rattle.stored_form.specs.Reading.{found}
 use Rattle.stored_form.specs.Fields.{count-at, count-read}
-use Rattle.stored_form.specs.Classes.{curve-read, class-at}
+use Rattle.stored_form.specs.Classes.{curve-first, curve-read, class-at}
 use Rattle.stored_form.proofs.Readings.{then-found, then-refused}
-use Rattle.seal_archive.specs.Records.{curve-first, ended, register-record}
+use Rattle.seal_archive.specs.Records.{ended, register-record}
 use Rattle.seal_archive.proofs.Readers.{refused-by, class-refused-by, class-found-by, bytes-remain, at-end}
 use borrow.Author.Needs.{needs}
 use Rattle.seal_archive.proofs.records.register_record.Statement.{statement}
@@ -24,7 +24,7 @@ curve-number-requires c κs = search needs
 
 -- the curve that was found
 first : (c : tie.After-known-told) →
-    curve-first (c .before .before .before .before .before .args .s .now) ≡ found (c .before .c .given .0 .0) (c .before .c .given .0 .1 .0 .at)
+    curve-first (c .before .before .before .before .before .args .s .now) 0 ≡ found (c .before .c .given .0 .0) (c .before .c .given .0 .1 .0 .at)
 first c = sym (c .before .before .before .curve-first .ensures) ∙ ap curve-read (c .before .c .given .1)
 
 register-refused-requires : tie.Need-register-refused-requires
@@ -160,8 +160,8 @@ returns-5 c =
     let ends = c .before .before in
     c .register-refused5 .ensures ∙ sym (fields-first (ends .before) ∙ bytes-remain _ _ _ (ends .end-at .ensures) (c .before .if1 .taken))
 
-cast-t23 : tie.Need-cast-t23
-cast-t23 c = search needs
+cast-t24 : tie.Need-cast-t24
+cast-t24 c = search needs
 
 returns-6 : tie.Need-returns-6
 unfolding register-record
@@ -200,5 +200,5 @@ register-record-spec =
     end-at-requires
     register-refused-requires-5
     returns-5
-    cast-t23
+    cast-t24
     returns-6)
