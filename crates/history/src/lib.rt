@@ -44,7 +44,7 @@ pub fn outcome_number(o: Outcome) -> u32
 }
 
 // The refusal that is due to a curve and a class, and 0 where none is.
-fn class_refusal(curve: Curve, a: Class) -> u32
+pub fn class_refusal(curve: Curve, a: Class) -> u32
     ensures { λ r. ⌜ r ≡ refusal curve a ⌝ }
 {
     let o = jacobian::membership(curve, a);
@@ -52,7 +52,7 @@ fn class_refusal(curve: Curve, a: Class) -> u32
 }
 
 // The refusal of a count above the limit, unless the curve is refused first.
-fn count_refusal(curve: Curve) -> u32
+pub fn count_refusal(curve: Curve) -> u32
     ensures { λ r. ⌜ r ≡ curve-refusal curve then 109 ⌝ }
 {
     let o = jacobian::accepts_curve(curve);
