@@ -2,7 +2,7 @@
 use Prim.Native.Nat.{ℕ, zero, suc, _+_, _-_, _≤_, _<_}
 use mathlib.Core.Path.{_≡_, refl, sym, ap, _∙_, subst}
 use mathlib.Core.Bool.{true, false, not, true≢false, false≢true}
-use mathlib.Core.List.{List, [], _∷_}
+use mathlib.Core.List.{List}
 use native.Mathlib.Omega.{arith}
 use lib.ListN.{length}
 use borrow.Author.Tests.{ltb-false}
@@ -14,7 +14,7 @@ use Rattle.stored_form.specs.declared.classes.Place.the-variants as place
 use Rattle.walk_archive.specs.declared.reader.{Due.Due, Opening.Opening, Reader.Reader, Advance.Advance}
 use Rattle.walk_archive.specs.declared.reader.Due.the-variants as awaits
 use Rattle.walk_archive.specs.Archive.{Archive, operations-at, read-archive, archive-refusal}
-use Rattle.walk_archive.specs.Reader.{reader, with-curve, with-drawing, with-count, with-seal, read-at, step, pending, reader-placed, advance-read, place-number, Bounded, archive-of, Accepted, Agrees}
+use Rattle.walk_archive.specs.Reader.{reader, with-curve, with-drawing, with-count, with-seal, read-at, step, pending, reader-placed, advance-read, place-number, archive-of, Accepted, Agrees}
 
 -- ---- the step of a field
 
