@@ -228,13 +228,13 @@ module _ (s : List ℕ) where
 -- ---- what a whole reading says
 
 module _ (s : List ℕ) (p : Place) (r : Reader) (h : Agrees s (reader-placed p r) (read-archive s)) where
-  pub read-refused : {n m : ℕ} → p ≡ place.Refused n → m ≡ place-number p → read-archive s ≡ refused m
-  read-refused e f = (rw e at h) ∙ ap refused (sym (f ∙ ap place-number e))
+  pub archive-refused : {n m : ℕ} → p ≡ place.Refused n → m ≡ place-number p → read-archive s ≡ refused m
+  archive-refused e f = (rw e at h) ∙ ap refused (sym (f ∙ ap place-number e))
 
-  pub read-accepted : {next : Cursor} → p ≡ place.Next next → Accepted s (r .opening) (next .at) (read-archive s)
-  read-accepted e = rw e at h
+  pub archive-accepted : {next : Cursor} → p ≡ place.Next next → Accepted s (r .opening) (next .at) (read-archive s)
+  archive-accepted e = rw e at h
 
-pub read-number : (s : List ℕ) (p : Place) (r : Reader) → Agrees s (reader-placed p r) (read-archive s) → place-number p ≡ archive-refusal s
+pub archive-number : (s : List ℕ) (p : Place) (r : Reader) → Agrees s (reader-placed p r) (read-archive s) → place-number p ≡ archive-refusal s
 unfolding archive-refusal
-read-number s (place.Next next) r h = ap number (sym (h .archive))
-read-number s (place.Refused n) r h = ap number (sym h)
+archive-number s (place.Next next) r h = ap number (sym (h .archive))
+archive-number s (place.Refused n) r h = ap number (sym h)

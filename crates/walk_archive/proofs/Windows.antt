@@ -1,5 +1,6 @@
--- A step looks only at the bytes of its own field, so the input can be read through a part of it that moves on. Over the part from a place k on a step finds what it
--- finds over the whole input, and refuses what it refuses there, with every place counted from k on (`step-after`); and any 258 bytes from its place on decide (`step-within`).
+-- A step looks only at the bytes of its own field, so the input can be read through a part of it that moves on: over m bytes from a place k on a step finds what it finds
+-- over the whole input, and refuses what it refuses there, with every place counted from k on, where the longest field, of 258 bytes, has room (`step-through`) or the
+-- m bytes are all that is left (`step-last`).
 use Prim.Native.Nat.{ℕ, zero, suc, _+_, _-_, _≤_, _<_}
 use mathlib.Core.Path.{_≡_, refl, sym, ap, _∙_}
 use mathlib.Core.Bool.{Bool, true, false, not, _||_}
@@ -7,7 +8,7 @@ use mathlib.Core.List.{List}
 use native.Mathlib.Omega.{arith}
 use lib.Dec.{eqb, ltb}
 use lib.ListN.{length, getD, take, drop, length-take, length-drop}
-use lib.Seq.{take-take, drop-drop, getD-take, getD-drop}
+use lib.Seq.{take-take, take-all, drop-drop, getD-take, getD-drop}
 use borrow.Author.Tests.{lt-ltb, le-ltb, ltb-true, ltb-false}
 use Rattle.stored_form.specs.{Number.part, Number.number-of, Reading.Reading, Reading.found, Reading.refused, Reading.refuse, Reading.due, Reading._then_, Head.head-at, Head.body-at, Head.body-length, Head.allowed, Head.class-length, Fields.degree-at, Fields.printable, Fields.drawing-place, Fields.count-at, Fields.count-limit, Fields.end-due, Classes.curve-at, Classes.class-at}
 use Rattle.stored_form.proofs.{Parts.drop-take, Heads.head-found, Lengths.degree-length, Lengths.curve-length, Lengths.drawing-length, Lengths.count-length, Lengths.class-lengths, Lengths.operation-lengths, Lengths.class-length-le}
@@ -138,7 +139,7 @@ module _ (k : ℕ) (s : List ℕ) where
     read-after (awaits.Operations zero) o = rw end-after (due-after k (reader-after k) (reader awaits.Nothing o) at (end-due (drop k s) at))
     read-after awaits.Nothing o = refl
 
-    pub step-after : (r : Reader) → step (reader-after k r) s (k + at) ≡ after k (reader-after k) (step r (drop k s) at)
+    step-after : (r : Reader) → step (reader-after k r) s (k + at) ≡ after k (reader-after k) (step r (drop k s) at)
     unfolding step
     step-after r = read-after (r .due) (r .opening)
 
@@ -203,6 +204,17 @@ module _ (m : ℕ) (s : List ℕ) where
     read-within awaits.Nothing o h = refl
 
     -- but for the end of the input
-    pub step-within : (r : Reader) → (r .due ≡ awaits.Operations 0 → ⊥) → step r (take m s) at ≡ step r s at
+    step-within : (r : Reader) → (r .due ≡ awaits.Operations 0 → ⊥) → step r (take m s) at ≡ step r s at
     unfolding step
     step-within r h = read-within (r .due) (r .opening) h
+
+-- ---- a step over m bytes of the input from a place k on
+
+module _ (k m : ℕ) (s : List ℕ) (at : ℕ) (r : Reader) where
+  -- the longest field has room, and the end is not due
+  pub step-through : at + 258 ≤ m → (r .due ≡ awaits.Operations 0 → ⊥) → step (reader-after k r) s (k + at) ≡ after k (reader-after k) (step r (part s k m) at)
+  step-through room h = step-after k s at r ∙ ap (after k (reader-after k)) (sym (step-within m (drop k s) at room r h))
+
+  -- they are all that is left of the input
+  pub step-last : length s ≤ k + m → step (reader-after k r) s (k + at) ≡ after k (reader-after k) (step r (part s k m) at)
+  step-last h = step-after k s at r ∙ ap (λ (l : List ℕ). after k (reader-after k) (step r l at)) (sym (take-all m (drop k s) (omega (arith, length-drop k s))))
