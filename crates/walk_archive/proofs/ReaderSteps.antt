@@ -2,7 +2,7 @@
 use Prim.Native.Nat.{ℕ, zero, suc, _+_, _-_, _≤_, _<_}
 use mathlib.Core.Path.{_≡_, refl, sym, ap, _∙_, subst}
 use mathlib.Core.Bool.{true, false, not, true≢false, false≢true}
-use mathlib.Core.List.{List, [], _∷_}
+use mathlib.Core.List.{List}
 use native.Mathlib.Omega.{arith}
 use lib.ListN.{length}
 use borrow.Author.Tests.{ltb-false}
@@ -14,7 +14,7 @@ use Rattle.stored_form.specs.declared.classes.Place.the-variants as place
 use Rattle.walk_archive.specs.declared.reader.{Due.Due, Opening.Opening, Reader.Reader, Advance.Advance}
 use Rattle.walk_archive.specs.declared.reader.Due.the-variants as awaits
 use Rattle.walk_archive.specs.Archive.{Archive, operations-at, read-archive, archive-refusal}
-use Rattle.walk_archive.specs.Reader.{reader, with-curve, with-drawing, with-count, with-seal, read-at, step, pending, reader-placed, advance-read, place-number, Bounded, archive-of, Accepted, Agrees}
+use Rattle.walk_archive.specs.Reader.{reader, with-curve, with-drawing, with-count, with-seal, read-at, step, pending, reader-placed, advance-read, place-number, archive-of, Accepted, Agrees}
 
 -- ---- the step of a field
 
@@ -228,13 +228,13 @@ module _ (s : List ℕ) where
 -- ---- what a whole reading says
 
 module _ (s : List ℕ) (p : Place) (r : Reader) (h : Agrees s (reader-placed p r) (read-archive s)) where
-  pub read-refused : {n m : ℕ} → p ≡ place.Refused n → m ≡ place-number p → read-archive s ≡ refused m
-  read-refused e f = (rw e at h) ∙ ap refused (sym (f ∙ ap place-number e))
+  pub archive-refused : {n m : ℕ} → p ≡ place.Refused n → m ≡ place-number p → read-archive s ≡ refused m
+  archive-refused e f = (rw e at h) ∙ ap refused (sym (f ∙ ap place-number e))
 
-  pub read-accepted : {next : Cursor} → p ≡ place.Next next → Accepted s (r .opening) (next .at) (read-archive s)
-  read-accepted e = rw e at h
+  pub archive-accepted : {next : Cursor} → p ≡ place.Next next → Accepted s (r .opening) (next .at) (read-archive s)
+  archive-accepted e = rw e at h
 
-pub read-number : (s : List ℕ) (p : Place) (r : Reader) → Agrees s (reader-placed p r) (read-archive s) → place-number p ≡ archive-refusal s
+pub archive-number : (s : List ℕ) (p : Place) (r : Reader) → Agrees s (reader-placed p r) (read-archive s) → place-number p ≡ archive-refusal s
 unfolding archive-refusal
-read-number s (place.Next next) r h = ap number (sym (h .archive))
-read-number s (place.Refused n) r h = ap number (sym h)
+archive-number s (place.Next next) r h = ap number (sym (h .archive))
+archive-number s (place.Refused n) r h = ap number (sym h)

@@ -1,20 +1,22 @@
--- A step looks at no byte before its place: over the part of the input from a place k on it finds what it finds over the whole input, and refuses what it refuses
--- there, with every place counted from k on. So the input can be read from a part of it that moves on.
-use Prim.Native.Nat.{ℕ, zero, suc, _+_, _≤_, _<_}
-use mathlib.Core.Path.{_≡_, refl, sym, ap, ap₂, _∙_}
-use mathlib.Core.Bool.{Bool, true, false, not, cond, _||_}
+-- A step looks only at the bytes of its own field, so the input can be read through a part of it that moves on: over m bytes from a place k on a step finds what it finds
+-- over the whole input, and refuses what it refuses there, with every place counted from k on, where the longest field, of 258 bytes, has room (`step-through`) or the
+-- m bytes are all that is left (`step-last`).
+use Prim.Native.Nat.{ℕ, zero, suc, _+_, _-_, _≤_, _<_}
+use mathlib.Core.Path.{_≡_, refl, sym, ap, _∙_}
+use mathlib.Core.Bool.{Bool, true, false, not, _||_}
 use mathlib.Core.List.{List}
 use native.Mathlib.Omega.{arith}
 use lib.Dec.{eqb, ltb}
-use lib.ListN.{length, getD, take, drop, length-drop}
-use lib.Seq.{drop-drop, getD-drop}
+use lib.ListN.{length, getD, take, drop, length-take, length-drop}
+use lib.Seq.{take-take, take-all, drop-drop, getD-take, getD-drop}
 use borrow.Author.Tests.{lt-ltb, le-ltb, ltb-true, ltb-false}
-use Rattle.stored_form.specs.{Number.part, Number.number-of, Reading.Reading, Reading.found, Reading.refused, Reading.refuse, Reading.due, Reading._then_, Head.head-at, Head.body-at, Head.body-length, Head.allowed, Fields.degree-at, Fields.printable, Fields.drawing-place, Fields.count-at, Fields.count-limit, Fields.end-due, Classes.curve-at, Classes.class-at}
-use Rattle.jacobian.specs.declared.{Curve.Curve, Class.Class}
+use Rattle.stored_form.specs.{Number.part, Number.number-of, Reading.Reading, Reading.found, Reading.refused, Reading.refuse, Reading.due, Reading._then_, Head.head-at, Head.body-at, Head.body-length, Head.allowed, Head.class-length, Fields.degree-at, Fields.printable, Fields.drawing-place, Fields.count-at, Fields.count-limit, Fields.end-due, Classes.curve-at, Classes.class-at}
+use Rattle.stored_form.proofs.{Parts.drop-take, Heads.head-found, Lengths.degree-length, Lengths.curve-length, Lengths.drawing-length, Lengths.count-length, Lengths.class-lengths, Lengths.operation-lengths, Lengths.class-length-le}
+use Rattle.jacobian.specs.declared.Curve.{Curve}
 use Rattle.stored_form.specs.declared.Part.{Part}
 use Rattle.walk_archive.specs.declared.reader.{Due.Due, Opening.Opening, Reader.Reader}
 use Rattle.walk_archive.specs.declared.reader.Due.the-variants as awaits
-use Rattle.walk_archive.specs.Reader.{reader, read-at, step}
+use Rattle.walk_archive.specs.Reader.{reader, with-drawing, read-at, step}
 
 -- ---- places counted from k bytes before
 
@@ -137,6 +139,82 @@ module _ (k : ℕ) (s : List ℕ) where
     read-after (awaits.Operations zero) o = rw end-after (due-after k (reader-after k) (reader awaits.Nothing o) at (end-due (drop k s) at))
     read-after awaits.Nothing o = refl
 
-    pub step-after : (r : Reader) → step (reader-after k r) s (k + at) ≡ after k (reader-after k) (step r (drop k s) at)
+    step-after : (r : Reader) → step (reader-after k r) s (k + at) ≡ after k (reader-after k) (step r (drop k s) at)
     unfolding step
     step-after r = read-after (r .due) (r .opening)
+
+-- ---- a step looks at no more bytes than the longest field has, 258
+
+then-where : {A B : Type 0} (x : Reading A) (f g : A → ℕ → Reading B) → ((a : A) (n : ℕ) → x ≡ found a n → f a n ≡ g a n) → (x then f) ≡ (x then g)
+unfolding _then_
+then-where (found a n) f g h = h a n refl
+then-where (refused k) f g h = refl
+
+module _ (m : ℕ) (s : List ℕ) where
+  part-within : (i n : ℕ) → i + n ≤ m → part (take m s) i n ≡ part s i n
+  part-within i n h = ap (take n) (drop-take i m s) ∙ take-take n (m - i) (drop i s) (omega arith)
+
+  ends-within : (i : ℕ) → i ≤ m → ltb (length (take m s)) i ≡ ltb (length s) i
+  ends-within i h = same-test (length (take m s)) i (length s) i (λ l. omega (arith, length-take m s)) (λ l. omega (arith, length-take m s))
+
+  last-checks : (i n : ℕ) (b : Bool) → (b ≡ true → i + n ≤ m) →
+      refuse 104 (not b) (refuse 105 (ltb (length (take m s)) (i + n)) (found n (i + n))) ≡ refuse 104 (not b) (refuse 105 (ltb (length s) (i + n)) (found n (i + n)))
+  last-checks i n false h = refl
+  last-checks i n true h = rw (ends-within (i + n) (h refl))
+
+  module _ (at : ℕ) (room : at + 258 ≤ m) (tag : ℕ) (short : (n : ℕ) → allowed tag n ≡ true → n ≤ 255) where
+    head-within : head-at tag (take m s) at ≡ head-at tag s at
+    unfolding head-at body-length
+    head-within =
+        let n = body-length s at in
+        rw (ends-within (at + 3) (omega arith), getD-take m s at 0 (omega arith), part-within (at + 1) 2 (omega arith))
+        (ap (λ (r : Reading ℕ). refuse 102 (ltb (length s) (at + 3)) (refuse 103 (not (eqb (getD s at 0) tag)) r))
+        (last-checks (at + 3) n (allowed tag n) (λ e. omega (arith, short n e))))
+
+    body-within : body-at tag (take m s) at ≡ body-at tag s at
+    unfolding body-at
+    body-within =
+        rw head-within
+        (then-where (head-at tag s at) _ _
+        (λ n next e.
+        let whole = head-found tag s at e in
+        ap (λ (l : List ℕ). found l next) (part-within (at + 3) n (omega (arith, short n (whole .allows))))))
+
+  module _ (at : ℕ) (room : at + 258 ≤ m) where
+    class-within : (tag : ℕ) (c : Curve) → ((n : ℕ) → allowed tag n ≡ class-length n) → class-at tag c (take m s) at ≡ class-at tag c s at
+    unfolding class-at
+    class-within tag c e = rw (body-within at room tag (λ n h. omega (arith, class-length-le n (sym (e n) ∙ h))))
+
+    read-within : (d : Due) (o : Opening) → (d ≡ awaits.Operations 0 → ⊥) → read-at d o (take m s) at ≡ read-at d o s at
+    unfolding read-at degree-at curve-at drawing-place count-at
+    read-within awaits.Degree o h = rw (body-within at room 0x40 (λ n e. omega (arith, degree-length e)))
+    read-within (awaits.Curve d) o h = rw (body-within at room 0x41 (λ n e. omega (arith, curve-length e)))
+    read-within awaits.Drawing o h =
+        rw (head-within at room 0x46 (λ n e. drawing-length e))
+        (ap (λ (x : Reading Part). x then λ p next. found (reader awaits.Count (with-drawing p o)) next)
+        (then-where (head-at 0x46 s at) _ _
+        (λ n next e.
+        let whole = head-found 0x46 s at e in
+        ap (λ (l : List ℕ). refuse 108 (not (printable l)) (found (record { start = at + 3; len = n }) next))
+        (part-within (at + 3) n (omega (arith, drawing-length (whole .allows)))))))
+    read-within awaits.Count o h = rw (body-within at room 0x42 (λ n e. omega (arith, count-length e)))
+    read-within awaits.Seal o h = rw (class-within 0x43 (o .curve) class-lengths)
+    read-within (awaits.Operations (suc n)) o h = rw (class-within 0x44 (o .curve) operation-lengths)
+    read-within (awaits.Operations zero) o h = absurd (h refl)
+    read-within awaits.Nothing o h = refl
+
+    -- but for the end of the input
+    step-within : (r : Reader) → (r .due ≡ awaits.Operations 0 → ⊥) → step r (take m s) at ≡ step r s at
+    unfolding step
+    step-within r h = read-within (r .due) (r .opening) h
+
+-- ---- a step over m bytes of the input from a place k on
+
+module _ (k m : ℕ) (s : List ℕ) (at : ℕ) (r : Reader) where
+  -- the longest field has room, and the end is not due
+  pub step-through : at + 258 ≤ m → (r .due ≡ awaits.Operations 0 → ⊥) → step (reader-after k r) s (k + at) ≡ after k (reader-after k) (step r (part s k m) at)
+  step-through room h = step-after k s at r ∙ ap (after k (reader-after k)) (sym (step-within m (drop k s) at room r h))
+
+  -- they are all that is left of the input
+  pub step-last : length s ≤ k + m → step (reader-after k r) s (k + at) ≡ after k (reader-after k) (step r (part s k m) at)
+  step-last h = step-after k s at r ∙ ap (λ (l : List ℕ). after k (reader-after k) (step r l at)) (sym (take-all m (drop k s) (omega (arith, length-drop k s))))

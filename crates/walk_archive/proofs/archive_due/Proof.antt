@@ -1,6 +1,6 @@
 -- `archive_due` meets its contract.
 use mathlib.Core.Path.{_∙_}
-use Rattle.walk_archive.proofs.ReaderSteps.{read-number}
+use Rattle.walk_archive.proofs.ReaderSteps.{archive-number}
 use borrow.Author.Needs.{needs}
 use Rattle.walk_archive.proofs.archive_due.Statement.{statement}
 use Rattle.walk_archive.proofs.archive_due.Tie as tie
@@ -14,7 +14,7 @@ place-refusal-requires c κs = search needs
 returns : tie.Need-returns
 returns c =
     let read = c .before .read in
-    c .place-refusal .ensures ∙ read-number _ (read .result .place) (read .result .reader) (read .ensures)
+    c .place-refusal .ensures ∙ archive-number _ (read .result .place) (read .result .reader) (read .ensures)
 
 pub archive-due-spec : {M : Type 1} → statement M
 archive-due-spec = tie.close (tie.spec read-requires place-refusal-requires returns)

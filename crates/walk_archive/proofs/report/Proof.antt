@@ -1,6 +1,6 @@
 -- `report` meets its contract.
 use Rattle.walk_archive.specs.Report.{room}
-use Rattle.walk_archive.proofs.ReaderSteps.{read-refused, read-accepted}
+use Rattle.walk_archive.proofs.ReaderSteps.{archive-refused, archive-accepted}
 use Rattle.walk_archive.proofs.Reports.{no-room, refusal-written, report-written}
 use borrow.Author.Needs.{needs}
 use Rattle.walk_archive.proofs.report.Statement.{statement}
@@ -32,7 +32,7 @@ returns-2 c =
     let told = c .before .before .before .before .before in
     let read = told .before .before .before in
     let t = read .read .result in
-    refusal-written _ _ (read .before .if1 .left) (read-refused _ (t .place) (t .reader) (read .read .ensures) (told .enum-told2 .given .1) (c .before .before .before .before .place-refusal .ensures))
+    refusal-written _ _ (read .before .if1 .left) (archive-refused _ (t .place) (t .reader) (read .read .ensures) (told .enum-told2 .given .1) (c .before .before .before .before .place-refusal .ensures))
     (c .before .before .put-refusal .ensures)
 
 put-walk-requires : tie.Need-put-walk-requires
@@ -41,7 +41,7 @@ put-walk-requires c κs =
     let told = c .before .before in
     let read = told .before .before .before in
     let t = read .read .result in
-    (read .before .if1 .left, read-accepted _ (t .place) (t .reader) (read .read .ensures) (told .enum-told .given .1) .bounded)
+    (read .before .if1 .left, archive-accepted _ (t .place) (t .reader) (read .read .ensures) (told .enum-told .given .1) .bounded)
 
 same-length-2 : tie.Need-same-length-2
 same-length-2 c = search needs
@@ -51,7 +51,7 @@ returns-3 c =
     let told = c .before .before .before .before .before in
     let read = told .before .before .before in
     let t = read .read .result in
-    report-written _ _ (read .before .if1 .left) (read-accepted _ (t .place) (t .reader) (read .read .ensures) (told .enum-told .given .1)) (c .before .before .put-walk .ensures)
+    report-written _ _ (read .before .if1 .left) (archive-accepted _ (t .place) (t .reader) (read .read .ensures) (told .enum-told .given .1)) (c .before .before .put-walk .ensures)
 
 pub report-spec : {M : Type 1} → statement M
 report-spec =
