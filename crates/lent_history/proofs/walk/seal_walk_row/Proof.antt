@@ -1,6 +1,7 @@
--- `seal_walk_row` meets its contract: a walk of its MIR, by hand, since the row is a slice of structs. Of `opened`, `turns` and `walked_on` it knows their contracts alone.
--- What stands at the loop's head (`Head`): how many classes were walked over, the walk that the code holds, and that it says what the steps over those classes answer.
--- Each turn looks into the row, copies one class out of it and makes one step. That a class of the row has rows of three numbers is learned where it is copied.
+-- `seal_walk_row` meets its contract: a walk of its MIR, by hand, since the row is a slice of structs. Of `opened`, `turns` and `walked_on` it knows
+-- their contracts alone. What stands at the loop's head (`Head`): how many classes were walked over, the walk that the code holds, and that it says what
+-- the steps over those classes answer. Each turn looks into the row, copies one class out of it and makes one step. That a class of the row has rows of
+-- three numbers is learned where it is copied.
 use mathlib.Core.Path.{_≡_, refl, sym, _∙_, ap}
 use Prim.Native.Nat.{ℕ, _+_, _-_, _*_, _≤_, _<_, _^_, zero-le}
 use native.Mathlib.Nat.{le-antisymm}
@@ -24,12 +25,12 @@ use prog.Wp.{Heap, Out, Env, Calls, Loops, Wp, WpFn, Tables, afterSeq, afterBloc
 use ghost.Atoms.{Atoms, sem}
 use contract.Monad.{Fun, fact}
 use contract.Running.{givenOf, tables, tablesOf}
-use types.Kit.{Given, Item, Sq, runs, anyQ, atRet, ‵, raw, _⊛_, some, later, _$_, _∵_, !, qed, by, move, keep, drop, use0, use1, split, join, pick, rewrite, fsplit, fjoin, suffices, frame, await, done}
+use types.Kit.{Given, Goal, Go, Soaks, Item, Seq, Sq, runs, anyQ, atRet, ‵, raw, _⊛_, some, later, _$_, _∵_, !, qed, by, move, keep, drop, use0, use1, split, join, pick, rewrite, fsplit, fjoin, suffices, frame, await, done}
 use types.Run.{look, look-raw, store, init, forget, stop, hop, fld, from, load, lit, of-opd, bin, assigns, assigns-last, and-then, no-more, land, first, skips, jumps, blocks, branches, returns, enter, alloc1, alloc0, params1, pass1, pass0, free1, free0, exec, Below, again, loops}
 use types.Part.{whole, sub, look-in}
 use types.Share.{arr-parts}
 use sound.WpLaws.{fmOf, WpFn-mono}
-use denote.RattleType.{owns}
+use denote.RattleType.{RattleType, owns}
 use denote.Laws.{Is, shows}
 use denote.Memory.{pointee, shares}
 use denote.Plain.{uint-tells, uint-makes, uint-lawful}
@@ -81,7 +82,10 @@ use Rattle.lent_history.proofs.walk.seal_walk_row.Code as code
 use Rattle.lent_history.proofs.walk.seal_walk_row.Code.Mir as mir
 
 abbrev stayed : Stays (row.ended .signature .params) (row.ended .kept)
-stayed = (stay-dropped (plain (λ _. C.the-row)) yes, (stay-dropped (plain (λ _. K.the-row)) yes, (stay-dropped (shrSliceOf (0 ∷ []) tt (plain (λ _. K.the-row))) yes, tt)))
+stayed = (
+  stay-dropped (plain (λ _. C.the-row)) yes,
+  (stay-dropped (plain (λ _. K.the-row)) yes, (stay-dropped (shrSliceOf (0 ∷ []) tt (plain (λ _. K.the-row))) yes, tt)),
+)
 
 abbrev word : Ty
 word = tyInt w64
@@ -133,18 +137,36 @@ module _ {M : Type 1} (𝓤 : URA M) (H : Heap 𝓤) (A : Atoms 𝓤) (mem : Mem
   abbrev WalkedOn : Contract 𝓤
   WalkedOn = tripleOf 𝓤 H A walked-on.signature (walked-on.spec 𝓤 H A mem run)
 
-  -- of each callee's `ensured`, the clause alone
-  opened-of : (c : Curve) (s : Class) (n : ℕ) (r : RowWalk)
-      → ent 𝓤 (ensured 𝓤 H A opened.ended (opened.clauses 𝓤 H A mem run) tt (c, (s, (n, tt))) tt r) (fact 𝓤 (reached r ≡ replied (opening-refusal c s n) s))
-  opened-of c s n r = exE 𝓤 _ (λ ws. snd∗ 𝓤 (sem 𝓤 H A (lasts opened.ended tt (c, (s, (n, tt))) ws)) (fact 𝓤 (reached r ≡ replied (opening-refusal c s n) s)))
+  -- what each call leaves beside its answer, and of that the clause alone
+  abbrev OpenedSays : Curve → Class → ℕ → RowWalk → SProp 𝓤
+  OpenedSays c s n = ensured 𝓤 H A opened.ended (opened.clauses 𝓤 H A mem run) tt (c, (s, (n, tt))) tt
 
-  turns-of : (w : RowWalk) (n r : ℕ)
-      → ent 𝓤 (ensured 𝓤 H A turns.ended (turns.clauses 𝓤 H A mem run) tt (w, (n, tt)) tt r) (fact 𝓤 (r ≡ turns-due (verdict-of (w .refusal)) n))
+  opened-of : (c : Curve) (s : Class) (n : ℕ) (w : RowWalk) → ent 𝓤 (OpenedSays c s n w) (fact 𝓤 (reached w ≡ replied (opening-refusal c s n) s))
+  opened-of c s n w = exE 𝓤 _ (λ ws. snd∗ 𝓤 (sem 𝓤 H A (lasts opened.ended tt (c, (s, (n, tt))) ws)) (fact 𝓤 (reached w ≡ replied (opening-refusal c s n) s)))
+
+  abbrev TurnsSays : RowWalk → ℕ → ℕ → SProp 𝓤
+  TurnsSays w n = ensured 𝓤 H A turns.ended (turns.clauses 𝓤 H A mem run) tt (w, (n, tt)) tt
+
+  turns-of : (w : RowWalk) (n r : ℕ) → ent 𝓤 (TurnsSays w n r) (fact 𝓤 (r ≡ turns-due (verdict-of (w .refusal)) n))
   turns-of w n r = exE 𝓤 _ (λ ws. snd∗ 𝓤 (sem 𝓤 H A (lasts turns.ended tt (w, (n, tt)) ws)) (fact 𝓤 (r ≡ turns-due (verdict-of (w .refusal)) n)))
 
-  walked-on-of : (c : Curve) (w : RowWalk) (a : Class) (r : RowWalk)
-      → ent 𝓤 (ensured 𝓤 H A walked-on.ended (walked-on.clauses 𝓤 H A mem run) tt (c, (w, (a, tt))) tt r) (fact 𝓤 (reached r ≡ onward c (reached w) a))
+  abbrev WalkedOnSays : Curve → RowWalk → Class → RowWalk → SProp 𝓤
+  WalkedOnSays c w a = ensured 𝓤 H A walked-on.ended (walked-on.clauses 𝓤 H A mem run) tt (c, (w, (a, tt))) tt
+
+  walked-on-of : (c : Curve) (w : RowWalk) (a : Class) (r : RowWalk) → ent 𝓤 (WalkedOnSays c w a r) (fact 𝓤 (reached r ≡ onward c (reached w) a))
   walked-on-of c w a r = exE 𝓤 _ (λ ws. snd∗ 𝓤 (sem 𝓤 H A (lasts walked-on.ended tt (c, (w, (a, tt))) ws)) (fact 𝓤 (reached r ≡ onward c (reached w) a)))
+
+-- a call has answered v: some value of the type has that machine value, and P holds of it
+abbrev came : {M : Type 1} (𝓤 : URA M) (X : RattleType) → (X .Denot → SProp 𝓤) → Val → Item 𝓤
+came 𝓤 X P v = later (some (λ (r : X .Denot). (‵ ftrue ⊛ ‵ (X .own r (v ∷ []))) ⊛ raw (P r)))
+
+-- where P says a fact, the walk goes on with the value, the fact and the type's relation
+hears : {M : Type 1} {𝓤 : URA M} {H : Heap 𝓤} {A : Atoms 𝓤} {W : Given 𝓤 H A} {Γ : List (Item 𝓤)} {G : Goal 𝓤 H} → Soaks G
+    → (X : RattleType) (P : X .Denot → SProp 𝓤) (φ : X .Denot → Type 0) → ((r : X .Denot) → ent 𝓤 (P r) (fact 𝓤 (φ r))) → (v : Val)
+    → ((r : X .Denot) → φ r → Is X r (v ∷ []) → Seq Go W Γ G) → Seq Go W (came 𝓤 X P v ∷ Γ) G
+hears {𝓤 = 𝓤} {H = H} {A = A} {W = W} z X P φ says v k =
+    await ! z $ pick ! (λ r. split ! $ move ! (1 ∷ []) $ use1 W (raw (fact 𝓤 (φ r))) (says r) $
+    heard ! (φ r) (λ e. split ! $ drop ! $ facts ! X (Is X) (shows 𝓤 H A X) r (v ∷ []) (λ g. k r e g)))
 
 -- what stands at the loop's head
 record Head (c : Curve) (x : Reply) (ys : List Class) (n : ℕ) : Type 0 where
@@ -181,7 +203,8 @@ module _ {M : Type 1} (𝓤 : URA M) (H : Heap 𝓤) (A : Atoms 𝓤) (W : Given
   exits : (w : RowWalk) (v : Val) → Is R.the-row w (v ∷ []) → reached w ≡ row-walk-answer c s ys → ent 𝓤 (sem 𝓤 H A (flft κ q)) (Post v)
   exits w v g e =
       qed W (‵ (flft κ q) ∷ []) ∵
-      suffices ! _ (ends-at 𝓤 H A row.ended stayed (row.clauses 𝓤 H A mem run) W (((κ, tt), (q, tt), tt, x, at), tt) v w (tt, (tt, (tt, tt))) (tt, (tt, (tt, tt)))) $ says ! e $
+      suffices ! _ (ends-at 𝓤 H A row.ended stayed (row.clauses 𝓤 H A mem run) W (((κ, tt), (q, tt), tt, x, at), tt) v w (tt, (tt, (tt, tt))) (tt, (tt, (tt, tt)))) $
+      says ! e $
       owned ! R.the-row (Is R.the-row) (LL.makes R.the-type R′.the-plain 𝓤 H A) w (v ∷ []) g $
       nothing ! $ nothing ! $ fjoin ! $ nothing ! $ fjoin ! $ nothing ! $ fjoin ! $ move ! (2 ∷ []) $ nothing ! $ move ! (1 ∷ 0 ∷ []) $ join ! $ frame ! $ done !
 
@@ -206,15 +229,24 @@ module _ {M : Type 1} (𝓤 : URA M) (H : Heap 𝓤) (A : Atoms 𝓤) (W : Given
   abbrev to-walked-on : RowWalk → Val → Class → WalkedOn 𝓤 H A mem run .Ghost
   to-walked-on w v a = ((tt, tt, tt, (c, (w, (a, tt))), (cv c ∷ [], (v ∷ [], (kv a ∷ [], tt)))), tt)
 
-  goes-walked-on : (w : RowWalk) (v : Val) (a : Class) → Is R.the-row w (v ∷ []) → Is K.the-row a (kv a ∷ []) → ent 𝓤 (emp 𝓤) (WalkedOn 𝓤 H A mem run .pre (to-walked-on w v a))
+  goes-walked-on : (w : RowWalk) (v : Val) (a : Class) → Is R.the-row w (v ∷ []) → Is K.the-row a (kv a ∷ [])
+      → ent 𝓤 (emp 𝓤) (WalkedOn 𝓤 H A mem run .pre (to-walked-on w v a))
   goes-walked-on w v a g h =
       qed W [] ∵ nothing ! $ owned ! K.the-row (Is K.the-row) (LL.makes K.the-type K′.the-plain 𝓤 H A) a _ h $ fjoin ! $
       owned ! R.the-row (Is R.the-row) (LL.makes R.the-type R′.the-plain 𝓤 H A) w _ g $ fjoin ! $
       owned ! C.the-row (Is C.the-row) (LL.makes C.the-type C′.the-plain 𝓤 H A) c _ ic $ fjoin ! $ nothing ! $ join ! $ frame ! $ done !
 
+  -- a local that holds nothing, and one that holds v
+  abbrev empty : Ty → ℕ → List (Item 𝓤) → List (Item 𝓤)
+  empty τ l Γ = ‵ (froom τ l 0) ∷ ‵ (fdies τ l) ∷ Γ
+
+  abbrev full : Ty → ℕ → Val → List (Item 𝓤) → List (Item 𝓤)
+  full τ l v Γ = ‵ (fat fullShare τ l 0 v) ∷ ‵ (fdies τ l) ∷ Γ
+
   -- the loop: x₀ is what the opening answers, and n the number of turns
   module _ (x₀ : Reply) (n : ℕ) (few : n ≤ length ys)
-      (ends : (w : RowWalk) → reached w ≡ after (onward c) x₀ (take n ys) → ((j : ℕ) → j < n → Three (getD ys j neutral-class)) → reached w ≡ row-walk-answer c s ys) where
+      (ends : (w : RowWalk) → reached w ≡ after (onward c) x₀ (take n ys) → ((j : ℕ) → j < n → Three (getD ys j neutral-class))
+      → reached w ≡ row-walk-answer c s ys) where
     abbrev Here : Type 0
     Here = Head c x₀ ys n
 
@@ -235,15 +267,15 @@ module _ {M : Type 1} (𝓤 : URA M) (H : Heap 𝓤) (A : Atoms 𝓤) (W : Given
       Λ = 𝓣 .Λ
 
       abbrev E : Env 𝓤 H
-      E = (R′.mir, l₀) ∷ (C′.mir, l₁) ∷ (K′.mir, l₂) ∷ (slice, l₃) ∷ (R′.mir, l₄) ∷ (word, l₅) ∷ (word, l₆) ∷ (R′.mir, l₇) ∷ (word, l₈) ∷ (tyBool, l₉) ∷ (word, l₁₀) ∷ (tyPtr, l₁₁) ∷ (K′.mir, l₁₂) ∷ []
+      E = (R′.mir, l₀) ∷ (C′.mir, l₁) ∷ (K′.mir, l₂) ∷ (slice, l₃) ∷ (R′.mir, l₄) ∷ (word, l₅) ∷ (word, l₆) ∷ (R′.mir, l₇) ∷ (word, l₈)
+          ∷ (tyBool, l₉) ∷ (word, l₁₀) ∷ (tyPtr, l₁₁) ∷ (K′.mir, l₁₂) ∷ []
 
-      -- the borrow of the row and its token, then the locals, the last first
+      -- the fractured borrow of the row and its token, then the locals, the last first
       abbrev At : Here → List (Item 𝓤)
-      At h = ‵ (fshr-bor κ (λ t. arr-parts (shares K.the-row) (length ys) .part t ys b o)) ∷ ‵ (flft κ q) ∷ ‵ (froom K′.mir l₁₂ 0) ∷ ‵ (fdies K′.mir l₁₂) ∷ ‵ (froom tyPtr l₁₁ 0) ∷ ‵ (fdies tyPtr l₁₁)
-          ∷ ‵ (froom word l₁₀ 0) ∷ ‵ (fdies word l₁₀) ∷ ‵ (froom tyBool l₉ 0) ∷ ‵ (fdies tyBool l₉) ∷ ‵ (froom word l₈ 0) ∷ ‵ (fdies word l₈) ∷ ‵ (froom R′.mir l₇ 0) ∷ ‵ (fdies R′.mir l₇)
-          ∷ ‵ (fat fullShare word l₆ 0 (vint w64 (h .i))) ∷ ‵ (fdies word l₆) ∷ ‵ (fat fullShare word l₅ 0 (vint w64 n)) ∷ ‵ (fdies word l₅) ∷ ‵ (fat fullShare R′.mir l₄ 0 (h .v)) ∷ ‵ (fdies R′.mir l₄)
-          ∷ ‵ (fat fullShare slice l₃ 0 (sliceVal (b, o) (length ys))) ∷ ‵ (fdies slice l₃) ∷ ‵ (fat fullShare K′.mir l₂ 0 (kv s)) ∷ ‵ (fdies K′.mir l₂) ∷ ‵ (fat fullShare C′.mir l₁ 0 (cv c)) ∷ ‵ (fdies C′.mir l₁)
-          ∷ ‵ (froom R′.mir l₀ 0) ∷ ‵ (fdies R′.mir l₀) ∷ []
+      At h = ‵ (fshr-bor κ (λ t. arr-parts (shares K.the-row) (length ys) .part t ys b o)) ∷ ‵ (flft κ q) ∷
+          empty K′.mir l₁₂ (empty tyPtr l₁₁ (empty word l₁₀ (empty tyBool l₉ (empty word l₈ (empty R′.mir l₇
+          (full word l₆ (vint w64 (h .i)) (full word l₅ (vint w64 n) (full R′.mir l₄ (h .v)
+          (full slice l₃ (sliceVal (b, o) (length ys)) (full K′.mir l₂ (kv s) (full C′.mir l₁ (cv c) (empty R′.mir l₀ []))))))))))))
 
       -- a turn's postcondition: it ends nearer to n, or the loop is left and the rest of the body runs
       abbrev Turned : Here → Out → SProp 𝓤
@@ -252,10 +284,12 @@ module _ {M : Type 1} (𝓤 : URA M) (H : Heap 𝓤) (A : Atoms 𝓤) (W : Given
       leaves : (h : Here) → h .i ≡ n → Sq W (At h) (runs Ca Λ E mir.t-7 (atRet E Post))
       leaves h e =
           assigns ! (of-opd ! (load ! (from ! (stop !)) (look ! 18 refl))) (from ! (stop !)) (init ! 26 refl (typed-r (h .w) (h .v) (h .is))) $
-          returns ! (look ! 26 refl) $ forget ! 14 refl $ forget ! 16 refl $ forget ! 18 refl $ forget ! 20 refl $ forget ! 22 refl $ forget ! 24 refl $ forget ! 26 refl $
-          move ! (26 ∷ 27 ∷ []) $ free1 ! $ move ! (24 ∷ 25 ∷ []) $ free1 ! $ move ! (22 ∷ 23 ∷ []) $ free1 ! $ move ! (20 ∷ 21 ∷ []) $ free1 ! $ move ! (18 ∷ 19 ∷ []) $ free1 ! $
-          move ! (16 ∷ 17 ∷ []) $ free1 ! $ move ! (14 ∷ 15 ∷ []) $ free1 ! $ move ! (12 ∷ 13 ∷ []) $ free1 ! $ move ! (10 ∷ 11 ∷ []) $ free1 ! $ move ! (8 ∷ 9 ∷ []) $ free1 ! $
-          move ! (6 ∷ 7 ∷ []) $ free1 ! $ move ! (4 ∷ 5 ∷ []) $ free1 ! $ move ! (2 ∷ 3 ∷ []) $ free1 ! $ free0 ! $ keep ! (1 ∷ []) $
+          returns ! (look ! 26 refl) $
+          forget ! 14 refl $ forget ! 16 refl $ forget ! 18 refl $ forget ! 20 refl $ forget ! 22 refl $ forget ! 24 refl $ forget ! 26 refl $
+          move ! (26 ∷ 27 ∷ []) $ free1 ! $ move ! (24 ∷ 25 ∷ []) $ free1 ! $ move ! (22 ∷ 23 ∷ []) $ free1 ! $ move ! (20 ∷ 21 ∷ []) $ free1 ! $
+          move ! (18 ∷ 19 ∷ []) $ free1 ! $ move ! (16 ∷ 17 ∷ []) $ free1 ! $ move ! (14 ∷ 15 ∷ []) $ free1 ! $ move ! (12 ∷ 13 ∷ []) $ free1 ! $
+          move ! (10 ∷ 11 ∷ []) $ free1 ! $ move ! (8 ∷ 9 ∷ []) $ free1 ! $ move ! (6 ∷ 7 ∷ []) $ free1 ! $ move ! (4 ∷ 5 ∷ []) $ free1 ! $
+          move ! (2 ∷ 3 ∷ []) $ free1 ! $ free0 ! $ keep ! (1 ∷ []) $
           by ! (exits (h .w) (h .v) (h .is) (ends (h .w) (h .reach ∙ ap (λ k. after (onward c) x₀ (take k ys)) e) (λ j l. h .threes j (omega arith))))
 
       -- the class of this turn
@@ -268,7 +302,8 @@ module _ {M : Type 1} (𝓤 : URA M) (H : Heap 𝓤) (A : Atoms 𝓤) (W : Given
       bytes : (h : Here) → h .i < n → h .i * 56 < 2 ^ 64
       bytes h l = let g : length ys * 56 < 2 ^ 63 = room .1 in omega arith
 
-      next : (h : Here) → h .i < n → Is K.the-row (now-at h) (kv (now-at h) ∷ []) → (w : RowWalk) (v : Val) → Is R.the-row w (v ∷ []) → reached w ≡ onward c (reached (h .w)) (now-at h) → Here
+      next : (h : Here) → h .i < n → Is K.the-row (now-at h) (kvs (now-at h))
+          → (w : RowWalk) (v : Val) → Is R.the-row w (v ∷ []) → reached w ≡ onward c (reached (h .w)) (now-at h) → Here
       next h l g w v r e = record {
         i = h .i + 1;
         low = add-one-le l;
@@ -282,24 +317,29 @@ module _ {M : Type 1} (𝓤 : URA M) (H : Heap 𝓤) (A : Atoms 𝓤) (W : Given
       steps : (h : Here) → h .i < n → Sq W (At h) (runs Ca Λ E step (anyQ (Turned h)))
       unfolding afterTurn next
       steps h l =
-          assigns ! (bin ! (load ! (from ! (stop !)) (look ! 14 refl)) (lit ! tt) (record { fits = bytes h l })) (from ! (stop !)) (init ! 6 refl (tt, record { fits = bytes h l })) $
-          assigns ! (bin ! (load ! (from ! (fld ! refl (stop !))) (look-in ! 20 (sub ! 0 refl (whole !)))) (load ! (from ! (stop !)) (look ! 6 refl)) tt) (from ! (stop !)) (init ! 4 refl (tt, tt)) $
+          assigns ! (bin ! (load ! (from ! (stop !)) (look ! 14 refl)) (lit ! tt) (record { fits = bytes h l })) (from ! (stop !))
+          (init ! 6 refl (tt, record { fits = bytes h l })) $
+          assigns ! (bin ! (load ! (from ! (fld ! refl (stop !))) (look-in ! 20 (sub ! 0 refl (whole !)))) (load ! (from ! (stop !)) (look ! 6 refl)) tt)
+          (from ! (stop !)) (init ! 4 refl (tt, tt)) $
           rewrite ! 4 (λ (p : ℕ). ‵ (fat fullShare tyPtr l₁₁ 0 (vptr b p))) (sym (place-is 56 o (h .i))) refl $
-          looks-slice ! tt K.the-row (Is K.the-row) (shows 𝓤 H A K.the-row) kvs (LL.tells K.the-type K′.the-laws) (LL.copy K.the-type K′.the-copy 𝓤 H A W) ys b o (λ q′.
+          looks-slice ! tt K.the-row (Is K.the-row) (shows 𝓤 H A K.the-row) kvs (LL.tells K.the-type K′.the-laws)
+          (LL.copy K.the-type K′.the-copy 𝓤 H A W) ys b o (λ q′.
           elem-out ! K.the-row (Is K.the-row) (shows 𝓤 H A K.the-row) kvs (LL.tells K.the-type K′.the-laws) q′ ys (h .i) neutral-class b o (within h l) (λ g.
           -- [the class; what it owns; the others; what shuts; the fractured borrow; _12; …]
           assigns ! (of-opd ! (load ! (from ! (hop ! (look ! 7 refl) (stop !))) (look-raw ! 0 refl))) (from ! (stop !)) (init ! 5 refl (typed-k (now-at h) g)) $
           elem-back ! K.the-row q′ ys (h .i) neutral-class (kvs (now-at h)) b o (within h l) $ shuts-slice ! tt K.the-row q′ ys b o $ move ! (1 ∷ []) $
           use0 W (raw (WalkedOn 𝓤 H A mem run .pre (to-walked-on (h .w) (h .v) (now-at h)))) (goes-walked-on (h .w) (h .v) (now-at h) (h .is) g) $
           calls-at ! (fmOf 𝓤 H (W .laws) 𝓣) (WalkedOn 𝓤 H A mem run) known-step (to-walked-on (h .w) (h .v) (now-at h))
-          (and-then ! (load ! (from ! (stop !)) (look ! 25 refl)) (and-then ! (load ! (from ! (stop !)) (look ! 19 refl)) (and-then ! (load ! (from ! (stop !)) (look ! 3 refl)) (no-more !)))) (λ v.
-          use1 W (later (some (λ (r : RowWalk). (‵ ftrue ⊛ ‵ (R.the-row .own r (v ∷ []))) ⊛ raw (ensured 𝓤 H A walked-on.ended (walked-on.clauses 𝓤 H A mem run) tt (c, (h .w, (now-at h, tt))) tt r)))) (id⊢ 𝓤 _) $ await ! tt $ pick ! (λ r.
-          split ! $ move ! (1 ∷ []) $ use1 W (raw (fact 𝓤 (reached r ≡ onward c (reached (h .w)) (now-at h)))) (walked-on-of 𝓤 H A mem run c (h .w) (now-at h) r) $ heard ! (reached r ≡ onward c (reached (h .w)) (now-at h)) (λ e. split ! $ drop ! $
-          facts ! R.the-row (Is R.the-row) (shows 𝓤 H A R.the-row) r (v ∷ []) (λ rv.
+          (and-then ! (load ! (from ! (stop !)) (look ! 25 refl))
+          (and-then ! (load ! (from ! (stop !)) (look ! 19 refl)) (and-then ! (load ! (from ! (stop !)) (look ! 3 refl)) (no-more !)))) (λ v.
+          use1 W (came 𝓤 R.the-row (WalkedOnSays 𝓤 H A mem run c (h .w) (now-at h)) v) (id⊢ 𝓤 _) $
+          hears tt R.the-row (WalkedOnSays 𝓤 H A mem run c (h .w) (now-at h)) (λ r. reached r ≡ onward c (reached (h .w)) (now-at h))
+          (walked-on-of 𝓤 H A mem run c (h .w) (now-at h)) v (λ r e rv.
           land ! (from ! (stop !)) (init ! 12 refl (typed-r r v rv)) $
           assigns ! (of-opd ! (load ! (from ! (stop !)) (look ! 12 refl))) (from ! (stop !)) (store ! 18 refl (typed-r r v rv)) $
-          assigns-last ! (bin ! (load ! (from ! (stop !)) (look ! 14 refl)) (lit ! tt) (record { fits = fits (h .i + 1) (add-one-le l) })) (from ! (stop !)) (store ! 14 refl (tt, record { fits = fits (h .i + 1) (add-one-le l) })) $
-          forget ! 2 refl $ forget ! 4 refl $ forget ! 6 refl $ forget ! 12 refl $ again ! Nearer At h (next h l g r v rv e) (add-one-dec n (h .i) l)))))))
+          assigns-last ! (bin ! (load ! (from ! (stop !)) (look ! 14 refl)) (lit ! tt) (record { fits = fits (h .i + 1) (add-one-le l) }))
+          (from ! (stop !)) (store ! 14 refl (tt, record { fits = fits (h .i + 1) (add-one-le l) })) $
+          forget ! 2 refl $ forget ! 4 refl $ forget ! 6 refl $ forget ! 12 refl $ again ! Nearer At h (next h l g r v rv e) (add-one-dec n (h .i) l)))))
 
       turned : (h : Here) → Sq W (At h) (runs Ca Λ E mir.turn-1 (anyQ (Turned h)))
       unfolding afterTurn
@@ -317,7 +357,8 @@ module _ {M : Type 1} (𝓤 : URA M) (H : Heap 𝓤) (A : Atoms 𝓤) (W : Given
   few w n m = rw m (turns-few (verdict-of (w .refusal)) (length ys))
 
   ends : (w : RowWalk) (n : ℕ) → reached w ≡ replied (opening-refusal c s (length ys)) s → n ≡ turns-due (verdict-of (w .refusal)) (length ys)
-      → (r : RowWalk) → reached r ≡ after (onward c) (reached w) (take n ys) → ((j : ℕ) → j < n → Three (getD ys j neutral-class)) → reached r ≡ row-walk-answer c s ys
+      → (r : RowWalk) → reached r ≡ after (onward c) (reached w) (take n ys) → ((j : ℕ) → j < n → Three (getD ys j neutral-class))
+      → reached r ≡ row-walk-answer c s ys
   ends w n e m r h t = h ∙ row-walked c s (three s _ is) ys (reached w) n neutral-class e m t
 
   begins : (w : RowWalk) (v : Val) → Is R.the-row w (v ∷ []) → (n : ℕ) → Head c (reached w) ys n
@@ -333,37 +374,44 @@ module _ {M : Type 1} (𝓤 : URA M) (H : Heap 𝓤) (A : Atoms 𝓤) (W : Given
         -- of the row, the fractured borrow and its token
         split ! $ move ! (2 ∷ []) $ fsplit ! $ drop ! $ fsplit ! $ drop ! $ fsplit ! $ fsplit ! $ drop ! $ fsplit ! $ drop ! $ keep ! (0 ∷ 2 ∷ []) $
         enter ! (𝓣 .C) (𝓣 .Λ) code.function (cv c ∷ kv s ∷ sliceVal (b, o) (length ys) ∷ []) _ $
-        alloc1 ! (λ l₀. alloc1 ! (λ l₁. alloc1 ! (λ l₂. alloc1 ! (λ l₃. alloc1 ! (λ l₄. alloc1 ! (λ l₅. alloc1 ! (λ l₆. alloc1 ! (λ l₇. alloc1 ! (λ l₈. alloc1 ! (λ l₉. alloc1 ! (λ l₁₀. alloc1 ! (λ l₁₁. alloc1 ! (λ l₁₂.
-        alloc0 ! $ params1 ! $ pass1 ! (init ! 22 refl typed-c) $ pass1 ! (init ! 20 refl (typed-k s is)) $ pass1 ! (init ! 18 refl (tt, (tt, (record { fits = room .0 }, tt)))) $ pass0 ! $
+        alloc1 ! (λ l₀. alloc1 ! (λ l₁. alloc1 ! (λ l₂. alloc1 ! (λ l₃. alloc1 ! (λ l₄. alloc1 ! (λ l₅. alloc1 ! (λ l₆.
+        alloc1 ! (λ l₇. alloc1 ! (λ l₈. alloc1 ! (λ l₉. alloc1 ! (λ l₁₀. alloc1 ! (λ l₁₁. alloc1 ! (λ l₁₂.
+        alloc0 ! $ params1 ! $ pass1 ! (init ! 22 refl typed-c) $ pass1 ! (init ! 20 refl (typed-k s is)) $
+        pass1 ! (init ! 18 refl (tt, (tt, (record { fits = room .0 }, tt)))) $ pass0 ! $
         move ! (26 ∷ 27 ∷ []) $
         -- [the fractured borrow; its token; _12; …]
-        assigns ! (of-opd ! (load ! (from ! (fld ! refl (stop !))) (look-in ! 20 (sub ! 1 refl (whole !))))) (from ! (stop !)) (init ! 10 refl (tt, record { fits = room .0 })) $
+        assigns ! (of-opd ! (load ! (from ! (fld ! refl (stop !))) (look-in ! 20 (sub ! 1 refl (whole !)))))
+        (from ! (stop !)) (init ! 10 refl (tt, record { fits = room .0 })) $
         use0 W (raw (Opened 𝓤 H A mem run .pre to-opened)) goes-opened $
         calls-at ! (fmOf 𝓤 H (W .laws) 𝓣) (Opened 𝓤 H A mem run) known-opened to-opened
-        (and-then ! (load ! (from ! (stop !)) (look ! 25 refl)) (and-then ! (load ! (from ! (stop !)) (look ! 23 refl)) (and-then ! (load ! (from ! (stop !)) (look ! 11 refl)) (no-more !)))) (λ v.
-        use1 W (later (some (λ (w : RowWalk). (‵ ftrue ⊛ ‵ (R.the-row .own w (v ∷ []))) ⊛ raw (ensured 𝓤 H A opened.ended (opened.clauses 𝓤 H A mem run) tt (c, (s, (length ys, tt))) tt w)))) (id⊢ 𝓤 _) $ await ! tt $ pick ! (λ w.
-        split ! $ move ! (1 ∷ []) $ use1 W (raw (fact 𝓤 (reached w ≡ replied (opening-refusal c s (length ys)) s))) (opened-of 𝓤 H A mem run c s (length ys) w) $ heard ! (reached w ≡ replied (opening-refusal c s (length ys)) s) (λ e. split ! $ drop ! $
-        facts ! R.the-row (Is R.the-row) (shows 𝓤 H A R.the-row) w (v ∷ []) (λ g.
+        (and-then ! (load ! (from ! (stop !)) (look ! 25 refl))
+        (and-then ! (load ! (from ! (stop !)) (look ! 23 refl)) (and-then ! (load ! (from ! (stop !)) (look ! 11 refl)) (no-more !)))) (λ v.
+        use1 W (came 𝓤 R.the-row (OpenedSays 𝓤 H A mem run c s (length ys)) v) (id⊢ 𝓤 _) $
+        hears tt R.the-row (OpenedSays 𝓤 H A mem run c s (length ys)) (λ w. reached w ≡ replied (opening-refusal c s (length ys)) s)
+        (opened-of 𝓤 H A mem run c s (length ys)) v (λ w e g.
         land ! (from ! (stop !)) (init ! 18 refl (typed-r w v g)) $
-        assigns ! (of-opd ! (load ! (from ! (fld ! refl (stop !))) (look-in ! 20 (sub ! 1 refl (whole !))))) (from ! (stop !)) (store ! 10 refl (tt, record { fits = room .0 })) $
+        assigns ! (of-opd ! (load ! (from ! (fld ! refl (stop !))) (look-in ! 20 (sub ! 1 refl (whole !)))))
+        (from ! (stop !)) (store ! 10 refl (tt, record { fits = room .0 })) $
         use0 W (raw (Turns 𝓤 H A mem run .pre (to-turns w v))) (goes-turns w v g) $
         calls-at ! (fmOf 𝓤 H (W .laws) 𝓣) (Turns 𝓤 H A mem run) known-turns (to-turns w v)
         (and-then ! (load ! (from ! (stop !)) (look ! 19 refl)) (and-then ! (load ! (from ! (stop !)) (look ! 11 refl)) (no-more !))) (λ u.
-        use1 W (later (some (λ (n : ℕ). (‵ ftrue ⊛ ‵ (usize .own n (u ∷ []))) ⊛ raw (ensured 𝓤 H A turns.ended (turns.clauses 𝓤 H A mem run) tt (w, (length ys, tt)) tt n)))) (id⊢ 𝓤 _) $ await ! tt $ pick ! (λ n.
-        split ! $ move ! (1 ∷ []) $ use1 W (raw (fact 𝓤 (n ≡ turns-due (verdict-of (w .refusal)) (length ys)))) (turns-of 𝓤 H A mem run w (length ys) n) $ heard ! (n ≡ turns-due (verdict-of (w .refusal)) (length ys)) (λ m. split ! $ drop ! $
-        facts ! usize (Is usize) (shows 𝓤 H A usize) n (u ∷ []) (λ k.
+        use1 W (came 𝓤 usize (TurnsSays 𝓤 H A mem run w (length ys)) u) (id⊢ 𝓤 _) $
+        hears tt usize (TurnsSays 𝓤 H A mem run w (length ys)) (λ n. n ≡ turns-due (verdict-of (w .refusal)) (length ys))
+        (turns-of 𝓤 H A mem run w (length ys)) u (λ n m k.
         land ! (from ! (stop !)) (init ! 16 refl (uint-lawful 𝓤 H A W w64 .typed n _ k .0)) $
         rewrite ! 16 (λ (y : Val). ‵ (fat fullShare word l₅ 0 y)) (head-eq-of-cons-eq (uint-tells w64 n (u ∷ []) k)) refl $
         assigns ! (of-opd ! (lit ! tt)) (from ! (stop !)) (init ! 14 refl (tt, record { fits = lit< tt })) $ forget ! 10 refl $
-        loop-on (reached w) n (few w n m) (ends w n e m) 𝓣 known-step l₀ l₁ l₂ l₃ l₄ l₅ l₆ l₇ l₈ l₉ l₁₀ l₁₁ l₁₂ (begins w v g n))))))))))))))))))))))
+        loop-on (reached w) n (few w n m) (ends w n e m) 𝓣 known-step l₀ l₁ l₂ l₃ l₄ l₅ l₆ l₇ l₈ l₉ l₁₀ l₁₁ l₁₂ (begins w v g n))))))))))))))))))
 
 module _ {M : Type 1} (𝓤 : URA M) (H : Heap 𝓤) (A : Atoms 𝓤) (W : Given 𝓤 H A) (mem : Memory → SProp 𝓤) (run : Routine → Fun 𝓤) where
-  row-walks : (𝓣 : Tables 𝓤 H) → Triple 𝓤 (𝓣 .C #opened) (Opened 𝓤 H A mem run) → Triple 𝓤 (𝓣 .C #turns) (Turns 𝓤 H A mem run) → Triple 𝓤 (𝓣 .C #walked-on) (WalkedOn 𝓤 H A mem run)
+  row-walks : (𝓣 : Tables 𝓤 H) → Triple 𝓤 (𝓣 .C #opened) (Opened 𝓤 H A mem run) → Triple 𝓤 (𝓣 .C #turns) (Turns 𝓤 H A mem run)
+      → Triple 𝓤 (𝓣 .C #walked-on) (WalkedOn 𝓤 H A mem run)
       → Walks 𝓤 H A row.ended stayed (WpFn 𝓤 H (𝓣 .C) (𝓣 .Λ) code.function) (row.clauses 𝓤 H A mem run)
   row-walks 𝓣 known-opened known-turns known-step = walked 𝓤 H A row.ended stayed (row.clauses 𝓤 H A mem run) (WpFn 𝓤 H (𝓣 .C) (𝓣 .Λ) code.function)
       (λ κs. (LL.vals C.the-type C′.the-laws, (kvs, (slice-vals, tt))))
       (λ κs. (LL.tells C.the-type C′.the-laws, (LL.tells K.the-type K′.the-laws, (shr-slice-tells (named 0) (κs .0) K.the-row, tt))))
-      (λ κs qs bounds a g are. via 𝓤 _ (fst∗ 𝓤 _ (emp 𝓤)) (walk 𝓤 H A W mem run (κs .0) (qs .0) (a .0) (a .1 .0) (a .1 .1 .0 .ptr .0) (a .1 .1 .0 .ptr .1) (a .1 .1 .0 .name) (a .1 .1 .0 .now)
+      (λ κs qs bounds a g are. via 𝓤 _ (fst∗ 𝓤 _ (emp 𝓤)) (walk 𝓤 H A W mem run (κs .0) (qs .0) (a .0) (a .1 .0) (a .1 .1 .0 .ptr .0)
+      (a .1 .1 .0 .ptr .1) (a .1 .1 .0 .name) (a .1 .1 .0 .now)
       (are .0) (are .1 .0) (are .1 .1 .0 .0 .1) 𝓣 known-opened known-turns known-step))
 
   goes : AllGo 𝓤 H A W 1 (row.signature .params) (row.ended .kept) stayed
@@ -375,7 +423,8 @@ module _ {M : Type 1} (𝓤 : URA M) (H : Heap 𝓤) (A : Atoms 𝓤) (W : Given
     ),
   )
 
-  row-meets : (𝓣 : Tables 𝓤 H) → Triple 𝓤 (𝓣 .C #opened) (Opened 𝓤 H A mem run) → Triple 𝓤 (𝓣 .C #turns) (Turns 𝓤 H A mem run) → Triple 𝓤 (𝓣 .C #walked-on) (WalkedOn 𝓤 H A mem run)
+  row-meets : (𝓣 : Tables 𝓤 H) → Triple 𝓤 (𝓣 .C #opened) (Opened 𝓤 H A mem run) → Triple 𝓤 (𝓣 .C #turns) (Turns 𝓤 H A mem run)
+      → Triple 𝓤 (𝓣 .C #walked-on) (WalkedOn 𝓤 H A mem run)
       → Meets 𝓤 H A row.signature (WpFn 𝓤 H (𝓣 .C) (𝓣 .Λ) code.function) (row.spec 𝓤 H A mem run)
   row-meets 𝓣 known-opened known-turns known-step = walk-meets 𝓤 H A row.ended stayed W goes (row.clauses 𝓤 H A mem run) (WpFn 𝓤 H (𝓣 .C) (𝓣 .Λ) code.function)
       (WpFn-mono 𝓤 H (W .laws) 𝓣 code.function) (row-walks 𝓣 known-opened known-turns known-step)
