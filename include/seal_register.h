@@ -45,11 +45,11 @@ struct seal_register {
 
 /* An operation: the seal becomes twice the seal plus the class, and the count grows by 1.
  * Refusals: 104, 106, 107, 109 to 111, 114 at count 1,024. */
-uint32_t seal_register_commit(struct seal_register *lent, struct seal_class class_);
+uint32_t seal_register_commit(struct seal_register *lent, struct seal_class operation);
 
 /* An operation undone: the seal becomes the half of the seal less the class, and the count falls by 1.
  * Refusals: 104, 106, 107, 109 to 111, 113 at count 0. */
-uint32_t seal_register_undo(struct seal_register *lent, struct seal_class class_);
+uint32_t seal_register_undo(struct seal_register *lent, struct seal_class operation);
 
 #ifdef __cplusplus
 }

@@ -9,25 +9,18 @@ use crate::carryless;
 use crate::multisquaring;
 use crate::squaring;
 
-fn squarings_of(d: u8, a: u64, k: u8, table: &[u16; 256]) -> u64
-    requires { ⌜ Accepted d × (a < 2 ^ d) × Spreads (now table) ⌝ }
-    ensures { λ r. ⌜ (r ≡ squarings d k a) × (r < 2 ^ d) ⌝ }
-{
-    let mut r = a;
-    let mut i = 0u8;
-    while i < k {
-        r = squaring::square_of(d, r, table);
-        i += 1;
-    }
-    r
-}
-
 // x squared k times, times y.
 fn joined(d: u8, x: u64, k: u8, y: u64, table: &[u16; 256]) -> u64
     requires { ⌜ Accepted d × (x < 2 ^ d) × (y < 2 ^ d) × Spreads (now table) ⌝ }
     ensures { λ r. ⌜ (r ≡ product d (squarings d k x) y) × (r < 2 ^ d) ⌝ }
 {
-    carryless::product_of(d, squarings_of(d, x, k, table), y)
+    let mut r = x;
+    let mut i = 0u8;
+    while i < k {
+        r = squaring::square_of(d, r, table);
+        i += 1;
+    }
+    carryless::product_of(d, r, y)
 }
 
 // The chain 1, 2, 4.
@@ -40,26 +33,18 @@ fn inverse_5(a: u64, table: &[u16; 256]) -> u64
     squaring::square_of(5, a4, table)
 }
 
-// a squared 6 n times, six times at once.
-fn sixfold_squarings_of(a: u64, n: u8, sixfold: &[u64; 256]) -> u64
-    requires { ⌜ (a < 2 ^ 61) × Multisquares (now sixfold) ⌝ }
-    ensures { λ r. ⌜ (r ≡ squarings 61 (n * 6) a) × (r < 2 ^ 61) ⌝ }
+// x squared 6 n times, six times at once, times y.
+fn joined_sixfold(x: u64, n: u8, y: u64, sixfold: &[u64; 256]) -> u64
+    requires { ⌜ (x < 2 ^ 61) × (y < 2 ^ 61) × Multisquares (now sixfold) ⌝ }
+    ensures { λ r. ⌜ (r ≡ product 61 (squarings 61 (n * 6) x) y) × (r < 2 ^ 61) ⌝ }
 {
-    let mut r = a;
+    let mut r = x;
     let mut i = 0u8;
     while i < n {
         r = multisquaring::multisquare(r, sixfold);
         i += 1;
     }
-    r
-}
-
-// x squared 6 n times, times y.
-fn joined_sixfold(x: u64, n: u8, y: u64, sixfold: &[u64; 256]) -> u64
-    requires { ⌜ (x < 2 ^ 61) × (y < 2 ^ 61) × Multisquares (now sixfold) ⌝ }
-    ensures { λ r. ⌜ (r ≡ product 61 (squarings 61 (n * 6) x) y) × (r < 2 ^ 61) ⌝ }
-{
-    carryless::product_of(61, sixfold_squarings_of(x, n, sixfold), y)
+    carryless::product_of(61, r, y)
 }
 
 // The chain 1, 2, 3, 6, 12, 24, 48, 60, whose squarings come in sixes from 6 on.

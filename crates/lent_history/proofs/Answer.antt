@@ -9,14 +9,6 @@ use Rattle.jacobian.specs.declared.Class.{Class}
 use Rattle.history.proofs.Answers.{number-verdict}
 use Rattle.lent_history.specs.InPlace.{in-place}
 
--- a rule of the register, as `commit-answer` and `undo-answer` are
-abbrev pub Rule : Type 0
-Rule = Register → Class → RegisterReply
-
--- where the rule is met by value, it is met by the outcome's number and the register of the answer
-pub record Numbers (rule : Rule) : Type 0 where
-  pub answers : (r : Register) (a : Class) (x : RegisterAnswer) (n : ℕ) → register-reply x ≡ rule r a → n ≡ number (x .outcome) → in-place n (x .register) ≡ rule r a
-
 follows-verdict : (m : ℕ) (given next : Register) → follows m given next .outcome ≡ verdict-of m
 unfolding follows verdict-of
 follows-verdict zero given next = refl
@@ -31,10 +23,11 @@ follows-in-place m given next x n e h =
     ∙ ap (λ (v : Verdict). record { outcome = v; register = x .register }) (sym o)
     ∙ e
 
-pub commit-numbers : Numbers commit-answer
-unfolding commit-answer
-commit-numbers = record { answers = λ r a. follows-in-place _ r _ }
+module _ (r : Register) (a : Class) (x : RegisterAnswer) (n : ℕ) where
+  pub commit-in-place : register-reply x ≡ commit-answer r a → n ≡ number (x .outcome) → in-place n (x .register) ≡ commit-answer r a
+  unfolding commit-answer
+  commit-in-place = follows-in-place _ r _ x n
 
-pub undo-numbers : Numbers undo-answer
-unfolding undo-answer
-undo-numbers = record { answers = λ r a. follows-in-place _ r _ }
+  pub undo-in-place : register-reply x ≡ undo-answer r a → n ≡ number (x .outcome) → in-place n (x .register) ≡ undo-answer r a
+  unfolding undo-answer
+  undo-in-place = follows-in-place _ r _ x n

@@ -7,6 +7,7 @@ ghost use Rattle.lent_history.specs.InPlace.{in-place};
 use history::Register;
 use jacobian::Class;
 
+// The lent register becomes the one after a commit; on a refusal it stays as it was.
 #[no_mangle]
 pub extern "C" fn seal_register_commit(register: &mut Register, class: Class) -> u32
     ensures { λ n. ⌜ in-place n (now (register .exit)) ≡ commit-answer (now (register .entry)) class ⌝ }
@@ -16,6 +17,7 @@ pub extern "C" fn seal_register_commit(register: &mut Register, class: Class) ->
     history::outcome_number(a.outcome)
 }
 
+// The lent register becomes the one after an undo; on a refusal it stays as it was.
 #[no_mangle]
 pub extern "C" fn seal_register_undo(register: &mut Register, class: Class) -> u32
     ensures { λ n. ⌜ in-place n (now (register .exit)) ≡ undo-answer (now (register .entry)) class ⌝ }

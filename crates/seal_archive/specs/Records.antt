@@ -4,11 +4,9 @@ use mathlib.Core.List.{List, _++_}
 use Rattle.jacobian.specs.declared.Curve.{Curve}
 use Rattle.jacobian.specs.declared.Class.{Class}
 use Rattle.history.specs.declared.Register.{Register}
-use Rattle.stored_form.specs.Reading.{Reading, found, refused, due, _then_}
+use Rattle.stored_form.specs.Reading.{Reading, found, due, _then_}
 use Rattle.stored_form.specs.Fields.{count-at, count-field, end-due}
-use Rattle.stored_form.specs.Classes.{curve-first, curve-first-fields, class-at, class-field}
-use Rattle.stored_form.specs.declared.classes.Place.{Place}
-use Rattle.stored_form.specs.declared.classes.Place.the-variants.{Next, Refused}
+use Rattle.stored_form.specs.Classes.{curve-first, curve-first-fields, class-at, class-field, placed}
 use Rattle.seal_archive.specs.declared.records.ClassRecord.{ClassRecord}
 use Rattle.seal_archive.specs.declared.records.SumRecord.{SumRecord}
 use Rattle.seal_archive.specs.declared.records.RegisterRecord.{RegisterRecord}
@@ -69,15 +67,11 @@ register-record-bytes g a =
 
 -- ---- what the code's answers say
 
-abbrev pub at-place : {A : Type 0} → Place → A → Reading A
-at-place (Next next) a = found a (next .at)
-at-place (Refused n) a = refused n
-
 abbrev pub class-record-read : ClassRecord → Reading OneClass
-class-record-read r = at-place (r .place) (record { curve = r .curve; class = r .class })
+class-record-read r = placed (r .place) (record { curve = r .curve; class = r .class })
 
 abbrev pub sum-record-read : SumRecord → Reading TwoClasses
-sum-record-read r = at-place (r .place) (record { curve = r .curve; first = r .first; second = r .second })
+sum-record-read r = placed (r .place) (record { curve = r .curve; first = r .first; second = r .second })
 
 abbrev pub register-record-read : RegisterRecord → Reading Operation
-register-record-read r = at-place (r .place) (record { register = r .register; class = r .class })
+register-record-read r = placed (r .place) (record { register = r .register; class = r .class })

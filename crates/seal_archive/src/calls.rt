@@ -96,7 +96,7 @@ pub extern "C" fn seal_membership(input: &[u8]) -> u32
 {
     let r = records::class_record(input);
     let place = r.place;
-    records::place_number(place)
+    stored_form::classes::place_refusal(place)
 }
 
 // What is asked of one class.
@@ -129,7 +129,7 @@ fn class_call(kind: Unary, input: &[u8], output: &mut [u8]) -> u32
     let curve = r.curve;
     let class = r.class;
     let Place::Next(_) = place else {
-        return records::place_number(place);
+        return stored_form::classes::place_refusal(place);
     };
     let a = class_answer(kind, curve, class);
     put_class(a, output)
@@ -173,7 +173,7 @@ pub extern "C" fn seal_sum(input: &[u8], output: &mut [u8]) -> u32
     let first = r.first;
     let second = r.second;
     let Place::Next(_) = place else {
-        return records::place_number(place);
+        return stored_form::classes::place_refusal(place);
     };
     let a = jacobian::sum(curve, first, second);
     put_class(a, output)
@@ -207,7 +207,7 @@ fn register_call(kind: Step, input: &[u8], output: &mut [u8]) -> u32
     let register = r.register;
     let class = r.class;
     let Place::Next(_) = place else {
-        return records::place_number(place);
+        return stored_form::classes::place_refusal(place);
     };
     let a = register_answer(kind, register, class);
     put_register(a, output)

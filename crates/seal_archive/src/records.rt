@@ -4,7 +4,7 @@ ghost use mathlib.Core.Path.{_≡_};
 ghost use Rattle.stored_form.specs.Reading.{number, refused};
 ghost use Rattle.stored_form.specs.Fields.{count-read};
 ghost use Rattle.stored_form.specs.Classes.{curve-read};
-ghost use Rattle.seal_archive.specs.Records.{at-place, class-record, class-record-read, sum-record, sum-record-read, register-record, register-record-read};
+ghost use Rattle.seal_archive.specs.Records.{class-record, class-record-read, sum-record, sum-record-read, register-record, register-record-read};
 use history::Register;
 use jacobian::Class;
 use jacobian::Curve;
@@ -52,16 +52,6 @@ fn count_number(c: Count) -> u32
     }
 }
 
-// The number of a refusal, and 0 where there is none.
-pub(crate) fn place_number(p: Place) -> u32
-    ensures { λ r. ⌜ r ≡ number (at-place p p) ⌝ }
-{
-    match p {
-        Place::Next(_) => 0,
-        Place::Refused(n) => n,
-    }
-}
-
 // A curve to stand in a record that was refused.
 fn no_curve() -> Curve {
     Curve {
@@ -97,7 +87,7 @@ pub(crate) fn class_record(s: &[u8]) -> ClassRecord
     let place = a.place;
     let class = a.class;
     let Place::Next(end) = place else {
-        return class_refused(place_number(place));
+        return class_refused(stored_form::classes::place_refusal(place));
     };
     let n = stored_form::end_at(s, end);
     if n != 0 {
@@ -137,13 +127,13 @@ pub(crate) fn sum_record(s: &[u8]) -> SumRecord
     let place = a.place;
     let first = a.class;
     let Place::Next(after) = place else {
-        return sum_refused(place_number(place));
+        return sum_refused(stored_form::classes::place_refusal(place));
     };
     let b = stored_form::classes::class_at(s, after, curve);
     let last = b.place;
     let second = b.class;
     let Place::Next(end) = last else {
-        return sum_refused(place_number(last));
+        return sum_refused(stored_form::classes::place_refusal(last));
     };
     let n = stored_form::end_at(s, end);
     if n != 0 {
@@ -192,13 +182,13 @@ pub(crate) fn register_record(s: &[u8]) -> RegisterRecord
     let place = a.place;
     let seal = a.class;
     let Place::Next(then) = place else {
-        return register_refused(place_number(place));
+        return register_refused(stored_form::classes::place_refusal(place));
     };
     let b = stored_form::classes::operation_at(s, then, curve);
     let last = b.place;
     let class = b.class;
     let Place::Next(end) = last else {
-        return register_refused(place_number(last));
+        return register_refused(stored_form::classes::place_refusal(last));
     };
     let n = stored_form::end_at(s, end);
     if n != 0 {

@@ -76,14 +76,20 @@ abbrev pub curve-read : CurveRead → Reading Curve
 curve-read (curve.Read c next) = found c (next .at)
 curve-read (curve.Refused n) = refused n
 
+-- what stands beside a place was found there
+abbrev pub placed : {A : Type 0} → Place → A → Reading A
+placed (place.Next next) a = found a (next .at)
+placed (place.Refused n) a = refused n
+
+-- the number of a refusal, and 0 where there is none
+abbrev pub place-number : Place → ℕ
+place-number (place.Next next) = 0
+place-number (place.Refused n) = n
+
 -- a class is read beside its place; on a refusal it is the neutral one
 pub record ClassReading : Type 0 where
   pub reading : Reading Class
   pub class : Class
-
-abbrev pub placed : Place → Class → Reading Class
-placed (place.Next next) a = found a (next .at)
-placed (place.Refused n) a = refused n
 
 abbrev pub class-read : ClassRead → ClassReading
 class-read r = record { reading = placed (r .place) (r .class); class = r .class }

@@ -10,7 +10,7 @@ ghost use Rattle.stored_form.specs.Number.{part, bytes-of};
 ghost use Rattle.stored_form.specs.Reading.{refused};
 ghost use Rattle.stored_form.specs.Head.{allowed, class-length};
 ghost use Rattle.stored_form.specs.Elements.{elements, element-bytes};
-ghost use Rattle.stored_form.specs.Classes.{curve-said, curve-at, curve-first, curve-read, row-said, class-said, class-at, class-read, class-answer, row-written, class-field, in-row};
+ghost use Rattle.stored_form.specs.Classes.{curve-said, curve-at, curve-first, curve-read, row-said, class-said, class-at, place-number, class-read, class-answer, row-written, class-field, in-row};
 use crate::Cursor;
 use crate::Degree;
 use crate::Head;
@@ -28,6 +28,16 @@ pub enum CurveRead {
 pub enum Place {
     Next(Cursor),
     Refused(u32),
+}
+
+// The number of a refusal, and 0 where there is none.
+pub fn place_refusal(p: Place) -> u32
+    ensures { λ r. ⌜ r ≡ place-number p ⌝ }
+{
+    match p {
+        Place::Next(_) => 0,
+        Place::Refused(n) => n,
+    }
 }
 
 // A class that was read; the neutral class on a refusal.

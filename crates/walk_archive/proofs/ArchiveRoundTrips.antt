@@ -1,24 +1,21 @@
 -- An archive's bytes and its values determine each other.
 -- `archive-read-back`: what is written of values that no check refuses is read so. `archive-written`: what is read was written so, and no check refuses it.
-use Prim.Native.Nat.{ℕ, zero, suc, _+_, _≤_}
+use Prim.Native.Nat.{ℕ, zero, suc, _≤_}
 use mathlib.Core.Path.{_≡_, refl, sym, ap, _∙_, subst, subst₂}
-use mathlib.Core.Bool.{not}
 use mathlib.Core.List.{List, [], _∷_}
 use native.Mathlib.Omega.{arith}
 use lib.ListN.{length, drop, length-take}
 use Rattle.class_group.specs.Walk.{All, none, more}
 use Rattle.jacobian.specs.{Answer.refusal, declared.Curve.Curve, declared.Class.Class}
-use Rattle.stored_form.specs.{Number.Bytes, Number.part, Reading.Reading, Reading.found, Head.head-at, Fields.printable, Fields.drawing-place, Fields.drawing-at}
+use Rattle.stored_form.specs.{Number.Bytes, Number.part, Reading.found, Fields.drawing-place, Fields.drawing-at}
 use Rattle.stored_form.specs.{Fields.drawing-field, Fields.count-limit, Fields.count-field, Classes.curve-first-fields, Classes.class-at, Classes.class-field}
-use Rattle.stored_form.specs.declared.Part.{Part}
-use Rattle.stored_form.proofs.{Readings.then-found, Readings.both-found, Readings.same-found, Readings.refuse-found, Heads.head-found}
-use Rattle.stored_form.proofs.{Lengths.drawing-length, Lengths.class-lengths, Lengths.operation-lengths}
+use Rattle.stored_form.proofs.{Readings.then-found, Readings.both-found, Readings.same-found, Lengths.class-lengths, Lengths.operation-lengths}
 use Rattle.stored_form.proofs.RoundTrips.{Field, behind, apart, up-to, whole, is-whole, end-written, end-read-back, count-written, count-read-back, drawing-written, drawing-read-back}
 use Rattle.stored_form.proofs.CurveRoundTrips.{curve-first-written, curve-first-read-back}
 use Rattle.stored_form.proofs.ClassRoundTrips.{class-three, class-written, class-read-back}
 use Rattle.walk_archive.specs.Archive.{Archive, operations-at, read-archive}
 use Rattle.walk_archive.specs.Written.{operation-fields, archive-bytes, Allowed, Storable}
-use Rattle.walk_archive.proofs.Readings.{newest}
+use Rattle.walk_archive.proofs.{Readings.newest, ReaderSteps.drawing-bounded}
 use Rattle.walk_archive.proofs.ArchiveFields.{fields-found, found-fields}
 
 -- ---- one class
@@ -63,16 +60,11 @@ module _ (c : Curve) (s : List ℕ) where
 -- ---- the drawing number
 
 drawing-small : (s : List ℕ) (at : ℕ) {xs : List ℕ} {next : ℕ} → drawing-at s at ≡ found xs next → length xs ≤ 255
-unfolding drawing-at drawing-place
+unfolding drawing-at
 drawing-small s at {xs} h =
     let p = both-found _ (drawing-place s at) h in
-    let head = both-found _ (head-at 0x46 s at) (p .2) in
-    let here : Reading Part = found (record { start = at + 3; len = head .0 }) (head .1) in
-    let r = refuse-found 108 (not (printable (part s (at + 3) (head .0)))) here (head .3) in
-    let len-is : head .0 ≡ p .0 .len = ap (λ (q : Part). q .len) (same-found (r .1) .0) in
-    let short : head .0 ≤ 255 = drawing-length (head-found 0x46 s at (head .2) .allows) in
     let long : length (part s (p .0 .start) (p .0 .len)) ≡ length xs = ap length (same-found (p .3) .0) in
-    omega (arith, length-take (p .0 .len) (drop (p .0 .start) s))
+    omega (arith, drawing-bounded s at (p .2) .0, length-take (p .0 .len) (drop (p .0 .start) s))
 
 -- ---- the archive
 

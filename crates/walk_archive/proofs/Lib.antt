@@ -1,6 +1,8 @@
 -- Laws of readings one after the other and of writing into a lent area.
 pub mod Writing
 pub mod Readings
+pub mod ReaderSteps
+pub mod Windows
 pub mod Marks
 pub mod Lines
 pub mod Walks

@@ -1,7 +1,8 @@
 -- `calls::class_call` meets its contract.
 use mathlib.Core.Path.{ap, _∙_}
 use Rattle.seal_archive.specs.Calls.{class-room, write-class, class-call}
-use Rattle.seal_archive.proofs.Outcomes.{place-refused, place-found, short, unread, answers}
+use Rattle.stored_form.proofs.Places.{place-found, place-refused}
+use Rattle.seal_archive.proofs.Outcomes.{short, unread, answers}
 use borrow.Author.Needs.{needs}
 use Rattle.seal_archive.proofs.calls.class_call.Statement.{statement}
 use Rattle.seal_archive.proofs.calls.class_call.Tie as tie
@@ -19,15 +20,15 @@ enum-told c = search needs
 enum-told-2 : tie.Need-enum-told-2
 enum-told-2 c = search needs
 
-place-number-requires : tie.Need-place-number-requires
-place-number-requires c κs = search needs
+place-refusal-requires : tie.Need-place-refusal-requires
+place-refusal-requires c κs = search needs
 
 returns-2 : tie.Need-returns-2
 unfolding class-call class-room
 returns-2 c =
     let told = c .before in
     let read = told .before .before .before .before in
-    unread _ _ _ (read .before .if1 .left) (place-refused (read .class-record .result .place) _ (read .class-record .ensures) (told .enum-told2 .given .1) (c .place-number .ensures))
+    unread _ _ _ (read .before .if1 .left) (place-refused (read .class-record .result .place) _ (read .class-record .ensures) (told .enum-told2 .given .1) (c .place-refusal .ensures))
 
 class-answer-requires : tie.Need-class-answer-requires
 class-answer-requires c κs = search needs
@@ -56,7 +57,7 @@ class-call-spec =
     class-record-requires
     enum-told
     enum-told-2
-    place-number-requires
+    place-refusal-requires
     returns-2
     class-answer-requires
     put-class-requires
