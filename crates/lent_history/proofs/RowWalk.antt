@@ -1,5 +1,6 @@
 -- Demand 3 of the walk over a lent row (document 01, 'The register'): where the accepted calls of a list are all commits, on a register that fails no check, the walk
--- from the last seal over the k newest of their classes is not refused and answers the seal just before the k-th newest commit, and for k = 0 the last seal.
+-- from the last seal over the k newest of their classes is not refused and answers the seal just before the k-th newest commit, and for k = 0 the last seal
+-- (`row-walk-meets`). `row-walk-answers` says the same of the code's answer, by its contract.
 use Prim.Native.Nat.{ℕ, zero, suc, _≤_}
 use mathlib.Core.Path.{_≡_, refl, _∙_, ap, subst}
 use mathlib.Core.List.{List, [], _∷_}
@@ -11,7 +12,7 @@ use Rattle.class_group.specs.Walk.{All, none, more}
 use Rattle.jacobian.specs.Checks.{unless, _then_}
 use Rattle.jacobian.specs.Curves.{curve-refusal}
 use Rattle.jacobian.specs.Classes.{class-refusal}
-use Rattle.jacobian.specs.Answer.{accepted}
+use Rattle.jacobian.specs.Answer.{accepted, verdict-of, Reply}
 use Rattle.jacobian.specs.declared.Curve.{Curve}
 use Rattle.jacobian.specs.declared.Class.{Class}
 use Rattle.history.specs.declared.Register.{Register}
@@ -21,7 +22,8 @@ use Rattle.history.proofs.Registers.{Passes, register-passes}
 use Rattle.history.proofs.TakingBack.{Fits, last-curve}
 use Rattle.history.proofs.Preserved.{last-passes, accepted-classes}
 use Rattle.history.proofs.WalkingBack.{walk-ends, accepted-few}
-use Rattle.lent_history.specs.RowWalk.{classes-refusal, row-refusal, replied, row-walk-answer}
+use Rattle.lent_history.specs.RowWalk.{classes-refusal, row-refusal, replied, reached, row-walk-answer}
+use Rattle.lent_history.specs.declared.walk.RowWalk.{RowWalk}
 
 -- no class among those of unrefused calls is refused
 unrefused : (c : Curve) (es : List Event) (k : ℕ) → All (λ e. class-refusal c (class (e .call)) ≡ 0) es → classes-refusal c (take k (classes es)) ≡ 0
@@ -36,6 +38,11 @@ row-answered : (c : Curve) (s : Class) (ops : List Class) → curve-refusal c �
     → row-walk-answer c s ops ≡ record { outcome = accepted; class = walk-back c s ops }
 unfolding row-walk-answer row-refusal replied unless _then_
 row-answered c s ops hc hs hl ho = rw (hc, le-leb (length ops) limit hl, hs, ho)
+
+accepted-zero : (n : ℕ) → verdict-of n ≡ accepted → n ≡ 0
+unfolding verdict-of
+accepted-zero zero e = refl
+accepted-zero (suc n) e = let z : _≡_ {A = ℕ} 0 1 = cc in absurd (omega arith)
 
 module _ (r : Register) (cs : List Call) (fits : Fits r cs) (only : OnlyCommits (newest r cs)) (ok : register-refusal r ≡ 0) where
   passes : Passes (last r cs)
@@ -57,3 +64,9 @@ module _ (r : Register) (cs : List Call) (fits : Fits r cs) (only : OnlyCommits 
       (within k h)
       (unrefused (r .curve) (newest r cs) k (accepted-classes r cs))
       ∙ ap (λ a. record { outcome = accepted; class = a }) (walk-ends r cs fits only k h)
+
+  pub row-walk-answers : (k : ℕ) → k ≤ length (newest r cs) → (w : RowWalk) → reached w ≡ row-walk-answer (r .curve) (last r cs .seal) (take k (classes (newest r cs)))
+      → (w .refusal ≡ 0) × (w .seal ≡ getD (seals-back r cs) k (last r cs .seal))
+  row-walk-answers k h w e =
+      let m = e ∙ row-walk-meets k h in
+      (accepted-zero (w .refusal) (ap (λ (x : Reply). x .outcome) m), ap (λ (x : Reply). x .class) m)
