@@ -5,9 +5,9 @@ use mathlib.Core.List.{List}
 use Rattle.class_group.specs.Curve as Theory
 use Rattle.class_group.specs.{Mumford.opposite, Operations.sum, Operations.double, Operations.counted-sum, Operations.counted-double, Half.half, Walk.commit, Walk.undo}
 use Rattle.class_group.proofs.Closed.{sum-reduced, double-reduced, opposite-reduced}
-use Rattle.jacobian.specs.{Field.𝔸, Row.StandsPair, Row.rows-pair, Core.OnCurve, Core.ReducedRows, Core.StandsCounted}
-use Rattle.jacobian.specs.declared.{row.RowPair.RowPair, reduction.CountedRows.CountedRows}
-use Rattle.jacobian.proofs.ReductionRows.{pair-eq, reduced-on, reduced-rows}
+use Rattle.class_rows.specs.{Field.𝔸, Row.StandsPair, Row.rows-pair, Core.OnCurve, Core.ReducedRows, Core.StandsCounted}
+use Rattle.class_rows.specs.declared.{row.RowPair.RowPair, reduction.CountedRows.CountedRows}
+use Rattle.class_rows.proofs.ReductionRows.{pair-eq, reduced-on, reduced-rows}
 
 module _ (d : ℕ) {f : List ℕ} {a b : RowPair} (h : ReducedRows d f a) (k : ReducedRows d f b) where
   -- what the functions of a sum, a double and an opposite promise

@@ -3,7 +3,8 @@ use Prim.Native.Nat.{ℕ}
 use mathlib.Core.Path.{_≡_}
 use mathlib.Core.List.{List, [], _∷_, _++_}
 use lib.ListN.{length, take}
-use Rattle.jacobian.specs.{Row.filled, Classes.u-row, Classes.Three, declared.Class.Class, declared.row.RowPair.RowPair}
+use Rattle.class_rows.specs.{Row.filled, declared.row.RowPair.RowPair}
+use Rattle.jacobian.specs.{Classes.u-row, Classes.Three, declared.Class.Class}
 
 -- the first n numbers of a row of three, then 1
 pub record Led (n : ℕ) (r t : List ℕ) : Type 0 where

@@ -4,14 +4,15 @@ ghost use mathlib.Core.Path.{_≡_};
 ghost use lib.{Dec.eqb, ListN.drop};
 ghost use Rattle.class_group.specs.{Curve.Curve as TheoryCurve, Mumford.value, Mumford.opposite};
 ghost use Rattle.binary_field.specs.Element.{Accepted};
-ghost use Rattle.jacobian.specs.{Field.𝔸, Field.poly, Row.InRange, Row.StandsPair, Row.filled, Row.row-len, Row.rows-pair, Core.OnCurve};
+ghost use Rattle.class_rows.specs.{Field.𝔸, Field.poly, Row.InRange, Row.StandsPair, Row.filled, Row.row-len, Row.rows-pair, Core.OnCurve};
 ghost use Rattle.jacobian.specs.{Checks.below, Checks.blank, Curves.curve-refusal, Curves.f-row};
 ghost use Rattle.jacobian.specs.{Classes.class-of, Classes.shape-refusal, Classes.range-refusal, Classes.class-refusal, ClassRows.Led, ClassRows.Widened, ClassRows.RowsOf};
 use crate::Class;
 use crate::Curve;
 use crate::curves;
-use crate::row;
-use crate::row::RowPair;
+use class_rows::divisor::divides;
+use class_rows::row;
+use class_rows::row::RowPair;
 
 // Is every number from place n on 0?
 fn blank_from(n: u64, r: [u64; 3]) -> bool
@@ -113,21 +114,6 @@ pub(crate) fn from_rows(a: RowPair) -> Class
         u: [u[0], u[1], u[2]],
         v: [v[0], v[1], v[2]],
     }
-}
-
-// Does u divide v² + v + f?
-fn divides(d: u8, f: [u64; 12], a: RowPair) -> bool
-    requires { ⌜ Accepted d × InRange d f × InRange d (a .u) × InRange d (a .v) × (row-len d (a .v) ≤ 6) × ¬ (poly d (a .u) ≡ 𝔸 d .ring .nought) ⌝ }
-    ensures { λ t. ⌜ ((C : TheoryCurve (𝔸 d)) → OnCurve d f C → t ≡ eqb (𝔸 d .len (𝔸 d .rem (value C (rows-pair d a .v)) (rows-pair d a .u))) 0) ⌝ }
-{
-    let u = a.u;
-    let v = a.v;
-    let square = row::square_row(d, v);
-    let left = row::add_rows(d, square, v);
-    let all = row::add_rows(d, left, f);
-    let division = row::divide(d, all, u);
-    let rest = division.remainder;
-    row::length(rest) == 0
 }
 
 // 104 for a degree above 3 or a number other than 0 at or past the degree, else 0.

@@ -5,24 +5,20 @@ ghost use Prim.Native.Nat.{ℕ};
 ghost use mathlib.Core.Path.{_≡_};
 ghost use Rattle.class_group.specs.Mumford.{Pair};
 ghost use Rattle.class_group.specs.Reduction.{Counted};
-ghost use Rattle.jacobian.specs.Field.{Poly};
-ghost use Rattle.jacobian.specs.Row.{StandsPair};
-ghost use Rattle.jacobian.specs.Core.{StandsCounted};
+ghost use Rattle.class_rows.specs.Field.{Poly};
+ghost use Rattle.class_rows.specs.Row.{StandsPair};
+ghost use Rattle.class_rows.specs.Core.{StandsCounted};
 ghost use Rattle.jacobian.specs.Answer.{neutral-class, refusal, refusal-of-two, verdict, reply, answered, counted-reply, counted-answered, membership-answer, opposite-answer, double-answer, HalfAnswers, sum-answer, counted-double-answer, counted-sum-answer, double-and-add-answer, subtract-and-halve-answer, curve-answer};
 
 mod classes;
-mod composition;
 mod curves;
-mod element;
-mod euclid;
-mod halving;
-mod quotient;
-mod reduction;
-mod row;
 mod sums;
 
-use crate::reduction::CountedRows;
-use crate::row::RowPair;
+use class_rows::halving::half_rows;
+use class_rows::reduction::CountedRows;
+use class_rows::reduction::double_rows;
+use class_rows::row::RowPair;
+use class_rows::sums::sum_rows;
 
 pub struct Curve {
     pub degree: u8,
@@ -172,7 +168,7 @@ pub fn half(curve: Curve, a: Class) -> ClassAnswer
     }
     let f = curves::f_row(curve);
     let rows = classes::to_rows(a);
-    let halved = halving::half_rows(curve.degree, f, rows);
+    let halved = half_rows(curve.degree, f, rows);
     accepted(halved)
 }
 
@@ -186,7 +182,7 @@ pub fn counted_double(curve: Curve, a: Class) -> CountedAnswer
     }
     let f = curves::f_row(curve);
     let rows = classes::to_rows(a);
-    let doubled = reduction::double_rows(curve.degree, f, rows);
+    let doubled = double_rows(curve.degree, f, rows);
     counted_accepted(doubled)
 }
 
@@ -201,7 +197,7 @@ pub fn counted_sum(curve: Curve, a: Class, b: Class) -> CountedAnswer
     let f = curves::f_row(curve);
     let left = classes::to_rows(a);
     let right = classes::to_rows(b);
-    let summed = sums::sum_rows(curve.degree, f, left, right);
+    let summed = sum_rows(curve.degree, f, left, right);
     counted_accepted(summed)
 }
 

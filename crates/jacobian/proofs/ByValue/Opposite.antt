@@ -8,8 +8,9 @@ use Rattle.field_laws.specs.Field.{Field2}
 use Rattle.char2_algebra.specs.Polynomials.{Polynomials}
 use Rattle.char2_algebra.proofs.Degree.{coeff-one, coeff-one-suc}
 use Rattle.class_group.specs.Mumford.{Pair, opposite}
-use Rattle.jacobian.specs.{Field.𝔸, Field.el, Field.poly, Row.InRange, Row.Stands, Row.StandsPair, Row.row-len, Row.rows-pair, Row.filled, declared.row.RowPair.RowPair}
-use Rattle.jacobian.proofs.{Rows.Elements.one-lt, Rows.Elements.zero-lt, Rows.Elements.el-zero, Rows.Elements.el-one, Rows.Coefficients.poly-is, ByValue.Filled.getD-filled, ByValue.Filled.poly-filled}
+use Rattle.class_rows.specs.{Field.𝔸, Field.el, Field.poly, Row.InRange, Row.Stands, Row.StandsPair, Row.row-len, Row.rows-pair, Row.filled, declared.row.RowPair.RowPair}
+use Rattle.class_rows.proofs.{Rows.Elements.one-lt, Rows.Elements.zero-lt, Rows.Elements.el-zero, Rows.Elements.el-one, Rows.Coefficients.poly-is}
+use Rattle.jacobian.proofs.{ByValue.Filled.getD-filled, ByValue.Filled.poly-filled}
 use Rattle.class_group.specs.Curve as Theory
 
 -- the opposite by the length of u

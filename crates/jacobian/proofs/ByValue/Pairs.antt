@@ -6,8 +6,9 @@ use native.Mathlib.Omega.{arith}
 use lib.{Dec.ltb, ListN.getD}
 use borrow.Author.Tests.{lt-ltb}
 use Rattle.class_group.specs.Mumford.{Pair}
-use Rattle.jacobian.specs.{Field.Poly, Field.𝔸, Field.poly, Row.InRange, Row.StandsPair, Row.row-len, Row.rows-pair, Classes.numbers, Classes.class-of, declared.Class.Class, declared.row.RowPair.RowPair}
-use Rattle.jacobian.proofs.{Rows.Elements.el-number, Rows.Coefficients.coeff-poly}
+use Rattle.class_rows.specs.{Field.Poly, Field.𝔸, Field.poly, Row.InRange, Row.StandsPair, Row.row-len, Row.rows-pair, declared.row.RowPair.RowPair}
+use Rattle.jacobian.specs.{Classes.numbers, Classes.class-of, declared.Class.Class}
+use Rattle.class_rows.proofs.{Rows.Elements.el-number, Rows.Coefficients.coeff-poly}
 
 -- the numbers of a row below place n, in a row of three
 abbrev pub first : ℕ → List ℕ → List ℕ

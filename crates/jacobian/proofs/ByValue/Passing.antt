@@ -7,8 +7,10 @@ use lib.Dec.{eqb}
 use Rattle.char2_algebra.proofs.Lead.{monic-nonzero}
 use Rattle.class_group.specs.{Mumford.value, Coefficients.monic-7, Coefficients.curve-of}
 use Rattle.binary_field.specs.Element.{Accepted}
-use Rattle.jacobian.specs.{Field.𝔸, Field.Poly, Field.poly, Row.InRange, Row.Stands, Row.row-len, Row.filled, Row.rows-pair, Core.OnCurve, Core.ReducedRows, Checks.unless, Curves.f-row, Curves.curve, Classes.Three, ClassRows.RowsOf, Classes.u-row, Classes.pair, declared.Curve.Curve, declared.Class.Class, declared.row.RowPair.RowPair}
-use Rattle.jacobian.proofs.{Rows.Elements.degree-is, Rows.Elements.el-one, ByValue.Checks.CurvePasses, ByValue.Checks.ShapePasses, ByValue.Checks.RangePasses, ByValue.Checks.ClassPasses, ByValue.Filled.getD-filled, ByValue.Filled.poly-filled, Representation.Form.Formed, Representation.Form.passes-formed, Representation.Form.formed-reduced, Representation.Form.u-row-range, Representation.Form.u-monic, Representation.Form.v-len}
+use Rattle.class_rows.specs.{Field.𝔸, Field.Poly, Field.poly, Row.InRange, Row.Stands, Row.row-len, Row.filled, Row.rows-pair, Core.OnCurve, Core.ReducedRows, declared.row.RowPair.RowPair}
+use Rattle.jacobian.specs.{Checks.unless, Curves.f-row, Curves.curve, Classes.Three, ClassRows.RowsOf, Classes.u-row, Classes.pair, declared.Curve.Curve, declared.Class.Class}
+use Rattle.class_rows.proofs.{Rows.Elements.degree-is, Rows.Elements.el-one}
+use Rattle.jacobian.proofs.{ByValue.Checks.CurvePasses, ByValue.Checks.ShapePasses, ByValue.Checks.RangePasses, ByValue.Checks.ClassPasses, ByValue.Filled.getD-filled, ByValue.Filled.poly-filled, Representation.Form.Formed, Representation.Form.passes-formed, Representation.Form.formed-reduced, Representation.Form.u-row-range, Representation.Form.u-monic, Representation.Form.v-len}
 use Rattle.class_group.specs.Curve as Theory
 
 pub filled-range : (d : ℕ) (r : List ℕ) → InRange d r → InRange d (filled r)
@@ -56,14 +58,6 @@ rows-reduced c a h k e rows =
     }
 
 -- ---- u divides v² + v + f
-pub value-stands :
-    (d : ℕ) (v : List ℕ) {f square left all : List ℕ} {C : Theory.Curve (𝔸 d)} → OnCurve d f C
-    → Stands d square (𝔸 d .ring .mul (poly d v) (poly d v)) → Stands d left (𝔸 d .ring .add (poly d square) (poly d v))
-    → Stands d all (𝔸 d .ring .add (poly d left) (poly d f)) → poly d all ≡ value C (poly d v)
-unfolding value
-value-stands d v on s l a =
-    a .stands ∙ ap₂ (𝔸 d .ring .add) (l .stands ∙ ap (λ z. 𝔸 d .ring .add z (poly d v)) (s .stands)) (on .is-f)
-
 pub divides-due :
     (c : Curve) {a : Class} {r : RowPair} → RowsOf a r → {t : Bool}
     → t ≡ eqb (𝔸 (c .degree) .len (𝔸 (c .degree) .rem (value (curve c) (rows-pair (c .degree) r .v)) (rows-pair (c .degree) r .u))) 0

@@ -1,6 +1,6 @@
 -- `opposite_rows` meets its contract: the neutral class is its own opposite.
 use native.Mathlib.Omega.{arith}
-use Rattle.jacobian.specs.Row.{filled}
+use Rattle.class_rows.specs.Row.{filled}
 use Rattle.jacobian.proofs.ByValue.Opposite.{one-range, opposite-short, opposite-long}
 use borrow.Author.Needs.{needs}
 use Rattle.jacobian.proofs.classes.opposite_rows.Statement.{statement}
