@@ -56,13 +56,15 @@ fn leading_one(n: u64, r: [u64; 3]) -> [u64; 12]
     if n == 0 {
         return [1, 0, 0, 0, 0, 0, 0, 0, 0, 0, 0, 0];
     }
+    let low = r[0];
     if n == 1 {
-        return [r[0], 1, 0, 0, 0, 0, 0, 0, 0, 0, 0, 0];
+        return [low, 1, 0, 0, 0, 0, 0, 0, 0, 0, 0, 0];
     }
+    let middle = r[1];
     if n == 2 {
-        return [r[0], r[1], 1, 0, 0, 0, 0, 0, 0, 0, 0, 0];
+        return [low, middle, 1, 0, 0, 0, 0, 0, 0, 0, 0, 0];
     }
-    [r[0], r[1], r[2], 1, 0, 0, 0, 0, 0, 0, 0, 0]
+    [low, middle, r[2], 1, 0, 0, 0, 0, 0, 0, 0, 0]
 }
 
 // The three numbers in a longer row.
