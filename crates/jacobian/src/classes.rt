@@ -6,7 +6,7 @@ ghost use Rattle.class_group.specs.{Curve.Curve as TheoryCurve, Mumford.value, 
 ghost use Rattle.binary_field.specs.Element.{Accepted};
 ghost use Rattle.class_rows.specs.{Field.𝔸, Field.poly, Row.InRange, Row.StandsPair, Row.filled, Row.row-len, Row.rows-pair, Core.OnCurve};
 ghost use Rattle.jacobian.specs.{Checks.below, Checks.blank, Curves.curve-refusal, Curves.f-row};
-ghost use Rattle.jacobian.specs.{Classes.class-of, Classes.shape-refusal, Classes.range-refusal, Classes.class-refusal, ClassRows.Led, ClassRows.Widened, ClassRows.RowsOf};
+ghost use Rattle.jacobian.specs.{Classes.class-of, Classes.shape-refusal, Classes.range-refusal, Classes.class-refusal, ClassRows.Led, ClassRows.Widened, ClassRows.RowsOf, ClassRows.first};
 use crate::Class;
 use crate::Curve;
 use crate::curves;
@@ -57,13 +57,15 @@ fn leading_one(n: u64, r: [u64; 3]) -> [u64; 12]
     if n == 0 {
         return [1, 0, 0, 0, 0, 0, 0, 0, 0, 0, 0, 0];
     }
+    let low = r[0];
     if n == 1 {
-        return [r[0], 1, 0, 0, 0, 0, 0, 0, 0, 0, 0, 0];
+        return [low, 1, 0, 0, 0, 0, 0, 0, 0, 0, 0, 0];
     }
+    let middle = r[1];
     if n == 2 {
-        return [r[0], r[1], 1, 0, 0, 0, 0, 0, 0, 0, 0, 0];
+        return [low, middle, 1, 0, 0, 0, 0, 0, 0, 0, 0, 0];
     }
-    [r[0], r[1], r[2], 1, 0, 0, 0, 0, 0, 0, 0, 0]
+    [low, middle, r[2], 1, 0, 0, 0, 0, 0, 0, 0, 0]
 }
 
 // The three numbers in a longer row.
@@ -85,6 +87,22 @@ pub(crate) fn to_rows(a: Class) -> RowPair
     RowPair { u: u, v: v }
 }
 
+// The numbers below place n of a row, in a row of three.
+fn narrowed(n: u64, r: [u64; 12]) -> [u64; 3]
+    requires { ⌜ 1 ≤ n ⌝ }
+    ensures { λ t. ⌜ t ≡ first n r ⌝ }
+{
+    let low = r[0];
+    if n == 1 {
+        return [low, 0, 0];
+    }
+    let middle = r[1];
+    if n == 2 {
+        return [low, middle, 0];
+    }
+    [low, middle, r[2]]
+}
+
 // The class of a pair.
 pub(crate) fn from_rows(a: RowPair) -> Class
     ensures { λ r. ⌜ ((d : ℕ) → InRange d (a .u) → InRange d (a .v) → r ≡ class-of d (rows-pair d a)) ⌝ }
@@ -95,24 +113,13 @@ pub(crate) fn from_rows(a: RowPair) -> Class
     if n < 2 {
         return crate::neutral();
     }
-    if n == 2 {
-        return Class {
-            degree: 1,
-            u: [u[0], 0, 0],
-            v: [v[0], 0, 0],
-        };
-    }
-    if n == 3 {
-        return Class {
-            degree: 2,
-            u: [u[0], u[1], 0],
-            v: [v[0], v[1], 0],
-        };
-    }
+    let degree = (n - 1) as u64;
+    let below = narrowed(degree, u);
+    let low = narrowed(degree, v);
     Class {
-        degree: (n - 1) as u64,
-        u: [u[0], u[1], u[2]],
-        v: [v[0], v[1], v[2]],
+        degree: degree,
+        u: below,
+        v: low,
     }
 }
 
