@@ -7,3 +7,6 @@ pub mod DoubleRows
 pub mod ComposeRows
 pub mod QuotientRows
 pub mod HalfRows
+pub mod OppositeRows
+pub mod MoveRows
+pub mod CheckRows

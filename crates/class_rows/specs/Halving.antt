@@ -1,5 +1,5 @@
 -- What the private functions of the halving rule require of their rows, and the polynomials in whose words they promise. Nothing open to
--- callers speaks of these: `half_rows` promises the half of class_group.
+-- callers speaks of these: `half_of_reduced` promises the half of class_group.
 use Prim.Native.Nat.{ℕ, _+_, _<_}
 use mathlib.Core.Path.{_≡_}
 use mathlib.Core.List.{List}

@@ -6,3 +6,4 @@ pub mod Compose
 pub mod Core
 pub mod Cofactor
 pub mod Halving
+pub mod Checked

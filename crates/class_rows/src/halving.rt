@@ -10,12 +10,12 @@ ghost use Rattle.class_group.proofs.Rows.{first-lift};
 ghost use Rattle.class_rows.specs.Field.{degree-of, F, 𝔸, el, poly};
 ghost use Rattle.class_rows.specs.Row.{Is, InRange, Stands, StandsPair, row-len, rows-pair};
 ghost use Rattle.class_rows.specs.Core.{OnCurve, ReducedRows};
+ghost use Rattle.class_rows.specs.Cofactor.{CofactorRow};
 ghost use Rattle.class_rows.specs.Halving.{HalvingRows, even-quartic, root-pair, rows-triple, second-square, second-remainder};
 use crate::element::inverted;
 use crate::element::plus;
 use crate::element::root_of;
 use crate::element::times;
-use crate::reduction::cofactor;
 use crate::row::RowPair;
 use crate::row::add_multiple;
 use crate::row::add_rows;
@@ -210,9 +210,9 @@ fn half_of_degree_3(d: u8, u: [u64; 12], v: [u64; 12], w: [u64; 12]) -> RowPair
     RowPair { u: a, v: o }
 }
 
-// The half of a reduced pair.
-pub fn half_rows(d: u8, f: [u64; 12], a: RowPair) -> RowPair
-    requires { ⌜ Accepted d × ReducedRows d f a ⌝ }
+// The half of a reduced pair, with w at hand.
+pub(crate) fn half_of_reduced(d: u8, f: [u64; 12], a: RowPair, w: [u64; 12]) -> RowPair
+    requires { ⌜ Accepted d × ReducedRows d f a × CofactorRow d f a w ⌝ }
     ensures { λ r. ⌜ ((C : TheoryCurve (𝔸 d)) → OnCurve d f C → StandsPair d r (half C (rows-pair d a))) ⌝ }
 {
     let u = a.u;
@@ -221,7 +221,6 @@ pub fn half_rows(d: u8, f: [u64; 12], a: RowPair) -> RowPair
     if n <= 1 {
         return a;
     }
-    let w = cofactor(d, f, a);
     if n == 2 {
         return half_of_degree_1(d, u, v, w);
     }

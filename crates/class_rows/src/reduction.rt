@@ -115,13 +115,12 @@ fn squared_rows(d: u8, f: [u64; 12], a: RowPair) -> Squared
 }
 
 // The cofactor of the double's composition: with w that of the class and q the quotient, w² + q + q² u².
-fn squared_cofactor(d: u8, f: [u64; 12], a: RowPair, s: Squared) -> [u64; 12]
-    requires { ⌜ Accepted d × ReducedRows d f a × (2 < row-len d (a .u)) × SquaredRows d f a s ⌝ }
+fn squared_cofactor(d: u8, f: [u64; 12], a: RowPair, w: [u64; 12], s: Squared) -> [u64; 12]
+    requires { ⌜ Accepted d × ReducedRows d f a × (2 < row-len d (a .u)) × SquaredRows d f a s × CofactorRow d f a w ⌝ }
     ensures { λ r. ⌜ CofactorRow d f (record { u = s .u; v = s .v }) r ⌝ }
 {
     let u = s.u;
     let q = s.quotient;
-    let w = cofactor(d, f, a);
     let square = square_row(d, w);
     let factor = square_row(d, q);
     let product = multiply(d, factor, u);
@@ -129,9 +128,9 @@ fn squared_cofactor(d: u8, f: [u64; 12], a: RowPair, s: Squared) -> [u64; 12]
     add_rows(d, sum, product)
 }
 
-// The double of a reduced pair.
-pub fn double_rows(d: u8, f: [u64; 12], a: RowPair) -> CountedRows
-    requires { ⌜ Accepted d × ReducedRows d f a ⌝ }
+// The double of a reduced pair, with w at hand.
+pub(crate) fn double_of_reduced(d: u8, f: [u64; 12], a: RowPair, w: [u64; 12]) -> CountedRows
+    requires { ⌜ Accepted d × ReducedRows d f a × CofactorRow d f a w ⌝ }
     ensures { λ r. ⌜ ((C : TheoryCurve (𝔸 d)) → OnCurve d f C → StandsCounted d r (counted-double C (rows-pair d a))) ⌝ }
 {
     let u = a.u;
@@ -143,6 +142,6 @@ pub fn double_rows(d: u8, f: [u64; 12], a: RowPair) -> CountedRows
     if n <= 2 {
         return CountedRows { pair, steps: 0 };
     }
-    let w = squared_cofactor(d, f, a, s);
-    reduce_with(d, f, pair, w)
+    let next = squared_cofactor(d, f, a, w, s);
+    reduce_with(d, f, pair, next)
 }

@@ -41,7 +41,7 @@ pub fn length(a: [u64; 12]) -> usize
 }
 
 // The sum.
-pub fn add_rows(d: u8, a: [u64; 12], b: [u64; 12]) -> [u64; 12]
+pub(crate) fn add_rows(d: u8, a: [u64; 12], b: [u64; 12]) -> [u64; 12]
     requires { ⌜ Accepted d × InRange d a × InRange d b ⌝ }
     ensures { λ r. ⌜ Stands d r (𝔸 d .ring .add (poly d a) (poly d b)) ⌝ }
 {

@@ -4,4 +4,3 @@ pub mod Representation
 pub mod Computing
 pub mod Examples
 pub mod Calls
-pub mod MoveRows

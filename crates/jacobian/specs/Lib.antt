@@ -6,3 +6,4 @@ pub mod Classes
 pub mod ClassRows
 pub mod Examples
 pub mod Answer
+pub mod Due

@@ -1,16 +1,15 @@
 // A class by value: its checks, and its pair as rows.
 ghost use Prim.Native.Nat.{ℕ, _≤_};
 ghost use mathlib.Core.Path.{_≡_};
-ghost use lib.{Dec.eqb, ListN.drop};
-ghost use Rattle.class_group.specs.{Curve.Curve as TheoryCurve, Mumford.value, Mumford.opposite};
+ghost use lib.ListN.{drop};
 ghost use Rattle.binary_field.specs.Element.{Accepted};
-ghost use Rattle.class_rows.specs.{Field.𝔸, Field.poly, Row.InRange, Row.StandsPair, Row.filled, Row.row-len, Row.rows-pair, Core.OnCurve};
-ghost use Rattle.jacobian.specs.{Checks.below, Checks.blank, Curves.curve-refusal, Curves.f-row};
+ghost use Rattle.class_rows.specs.{Row.InRange, Row.rows-pair};
+ghost use Rattle.jacobian.specs.{Checks.below, Checks.blank, Curves.curve-refusal, Due.form-refusal};
 ghost use Rattle.jacobian.specs.{Classes.class-of, Classes.shape-refusal, Classes.range-refusal, Classes.class-refusal, ClassRows.Led, ClassRows.Widened, ClassRows.RowsOf, ClassRows.first};
 use crate::Class;
 use crate::Curve;
 use crate::curves;
-use class_rows::divisor::divides;
+use class_rows::is_divisor;
 use class_rows::row;
 use class_rows::row::RowPair;
 
@@ -158,37 +157,27 @@ fn range_due(d: u8, a: Class) -> u32
     0
 }
 
-// The refusal that is due to a class, and 0 where none is.
-pub(crate) fn class_due(c: Curve, f: [u64; 12], a: Class) -> u32
-    requires { ⌜ (curve-refusal c ≡ 0) × (f ≡ filled (f-row c)) ⌝ }
-    ensures { λ r. ⌜ r ≡ class-refusal c a ⌝ }
+// What is due to a class before a division: 104, then 110, else 0.
+pub(crate) fn form_due(d: u8, a: Class) -> u32
+    requires { ⌜ Accepted d ⌝ }
+    ensures { λ r. ⌜ r ≡ form-refusal d a ⌝ }
 {
     let shape = shape_due(a);
     if shape != 0 {
         return shape;
     }
-    let range = range_due(c.degree, a);
-    if range != 0 {
-        return range;
-    }
+    range_due(d, a)
+}
+
+// The refusal that is due to a class in form: 111 where u does not divide v² + v + f, else 0.
+pub(crate) fn divisor_due(c: Curve, a: Class) -> u32
+    requires { ⌜ (curve-refusal c ≡ 0) × (form-refusal (c .degree) a ≡ 0) ⌝ }
+    ensures { λ r. ⌜ r ≡ class-refusal c a ⌝ }
+{
+    let f = curves::f_row(c);
     let rows = to_rows(a);
-    if divides(c.degree, f, rows) {
+    if is_divisor(c.degree, f, rows) {
         return 0;
     }
     111
-}
-
-// The opposite of a pair.
-pub(crate) fn opposite_rows(d: u8, a: RowPair) -> RowPair
-    requires { ⌜ Accepted d × InRange d (a .u) × InRange d (a .v) ⌝ }
-    ensures { λ r. ⌜ ((C : TheoryCurve (𝔸 d)) → StandsPair d r (opposite C (rows-pair d a))) ⌝ }
-{
-    let u = a.u;
-    let v = a.v;
-    if row::length(u) < 2 {
-        return a;
-    }
-    let one = [1, 0, 0, 0, 0, 0, 0, 0, 0, 0, 0, 0];
-    let w = row::add_rows(d, v, one);
-    RowPair { u: u, v: w }
 }
