@@ -1,6 +1,6 @@
 -- The rules of a commit and an undo on rows: what each step hands to the next is a reduced class, and the last one stands for the rule's result.
 use Prim.Native.Nat.{ℕ}
-use mathlib.Core.Path.{_≡_, sym, ap, subst}
+use mathlib.Core.Path.{subst}
 use mathlib.Core.List.{List}
 use Rattle.class_group.specs.Curve as Theory
 use Rattle.class_group.specs.{Mumford.opposite, Operations.sum, Operations.double, Operations.counted-sum, Operations.counted-double, Half.half, Walk.commit, Walk.undo}

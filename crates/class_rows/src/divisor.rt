@@ -1,10 +1,10 @@
 // Is a pair a reduced divisor of the curve of f? The division that tells yields the cofactor w = (v² + v + f) / u besides.
-ghost use Prim.Native.Nat.{_≤_, _^_};
+ghost use Prim.Native.Nat.{_^_};
 ghost use mathlib.Core.Path.{_≡_};
 ghost use Rattle.class_group.specs.{Curve.Curve as TheoryCurve, Mumford.value};
 ghost use Rattle.binary_field.specs.Element.{Accepted};
 ghost use Rattle.char2_algebra.specs.Lead.{Monic};
-ghost use Rattle.class_rows.specs.{Field.degree-of, Field.𝔸, Field.poly, Row.InRange, Row.Stands, Row.row-len, Core.OnCurve, Core.ReducedRows};
+ghost use Rattle.class_rows.specs.{Field.degree-of, Field.𝔸, Field.poly, Row.InRange, Row.Stands, Core.OnCurve};
 ghost use Rattle.class_rows.specs.Checked.{Decides, FormedPair, FormedRows, CheckedRows, CheckedBoth};
 use crate::row::Division;
 use crate::row::RowPair;

@@ -1,5 +1,5 @@
 -- `divided` meets its contract.
-use mathlib.Core.Path.{_∙_, ap}
+use mathlib.Core.Path.{ap}
 use native.Mathlib.Omega.{arith}
 use Rattle.char2_algebra.proofs.Lead.{monic-nonzero}
 use Rattle.class_rows.specs.{Field.𝔸, Field.poly}

@@ -1,5 +1,4 @@
 -- `is_degree` meets its contract: 61, and else 5.
-use borrow.Author.Needs.{needs}
 use Rattle.class_rows.proofs.CheckRows.{yes-it-is, by-number, is-five}
 use Rattle.class_rows.proofs.divisor.is_degree.Statement.{statement}
 use Rattle.class_rows.proofs.divisor.is_degree.Tie as tie

@@ -1,6 +1,5 @@
 -- `half_of_reduced` gives the half: the class itself where it is neutral, else what the row of the rule for its degree gives.
 use borrow.Author.Needs.{needs}
-use Rattle.class_rows.proofs.DoubleRows.{reduced-semi}
 use Rattle.class_rows.proofs.HalfRows.Class.{NonNeutral, half-neutral, halving-rows, degree-three, half-1, half-2, half-3}
 use Rattle.class_rows.proofs.halving.half_of_reduced.Statement.{statement}
 use Rattle.class_rows.proofs.halving.half_of_reduced.Tie as tie

@@ -1,5 +1,5 @@
 -- `divisor_due` meets its contract.
-use mathlib.Core.Path.{_≡_, sym, _∙_, ap}
+use mathlib.Core.Path.{sym, _∙_, ap}
 use Rattle.jacobian.specs.Checks.{unless}
 use Rattle.jacobian.proofs.ByValue.Due.{form-shape, class-due}
 use borrow.Author.Needs.{needs}
