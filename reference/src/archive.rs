@@ -41,9 +41,14 @@ impl Archive {
 
     /// The seals, from the last one to the one before the oldest operation kept.
     pub fn walk(&self) -> Vec<Class> {
+        self.walk_by(|seal, operation| seal_after_undo(&self.curve, seal, operation))
+    }
+
+    /// The same by some rule for the seal before an operation.
+    fn walk_by(&self, undone: impl Fn(&Class, &Class) -> Class) -> Vec<Class> {
         let mut seals = vec![self.seal.clone()];
         for operation in &self.operations {
-            seals.push(seal_after_undo(&self.curve, &seals[seals.len() - 1], operation));
+            seals.push(undone(&seals[seals.len() - 1], operation));
         }
         seals
     }
@@ -62,14 +67,19 @@ impl Archive {
         }
     }
 
-    fn lines(&self) -> String {
+    /// The report of a walk by some rule for the seal before an operation.
+    pub fn report_by(&self, undone: impl Fn(&Class, &Class) -> Class) -> String {
         let drawing = String::from_utf8(self.drawing.clone()).expect("a drawing number is ASCII");
         let blank = if drawing.is_empty() { "" } else { " " };
         let mut lines = format!("walk {}{blank}{drawing}\n", self.operations.len());
-        for (undone, seal) in self.walk().iter().enumerate() {
+        for (undone, seal) in self.walk_by(undone).iter().enumerate() {
             lines.push_str(&format!("{undone} {} {}\n", self.letter(undone), printed(seal)));
         }
         lines
+    }
+
+    fn report(&self) -> String {
+        self.report_by(|seal, operation| seal_after_undo(&self.curve, seal, operation))
     }
 }
 
@@ -79,7 +89,7 @@ pub const REPORT_LIMIT: usize = 65_536;
 /// What the program `walkreport` prints for an input.
 pub fn report(input: &[u8]) -> String {
     match Archive::read(&input[..input.len().min(REPORT_LIMIT)]) {
-        Ok(archive) => archive.lines(),
+        Ok(archive) => archive.report(),
         Err(refusal) => format!("refused {refusal}\n"),
     }
 }

@@ -1,4 +1,4 @@
-//! The cases of the program `class_trial`: calls on classes, in the bytes that it reads, and the line that it owes for
+//! The cases of the program `conformance`: calls on classes, in the bytes that it reads, and the line that it owes for
 //! each.
 //!
 //! A case is 138 bytes: the call, the degree d, f3, f1 and f0, and two classes; the calls on one class leave the second
@@ -33,6 +33,10 @@ pub const CURVE: u8 = 12;
 /// The calls on classes, all but that on the curve alone; and of these the calls on two.
 pub const CALLS: std::ops::RangeInclusive<u8> = 1..=11;
 pub const CALLS_ON_TWO: [u8; 4] = [SUM, SUM_IN_STEPS, DOUBLE_AND_ADD, SUBTRACT_AND_HALVE];
+
+/// The calls that every class of a curve is taken through, in this order. tests/run looks into the lines by it: the fourth of
+/// seven is the half, and the sixth the class itself.
+pub const SEVEN: [u8; 7] = [MEMBERSHIP, OPPOSITE, DOUBLE, HALF, HALF_OF_DOUBLE, DOUBLE_OF_HALF, SUM];
 
 /// Degree and coefficients as a caller hands them over; they need not be those of a curve.
 #[derive(Clone, Copy, Debug, PartialEq, Eq)]
@@ -202,6 +206,15 @@ impl Case {
         assert!(is_half(&on, half, &on.difference(&first, second)));
         let line = format!("{}\n", printed(half));
         Case { call: SUBTRACT_AND_HALVE, curve, a: (&first).into(), b: second.into(), line }
+    }
+
+    /// The seven calls on a class: its half is given, and the sum is with a second class.
+    pub fn seven(curve: CurveValues, class: &Class, half: &Class, second: &Class) -> [Case; 7] {
+        SEVEN.map(|call| match call {
+            HALF => Case::half(curve, class, half),
+            SUM => Case::on_two(SUM, curve, class, second),
+            _ => Case::on(call, curve, class),
+        })
     }
 
     pub fn bytes(&self) -> Vec<u8> {

@@ -1,21 +1,26 @@
-//! Halves, found from the group and not by halving rules by degree: four ways, each for the curves that it fits.
+//! Halves, found from the group and by no halving rule by degree; the proved crates halve by such rules. Whatever way a half
+//! was found, it is held to the definition: a reduced class whose double, by Cantor's rule, is the class given (`is_half`). The
+//! ways, each for the curves that it fits:
 //!
-//! - Any curve: a claimed half is one if it is a reduced class whose double is the class given (`is_half`). A case
-//!   for a half is so made from its answer, by doubling.
-//! - Any curve: for a class D of degree 3 a function of the curve with the divisor D + 2E is sought, by linear equations
-//!   on the square roots of its coefficients; then 2 (-E) = D. Where that fails, as for every D of lower degree, it is
-//!   tried on D + 2T for one class T after another, and T taken away again. What is answered has passed `is_half`.
-//! - The bench field: the number n of classes is counted and odd, so the half is the multiple by (n + 1) / 2.
+//! - Any curve: from its answer. The half is drawn first, and its double is the class that is asked about.
+//! - Any curve: by solving. For a class D of degree 3 a function of the curve with the divisor D + 2E is sought, by linear
+//!   equations on the square roots of its coefficients; then 2 (-E) = D. Where that fails, as for every D of lower degree,
+//!   it is tried on D + 2T for one class T after another, and T taken away again (`half`).
+//! - The bench field: by looking. All classes are doubled, and the half is the one whose double is the class given
+//!   (`halves_from_doubles`).
+//! - The bench field: by the order of the group. The number n of classes is odd, so the half is the multiple by (n + 1) / 2.
 //! - A curve with coefficients in GF(2), over either field: squaring every coefficient is a map F of the group that
 //!   satisfies F^6 + a1 F^5 + a2 F^4 + a3 F^3 + 2 a2 F^2 + 4 a1 F + 8 = 0, where the a are got from the numbers of
 //!   points over GF(2), GF(4) and GF(8). On these curves all a are even, so F^6 is twice a combination of smaller
 //!   powers, and a half is that combination after F^-6.
 
 use crate::bench_classes::all_classes;
+use crate::class_number::{from_power_sums, points};
 use crate::field::Field;
 use crate::jacobian::{Class, Curve};
 use crate::polynomial::Polynomial;
 use crate::random::Random;
+use std::collections::HashMap;
 
 /// Is `claimed` the half of `class`?
 pub fn is_half(curve: &Curve, claimed: &Class, class: &Class) -> bool {
@@ -85,6 +90,13 @@ pub fn half(curve: &Curve, class: &Class) -> Class {
     panic!("no half found for {class:?} on {curve:?}")
 }
 
+/// The half of each class of a curve over the bench field, read off the doubles of all of them.
+pub fn halves_from_doubles(curve: &Curve, classes: &[Class]) -> HashMap<Class, Class> {
+    let halves: HashMap<Class, Class> = classes.iter().map(|class| (curve.double(class), class.clone())).collect();
+    assert_eq!(halves.len(), classes.len(), "no two classes have the same double");
+    halves
+}
+
 /// Halves on a curve over the bench field, from the number of its classes.
 pub struct HalfByOrder<'a> {
     curve: &'a Curve,
@@ -113,27 +125,11 @@ pub struct HalfByFrobenius<'a> {
 const SMALL_FIELDS: [Field; 3] =
     [Field { degree: 1, modulus: 0b10 }, Field { degree: 2, modulus: 0b111 }, Field { degree: 3, modulus: 0b1011 }];
 
-/// The number of points, that at infinity included, over a small field.
-fn points(curve: &Curve, field: Field) -> i64 {
-    let elements = || 0..1u64 << field.degree;
-    let on_curve = |x, y| field.square(y) ^ y == curve.f.at(field, x);
-    1 + elements().map(|x| elements().filter(|&y| on_curve(x, y)).count() as i64).sum::<i64>()
-}
-
-/// Newton's identities: the first three coefficients of a monic polynomial from the sums of the first, second and third
-/// powers of its roots.
-fn from_power_sums(sums: [i64; 3]) -> [i64; 3] {
-    let a1 = -sums[0];
-    let a2 = -(sums[1] + a1 * sums[0]) / 2;
-    let a3 = -(sums[2] + a1 * sums[1] + a2 * sums[0]) / 3;
-    [a1, a2, a3]
-}
-
 impl HalfByFrobenius<'_> {
     pub fn new(curve: &Curve) -> HalfByFrobenius<'_> {
         assert!(curve.f.coefficients().iter().all(|&c| c < 2));
         // the sums of powers of F's six eigenvalues: 2^k + 1 less the number of points
-        let a = from_power_sums(SMALL_FIELDS.map(|field| (1 << field.degree) + 1 - points(curve, field)));
+        let a = from_power_sums(SMALL_FIELDS.map(|field| (1 << field.degree) + 1 - points(&curve.f, field)));
         assert!(a.iter().all(|a| a % 2 == 0), "there is no class of order 2");
         HalfByFrobenius { curve, a }
     }
@@ -163,6 +159,7 @@ impl HalfByFrobenius<'_> {
 #[cfg(test)]
 mod tests {
     use super::*;
+    use crate::class_number::value_at_one;
     use crate::field::{BENCH, WIDE};
 
     fn curves_over_two(field: Field) -> Vec<Curve> {
@@ -181,8 +178,7 @@ mod tests {
                 let last = if k <= 6 { k as i64 * a[k - 1] } else { 0 };
                 sums.push(-last - (1..k.min(7)).map(|i| a[i - 1] * sums[k - i]).sum::<i64>());
             }
-            let [b1, b2, b3] = from_power_sums([sums[5], sums[10], sums[15]]);
-            let number = 1 + b1 + b2 + b3 + 32 * b2 + 1024 * b1 + 32768;
+            let number = value_at_one(32, from_power_sums([sums[5], sums[10], sums[15]]));
             assert_eq!(all_classes(&curve).len() as i64, number);
         }
     }

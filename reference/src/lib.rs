@@ -7,8 +7,9 @@
 //! - `jacobian`: curves y^2 + y = f(x), reduced classes, Cantor's rule.
 //! - `halving`: halves found without halving rules.
 //! - `bench_classes`: every reduced class of a curve over the bench field.
+//! - `class_number`: how many they are, from points alone.
 //! - `element_cases`: the cases that the program `element_trial` is run on, and the lines that it owes.
-//! - `class_cases`: the same for the program `class_trial`: calls on classes.
+//! - `class_cases`: the same for the program `conformance`: calls on classes.
 //! - `history_cases`: the same for the program `history_trial`: commits and undos on a register, and taking them back.
 //! - `stored`: the stored form's writer and checking reader.
 //! - `calls`: the seven calls on byte areas.
@@ -22,6 +23,7 @@ pub mod bench_classes;
 pub mod byte_cases;
 pub mod calls;
 pub mod class_cases;
+pub mod class_number;
 pub mod element_cases;
 pub mod field;
 pub mod halving;

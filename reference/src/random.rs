@@ -29,6 +29,14 @@ impl Random {
         &row[self.below(row.len())]
     }
 
+    /// The row in a drawn order.
+    pub fn shuffled<T>(&mut self, mut row: Vec<T>) -> Vec<T> {
+        for i in (1..row.len()).rev() {
+            row.swap(i, self.below(i + 1));
+        }
+        row
+    }
+
     /// An element, drawn from the whole field.
     pub fn element(&mut self, field: Field) -> u64 {
         self.number() >> (64 - field.degree)
@@ -46,5 +54,13 @@ mod tests {
         assert_eq!(random.number(), 6457827717110365317);
         assert_eq!(random.number(), 3203168211198807973);
         assert_eq!(random.number(), 9817491932198370423);
+    }
+
+    #[test]
+    fn shuffled_rows() {
+        let mut row = Random::new(1).shuffled((0..100).collect());
+        assert_ne!(row, (0..100).collect::<Vec<_>>());
+        row.sort();
+        assert_eq!(row, (0..100).collect::<Vec<_>>());
     }
 }

@@ -4,10 +4,21 @@
 //! - `empty`: count 0 and an empty drawing number.
 //! - `dozen`: twelve operations over GF(2^61), neutral ones and opposites among them; every letter occurs.
 //! - `full`: 1,024 operations over GF(2^61).
+//! - `low-degrees`: seals over GF(2^61) between which the walk halves from and to every degree.
+//!
+//! And those in examples/failures/, which lines of docs/CHECKLIST.md catch:
+//!
+//! - `half-saved`: `dozen`, broken off within the last seal.
+//! - `lost-tail`: `dozen` without the oldest operation that its count says.
+//! - `other-operation`: `dozen` with the opposite of one operation in that one's place.
+//! - `low-degrees.other-report`: the walk of `low-degrees` by a tool that leaves classes of degree under three as they are
+//!   where it should halve them.
 
 use crate::archive::Archive;
 use crate::calls::seal_after_commit;
+use crate::class_cases::printed;
 use crate::field::{BENCH, WIDE};
+use crate::halving::half;
 use crate::jacobian::{Class, Curve};
 use crate::random::Random;
 
@@ -71,9 +82,59 @@ fn full() -> (Class, Archive) {
     (first, archive)
 }
 
+/// Seals S0, S1, .. and between them the operation that leads from each to the next. An undo halves 2 S, and its answer is S.
+fn low_degrees() -> (Class, Archive) {
+    let mut random = Random::new(84);
+    let curve = Curve::drawn(&mut random, WIDE);
+    let [point, pair, other, last] = [1, 2, 3, 3].map(|number| of_points(&mut random, &curve, number));
+    let seals = [Class::neutral(), point.clone(), pair.clone(), half(&curve, &point), half(&curve, &pair), other, last];
+    let operations: Vec<Class> =
+        seals.windows(2).map(|next| curve.difference(&next[1], &curve.double(&next[0]))).collect();
+    (Class::neutral(), committed(curve, "HINGE 7", &Class::neutral(), &operations))
+}
+
 /// The names and the archives.
-pub fn samples() -> [(&'static str, Archive); 4] {
-    [("document-01", document_01()), ("empty", empty()), ("dozen", dozen().1), ("full", full().1)]
+pub fn samples() -> [(&'static str, Archive); 5] {
+    [
+        ("document-01", document_01()),
+        ("empty", empty()),
+        ("dozen", dozen().1),
+        ("full", full().1),
+        ("low-degrees", low_degrees().1),
+    ]
+}
+
+/// How many operations of `dozen` came after its release, whose seal is printed on the drawing.
+const SINCE_RELEASE: usize = 7;
+
+/// The seal of `dozen` at its release, as it is printed.
+pub fn release_seal() -> String {
+    printed(&dozen().1.walk()[SINCE_RELEASE]) + "\n"
+}
+
+/// The names and the bytes of archives that fail a line of the checklist.
+pub fn failures() -> [(&'static str, Vec<u8>); 3] {
+    let (_, dozen) = dozen();
+    let fields = dozen.fields();
+    let half_saved = [fields[..4].concat(), fields[4][..20].to_vec()].concat();
+    let lost_tail = fields[..fields.len() - 1].concat();
+    let mut other = dozen;
+    other.operations[2] = other.curve.opposite(&other.operations[2]);
+    [("half-saved", half_saved), ("lost-tail", lost_tail), ("other-operation", other.bytes())]
+}
+
+/// The walk report of `low-degrees` by a tool that takes classes of degree under three for their own halves.
+pub fn other_report() -> String {
+    let (_, archive) = low_degrees();
+    let undone = |seal: &Class, operation: &Class| {
+        let difference = archive.curve.difference(seal, operation);
+        if difference.degree() < 3 {
+            difference
+        } else {
+            half(&archive.curve, &difference)
+        }
+    };
+    archive.report_by(undone)
 }
 
 #[cfg(test)]
@@ -84,7 +145,7 @@ mod tests {
     /// The walk of an archive that was committed forward ends in the first seal.
     #[test]
     fn first_seals() {
-        for (first, archive) in [dozen(), full()] {
+        for (first, archive) in [dozen(), full(), low_degrees()] {
             assert_eq!(archive.walk().last(), Some(&first));
         }
         assert_eq!(full().1.operations.len(), 1024);
@@ -93,12 +154,32 @@ mod tests {
 
     #[test]
     fn letters() {
-        let [_, (_, empty), (_, dozen), _] = samples();
+        let [_, (_, empty), (_, dozen), _, _] = samples();
         assert_eq!(report(&empty.bytes()).lines().count(), 2);
         assert!(report(&empty.bytes()).starts_with("walk 0\n0 . 3:"));
         let report = report(&dozen.bytes());
         let letters: Vec<&str> = report.lines().skip(1).map(|line| line.split(' ').nth(1).unwrap()).collect();
         assert_eq!(letters.concat(), ".--R-RMRR--M-");
         assert!(report.lines().next_back().unwrap().starts_with("12 - 0::"));
+    }
+    /// Every case of halving, by the degrees of a class and of its half, newest first.
+    #[test]
+    fn halving_cases() {
+        let (_, archive) = low_degrees();
+        let halves = archive.walk()[1..].to_vec();
+        let cases: Vec<(usize, usize)> =
+            halves.iter().map(|half| (archive.curve.double(half).degree(), half.degree())).collect();
+        assert_eq!(cases, [(3, 3), (2, 3), (1, 3), (3, 2), (2, 1), (0, 0)]);
+    }
+
+    #[test]
+    fn failing_archives() {
+        let [(_, half_saved), (_, lost_tail), (_, other)] = failures();
+        assert_eq!(report(&half_saved), "refused 105\n");
+        assert_eq!(report(&lost_tail), "refused 102\n");
+        let good = report(&dozen().1.bytes());
+        assert!(good.contains(release_seal().trim_end()));
+        assert!(!report(&other).contains(release_seal().trim_end()));
+        assert_ne!(other_report(), report(&low_degrees().1.bytes()));
     }
 }

@@ -1,11 +1,11 @@
 -- Repeated squaring as the loop makes it, and the powers 2^k - 1 of an element, from which its inverse is made.
 use mathlib.Core.Path.{_≡_, ap, ap₂, sym, _∙_}
-use Prim.Native.Nat.{ℕ, _+_, _-_, _^_, _<_, _≤_}
+use Prim.Native.Nat.{ℕ, _+_, _-_, _*_, _^_, _<_, _≤_}
 use native.Mathlib.Numerals.{add-one}
 use native.Mathlib.Omega.{arith}
 use Rattle.binary_field.specs.Element.{Accepted, product, square, squarings, power, inverse}
 use Rattle.binary_field.proofs.Products.{low-lt, product-lt, square-lt}
-use Rattle.binary_field.proofs.Power.{squarings-zero, squarings-suc, power-ones-add, power-ones-one, inverse-ones}
+use Rattle.binary_field.proofs.Power.{squarings-zero, squarings-suc, squarings-add, squarings-lt, power-ones-add, power-ones-one, inverse-ones}
 
 pub none-squared : (d a : ℕ) → a < 2 ^ d → (a ≡ squarings d 0 a) × (a < 2 ^ d)
 none-squared d a h = (sym (squarings-zero d a), h)
@@ -13,6 +13,12 @@ none-squared d a h = (sym (squarings-zero d a), h)
 pub once-more : (d a i : ℕ) {r s : ℕ} → Accepted d → r ≡ squarings d i a → s ≡ square d r → (s ≡ squarings d (i + 1) a) × (s < 2 ^ d)
 once-more d a i {r} {s} hd e f =
     (f ∙ ap (square d) e ∙ sym (ap (λ (k : ℕ). squarings d k a) (add-one i) ∙ squarings-suc d i a), rw f (square-lt d (low-lt d hd) r))
+
+pub six-more : (a i : ℕ) {r s : ℕ} → (r ≡ squarings 61 (i * 6) a) × (r < 2 ^ 61) → s ≡ squarings 61 6 r
+    → (s ≡ squarings 61 ((i + 1) * 6) a) × (s < 2 ^ 61)
+six-more a i {r} {s} (e, h) f =
+    let k : (i + 1) * 6 ≡ 6 + i * 6 = omega arith in
+    (f ∙ ap (squarings 61 6) e ∙ sym (ap (λ (n : ℕ). squarings 61 n a) k ∙ squarings-add 61 6 (i * 6) a), rw f (squarings-lt 61 (low-lt 61 tt) 6 r h))
 
 pub all-squared : (d a : ℕ) {i k r : ℕ} → (r ≡ squarings d i a) × (r < 2 ^ d) → i ≤ k → k ≤ i → (r ≡ squarings d k a) × (r < 2 ^ d)
 all-squared d a {i} {k} h p q =

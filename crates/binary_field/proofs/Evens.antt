@@ -1,34 +1,16 @@
 -- The digits at even places: the code brings them together in ever longer runs; and a number is its digits at even places,
 -- spread, and those at odd places, spread and moved up by one. Both are equations of additive maps, tested at each power of t.
-use mathlib.Core.Path.{_≡_, refl, ap, ap₂, sym, _∙_, subst}
-use mathlib.Core.Bool.{Bool, true, false, _&&_}
-use Prim.Native.Nat.{ℕ, zero, suc, _*_, _/_, _%_, _^_, _<_, _≤_}
-use native.Mathlib.Decide.{decLt}
+use mathlib.Core.Path.{_≡_, refl, ap, ap₂, sym, _∙_}
+use Prim.Native.Nat.{ℕ, zero, suc, _+_, _*_, _/_, _%_, _^_, _<_, _≤_}
 use native.Mathlib.Omega.{arith}
 use lib.Arith.{bin-ind}
-use lib.Dec.{T, eqb, eqb→eq}
 use lib.Bits.{bitAnd, and-shr, and-mod}
+use lib.Pow.{pow-pos}
 use Rattle.binary_field.specs.Carryless.{_⊕_, spread, digits, digits-to}
 use Rattle.binary_field.specs.Spreading.{evens}
 use Rattle.binary_field.proofs.Sums.{bit-cases, bit-lt, same-digits, sum-half, sum-odd, sum-shr, sum-double, sum-middle, sum-self, zero-sum, double-plus-sum}
-use Rattle.binary_field.proofs.Linear.{Additive, basis}
+use Rattle.binary_field.proofs.Linear.{Additive, basis, same, same-at}
 use Rattle.binary_field.proofs.Spread.{spread-sum}
-
--- ---- two additive maps are equal below 2^d where a computed test finds them equal at t^0 .. t^(d-1)
-same : (ℕ → ℕ) → (ℕ → ℕ) → ℕ → Bool
-same f g zero = true
-same f g (suc k) = eqb (f (2 ^ k)) (g (2 ^ k)) && same f g k
-
-same-at : (f g : ℕ → ℕ) (k : ℕ) → T (same f g k) → (i : ℕ) → i < k → f (2 ^ i) ≡ g (2 ^ i)
-unfolding same
-same-at f g zero t i h = absurd (omega arith)
-same-at f g (suc k) t i h = at (eqb (f (2 ^ k)) (g (2 ^ k))) refl t (same-at f g k) (decLt i k)
-  where
-    at : (x : Bool) → eqb (f (2 ^ k)) (g (2 ^ k)) ≡ x → T (x && same f g k)
-        → (T (same f g k) → (j : ℕ) → j < k → f (2 ^ j) ≡ g (2 ^ j)) → Dec (i < k) → f (2 ^ i) ≡ g (2 ^ i)
-    at true e u rec (yes l) = rec u i l
-    at true e u rec (no l) = let z : k ≡ i = omega arith in subst (λ (j : ℕ). f (2 ^ j) ≡ g (2 ^ j)) z (eqb→eq _ _ (rw e tt))
-    at false e u rec dec = absurd u
 
 -- ---- the operations are additive
 and-sum-bits : (x : ℕ) → x < 2 → (y : ℕ) → y < 2 → (m : ℕ) → m < 2 → bitAnd (x ⊕ y) m ≡ bitAnd x m ⊕ bitAnd y m
@@ -38,7 +20,7 @@ and-sum-bits =
     (bit-cases (λ y. (m : ℕ) → m < 2 → bitAnd (1 ⊕ y) m ≡ bitAnd 1 m ⊕ bitAnd y m)
     (bit-cases (λ m. bitAnd 1 m ≡ bitAnd 1 m ⊕ 0) refl refl) (bit-cases (λ m. 0 ≡ bitAnd 1 m ⊕ bitAnd 1 m) refl refl))
 
-and-sum : (a b m : ℕ) → bitAnd (a ⊕ b) m ≡ bitAnd a m ⊕ bitAnd b m
+pub and-sum : (a b m : ℕ) → bitAnd (a ⊕ b) m ≡ bitAnd a m ⊕ bitAnd b m
 and-sum =
     bin-ind (λ (n : ℕ). (b m : ℕ) → bitAnd (n ⊕ b) m ≡ bitAnd n m ⊕ bitAnd b m)
     (λ b m. ap (λ (x : ℕ). bitAnd x m) (zero-sum b) ∙ sym (zero-sum (bitAnd b m)))
@@ -93,3 +75,12 @@ pub evens-le : (k n : ℕ) → evens k n ≤ n
 unfolding evens
 evens-le zero n = omega arith
 evens-le (suc k) n = omega (arith, evens-le k (n / 4))
+
+pub evens-lt : (j k n : ℕ) → n < 2 ^ (k + k) → evens j n < 2 ^ k
+unfolding evens
+evens-lt zero k n h = pow-pos k
+evens-lt (suc j) zero n h = omega (arith, evens-le j (n / 4))
+evens-lt (suc j) (suc k) n h =
+    let e : suc k + suc k ≡ suc (suc (k + k)) = omega arith in
+    let g : n < 2 ^ suc (suc (k + k)) = rw e at h in
+    omega (arith, evens-lt j k (n / 4) (omega arith))

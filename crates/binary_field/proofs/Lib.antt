@@ -20,4 +20,6 @@ pub mod Table
 pub mod Halves
 pub mod ChainSteps
 pub mod Evens
+pub mod RunOfPowers
 pub mod Roots
+pub mod Multisquares

@@ -1,11 +1,14 @@
 -- Additive maps on polynomials over GF(2): two that agree on t^0 .. t^(d-1) agree below 2^d. The map given by the list of
 -- its values at t^0, t^1, .. is additive.
 use Prim.Native.Nat.{ℕ, zero, suc, _*_, _/_, _%_, _^_, _<_}
-use mathlib.Core.Path.{_≡_, sym, ap, ap₂, _∙_}
+use mathlib.Core.Path.{_≡_, refl, sym, ap, ap₂, _∙_, subst}
+use mathlib.Core.Bool.{Bool, true, false, _&&_}
 use mathlib.Core.List.{List, [], _∷_}
 use native.Mathlib.Nat.{zero-mul, one-mul, mod-lt, le-refl, div-lt-iff-lt-mul}
+use native.Mathlib.Decide.{decLt}
 use native.Mathlib.Omega.{arith}
 use lib.Arith.{lt-one}
+use lib.Dec.{T, eqb, eqb→eq}
 use lib.Pow.{pow-pos}
 use Rattle.binary_field.specs.Carryless.{_⊕_}
 use Rattle.binary_field.proofs.Sums.{bit-cases, bit-lt, sum-self, sum-zero, sum-half, sum-odd, sum-split, sum-middle, bit-sum-mul}
@@ -28,6 +31,22 @@ basis f g hf hg (suc d) e a ha =
     top : (x : ℕ) → x < 2 → f (x * 2 ^ d) ≡ g (x * 2 ^ d)
     top = bit-cases (λ x. f (x * 2 ^ d) ≡ g (x * 2 ^ d))
         (rw (zero-mul, additive-zero f hf, additive-zero g hg)) (rw one-mul (e d (le-refl (suc d))))
+
+-- a computed test that two maps agree on t^0 .. t^(d-1)
+unfoldable pub same : (ℕ → ℕ) → (ℕ → ℕ) → ℕ → Bool
+same f g zero = true
+same f g (suc k) = eqb (f (2 ^ k)) (g (2 ^ k)) && same f g k
+
+pub same-at : (f g : ℕ → ℕ) (k : ℕ) → T (same f g k) → (i : ℕ) → i < k → f (2 ^ i) ≡ g (2 ^ i)
+unfolding same
+same-at f g zero t i h = absurd (omega arith)
+same-at f g (suc k) t i h = at (eqb (f (2 ^ k)) (g (2 ^ k))) refl t (same-at f g k) (decLt i k)
+  where
+    at : (x : Bool) → eqb (f (2 ^ k)) (g (2 ^ k)) ≡ x → T (x && same f g k)
+        → (T (same f g k) → (j : ℕ) → j < k → f (2 ^ j) ≡ g (2 ^ j)) → Dec (i < k) → f (2 ^ i) ≡ g (2 ^ i)
+    at true e u rec (yes l) = rec u i l
+    at true e u rec (no l) = let z : k ≡ i = omega arith in subst (λ (j : ℕ). f (2 ^ j) ≡ g (2 ^ j)) z (eqb→eq _ _ (rw e tt))
+    at false e u rec dec = absurd u
 
 -- the sum of the values at the digits of n
 unfoldable pub combine : List ℕ → ℕ → ℕ

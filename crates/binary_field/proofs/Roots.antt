@@ -12,7 +12,7 @@ use Rattle.binary_field.proofs.Products.{low-lt, product-lt, product-co
 use Rattle.binary_field.proofs.Certificate.{certified}
 use Rattle.binary_field.proofs.Frobenius.{square-root, square-injective, root-lt}
 use Rattle.binary_field.proofs.Degrees.{digits-61}
-use Rattle.binary_field.proofs.Evens.{evens-parts, evens-le}
+use Rattle.binary_field.proofs.Evens.{evens-parts, evens-le, evens-lt}
 
 -- the square of what the code makes is the element
 module _ (d : ℕ) (hd : Accepted d) where
@@ -25,33 +25,39 @@ module _ (d : ℕ) (hd : Accepted d) where
       ∙ remainder-double d (low d) (remainder d (low d) (spread o))
       ∙ ap (λ (x : ℕ). reduce d (low d) (2 * x)) (remainder-idem d (low d) fits (spread o)) ∙ sym (remainder-double d (low d) (spread o))
 
-  root-squared : (a s : ℕ) → a < 2 ^ d → square d s ≡ 2 → square d (evens 32 a ⊕ product d (evens 32 (a / 2)) s) ≡ a
-  root-squared a s ha e =
-      square-sum d fits (evens 32 a) (product d (evens 32 (a / 2)) s)
-      ∙ ap₂ _⊕_ (square-spread d (evens 32 a))
-      (square-product d fits (evens 32 (a / 2)) s ∙ ap (product d (square d (evens 32 (a / 2)))) e
-      ∙ product-comm d (square d (evens 32 (a / 2))) 2 ∙ double-square (evens 32 (a / 2)))
+  -- a root of t times n: its square is t times that of n
+  pub times-root : (n s : ℕ) {p : ℕ} → square d s ≡ 2 → p ≡ product d n s → (square d p ≡ product d 2 (square d n)) × (p < 2 ^ d)
+  times-root n s e f =
+      (ap (square d) f ∙ square-product d fits n s ∙ ap (product d (square d n)) e ∙ product-comm d (square d n) 2, rw f (product-lt d fits n s))
+
+  root-squared : (a p : ℕ) → a < 2 ^ d → square d p ≡ product d 2 (square d (evens 32 (a / 2))) → square d (evens 32 a ⊕ p) ≡ a
+  root-squared a p ha e =
+      square-sum d fits (evens 32 a) p
+      ∙ ap₂ _⊕_ (square-spread d (evens 32 a)) (e ∙ double-square (evens 32 (a / 2)))
       ∙ sym (remainder-sum d (low d) fits (spread (evens 32 a)) (2 * spread (evens 32 (a / 2))))
       ∙ ap (remainder d (low d)) (evens-parts a (omega (arith, digits-61 a d hd ha))) ∙ remainder-small d (low d) fits a ha
 
   -- and so what the code makes is the root
-  pub root-made : (a e o s p : ℕ) → a < 2 ^ d → square d s ≡ 2 → e ≡ evens 32 a → o ≡ evens 32 (a / 2) → p ≡ product d o s → bitXor e p ≡ root d a
+  pub root-made : (a e o p : ℕ) → a < 2 ^ d → e ≡ evens 32 a → o ≡ evens 32 (a / 2)
+      → (square d p ≡ product d 2 (square d o)) × (p < 2 ^ d) → bitXor e p ≡ root d a
   unfolding _⊕_
-  root-made a e o s p ha hs ee eo ep =
+  root-made a e o p ha ee eo (ep, hp) =
       let f = certified d hd .fixed in
-      rw (ep, ee, eo)
-      (square-injective d fits f (evens 32 a ⊕ product d (evens 32 (a / 2)) s) (root d a)
-      (sum-lt d (evens 32 a) (product d (evens 32 (a / 2)) s) (omega (arith, evens-le 32 a)) (product-lt d fits (evens 32 (a / 2)) s)) (root-lt d fits f a ha)
-      (root-squared a s ha hs ∙ sym (square-root d fits f a ha)))
+      rw ee
+      (square-injective d fits f (evens 32 a ⊕ p) (root d a)
+      (sum-lt d (evens 32 a) p (omega (arith, evens-le 32 a)) hp) (root-lt d fits f a ha)
+      (root-squared a p ha (rw eo at ep) ∙ sym (square-root d fits f a ha)))
 
-pub odd-below : (d a o : ℕ) → a < 2 ^ d → o ≡ evens 32 (a / 2) → o < 2 ^ d
-odd-below d a o ha e = omega (arith, evens-le 32 (a / 2))
+-- the digits at odd places
+pub odd-below : (d a o : ℕ) → Accepted d → a < 2 ^ d → o ≡ evens 32 (a / 2) → (o < 2 ^ d) × (o < 2 ^ 30)
+odd-below d a o hd ha e =
+    (omega (arith, evens-le 32 (a / 2)), rw e (evens-lt 32 30 (a / 2) (omega (arith, digits-61 a d hd ha))))
 
 -- the roots of t
 pub root-5 : square 5 0x1b ≡ 2
 unfolding square product remainder reduce clmul low digits digits-to _⊕_
 root-5 = refl
 
-pub root-61 : square 61 0x1fff_ffff_8000_001b ≡ 2
+pub root-61 : square 61 0x7fff_ffff_8000_0072 ≡ 2
 unfolding square product remainder reduce clmul low digits digits-to _⊕_
 root-61 = refl

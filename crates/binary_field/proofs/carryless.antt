@@ -2,6 +2,6 @@
 mod Sixteens
 mod Parts
 mod Columns
-mod Sizes
+pub mod Sizes
 mod Karatsuba
 mod Folding

@@ -3,3 +3,4 @@ pub mod Carryless
 pub mod Element
 pub mod Answer
 pub mod Spreading
+pub mod Multisquaring

@@ -7,6 +7,7 @@ ghost use Rattle.binary_field.specs.Answer.{reply, below, due, sum-reply
 
 mod carryless;
 mod inverting;
+mod multisquaring;
 mod rooting;
 mod spreading;
 mod squaring;

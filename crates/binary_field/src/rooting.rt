@@ -1,10 +1,12 @@
 // The square root of an element a = e^2 + t o^2, where e has the digits of a at even places and o those at odd places: e plus o times
 // the root of t.
 ghost use mathlib.Core.Path.{_≡_};
-ghost use Prim.Native.Nat.{_<_, _^_};
-ghost use Rattle.binary_field.specs.Element.{Accepted, square, root};
+ghost use Prim.Native.Nat.{_+_, _*_, _<_, _^_};
+ghost use Rattle.binary_field.specs.Carryless.{clmul};
+ghost use Rattle.binary_field.specs.Element.{Accepted, product, square, root};
 ghost use Rattle.binary_field.specs.Spreading.{evens};
 use crate::carryless;
+use crate::carryless::Words;
 
 // The digits at even places, brought together in ever longer runs.
 fn evens_of(n: u64) -> u64
@@ -18,15 +20,33 @@ fn evens_of(n: u64) -> u64
     (sixteens ^ (sixteens >> 16)) & 0xffff_ffff
 }
 
-// The square root of t.
-fn root_of_t(d: u8) -> u64
-    requires { ⌜ Accepted d ⌝ }
-    ensures { λ r. ⌜ (square d r ≡ 2) × (r < 2 ^ d) ⌝ }
+// The carry-less product of a number of thirty digits and t^62 + t^61 + .. + t^31 + t^6 + t^5 + t^4 + t, whose square is t modulo the
+// modulus of degree 61. The run of 32 powers is the product of 1 + t, 1 + t^2, 1 + t^4, 1 + t^8 and 1 + t^16.
+fn wide_times_root(n: u64) -> Words
+    requires { ⌜ n < 2 ^ 30 ⌝ }
+    ensures { λ r. ⌜ (r .lo < 2 ^ 61) × (r .hi * 2 ^ 61 + r .lo ≡ clmul n 0x7fff_ffff_8000_0072) ⌝ }
+{
+    let twos = n ^ (n << 1);
+    let fours = twos ^ (twos << 2);
+    let eights = fours ^ (fours << 4);
+    let sixteens = eights ^ (eights << 8);
+    let run = sixteens ^ (sixteens << 16);
+    let rest = ((n << 1) ^ (n << 4)) ^ ((n << 5) ^ (n << 6));
+    Words {
+        lo: ((run << 31) ^ rest) & 0x1fff_ffff_ffff_ffff,
+        hi: run >> 30,
+    }
+}
+
+// The square root of t times n: its square is t times that of n.
+fn times_root_of_t(d: u8, n: u64) -> u64
+    requires { ⌜ Accepted d × (n < 2 ^ d) × (n < 2 ^ 30) ⌝ }
+    ensures { λ r. ⌜ (square d r ≡ product d 2 (square d n)) × (r < 2 ^ d) ⌝ }
 {
     if d == 5 {
-        return 0x1b;
+        return carryless::product_of(5, n, 0x1b);
     }
-    0x1fff_ffff_8000_001b
+    carryless::fold(61, wide_times_root(n))
 }
 
 pub(crate) fn root_of(d: u8, a: u64) -> u64
@@ -35,6 +55,5 @@ pub(crate) fn root_of(d: u8, a: u64) -> u64
 {
     let e = evens_of(a);
     let o = evens_of(a >> 1);
-    let s = root_of_t(d);
-    e ^ carryless::product_of(d, o, s)
+    e ^ times_root_of_t(d, o)
 }

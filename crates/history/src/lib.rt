@@ -16,7 +16,8 @@ use jacobian::ClassAnswer;
 use jacobian::Curve;
 use jacobian::Outcome;
 
-// The degree and the curve, the count of operations and the seal; no operation.
+// The degree and the curve, the count of operations and the seal; no operation. In C's layout, since a host keeps one and lends it.
+#[repr(C)]
 pub struct Register {
     pub curve: Curve,
     pub count: u64,
@@ -33,7 +34,7 @@ pub struct RegisterAnswer {
 const LIMIT: u64 = stored_form::COUNT_LIMIT;
 
 // The number of a refusal, and 0 for an acceptance.
-fn outcome_number(o: Outcome) -> u32
+pub fn outcome_number(o: Outcome) -> u32
     ensures { λ r. ⌜ r ≡ number o ⌝ }
 {
     match o {
@@ -43,7 +44,7 @@ fn outcome_number(o: Outcome) -> u32
 }
 
 // The refusal that is due to a curve and a class, and 0 where none is.
-fn class_refusal(curve: Curve, a: Class) -> u32
+pub fn class_refusal(curve: Curve, a: Class) -> u32
     ensures { λ r. ⌜ r ≡ refusal curve a ⌝ }
 {
     let o = jacobian::membership(curve, a);
@@ -51,7 +52,7 @@ fn class_refusal(curve: Curve, a: Class) -> u32
 }
 
 // The refusal of a count above the limit, unless the curve is refused first.
-fn count_refusal(curve: Curve) -> u32
+pub fn count_refusal(curve: Curve) -> u32
     ensures { λ r. ⌜ r ≡ curve-refusal curve then 109 ⌝ }
 {
     let o = jacobian::accepts_curve(curve);

@@ -24,6 +24,8 @@ use class_rows::row::RowPair;
 use class_rows::sum_rows;
 use class_rows::undo_rows;
 
+// The layout of a curve and of a class is C's: a register in C's layout holds them.
+#[repr(C)]
 pub struct Curve {
     pub degree: u8,
     pub f3: u64,
@@ -31,6 +33,7 @@ pub struct Curve {
     pub f0: u64,
 }
 
+#[repr(C)]
 pub struct Class {
     pub degree: u64,
     pub u: [u64; 3],

@@ -1,24 +1,11 @@
 -- What a byte call answers by its checks: 101, the record's refusal, else the answer for its values.
 use Prim.Native.Nat.{ℕ, _≤_, _<_}
-use mathlib.Core.Path.{_≡_, refl, sym, ap, _∙_}
+use mathlib.Core.Path.{_≡_, sym, ap, _∙_}
 use mathlib.Core.List.{List}
 use lib.ListN.{length}
 use borrow.Author.Tests.{lt-ltb, le-ltb}
-use Rattle.stored_form.specs.Reading.{Reading, found, refused, number}
-use Rattle.stored_form.specs.declared.Cursor.{Cursor}
-use Rattle.stored_form.specs.declared.classes.Place.{Place}
-use Rattle.stored_form.specs.declared.classes.Place.the-variants.{Next, Refused}
-use Rattle.seal_archive.specs.Records.{at-place}
+use Rattle.stored_form.specs.Reading.{Reading, found, refused}
 use Rattle.seal_archive.specs.Calls.{Outcome, outcome, refuse, lent, for}
-
--- ---- the record by its place
-
-module _ {A : Type 0} (p : Place) (a : A) {x : Reading A} (e : at-place p a ≡ x) where
-  pub place-refused : {n k : ℕ} → p ≡ Refused n → k ≡ number (at-place p p) → x ≡ refused k
-  place-refused f h = sym e ∙ ap (λ (q : Place). at-place q a) f ∙ ap refused (sym (h ∙ ap (λ (q : Place). number (at-place q q)) f))
-
-  pub place-found : {next : Cursor} → p ≡ Next next → x ≡ found a (next .at)
-  place-found f = sym e ∙ ap (λ (q : Place). at-place q a) f
 
 -- ---- the checks
 

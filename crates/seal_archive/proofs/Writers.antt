@@ -20,7 +20,9 @@ use Rattle.stored_form.specs.Fields.{count-limit, count-field}
 use Rattle.stored_form.specs.Classes.{in-row}
 use Rattle.stored_form.specs.declared.classes.ClassField.{ClassField}
 use Rattle.stored_form.proofs.Stores.{sets-append}
-use Rattle.seal_archive.specs.Calls.{Outcome, outcome, refuse, write, on}
+use Rattle.seal_archive.specs.declared.calls.Step.{Step}
+use Rattle.seal_archive.specs.declared.calls.Step.the-variants.{Commit, Undo}
+use Rattle.seal_archive.specs.Calls.{Outcome, outcome, refuse, write, on, step-answer}
 
 -- ---- a verdict's refusal, else bytes
 
@@ -89,7 +91,7 @@ keeps-room room at out xs {after} le e = let l : length after ≡ length out = a
 -- ---- the count of a register that was handed back
 
 module _ (g : Register) (a : Class) {x : RegisterReply} where
-  pub commit-count : x ≡ commit-answer g a → x .outcome ≡ accepted → x .register .count < 65536
+  commit-count : x ≡ commit-answer g a → x .outcome ≡ accepted → x .register .count < 65536
   unfolding commit-answer committed moved count-limit
   commit-count e f =
       let z : commit-refusal g a ≡ 0 = follows-accepted (commit-refusal g a) g (committed g a) (sym (ap (λ (y : RegisterReply). y .outcome) e) ∙ f) in
@@ -97,10 +99,15 @@ module _ (g : Register) (a : Class) {x : RegisterReply} where
       let same : x .register .count ≡ g .count + 1 = ap (λ (y : RegisterReply). y .register .count) (e ∙ follows-zero (commit-refusal g a) g (committed g a) z) in
       omega (arith, p .bound)
 
-  pub undo-count : x ≡ undo-answer g a → x .outcome ≡ accepted → x .register .count < 65536
+  undo-count : x ≡ undo-answer g a → x .outcome ≡ accepted → x .register .count < 65536
   unfolding undo-answer undone moved count-limit
   undo-count e f =
       let z : undo-refusal g a ≡ 0 = follows-accepted (undo-refusal g a) g (undone g a) (sym (ap (λ (y : RegisterReply). y .outcome) e) ∙ f) in
       let p = undo-passes g a z in
       let same = ap (λ (y : RegisterReply). y .register .count) (e ∙ follows-zero (undo-refusal g a) g (undone g a) z) in
       omega (arith, p .register .count-passes, p .bound)
+
+pub step-count : (k : Step) (g : Register) (a : Class) {x : RegisterReply} → x ≡ step-answer k g a → x .outcome ≡ accepted → x .register .count < 65536
+unfolding step-answer
+step-count Commit g a = commit-count g a
+step-count Undo g a = undo-count g a

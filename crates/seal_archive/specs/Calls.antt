@@ -5,11 +5,18 @@ use mathlib.Core.List.{List, _++_}
 use lib.ListN.{length, drop}
 use lib.Dec.{ltb}
 use Rattle.jacobian.specs.Answer.{Verdict, Reply, accepted, refused, opposite-answer, double-answer, half-answer, sum-answer}
+use Rattle.jacobian.specs.declared.Curve.{Curve}
+use Rattle.jacobian.specs.declared.Class.{Class}
+use Rattle.history.specs.declared.Register.{Register}
 use Rattle.history.specs.Register.{RegisterReply, commit-answer, undo-answer}
 use Rattle.stored_form.specs.Reading.{Reading, found, refused as unread, number}
 use Rattle.stored_form.specs.Fields.{count-field}
 use Rattle.stored_form.specs.Classes.{class-field}
 use Rattle.seal_archive.specs.Records.{OneClass, TwoClasses, Operation, class-record, sum-record, register-record}
+use Rattle.seal_archive.specs.declared.calls.Unary.{Unary}
+use Rattle.seal_archive.specs.declared.calls.Unary.the-variants.{Opposite, Double, Half}
+use Rattle.seal_archive.specs.declared.calls.Step.{Step}
+use Rattle.seal_archive.specs.declared.calls.Step.the-variants.{Commit, Undo}
 
 -- the answer, and the lent output afterwards
 pub record Outcome : Type 0 where
@@ -64,20 +71,39 @@ write-register out r = on out (r .outcome) (count-field (r .register .count) ++ 
 unfoldable pub membership-call : List ℕ → ℕ
 membership-call s = number (class-record s)
 
+-- what is answered for a curve and a class, written for those of the record
+unfoldable pub class-call : (Curve → Class → Reply) → List ℕ → List ℕ → Outcome
+class-call answer s out = lent class-room out (for out (class-record s) λ r. write-class out (answer (r .curve) (r .class)))
+
 unfoldable pub opposite-call : List ℕ → List ℕ → Outcome
-opposite-call s out = lent class-room out (for out (class-record s) λ r. write-class out (opposite-answer (r .curve) (r .class)))
+opposite-call s out = class-call opposite-answer s out
 
 unfoldable pub double-call : List ℕ → List ℕ → Outcome
-double-call s out = lent class-room out (for out (class-record s) λ r. write-class out (double-answer (r .curve) (r .class)))
+double-call s out = class-call double-answer s out
 
 unfoldable pub half-call : List ℕ → List ℕ → Outcome
-half-call s out = lent class-room out (for out (class-record s) λ r. write-class out (half-answer (r .curve) (r .class)))
+half-call s out = class-call half-answer s out
 
 unfoldable pub sum-call : List ℕ → List ℕ → Outcome
 sum-call s out = lent class-room out (for out (sum-record s) λ r. write-class out (sum-answer (r .curve) (r .first) (r .second)))
 
+-- what is answered for a register and a class, written for those of the record
+unfoldable pub register-call : (Register → Class → RegisterReply) → List ℕ → List ℕ → Outcome
+register-call answer s out = lent register-room out (for out (register-record s) λ r. write-register out (answer (r .register) (r .class)))
+
 unfoldable pub commit-call : List ℕ → List ℕ → Outcome
-commit-call s out = lent register-room out (for out (register-record s) λ r. write-register out (commit-answer (r .register) (r .class)))
+commit-call s out = register-call commit-answer s out
 
 unfoldable pub undo-call : List ℕ → List ℕ → Outcome
-undo-call s out = lent register-room out (for out (register-record s) λ r. write-register out (undo-answer (r .register) (r .class)))
+undo-call s out = register-call undo-answer s out
+
+-- ---- what each case of the code's choices says
+
+unfoldable pub unary-answer : Unary → Curve → Class → Reply
+unary-answer Opposite c a = opposite-answer c a
+unary-answer Double c a = double-answer c a
+unary-answer Half c a = half-answer c a
+
+unfoldable pub step-answer : Step → Register → Class → RegisterReply
+step-answer Commit g a = commit-answer g a
+step-answer Undo g a = undo-answer g a

@@ -6,18 +6,20 @@ ghost use lib.ListN.{length, take};
 ghost use lib.Seq.{sets};
 ghost use Rattle.jacobian.specs.Answer.{verdict, accepted, reply};
 ghost use Rattle.history.specs.Register.{number, register-reply};
-ghost use Rattle.seal_archive.specs.Calls.{outcome, write-class, write-register, membership-call, opposite-call, double-call, half-call, sum-call, commit-call, undo-call};
+ghost use Rattle.seal_archive.specs.Calls.{outcome, write-class, write-register, unary-answer, step-answer, class-call, register-call, membership-call, opposite-call, double-call, half-call, sum-call, commit-call, undo-call};
 use crate::records;
 use history::Register;
 use history::RegisterAnswer;
+use jacobian::Class;
 use jacobian::ClassAnswer;
+use jacobian::Curve;
 use jacobian::Outcome;
 use stored_form::classes::Place;
 
-// The least lengths of an output.
+// The least lengths of an output: a class field, and the count's field before one.
 const CLASS_ROOM: usize = 51;
 
-const REGISTER_ROOM: usize = 56;
+const REGISTER_ROOM: usize = 5 + CLASS_ROOM;
 
 // Copies bytes into the output from a place on.
 fn put(bytes: &[u8], output: &mut [u8], at: usize)
@@ -94,7 +96,43 @@ pub extern "C" fn seal_membership(input: &[u8]) -> u32
 {
     let r = records::class_record(input);
     let place = r.place;
-    records::place_number(place)
+    stored_form::classes::place_refusal(place)
+}
+
+// What is asked of one class.
+enum Unary {
+    Opposite,
+    Double,
+    Half,
+}
+
+// What the call by value answers.
+fn class_answer(kind: Unary, curve: Curve, class: Class) -> ClassAnswer
+    ensures { λ r. ⌜ reply r ≡ unary-answer kind curve class ⌝ }
+{
+    match kind {
+        Unary::Opposite => jacobian::opposite(curve, class),
+        Unary::Double => jacobian::double(curve, class),
+        Unary::Half => jacobian::half(curve, class),
+    }
+}
+
+// Writes the answer for the class of the record.
+fn class_call(kind: Unary, input: &[u8], output: &mut [u8]) -> u32
+    ensures { λ r. ⌜ outcome r (now (output .exit)) ≡ class-call (unary-answer kind) (now (input .entry)) (now (output .entry)) ⌝ }
+{
+    if output.len() < CLASS_ROOM {
+        return 101;
+    }
+    let r = records::class_record(input);
+    let place = r.place;
+    let curve = r.curve;
+    let class = r.class;
+    let Place::Next(_) = place else {
+        return stored_form::classes::place_refusal(place);
+    };
+    let a = class_answer(kind, curve, class);
+    put_class(a, output)
 }
 
 // The opposite of the class.
@@ -102,18 +140,7 @@ pub extern "C" fn seal_membership(input: &[u8]) -> u32
 pub extern "C" fn seal_opposite(input: &[u8], output: &mut [u8]) -> u32
     ensures { λ r. ⌜ outcome r (now (output .exit)) ≡ opposite-call (now (input .entry)) (now (output .entry)) ⌝ }
 {
-    if output.len() < CLASS_ROOM {
-        return 101;
-    }
-    let r = records::class_record(input);
-    let place = r.place;
-    let curve = r.curve;
-    let class = r.class;
-    let Place::Next(_) = place else {
-        return records::place_number(place);
-    };
-    let a = jacobian::opposite(curve, class);
-    put_class(a, output)
+    class_call(Unary::Opposite, input, output)
 }
 
 // The double of the class.
@@ -121,18 +148,7 @@ pub extern "C" fn seal_opposite(input: &[u8], output: &mut [u8]) -> u32
 pub extern "C" fn seal_double(input: &[u8], output: &mut [u8]) -> u32
     ensures { λ r. ⌜ outcome r (now (output .exit)) ≡ double-call (now (input .entry)) (now (output .entry)) ⌝ }
 {
-    if output.len() < CLASS_ROOM {
-        return 101;
-    }
-    let r = records::class_record(input);
-    let place = r.place;
-    let curve = r.curve;
-    let class = r.class;
-    let Place::Next(_) = place else {
-        return records::place_number(place);
-    };
-    let a = jacobian::double(curve, class);
-    put_class(a, output)
+    class_call(Unary::Double, input, output)
 }
 
 // The half of the class: the class whose double it is.
@@ -140,18 +156,7 @@ pub extern "C" fn seal_double(input: &[u8], output: &mut [u8]) -> u32
 pub extern "C" fn seal_half(input: &[u8], output: &mut [u8]) -> u32
     ensures { λ r. ⌜ outcome r (now (output .exit)) ≡ half-call (now (input .entry)) (now (output .entry)) ⌝ }
 {
-    if output.len() < CLASS_ROOM {
-        return 101;
-    }
-    let r = records::class_record(input);
-    let place = r.place;
-    let curve = r.curve;
-    let class = r.class;
-    let Place::Next(_) = place else {
-        return records::place_number(place);
-    };
-    let a = jacobian::half(curve, class);
-    put_class(a, output)
+    class_call(Unary::Half, input, output)
 }
 
 // The sum of the two classes.
@@ -168,10 +173,44 @@ pub extern "C" fn seal_sum(input: &[u8], output: &mut [u8]) -> u32
     let first = r.first;
     let second = r.second;
     let Place::Next(_) = place else {
-        return records::place_number(place);
+        return stored_form::classes::place_refusal(place);
     };
     let a = jacobian::sum(curve, first, second);
     put_class(a, output)
+}
+
+// What is asked of a register.
+enum Step {
+    Commit,
+    Undo,
+}
+
+// What the register call answers.
+fn register_answer(kind: Step, register: Register, class: Class) -> RegisterAnswer
+    ensures { λ r. ⌜ register-reply r ≡ step-answer kind register class ⌝ }
+{
+    match kind {
+        Step::Commit => Register::commit(register, class),
+        Step::Undo => Register::undo(register, class),
+    }
+}
+
+// Writes the answer for the register and the class of the record.
+fn register_call(kind: Step, input: &[u8], output: &mut [u8]) -> u32
+    ensures { λ r. ⌜ outcome r (now (output .exit)) ≡ register-call (step-answer kind) (now (input .entry)) (now (output .entry)) ⌝ }
+{
+    if output.len() < REGISTER_ROOM {
+        return 101;
+    }
+    let r = records::register_record(input);
+    let place = r.place;
+    let register = r.register;
+    let class = r.class;
+    let Place::Next(_) = place else {
+        return stored_form::classes::place_refusal(place);
+    };
+    let a = register_answer(kind, register, class);
+    put_register(a, output)
 }
 
 // The register after a commit of the class.
@@ -179,18 +218,7 @@ pub extern "C" fn seal_sum(input: &[u8], output: &mut [u8]) -> u32
 pub extern "C" fn seal_commit(input: &[u8], output: &mut [u8]) -> u32
     ensures { λ r. ⌜ outcome r (now (output .exit)) ≡ commit-call (now (input .entry)) (now (output .entry)) ⌝ }
 {
-    if output.len() < REGISTER_ROOM {
-        return 101;
-    }
-    let r = records::register_record(input);
-    let place = r.place;
-    let register = r.register;
-    let class = r.class;
-    let Place::Next(_) = place else {
-        return records::place_number(place);
-    };
-    let a = Register::commit(register, class);
-    put_register(a, output)
+    register_call(Step::Commit, input, output)
 }
 
 // The register after an undo of the class.
@@ -198,16 +226,5 @@ pub extern "C" fn seal_commit(input: &[u8], output: &mut [u8]) -> u32
 pub extern "C" fn seal_undo(input: &[u8], output: &mut [u8]) -> u32
     ensures { λ r. ⌜ outcome r (now (output .exit)) ≡ undo-call (now (input .entry)) (now (output .entry)) ⌝ }
 {
-    if output.len() < REGISTER_ROOM {
-        return 101;
-    }
-    let r = records::register_record(input);
-    let place = r.place;
-    let register = r.register;
-    let class = r.class;
-    let Place::Next(_) = place else {
-        return records::place_number(place);
-    };
-    let a = Register::undo(register, class);
-    put_register(a, output)
+    register_call(Step::Undo, input, output)
 }

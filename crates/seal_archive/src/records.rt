@@ -2,15 +2,14 @@
 // A reader answers the place after the last field beside what the record holds, or the number of the refusal.
 ghost use mathlib.Core.Path.{_≡_};
 ghost use Rattle.stored_form.specs.Reading.{number, refused};
-ghost use Rattle.stored_form.specs.Fields.{degree-read, count-read};
+ghost use Rattle.stored_form.specs.Fields.{count-read};
 ghost use Rattle.stored_form.specs.Classes.{curve-read};
-ghost use Rattle.seal_archive.specs.Records.{at-place, curve-first, class-record, class-record-read, sum-record, sum-record-read, register-record, register-record-read};
+ghost use Rattle.seal_archive.specs.Records.{class-record, class-record-read, sum-record, sum-record-read, register-record, register-record-read};
 use history::Register;
 use jacobian::Class;
 use jacobian::Curve;
 use stored_form::Count;
 use stored_form::Cursor;
-use stored_form::Degree;
 use stored_form::classes::CurveRead;
 use stored_form::classes::Place;
 
@@ -33,16 +32,6 @@ pub struct RegisterRecord {
     pub class: Class,
 }
 
-// The number of a refusal, and 0 where a degree was read.
-fn degree_number(d: Degree) -> u32
-    ensures { λ r. ⌜ r ≡ number (degree-read d) ⌝ }
-{
-    match d {
-        Degree::Read { degree: _, next: _ } => 0,
-        Degree::Refused(n) => n,
-    }
-}
-
 // The number of a refusal, and 0 where a curve was read.
 fn curve_number(c: CurveRead) -> u32
     ensures { λ r. ⌜ r ≡ number (curve-read c) ⌝ }
@@ -61,28 +50,6 @@ fn count_number(c: Count) -> u32
         Count::Read { count: _, next: _ } => 0,
         Count::Refused(n) => n,
     }
-}
-
-// The number of a refusal, and 0 where there is none.
-pub(crate) fn place_number(p: Place) -> u32
-    ensures { λ r. ⌜ r ≡ number (at-place p p) ⌝ }
-{
-    match p {
-        Place::Next(_) => 0,
-        Place::Refused(n) => n,
-    }
-}
-
-// The degree and the curve, with which every record begins.
-fn curve_first(s: &[u8]) -> CurveRead
-    ensures { λ r. ⌜ curve-read r ≡ curve-first (now (s .entry)) ⌝ }
-{
-    let start = Cursor { at: 0 };
-    let d = stored_form::degree_at(s, start);
-    let Degree::Read { degree, next } = d else {
-        return CurveRead::Refused(degree_number(d));
-    };
-    stored_form::classes::curve_at(s, next, degree)
 }
 
 // A curve to stand in a record that was refused.
@@ -112,7 +79,7 @@ fn class_refused(n: u32) -> ClassRecord
 pub(crate) fn class_record(s: &[u8]) -> ClassRecord
     ensures { λ r. ⌜ class-record-read r ≡ class-record (now (s .entry)) ⌝ }
 {
-    let c = curve_first(s);
+    let c = stored_form::classes::curve_first(s, Cursor { at: 0 });
     let CurveRead::Read { curve, next } = c else {
         return class_refused(curve_number(c));
     };
@@ -120,7 +87,7 @@ pub(crate) fn class_record(s: &[u8]) -> ClassRecord
     let place = a.place;
     let class = a.class;
     let Place::Next(end) = place else {
-        return class_refused(place_number(place));
+        return class_refused(stored_form::classes::place_refusal(place));
     };
     let n = stored_form::end_at(s, end);
     if n != 0 {
@@ -152,7 +119,7 @@ fn sum_refused(n: u32) -> SumRecord
 pub(crate) fn sum_record(s: &[u8]) -> SumRecord
     ensures { λ r. ⌜ sum-record-read r ≡ sum-record (now (s .entry)) ⌝ }
 {
-    let c = curve_first(s);
+    let c = stored_form::classes::curve_first(s, Cursor { at: 0 });
     let CurveRead::Read { curve, next } = c else {
         return sum_refused(curve_number(c));
     };
@@ -160,13 +127,13 @@ pub(crate) fn sum_record(s: &[u8]) -> SumRecord
     let place = a.place;
     let first = a.class;
     let Place::Next(after) = place else {
-        return sum_refused(place_number(place));
+        return sum_refused(stored_form::classes::place_refusal(place));
     };
     let b = stored_form::classes::class_at(s, after, curve);
     let last = b.place;
     let second = b.class;
     let Place::Next(end) = last else {
-        return sum_refused(place_number(last));
+        return sum_refused(stored_form::classes::place_refusal(last));
     };
     let n = stored_form::end_at(s, end);
     if n != 0 {
@@ -203,7 +170,7 @@ fn register_refused(n: u32) -> RegisterRecord
 pub(crate) fn register_record(s: &[u8]) -> RegisterRecord
     ensures { λ r. ⌜ register-record-read r ≡ register-record (now (s .entry)) ⌝ }
 {
-    let c = curve_first(s);
+    let c = stored_form::classes::curve_first(s, Cursor { at: 0 });
     let CurveRead::Read { curve, next } = c else {
         return register_refused(curve_number(c));
     };
@@ -215,13 +182,13 @@ pub(crate) fn register_record(s: &[u8]) -> RegisterRecord
     let place = a.place;
     let seal = a.class;
     let Place::Next(then) = place else {
-        return register_refused(place_number(place));
+        return register_refused(stored_form::classes::place_refusal(place));
     };
     let b = stored_form::classes::operation_at(s, then, curve);
     let last = b.place;
     let class = b.class;
     let Place::Next(end) = last else {
-        return register_refused(place_number(last));
+        return register_refused(stored_form::classes::place_refusal(last));
     };
     let n = stored_form::end_at(s, end);
     if n != 0 {

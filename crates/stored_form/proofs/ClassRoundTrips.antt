@@ -2,7 +2,7 @@
 use Prim.Native.Nat.{ℕ, zero, suc, _+_, _*_, _/_, _^_, _≤_}
 use mathlib.Core.Path.{_≡_, refl, sym, ap, ap₂, _∙_, subst, subst₂}
 use mathlib.Core.Bool.{true}
-use mathlib.Core.List.{List, [], _∷_, _++_}
+use mathlib.Core.List.{List, [], _∷_, _++_, reverse}
 use native.Mathlib.Omega.{arith}
 use lib.Dec.{lit≤}
 use lib.ListN.{length, getD, take, drop, length-append, length-take, length-drop, take-append-drop}
@@ -15,7 +15,7 @@ use Rattle.stored_form.specs.Classes.{row-said, class-said, class-at, ro
 use Rattle.stored_form.proofs.{Readings.then-found, Readings.both-found, Readings.due-found, Readings.due-none, Readings.same-found}
 use Rattle.stored_form.proofs.{Lengths.class-length-le, Lengths.class-length-even, Items.length-elements, ClassBytes.length-row}
 use Rattle.stored_form.proofs.ElementBytes.{Small, small-of, small-take, small-append, small-reversed, elements-bytes, bytes-elements, fits, length-element-bytes, element-bytes-append}
-use Rattle.stored_form.proofs.{Bodies.body-written, Bodies.body-read, RoundTrips.Field}
+use Rattle.stored_form.proofs.{Bodies.length-stored, Bodies.body-written, Bodies.body-read, RoundTrips.Field}
 
 -- ---- rows and the order in which they are stored
 
@@ -138,6 +138,31 @@ class-length-of (suc zero) h = refl
 class-length-of (suc (suc zero)) h = refl
 class-length-of (suc (suc (suc zero))) h = refl
 class-length-of (suc (suc (suc (suc n)))) h = absurd (omega arith)
+
+row-three : (es : List ℕ) → length (row-said es) ≡ 3
+unfolding row-said
+row-three es =
+    let all : List ℕ = reverse es ++ 0 ∷ 0 ∷ 0 ∷ [] in
+    let long : length all ≡ length (reverse es) + 3 = length-append (reverse es) (0 ∷ 0 ∷ 0 ∷ []) in
+    length-take 3 all ∙ omega arith
+
+-- the field of a class that is not refused has at most 51 bytes
+pub class-short : (tag : ℕ) (c : Curve) (a : Class) → Three a → refusal c a ≡ 0 → length (class-field tag a) ≤ 51
+unfolding class-field
+class-short tag c a three ok =
+    let k = shaped c a three ok in
+    let low : a .degree ≤ 3 = k .low in
+    let body : length (body-of a) ≡ 16 * a .degree = length-body a k in
+    let all : length (stored tag (body-of a)) ≡ 3 + length (body-of a) = length-stored tag (body-of a) in
+    omega arith
+
+-- a class that is read has three numbers in each row
+pub class-three : (tag : ℕ) (c : Curve) (s : List ℕ) (at : ℕ) {a : Class} {next : ℕ} → class-at tag c s at ≡ found a next → Three a
+unfolding class-at class-said
+class-three tag c s at h =
+    let p = both-found _ (body-at tag s at) h in
+    let q = due-found (refusal c (class-said (p .0))) (found (class-said (p .0)) (p .1)) (p .3) in
+    subst Three (same-found (q .1) .0) (record { u-three = row-three _; v-three = row-three _ })
 
 module _ (tag : ℕ) (lengths : (n : ℕ) → allowed tag n ≡ class-length n) (c : Curve) (s : List ℕ) (at : ℕ) where
   pub class-written : {a : Class} {next : ℕ} → Bytes s → class-at tag c s at ≡ found a next → (refusal c a ≡ 0) × Field s at (class-field tag a) next

@@ -1,16 +1,20 @@
 -- The stored form of a curve and its value determine each other: what is read was written so, and what is written is read so.
+-- For the field of a curve, and for the degree and the curve with which every record begins.
 use Prim.Native.Nat.{ℕ, _+_, _^_, _≤_}
 use mathlib.Core.Path.{_≡_, refl, sym, ap, _∙_, subst, subst₂}
+use mathlib.Core.Bool.{true, _||_}
 use mathlib.Core.List.{List, [], _∷_}
-use lib.Dec.{lit<, lit≤}
+use lib.Dec.{eqb, lit<, lit≤}
 use lib.ListN.{length}
-use Rattle.jacobian.specs.{Curves.curve-refusal, Curves.f-row, declared.Curve.Curve}
-use Rattle.jacobian.proofs.ByValue.{Degrees.by-degree, Checks.curve-passes}
+use Rattle.jacobian.specs.{Curves.curve-refusal, Curves.degree-refusal, Curves.f-row, declared.Curve.Curve}
+use Rattle.jacobian.proofs.ByValue.{Degrees.by-degree, Checks.curve-passes, Checks.then-zero, Checks.unless-zero}
 use Rattle.stored_form.specs.{Number.Bytes, Reading.found, Head.allowed, Head.body-at, Head.stored, Head.Stands}
 use Rattle.stored_form.specs.{Elements.elements, Elements.element-bytes, Classes.curve-said, Classes.curve-at, Classes.curve-field}
+use Rattle.stored_form.specs.{Fields.degree-at, Fields.degree-field, Classes.curve-first, Classes.curve-first-fields}
 use Rattle.stored_form.proofs.{Readings.then-found, Readings.both-found, Readings.due-found, Readings.due-none, Readings.same-found}
 use Rattle.stored_form.proofs.{Lengths.curve-length, ElementBytes.Small, ElementBytes.elements-bytes, ElementBytes.bytes-elements, ElementBytes.fits}
-use Rattle.stored_form.proofs.{ElementBytes.length-element-bytes, Bodies.body-written, Bodies.body-read, RoundTrips.Field}
+use Rattle.stored_form.proofs.{ElementBytes.length-element-bytes, Bodies.body-written, Bodies.body-read}
+use Rattle.stored_form.proofs.RoundTrips.{Field, behind, apart, up-to, degree-written, degree-read-back}
 
 curve-field-said : (d : ℕ) (body : List ℕ) → length body ≡ 24 → Bytes body → curve-field (curve-said d body) ≡ stored 0x41 body
 unfolding curve-field curve-said elements
@@ -27,6 +31,10 @@ curve-fits c ok =
 curve-said-field : (c : Curve) → curve-refusal c ≡ 0 → curve-said (c .degree) (element-bytes (c .f3 ∷ c .f1 ∷ c .f0 ∷ [])) ≡ c
 unfolding curve-said
 curve-said-field c ok = rw (elements-bytes (c .f3 ∷ c .f1 ∷ c .f0 ∷ []) (curve-fits c ok))
+
+degree-passes : (c : Curve) → curve-refusal c ≡ 0 → (eqb (c .degree) 5 || eqb (c .degree) 61) ≡ true
+unfolding curve-refusal degree-refusal
+degree-passes c ok = unless-zero _ 105 (then-zero _ _ ok .0)
 
 module _ (s : List ℕ) (at : ℕ) where
   pub curve-written : (d : ℕ) {c : Curve} {next : ℕ} → Bytes s → curve-at d s at ≡ found c next →
@@ -51,3 +59,22 @@ module _ (s : List ℕ) (at : ℕ) where
       let len : length body ≡ 24 = length-element-bytes (c .f3 ∷ c .f1 ∷ c .f0 ∷ []) in
       then-found _ (body-read 0x41 s at body (rw len refl) (rw len (lit< tt)) h)
       ∙ rw (curve-said-field c ok) (due-none _ _ ok)
+
+-- ---- degree and curve
+
+module _ (s : List ℕ) (at : ℕ) where
+  pub curve-first-written : {c : Curve} {next : ℕ} → Bytes s → curve-first s at ≡ found c next → (curve-refusal c ≡ 0) × Field s at (curve-first-fields c) next
+  unfolding curve-first curve-first-fields
+  curve-first-written {c} {next} b h =
+      let p = both-found _ (degree-at s at) h in
+      let q = curve-written s (p .1) (p .0) b (p .3) in
+      let d = subst (λ (n : ℕ). Field s at (degree-field n) (p .1)) (sym (q .1)) (degree-written s at b (p .2) .1) in
+      (q .0, behind (degree-field (c .degree)) (curve-field c) d (q .2))
+
+  pub curve-first-read-back : (c : Curve) → curve-refusal c ≡ 0 → Stands s at (curve-first-fields c) →
+      curve-first s at ≡ found c (at + length (curve-first-fields c))
+  unfolding curve-first curve-first-fields
+  curve-first-read-back c ok h =
+      let p = apart (degree-field (c .degree)) (curve-field c) (record { stands = h; ends = refl }) in
+      then-found _ (up-to (p .1) (degree-read-back s at (c .degree) (degree-passes c ok)))
+      ∙ up-to (p .2) (curve-read-back s (p .0) c ok)

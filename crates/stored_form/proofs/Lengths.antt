@@ -35,6 +35,14 @@ pub curve-length : {n : ℕ} → allowed 0x41 n ≡ true → n ≡ 24
 unfolding allowed
 curve-length h = eqb-true _ _ h
 
+pub class-lengths : (n : ℕ) → allowed 0x43 n ≡ class-length n
+unfolding allowed
+class-lengths n = refl
+
+pub operation-lengths : (n : ℕ) → allowed 0x44 n ≡ class-length n
+unfolding allowed
+operation-lengths n = refl
+
 -- the four lengths of a class
 pub by-class-length : (P : ℕ → Type 0) → P 0 → P 16 → P 32 → P 48 → (n : ℕ) → class-length n ≡ true → P n
 by-class-length P p₀ p₁ p₂ p₃ n h =

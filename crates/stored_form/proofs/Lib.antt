@@ -10,6 +10,7 @@ pub mod RoundTrips
 pub mod Verdicts
 pub mod Items
 pub mod ClassReaders
+pub mod Places
 pub mod Stores
 pub mod ElementBytes
 pub mod ClassBytes

@@ -1,25 +1,90 @@
 -- A field's stored form and its value determine each other: what is read was written so, and what is written is read so.
--- For degree, count and drawing number, each way.
+-- For degree, count and drawing number, each way; for fields one behind the other, and for the end.
 use Prim.Native.Nat.{ℕ, _+_, _≤_, _<_}
-use mathlib.Core.Path.{_≡_, refl, sym, ap, _∙_, subst, subst₂}
-use mathlib.Core.Bool.{Bool, true, false, not, _||_}
-use mathlib.Core.List.{List}
+use mathlib.Core.Path.{_≡_, refl, sym, ap, ap₂, _∙_, subst, subst₂}
+use mathlib.Core.Bool.{Bool, true, false, not, cond, _||_}
+use mathlib.Core.List.{List, _++_}
+use native.Mathlib.Nat.{zero-add}
 use native.Mathlib.Omega.{arith}
 use lib.Dec.{eqb, ltb, lit<}
-use lib.ListN.{length}
+use lib.ListN.{length, take, drop, length-append}
+use lib.Seq.{take-take, take-length, take-all, take-append-seam, drop-append-seam}
 use borrow.Author.Tests.{eqb-true, ltb-false, le-ltb, le-leb, not-false}
-use Rattle.stored_form.specs.{Number.number-of, Number.bytes-of, Number.Bytes, Number.part, Reading.found, Reading.refuse, Reading._then_}
+use Rattle.stored_form.specs.{Number.number-of, Number.bytes-of, Number.Bytes, Number.part, Reading.Reading, Reading.found, Reading.refuse, Reading._then_}
 use Rattle.stored_form.specs.{Head.allowed, Head.head-at, Head.body-at, Head.stored, Head.Stands, Fields.degree-at, Fields.degree-field}
 use Rattle.stored_form.specs.{Fields.count-limit, Fields.count-at, Fields.count-field, Fields.printable, Fields.drawing-place, Fields.drawing-at}
-use Rattle.stored_form.specs.{Fields.drawing-field}
+use Rattle.stored_form.specs.{Fields.drawing-field, Fields.end-due}
 use Rattle.stored_form.proofs.{Digits.bytes-number, Digits.number-bytes-small, Digits.length-bytes, Readings.then-found, Readings.both-found}
 use Rattle.stored_form.proofs.{Readings.then-refuse, Readings.then-same, Readings.then-assoc, Readings.same-found, Readings.refuse-found}
-use Rattle.stored_form.proofs.{Lengths.degree-length, Lengths.count-length, Bodies.Written, Bodies.body-written, Bodies.body-read}
+use Rattle.stored_form.proofs.{Parts.part-part, Parts.part-add, Lengths.degree-length, Lengths.count-length, Bodies.Written, Bodies.body-written, Bodies.body-read}
 
 -- a field that stands at a place, and ends at the next
 pub record Field (s : List ℕ) (at : ℕ) (bytes : List ℕ) (next : ℕ) : Type 0 where
   pub stands : Stands s at bytes
   pub ends : next ≡ at + length bytes
+
+-- ---- fields one behind the other, and the end
+
+module _ {s : List ℕ} {at : ℕ} where
+  pub behind : (xs ys : List ℕ) {middle next : ℕ} → Field s at xs middle → Field s middle ys next → Field s at (xs ++ ys) next
+  behind xs ys {middle} {next} h k =
+      let long : length (xs ++ ys) ≡ length xs + length ys = length-append xs ys in
+      record {
+        stands =
+            ap (part s at) long
+            ∙ part-add s at (length xs) (length ys)
+            ∙ ap₂ (λ (a b : List ℕ). a ++ b) (h .stands) (ap (λ (i : ℕ). part s i (length ys)) (sym (h .ends)) ∙ k .stands);
+        ends = omega (arith, h .ends, k .ends);
+      }
+
+  pub apart : (xs ys : List ℕ) {next : ℕ} → Field s at (xs ++ ys) next → (middle : ℕ) × Field s at xs middle × Field s middle ys next
+  apart xs ys {next} h =
+      let long : length (xs ++ ys) ≡ length xs + length ys = length-append xs ys in (
+        at + length xs,
+        record {
+          stands = sym (take-take (length xs) (length (xs ++ ys)) (drop at s) (omega arith)) ∙ ap (take (length xs)) (h .stands) ∙ take-append-seam xs ys;
+          ends = refl;
+        },
+        record {
+          stands =
+              sym (part-part s at (length (xs ++ ys)) (length xs) (length ys) (omega arith))
+              ∙ ap (λ (l : List ℕ). part l (length xs) (length ys)) (h .stands)
+              ∙ ap (take (length ys)) (drop-append-seam xs ys)
+              ∙ take-length ys;
+          ends = omega (arith, h .ends);
+        },
+      )
+
+  -- what is read where a field stands ends with the field
+  pub up-to : {A : Type 0} {x : Reading A} {a : A} {bytes : List ℕ} {next : ℕ} → Field s at bytes next → (Stands s at bytes → x ≡ found a (at + length bytes)) →
+      x ≡ found a next
+  up-to {a = a} h read = read (h .stands) ∙ ap (found a) (sym (h .ends))
+
+module _ (s : List ℕ) where
+  -- all bytes, from the first on
+  pub whole : Field s 0 s (length s)
+  whole = record { stands = take-length s; ends = sym (zero-add (length s)) }
+
+  -- what stands there from the first byte on, with nothing behind it, is all
+  pub is-whole : {bytes : List ℕ} {end : ℕ} → Field s 0 bytes end → length s ≤ end → (s ≡ bytes) × (end ≡ length s)
+  is-whole {bytes} {end} h le =
+      let e : s ≡ bytes = sym (take-all (length bytes) s (omega (arith, h .ends))) ∙ h .stands in
+      (e, h .ends ∙ zero-add (length bytes) ∙ ap length (sym e))
+
+  module _ (at : ℕ) where
+    pub end-written : end-due s at ≡ 0 → length s ≤ at
+    unfolding end-due
+    end-written h = go (ltb at (length s)) refl h
+      where
+        go : (b : Bool) → ltb at (length s) ≡ b → _≡_ {A = ℕ} (cond b 112 0) 0 → length s ≤ at
+        go true e f = absurd (omega arith)
+        go false e f = ltb-false _ _ e
+
+    pub end-read-back : length s ≤ at → end-due s at ≡ 0
+    unfolding end-due
+    end-read-back h = simp (le-ltb at (length s) h)
+
+-- ---- the fields
 
 degree-small : (d : ℕ) → (eqb d 5 || eqb d 61) ≡ true → d < 256
 degree-small d h = go (eqb d 5) refl h

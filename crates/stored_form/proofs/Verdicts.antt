@@ -1,14 +1,7 @@
--- What the verdict on a class says of its refusal, and that the neutral class is refused only where its curve is.
+-- What a verdict says of the refusal that is due.
 use Prim.Native.Nat.{ℕ, zero, suc}
 use mathlib.Core.Path.{_≡_, refl, ap, _∙_}
-use Rattle.jacobian.specs.declared.Curve.{Curve}
-use Rattle.jacobian.specs.Checks as Checks
-use Rattle.jacobian.specs.Curves.{curve-refusal}
-use Rattle.jacobian.specs.Classes.{class-refusal}
-use Rattle.jacobian.specs.Answer.{Verdict, accepted, refused, verdict-of, refusal, neutral-class}
-use Rattle.jacobian.proofs.Calls.{neutral-accepts}
-
--- ---- verdicts
+use Rattle.jacobian.specs.Answer.{Verdict, accepted, refused, verdict-of}
 
 refusal-in : Verdict → ℕ
 refusal-in accepted = 0
@@ -26,13 +19,3 @@ none-due n e = ap refusal-in e ∙ refusal-in-of n
 pub some-due : (k n : ℕ) → refused k ≡ verdict-of n → k ≡ n
 unfolding refusal-in
 some-due k n e = ap refusal-in e ∙ refusal-in-of n
-
--- ---- the neutral class
-
-pub neutral-refusal : (c : Curve) → refusal c neutral-class ≡ curve-refusal c
-unfolding refusal Checks._then_
-neutral-refusal c = go (curve-refusal c) refl
-  where
-    go : (n : ℕ) → curve-refusal c ≡ n → Checks._then_ n (class-refusal c neutral-class) ≡ n
-    go zero e = neutral-accepts c e .passes
-    go (suc n) e = refl

@@ -5,6 +5,7 @@ use mathlib.Core.List.{List, [], _∷_, _++_, reverse}
 use lib.ListN.{length, getD, take, drop, replicate}
 use Rattle.stored_form.specs.Reading.{Reading, found, refused, due, _then_}
 use Rattle.stored_form.specs.Head.{body-at, stored}
+use Rattle.stored_form.specs.Fields.{degree-at, degree-field}
 use Rattle.stored_form.specs.Elements.{elements, element-bytes}
 use Rattle.jacobian.specs.Curves.{curve-refusal}
 use Rattle.jacobian.specs.Answer.{refusal, neutral-class}
@@ -33,6 +34,13 @@ curve-at d s at =
 
 unfoldable pub curve-field : Curve → List ℕ
 curve-field c = stored 0x41 (element-bytes (c .f3 ∷ c .f1 ∷ c .f0 ∷ []))
+
+-- the degree and the curve, with which every record begins
+unfoldable pub curve-first : List ℕ → ℕ → Reading Curve
+curve-first s at = degree-at s at then λ d next. curve-at d s next
+
+unfoldable pub curve-first-fields : Curve → List ℕ
+curve-first-fields c = degree-field (c .degree) ++ curve-field c
 
 -- ---- a class: u below its leading term, highest power first, then v likewise
 
@@ -68,14 +76,20 @@ abbrev pub curve-read : CurveRead → Reading Curve
 curve-read (curve.Read c next) = found c (next .at)
 curve-read (curve.Refused n) = refused n
 
+-- what stands beside a place was found there
+abbrev pub placed : {A : Type 0} → Place → A → Reading A
+placed (place.Next next) a = found a (next .at)
+placed (place.Refused n) a = refused n
+
+-- the number of a refusal, and 0 where there is none
+abbrev pub place-number : Place → ℕ
+place-number (place.Next next) = 0
+place-number (place.Refused n) = n
+
 -- a class is read beside its place; on a refusal it is the neutral one
 pub record ClassReading : Type 0 where
   pub reading : Reading Class
   pub class : Class
-
-abbrev pub placed : Place → Class → Reading Class
-placed (place.Next next) a = found a (next .at)
-placed (place.Refused n) a = refused n
 
 abbrev pub class-read : ClassRead → ClassReading
 class-read r = record { reading = placed (r .place) (r .class); class = r .class }

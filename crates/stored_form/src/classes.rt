@@ -5,13 +5,14 @@ ghost use mathlib.Core.Bool.{true};
 ghost use lib.ListN.{length, drop, getD};
 ghost use lib.Seq.{sets};
 ghost use Rattle.jacobian.specs.Curves.{curve-refusal};
-ghost use Rattle.jacobian.specs.Answer.{refusal};
+ghost use Rattle.jacobian.specs.Answer.{verdict, verdict-of, refusal};
 ghost use Rattle.stored_form.specs.Number.{part, bytes-of};
 ghost use Rattle.stored_form.specs.Reading.{refused};
 ghost use Rattle.stored_form.specs.Head.{allowed, class-length};
 ghost use Rattle.stored_form.specs.Elements.{elements, element-bytes};
-ghost use Rattle.stored_form.specs.Classes.{curve-said, curve-at, curve-read, row-said, class-said, class-at, class-read, class-answer, row-written, class-field, in-row};
+ghost use Rattle.stored_form.specs.Classes.{curve-said, curve-at, curve-first, curve-read, row-said, class-said, class-at, place-number, class-read, class-answer, row-written, class-field, in-row};
 use crate::Cursor;
+use crate::Degree;
 use crate::Head;
 use crate::numbers;
 use jacobian::Class;
@@ -29,6 +30,16 @@ pub enum Place {
     Refused(u32),
 }
 
+// The number of a refusal, and 0 where there is none.
+pub fn place_refusal(p: Place) -> u32
+    ensures { λ r. ⌜ r ≡ place-number p ⌝ }
+{
+    match p {
+        Place::Next(_) => 0,
+        Place::Refused(n) => n,
+    }
+}
+
 // A class that was read; the neutral class on a refusal.
 pub struct ClassRead {
     pub place: Place,
@@ -41,23 +52,30 @@ pub struct ClassField {
     pub bytes: [u8; 51],
 }
 
-// The refusal that is due to a class on a curve, and 0 where none is.
-fn class_due(c: Curve, a: Class) -> u32
-    ensures { λ r. ⌜ r ≡ refusal c a ⌝ }
+// The number of the refusal that an outcome says is due, and 0 for an acceptance.
+fn due(o: Outcome) -> u32
+    ensures { λ r. ⌜ ((n : ℕ) → verdict o ≡ verdict-of n → r ≡ n) ⌝ }
 {
-    let o = jacobian::membership(c, a);
     match o {
         Outcome::Accepted => 0,
         Outcome::Refused(n) => n,
     }
 }
 
-// The refusal that is due to a curve, and 0 where none is: that of its neutral class.
+// The refusal that is due to a class on a curve, and 0 where none is.
+fn class_due(c: Curve, a: Class) -> u32
+    ensures { λ r. ⌜ r ≡ refusal c a ⌝ }
+{
+    let o = jacobian::membership(c, a);
+    due(o)
+}
+
+// The refusal that is due to a curve, and 0 where none is.
 fn curve_due(c: Curve) -> u32
     ensures { λ r. ⌜ r ≡ curve-refusal c ⌝ }
 {
-    let a = jacobian::neutral();
-    class_due(c, a)
+    let o = jacobian::accepts_curve(c);
+    due(o)
 }
 
 // The curve that 24 bytes from a place on say.
@@ -93,6 +111,17 @@ pub fn curve_at(s: &[u8], at: Cursor, d: u8) -> CurveRead
     CurveRead::Read {
         curve: c,
         next: next,
+    }
+}
+
+// The degree and the curve, with which every record begins.
+pub fn curve_first(s: &[u8], at: Cursor) -> CurveRead
+    ensures { λ r. ⌜ curve-read r ≡ curve-first (now (s .entry)) (at .at) ⌝ }
+{
+    let d = crate::degree_at(s, at);
+    match d {
+        Degree::Refused(n) => CurveRead::Refused(n),
+        Degree::Read { degree, next } => curve_at(s, next, degree),
     }
 }
 

@@ -7,9 +7,10 @@ use lib.Seq.{sets}
 use Rattle.stored_form.specs.Reading.{found}
 use Rattle.jacobian.specs.declared.Curve.{Curve}
 use Rattle.jacobian.specs.declared.Class.{Class}
-use Rattle.walk_archive.specs.declared.Opening.{Opening}
+use Rattle.walk_archive.specs.declared.reader.Opening.{Opening}
 use Rattle.walk_archive.specs.declared.walk.Walk.{Walk}
-use Rattle.walk_archive.specs.Archive.{operations-at, archive-of}
+use Rattle.walk_archive.specs.Archive.{operations-at}
+use Rattle.walk_archive.specs.Reader.{archive-of}
 use Rattle.walk_archive.specs.Report.{lines-after, walk-text}
 
 -- the lines that a walk has still to write
@@ -42,14 +43,8 @@ pub record Walked (c : Curve) (s : List ℕ) (count : ℕ) (d e : List ℕ) (w :
   pub within : r ≤ length d
   pub written : {ops : List Class} {end : ℕ} → operations-at count c s (w .from) ≡ found ops end → (e ≡ area-left c d w ops) × (r ≡ place-left c w ops)
 
--- an opening within the limits: the count, and the drawing number's length and place
-pub record Bounded (s : List ℕ) (o : Opening) : Type 0 where
-  pub count : o .label .count ≤ 1024
-  pub name : o .label .drawing .len ≤ 255
-  pub within : o .label .drawing .start + o .label .drawing .len ≤ length s
-
 -- the report of an accepted archive stands at the front of the area
-pub record Reported (s : List ℕ) (o : Opening) (at : ℕ) (d e : List ℕ) (r : ℕ) : Type 0 where
+pub record Reported (s : List ℕ) (o : Opening) (d e : List ℕ) (r : ℕ) : Type 0 where
   pub within : r ≤ length d
-  pub written : {ops : List Class} {end : ℕ} → operations-at (o .label .count) (o .curve) s at ≡ found ops end →
+  pub written : {ops : List Class} {end : ℕ} → operations-at (o .count) (o .curve) s (o .first .at) ≡ found ops end →
       (e ≡ sets d 0 (walk-text (archive-of s o ops))) × (r ≡ length (walk-text (archive-of s o ops)))

@@ -1,10 +1,11 @@
 //! Makes archives and the reports that `walkreport` owes for them: `archives samples FOLDER` those that are kept in
-//! examples/, `archives N FOLDER` the first N of the mutated ones. Each is written to FOLDER/NAME.bin, its report to
-//! FOLDER/NAME.report.
+//! examples/, `archives failures FOLDER` those in examples/failures/, `archives N FOLDER` the first N of the mutated ones.
+//! Each is written to FOLDER/NAME.bin, its report to FOLDER/NAME.report. With the failures come the printed seal of a
+//! release, `dozen.seal`, and another tool's report, `low-degrees.other-report`.
 
 use reference::archive::report;
 use reference::byte_cases::archives;
-use reference::samples::samples;
+use reference::samples::{failures, other_report, release_seal, samples};
 use std::fs::write;
 use std::path::Path;
 
@@ -12,6 +13,9 @@ fn made(kind: &str) -> Option<Vec<(String, Vec<u8>, String)>> {
     if kind == "samples" {
         let with_report = |(name, bytes): (&str, Vec<u8>)| (name.to_string(), bytes.clone(), report(&bytes));
         return Some(samples().map(|(name, archive)| with_report((name, archive.bytes()))).to_vec());
+    }
+    if kind == "failures" {
+        return Some(failures().map(|(name, bytes)| (name.to_string(), bytes.clone(), report(&bytes))).to_vec());
     }
     let cases = archives(kind.parse().ok()?).into_iter().enumerate();
     Some(cases.map(|(i, (bytes, report))| (format!("{i:05}"), bytes, report)).collect())
@@ -24,11 +28,16 @@ fn main() {
         _ => None,
     };
     let Some((made, folder)) = made else {
-        eprintln!("usage: archives samples | N FOLDER");
+        eprintln!("usage: archives samples | failures | N FOLDER");
         std::process::exit(2);
     };
+    let put = |name: String, bytes: &[u8]| write(folder.join(name), bytes).expect("the folder takes the file");
     for (name, bytes, report) in made {
-        write(folder.join(format!("{name}.bin")), bytes).expect("the folder takes the file");
-        write(folder.join(format!("{name}.report")), report).expect("the folder takes the file");
+        put(format!("{name}.bin"), &bytes);
+        put(format!("{name}.report"), report.as_bytes());
+    }
+    if words[0] == "failures" {
+        put("dozen.seal".to_string(), release_seal().as_bytes());
+        put("low-degrees.other-report".to_string(), other_report().as_bytes());
     }
 }

@@ -1,4 +1,4 @@
-//! Makes cases of the program `class_trial`: `class_vectors KIND FOLDER [F3 F1 F0]` writes what the program is given to
+//! Makes cases of the program `conformance`: `class_vectors KIND FOLDER [F3 F1 F0]` writes what the program is given to
 //! FOLDER/stdin and what it owes for that to FOLDER/stdout. The kinds are
 //!
 //! - `stored`, the cases that are kept with the program;

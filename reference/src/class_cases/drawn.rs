@@ -8,7 +8,7 @@ use super::{
     OPPOSITE, SUM, SUM_IN_STEPS,
 };
 use crate::field::WIDE;
-use crate::halving::HalfByFrobenius;
+use crate::halving::{half, HalfByFrobenius};
 use crate::jacobian::{Class, Curve};
 use crate::random::Random;
 
@@ -91,15 +91,21 @@ pub fn cases() -> Vec<Case> {
     cases
 }
 
-/// A thousand doubles and the halves of them, each on a curve of its own; these are not stored.
+/// The seven calls on a thousand classes, each on a curve of its own; these are not stored. By turns of eight the class is a
+/// double, so that its half is of the kind drawn, or it is itself of that kind, and its half is found by solving. Thus the
+/// degrees of a class and of its half are every two that can be.
 pub fn thousand() -> Vec<Case> {
     let mut random = Random::new(63);
     let mut cases = vec![];
     for i in 0..1000 {
         let (values, curve) = drawn_curve(&mut random);
-        let class = class_of_kind(&mut random, &curve, KINDS[i % 8]).0;
-        cases.push(Case::on(DOUBLE, values, &class));
-        cases.push(Case::half(values, &curve.double(&class), &class));
+        let [of_kind, second] = [KINDS[i % 8], &[1; 5]].map(|kind| class_of_kind(&mut random, &curve, kind).0);
+        let (class, its_half) = if i / 8 % 2 == 0 {
+            (curve.double(&of_kind), of_kind)
+        } else {
+            (of_kind.clone(), half(&curve, &of_kind))
+        };
+        cases.extend(Case::seven(values, &class, &its_half, &second));
     }
     cases
 }

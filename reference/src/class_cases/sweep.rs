@@ -1,22 +1,18 @@
 //! Every class of a curve over the bench field, call by call. These cases are made when they are run, and not stored.
 
 use super::{
-    Case, ClassValues, CurveValues, DOUBLE, DOUBLE_AND_ADD, DOUBLE_IN_STEPS, DOUBLE_OF_HALF, HALF_OF_DOUBLE,
-    MEMBERSHIP, NEUTRAL, OPPOSITE, SUM, SUM_IN_STEPS,
+    Case, ClassValues, CurveValues, DOUBLE_AND_ADD, DOUBLE_IN_STEPS, MEMBERSHIP, NEUTRAL, SUM, SUM_IN_STEPS,
 };
 use crate::bench_classes::all_classes;
+use crate::class_number::class_number;
 use crate::field::BENCH;
+use crate::halving::halves_from_doubles;
 use crate::jacobian::{Class, Curve};
+use crate::random::Random;
 
 /// What is run on every class D of a curve.
-pub const KINDS: [&str; 16] = [
-    "membership",
-    "opposite",
-    "double",
-    "half",
-    "half-of-double",
-    "double-of-half",
-    "sum",
+pub const KINDS: [&str; 9] = [
+    "every-class",
     "sum-with-next",
     "sum-with-itself",
     "sum-with-opposite",
@@ -24,24 +20,24 @@ pub const KINDS: [&str; 16] = [
     "sum-in-steps",
     "double-and-add",
     "subtract-and-halve",
-    "double-and-half",
     "pairs",
 ];
 
-/// The case of a kind on the class at place i of a curve's list. `half` is called on the double of D, which meets every
-/// class once, since doubling is one to one. The second class is one far off in the list, or the next one, which mostly
-/// has the same u.
+/// The seven calls on every class. The classes come in a drawn order, and the sum is with the next of them, so that each is
+/// once the first of a sum and once the second.
+fn every_class(values: CurveValues, curve: &Curve, classes: Vec<Class>) -> Vec<Case> {
+    let halves = halves_from_doubles(curve, &classes);
+    let classes = Random::new(65).shuffled(classes);
+    let nexts = classes.iter().cycle().skip(1);
+    classes.iter().zip(nexts).flat_map(|(class, next)| Case::seven(values, class, &halves[class], next)).collect()
+}
+
+/// The case of another kind on the class at place i of a curve's list. The second class is one far off in the list, or the
+/// next one, which mostly has the same u.
 fn on_class(kind: &str, values: CurveValues, curve: &Curve, classes: &[Class], i: usize) -> Case {
     let class = &classes[i];
     let at = |place: usize| &classes[place % classes.len()];
     match kind {
-        "membership" => Case::on(MEMBERSHIP, values, class),
-        "opposite" => Case::on(OPPOSITE, values, class),
-        "double" => Case::on(DOUBLE, values, class),
-        "half" => Case::half(values, &curve.double(class), class),
-        "half-of-double" => Case::on(HALF_OF_DOUBLE, values, class),
-        "double-of-half" => Case::on(DOUBLE_OF_HALF, values, class),
-        "sum" => Case::on_two(SUM, values, class, at(12345 * i + 7)),
         "double-in-steps" => Case::on(DOUBLE_IN_STEPS, values, class),
         "sum-in-steps" => Case::on_two(SUM_IN_STEPS, values, class, at(12345 * i + 7)),
         "double-and-add" => Case::on_two(DOUBLE_AND_ADD, values, class, at(12345 * i + 7)),
@@ -67,7 +63,7 @@ fn pairs(values: CurveValues) -> Vec<Case> {
     cases
 }
 
-/// The cases of a kind on the curve.
+/// The cases of a kind on the curve. The list of its classes has to be as long as the points say.
 pub fn cases(kind: &str, values: CurveValues) -> Vec<Case> {
     if kind == "pairs" {
         return pairs(values);
@@ -75,7 +71,9 @@ pub fn cases(kind: &str, values: CurveValues) -> Vec<Case> {
     let curve = values.curve().expect("the curve is accepted");
     assert_eq!(curve.field, BENCH);
     let classes = all_classes(&curve);
-    let kinds = if kind == "double-and-half" { vec!["double", "half"] } else { vec![kind] };
-    let on_all = |kind| (0..classes.len()).map(|i| on_class(kind, values, &curve, &classes, i)).collect::<Vec<_>>();
-    kinds.into_iter().flat_map(on_all).collect()
+    assert_eq!(classes.len(), class_number(&curve));
+    if kind == "every-class" {
+        return every_class(values, &curve, classes);
+    }
+    (0..classes.len()).map(|i| on_class(kind, values, &curve, &classes, i)).collect()
 }

@@ -10,13 +10,13 @@ use super::{RegisterValues, Trial, COMMIT, LIMIT, UNDO};
 use crate::bench_classes::all_classes;
 use crate::class_cases::{ClassValues, CurveValues};
 use crate::field::{BENCH, WIDE};
-use crate::halving::HalfByFrobenius;
+use crate::halving::{halves_from_doubles, HalfByFrobenius};
 use crate::jacobian::{Class, Curve};
 use crate::random::Random;
 use std::collections::HashMap;
 
 enum Halves<'a> {
-    OfDoubles(HashMap<Class, Class>),
+    FromDoubles(HashMap<Class, Class>),
     ByFrobenius(HalfByFrobenius<'a>),
     FromAnswers,
 }
@@ -34,10 +34,8 @@ impl Ground<'_> {
     fn new(values: CurveValues, curve: &Curve) -> Ground<'_> {
         if curve.field == BENCH {
             let classes = all_classes(curve);
-            let doubles: HashMap<Class, Class> =
-                classes.iter().map(|class| (curve.double(class), class.clone())).collect();
-            assert_eq!(doubles.len(), classes.len());
-            return Ground { values, curve, classes, halves: Halves::OfDoubles(doubles) };
+            let halves = Halves::FromDoubles(halves_from_doubles(curve, &classes));
+            return Ground { values, curve, classes, halves };
         }
         let halves = if [values.f3, values.f1, values.f0].iter().all(|&c| c < 2) {
             Halves::ByFrobenius(HalfByFrobenius::new(curve))
@@ -49,7 +47,7 @@ impl Ground<'_> {
 
     fn half(&self, class: &Class) -> Option<Class> {
         match &self.halves {
-            Halves::OfDoubles(doubles) => Some(doubles[class].clone()),
+            Halves::FromDoubles(halves) => Some(halves[class].clone()),
             Halves::ByFrobenius(halves) => Some(halves.half(class)),
             Halves::FromAnswers => None,
         }

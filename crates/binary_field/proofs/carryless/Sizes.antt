@@ -1,5 +1,4 @@
--- How many bits there are: in a carry-less product, in an element of either degree, in the carry-less product of two elements.
-use mathlib.Core.Path.{_≡_, refl}
+-- How many bits there are in a carry-less product, and in that of two elements of either degree.
 use Prim.Native.Nat.{ℕ, zero, suc, _+_, _*_, _/_, _%_, _^_, _<_}
 use native.Mathlib.Omega.{arith}
 use native.Mathlib.Nat.{zero-mul, one-mul, suc-add, pow-le-pow-right, lt-of-lt-of-le}
@@ -22,14 +21,7 @@ clmul-lt (suc n) m a b ha hb =
     let q : clmul (a / 2) b < 2 ^ (n + m) = clmul-lt n m (a / 2) b (omega arith) hb in
     rw (clmul-step a b, suc-add) (sum-lt (suc (n + m)) _ _ p (omega arith))
 
--- an accepted degree other than 5
-pub other : (d : ℕ) → Accepted d → (d ≡ 5 → ⊥) → d ≡ 61
-other = degree-cases (λ d. (d ≡ 5 → ⊥) → d ≡ 61) (λ n. absurd (n refl)) (λ n. refl)
-
--- an element of either degree has at most 61 bits
-pub element-lt : (a d : ℕ) → Accepted d → a < 2 ^ d → a < 2 ^ 61
-element-lt a = degree-cases (λ d. a < 2 ^ d → a < 2 ^ 61) (λ h. omega arith) (λ h. h)
-
+-- the carry-less product of two elements
 pub elements-lt : (a b d : ℕ) → Accepted d → a < 2 ^ d → b < 2 ^ d → clmul a b < 2 ^ (d + d)
 elements-lt a b =
     degree-cases (λ d. a < 2 ^ d → b < 2 ^ d → clmul a b < 2 ^ (d + d))

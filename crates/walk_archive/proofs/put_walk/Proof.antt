@@ -26,7 +26,7 @@ put-first-line-requires : tie.Need-put-first-line-requires
 unfolding room
 put-first-line-requires c κs =
     let start = c .before .before .before .before .before .before .before .before .before in
-    let drawing = start .args .o .label .drawing in
+    let drawing = start .args .o .drawing in
     (omega (arith, start .pre .0), omega (arith, start .pre .1 .name, piece-length (start .args .s .now) (drawing .start) (drawing .len) (start .pre .1 .within)))
 
 put-line-requires : tie.Need-put-line-requires
@@ -51,7 +51,7 @@ same-length c = search needs
 returns : tie.Need-returns
 returns c =
     let start = c .before .before .before .before .before .before .before .before .before .before .before .before .before .before .before .before .before .before .before .before in
-    walk-reported (start .args .s .now) (start .args .o) (start .args .first .at) (c .before .before .before .before .before .before .before .before .before .before .put-first-line .ensures) (c .before .before .before .before .before .before .put-line .ensures) (c .before .before .put-lines .ensures)
+    walk-reported (start .args .s .now) (start .args .o) (c .before .before .before .before .before .before .before .before .before .before .put-first-line .ensures) (c .before .before .before .before .before .before .put-line .ensures) (c .before .before .put-lines .ensures)
 
 pub put-walk-spec : {M : Type 1} → statement M
 put-walk-spec =

@@ -4,7 +4,7 @@ use Prim.Native.Nat.{ℕ, _+_, _*_, _^_, _<_}
 use native.Mathlib.Omega.{arith}
 use Rattle.binary_field.specs.Carryless.{_⊕_, remainder}
 use Rattle.binary_field.specs.Element.{low}
-use Rattle.binary_field.proofs.carryless.Sizes.{other}
+use Rattle.binary_field.proofs.Degrees.{other-degree}
 use Rattle.binary_field.proofs.carryless.Folding.{fold-5, fold-61}
 use Rattle.binary_field.proofs.carryless.fold.Statement.{statement}
 use Rattle.binary_field.proofs.carryless.fold.Tie as tie
@@ -25,7 +25,7 @@ unfolding _⊕_ low
 returns-2 c =
     let s = c .before in
     let n : ℕ = s .args .w .hi * 2 ^ 61 + s .args .w .lo in
-    let e : s .args .d ≡ 61 = other (s .args .d) (s .pre .0) (c .if1 .left) in
+    let e : s .args .d ≡ 61 = other-degree (s .args .d) (s .pre .0) (c .if1 .left) in
     fold-61 (s .args .w .hi) (s .args .w .lo)
     (high-lt (s .args .w .hi) (s .args .w .lo) (subst (λ d. n < 2 ^ (d + d)) e (s .pre .2))) (s .pre .1)
     ∙ ap (λ d. remainder d (low d) n) (sym e)

@@ -2,13 +2,14 @@
 use mathlib.Core.Path.{_∙_, ap}
 use Rattle.binary_field.specs.Carryless.{remainder}
 use Rattle.binary_field.specs.Element.{low, product}
-use Rattle.binary_field.proofs.carryless.Sizes.{element-lt, elements-lt}
+use Rattle.binary_field.proofs.Degrees.{digits-61}
+use Rattle.binary_field.proofs.carryless.Sizes.{elements-lt}
 use Rattle.binary_field.proofs.carryless.product_of.Statement.{statement}
 use Rattle.binary_field.proofs.carryless.product_of.Tie as tie
 
 wide-product-requires : tie.Need-wide-product-requires
 wide-product-requires c κs =
-    (element-lt (c .args .a) (c .args .d) (c .pre .0) (c .pre .1), element-lt (c .args .b) (c .args .d) (c .pre .0) (c .pre .2))
+    (digits-61 (c .args .a) (c .args .d) (c .pre .0) (c .pre .1), digits-61 (c .args .b) (c .args .d) (c .pre .0) (c .pre .2))
 
 fold-requires : tie.Need-fold-requires
 fold-requires c κs =

@@ -13,17 +13,17 @@ joined-requires-2 c κs = search needs
 joined-requires-3 : tie.Need-joined-requires-3
 joined-requires-3 c κs = search needs
 
-joined-requires-4 : tie.Need-joined-requires-4
-joined-requires-4 c κs = search needs
+joined-sixfold-requires : tie.Need-joined-sixfold-requires
+joined-sixfold-requires c κs = search needs
 
-joined-requires-5 : tie.Need-joined-requires-5
-joined-requires-5 c κs = search needs
+joined-sixfold-requires-2 : tie.Need-joined-sixfold-requires-2
+joined-sixfold-requires-2 c κs = search needs
 
-joined-requires-6 : tie.Need-joined-requires-6
-joined-requires-6 c κs = search needs
+joined-sixfold-requires-3 : tie.Need-joined-sixfold-requires-3
+joined-sixfold-requires-3 c κs = search needs
 
-joined-requires-7 : tie.Need-joined-requires-7
-joined-requires-7 c κs = search needs
+joined-sixfold-requires-4 : tie.Need-joined-sixfold-requires-4
+joined-sixfold-requires-4 c κs = search needs
 
 square-of-requires : tie.Need-square-of-requires
 square-of-requires c κs = search needs
@@ -35,10 +35,10 @@ returns c =
     let e₂ = joins 61 a 1 1 tt e₁ e₁ (c .before .before .before .before .before .before .before .joined .ensures .0) in
     let e₃ = joins 61 a 2 1 tt e₂ e₁ (c .before .before .before .before .before .before .joined2 .ensures .0) in
     let e₆ = joins 61 a 3 3 tt e₃ e₃ (c .before .before .before .before .before .joined3 .ensures .0) in
-    let e₁₂ = joins 61 a 6 6 tt e₆ e₆ (c .before .before .before .before .joined4 .ensures .0) in
-    let e₁₅ = joins 61 a 12 3 tt e₁₂ e₃ (c .before .before .before .joined5 .ensures .0) in
-    let e₃₀ = joins 61 a 15 15 tt e₁₅ e₁₅ (c .before .before .joined6 .ensures .0) in
-    let e₆₀ = joins 61 a 30 30 tt e₃₀ e₃₀ (c .before .joined7 .ensures .0) in
+    let e₁₂ = joins 61 a 6 6 tt e₆ e₆ (c .before .before .before .before .joined-sixfold .ensures .0) in
+    let e₂₄ = joins 61 a 12 12 tt e₁₂ e₁₂ (c .before .before .before .joined-sixfold2 .ensures .0) in
+    let e₄₈ = joins 61 a 24 24 tt e₂₄ e₂₄ (c .before .before .joined-sixfold3 .ensures .0) in
+    let e₆₀ = joins 61 a 48 12 tt e₄₈ e₁₂ (c .before .joined-sixfold4 .ensures .0) in
     last 61 a tt e₆₀ (c .square-of .ensures)
 
 pub inverse-61-spec : {M : Type 1} → statement M
@@ -48,9 +48,9 @@ inverse-61-spec =
     joined-requires
     joined-requires-2
     joined-requires-3
-    joined-requires-4
-    joined-requires-5
-    joined-requires-6
-    joined-requires-7
+    joined-sixfold-requires
+    joined-sixfold-requires-2
+    joined-sixfold-requires-3
+    joined-sixfold-requires-4
     square-of-requires
     returns)

@@ -1,4 +1,5 @@
 -- `inverse_of` meets its contract, degree by degree.
+use borrow.Author.Needs.{needs}
 use Rattle.binary_field.proofs.Degrees.{other-degree}
 use Rattle.binary_field.proofs.inverting.inverse_of.Statement.{statement}
 use Rattle.binary_field.proofs.inverting.inverse_of.Tie as tie
@@ -9,12 +10,16 @@ inverse-5-requires c κs = (rw (c .if1 .taken) at (c .before .pre .1), c .before
 returns : tie.Need-returns
 returns c = rw (c .before .if1 .taken) (c .inverse-5 .ensures)
 
+multisquares-requires : tie.Need-multisquares-requires
+multisquares-requires c κs = search needs
+
 inverse-61-requires : tie.Need-inverse-61-requires
 inverse-61-requires c κs =
-    (rw (other-degree _ (c .before .pre .0) (c .if1 .left)) at (c .before .pre .1), c .before .pre .2)
+    let s = c .before .before .before in
+    (rw (other-degree _ (s .pre .0) (c .before .before .if1 .left)) at (s .pre .1), s .pre .2, c .before .multisquares .ensures)
 
 returns-2 : tie.Need-returns-2
-returns-2 c = rw (other-degree _ (c .before .before .pre .0) (c .before .if1 .left)) (c .inverse-61 .ensures)
+returns-2 c = rw (other-degree _ (c .before .before .before .before .pre .0) (c .before .before .before .if1 .left)) (c .inverse-61 .ensures)
 
 pub inverse-of-spec : {M : Type 1} → statement M
-inverse-of-spec = tie.close (tie.spec inverse-5-requires returns inverse-61-requires returns-2)
+inverse-of-spec = tie.close (tie.spec inverse-5-requires returns multisquares-requires inverse-61-requires returns-2)

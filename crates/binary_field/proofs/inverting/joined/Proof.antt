@@ -1,17 +1,43 @@
--- `joined` meets its contract.
-use borrow.Author.Needs.{needs}
-use Rattle.binary_field.proofs.ChainSteps.{multiplied}
+-- `joined` meets its contract: after i turns the loop holds x, squared i times.
+use mathlib.Core.Path.{_≡_}
+use Prim.Native.Nat.{_≤_, _<_, _-_, _^_}
+use native.Mathlib.Omega.{arith}
+use Rattle.binary_field.specs.Element.{squarings}
+use Rattle.binary_field.proofs.ChainSteps.{none-squared, once-more, all-squared, multiplied}
 use Rattle.binary_field.proofs.inverting.joined.Statement.{statement}
 use Rattle.binary_field.proofs.inverting.joined.Tie as tie
 
-squarings-of-requires : tie.Need-squarings-of-requires
-squarings-of-requires c κs = search needs
+abbrev Inv-loop : tie.InvT-loop
+Inv-loop d x k y table r₀ i₀ r i = (i ≤ k) × ((r ≡ squarings d i x) × (r < 2 ^ d))
 
-product-of-requires : tie.Need-product-of-requires
-product-of-requires c κs = search needs
+abbrev μ-loop : tie.MeasureT-loop
+μ-loop d x k y table r₀ i₀ r i = k - i
 
-returns : tie.Need-returns
-returns c = multiplied _ _ _ (c .before .before .pre .0) (c .before .squarings-of .ensures .0) (c .product-of .ensures)
+loop-holds : tie.Need-loop-holds Inv-loop μ-loop
+loop-holds c = (omega arith, none-squared _ _ (c .pre .1))
+
+square-of-requires : tie.Need-square-of-requires Inv-loop μ-loop
+square-of-requires c κs = (c .before .before .pre .0, c .before .loop .inv .1 .1, c .before .before .pre .3)
+
+add-i : tie.Need-add-i Inv-loop μ-loop
+add-i c = omega arith
+
+loop-less : tie.Need-loop-less Inv-loop μ-loop
+loop-less c = omega arith
+
+loop-again : tie.Need-loop-again Inv-loop μ-loop
+loop-again c =
+    (omega arith, once-more _ _ _ (c .before .before .before .pre .0) (c .before .before .loop .inv .1 .0) (c .square-of .ensures))
+
+product-of-requires : tie.Need-product-of-requires Inv-loop μ-loop
+product-of-requires c κs = (c .before .before .pre .0, c .before .loop .inv .1 .1, c .before .before .pre .2)
+
+returns : tie.Need-returns Inv-loop μ-loop
+returns c =
+    let e = all-squared _ _ (c .before .before .loop .inv .1) (c .before .before .loop .inv .0) (c .before .loop-test .left) in
+    multiplied _ _ _ (c .before .before .before .pre .0) (e .0) (c .product-of .ensures)
 
 pub joined-spec : {M : Type 1} → statement M
-joined-spec = tie.close (tie.spec squarings-of-requires product-of-requires returns)
+joined-spec =
+    tie.close
+    (tie.spec Inv-loop μ-loop loop-holds square-of-requires add-i loop-less loop-again product-of-requires returns)

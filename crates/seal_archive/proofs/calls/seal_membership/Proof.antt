@@ -1,8 +1,8 @@
 -- `calls::seal_membership` meets its contract.
-use mathlib.Core.Path.{ap, _∙_}
+use mathlib.Core.Path.{sym, ap, _∙_}
 use Rattle.stored_form.specs.Reading.{number}
 use Rattle.seal_archive.specs.Calls.{membership-call}
-use Rattle.seal_archive.proofs.Readers.{at-number}
+use Rattle.stored_form.proofs.Places.{placed-number}
 use borrow.Author.Needs.{needs}
 use Rattle.seal_archive.proofs.calls.seal_membership.Statement.{statement}
 use Rattle.seal_archive.proofs.calls.seal_membership.Tie as tie
@@ -10,12 +10,12 @@ use Rattle.seal_archive.proofs.calls.seal_membership.Tie as tie
 class-record-requires : tie.Need-class-record-requires
 class-record-requires c κs = search needs
 
-place-number-requires : tie.Need-place-number-requires
-place-number-requires c κs = search needs
+place-refusal-requires : tie.Need-place-refusal-requires
+place-refusal-requires c κs = search needs
 
 returns : tie.Need-returns
 unfolding membership-call
-returns c = c .place-number .ensures ∙ at-number (c .before .class-record .result .place) _ _ ∙ ap number (c .before .class-record .ensures)
+returns c = c .place-refusal .ensures ∙ sym (placed-number (c .before .class-record .result .place) _) ∙ ap number (c .before .class-record .ensures)
 
 pub seal-membership-spec : {M : Type 1} → statement M
-seal-membership-spec = tie.close (tie.spec class-record-requires place-number-requires returns)
+seal-membership-spec = tie.close (tie.spec class-record-requires place-refusal-requires returns)

@@ -1,65 +1,18 @@
 -- `calls::seal_undo` meets its contract.
-use mathlib.Core.Path.{ap, _∙_}
-use Rattle.seal_archive.specs.Calls.{register-room, write-register, undo-call}
-use Rattle.seal_archive.proofs.Outcomes.{place-refused, place-found, short, unread, answers}
-use Rattle.seal_archive.proofs.Writers.{undo-count}
+use Rattle.seal_archive.specs.Calls.{step-answer, undo-call}
 use borrow.Author.Needs.{needs}
 use Rattle.seal_archive.proofs.calls.seal_undo.Statement.{statement}
 use Rattle.seal_archive.proofs.calls.seal_undo.Tie as tie
 
-returns : tie.Need-returns
-unfolding undo-call register-room
-returns c = short _ _ _ (c .if1 .taken)
-
-register-record-requires : tie.Need-register-record-requires
-register-record-requires c κs = search needs
-
-enum-told : tie.Need-enum-told
-enum-told c = search needs
-
-enum-told-2 : tie.Need-enum-told-2
-enum-told-2 c = search needs
-
-place-number-requires : tie.Need-place-number-requires
-place-number-requires c κs = search needs
-
-returns-2 : tie.Need-returns-2
-unfolding undo-call register-room
-returns-2 c =
-    let told = c .before in
-    let read = told .before .before .before .before in
-    unread _ _ _ (read .before .if1 .left) (place-refused (read .register-record .result .place) _ (read .register-record .ensures) (told .enum-told2 .given .1) (c .place-number .ensures))
-
-undo-requires : tie.Need-undo-requires
-undo-requires c κs = search needs
-
-put-register-requires : tie.Need-put-register-requires
-put-register-requires c κs = (search needs, undo-count _ _ (c .before .undo .ensures))
+register-call-requires : tie.Need-register-call-requires
+register-call-requires c κs = search needs
 
 same-length : tie.Need-same-length
 same-length c = search needs
 
-returns-3 : tie.Need-returns-3
-unfolding undo-call register-room
-returns-3 c =
-    let put = c .before .before in
-    let done = put .before .before in
-    let told = done .before in
-    let read = told .before .before .before .before in
-    answers _ _ _ (read .before .if1 .left) (place-found (read .register-record .result .place) _ (read .register-record .ensures) (told .enum-told .given .1))
-    (put .put-register .ensures ∙ ap (write-register _) (done .undo .ensures))
+returns : tie.Need-returns
+unfolding undo-call step-answer
+returns c = c .before .before .register-call .ensures
 
 pub seal-undo-spec : {M : Type 1} → statement M
-seal-undo-spec =
-    tie.close
-    (tie.spec
-    returns
-    register-record-requires
-    enum-told
-    enum-told-2
-    place-number-requires
-    returns-2
-    undo-requires
-    put-register-requires
-    same-length
-    returns-3)
+seal-undo-spec = tie.close (tie.spec register-call-requires same-length returns)

@@ -1,10 +1,11 @@
 -- `records::class_record` meets its contract.
 use mathlib.Core.Path.{_≡_, sym, ap, _∙_}
 use Rattle.stored_form.specs.Reading.{found}
-use Rattle.stored_form.specs.Classes.{curve-read, class-at}
+use Rattle.stored_form.specs.Classes.{curve-first, curve-read, class-at}
 use Rattle.stored_form.proofs.Readings.{then-found, then-refused}
-use Rattle.seal_archive.specs.Records.{curve-first, ended, class-record}
-use Rattle.seal_archive.proofs.Readers.{refused-by, class-refused-by, class-found-by, bytes-remain, at-end}
+use Rattle.stored_form.proofs.Places.{place-found, place-refused, read-reading}
+use Rattle.seal_archive.specs.Records.{ended, class-record}
+use Rattle.seal_archive.proofs.Readers.{refused-by, bytes-remain, at-end}
 use borrow.Author.Needs.{needs}
 use Rattle.seal_archive.proofs.records.class_record.Statement.{statement}
 use Rattle.seal_archive.proofs.records.class_record.Tie as tie
@@ -23,7 +24,7 @@ curve-number-requires c κs = search needs
 
 -- the curve that was found
 first : (c : tie.After-known-told) →
-    curve-first (c .before .before .before .before .before .args .s .now) ≡ found (c .before .c .given .0 .0) (c .before .c .given .0 .1 .0 .at)
+    curve-first (c .before .before .before .before .before .args .s .now) 0 ≡ found (c .before .c .given .0 .0) (c .before .c .given .0 .1 .0 .at)
 first c = sym (c .before .before .before .curve-first .ensures) ∙ ap curve-read (c .before .c .given .1)
 
 class-refused-requires : tie.Need-class-refused-requires
@@ -45,8 +46,8 @@ enum-known-place c = search needs
 enum-told-2 : tie.Need-enum-told-2
 enum-told-2 c = search needs
 
-place-number-requires : tie.Need-place-number-requires
-place-number-requires c κs = search needs
+place-refusal-requires : tie.Need-place-refusal-requires
+place-refusal-requires c κs = search needs
 
 class-refused-requires-2 : tie.Need-class-refused-requires-2
 class-refused-requires-2 c κs = search needs
@@ -58,7 +59,7 @@ returns-2 c =
     let read = told .before .before .before in
     c .class-refused2 .ensures
     ∙ sym (then-found _ (first (read .before))
-    ∙ then-refused _ (class-refused-by (read .class-at .result) (read .class-at .ensures) (told .enum-told2 .given .1) (c .before .place-number .ensures)))
+    ∙ then-refused _ (place-refused _ _ (read-reading (read .class-at .result) (read .class-at .ensures)) (told .enum-told2 .given .1) (c .before .place-refusal .ensures)))
 
 -- the class that was found, and what is left to check
 class-first : (c : tie.After-known-told2) →
@@ -69,7 +70,7 @@ class-first : (c : tie.After-known-told2) →
 unfolding class-record
 class-first c =
     let read = c .before .before .before .before in
-    then-found _ (first (read .before)) ∙ then-found _ (class-found-by (read .class-at .result) (read .class-at .ensures) (c .before .place .given .1))
+    then-found _ (first (read .before)) ∙ then-found _ (place-found _ _ (read-reading (read .class-at .result) (read .class-at .ensures)) (c .before .place .given .1))
 
 end-at-requires : tie.Need-end-at-requires
 end-at-requires c κs = search needs
@@ -102,7 +103,7 @@ class-record-spec =
     class-at-requires
     enum-known-place
     enum-told-2
-    place-number-requires
+    place-refusal-requires
     class-refused-requires-2
     returns-2
     end-at-requires

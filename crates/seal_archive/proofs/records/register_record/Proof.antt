@@ -2,10 +2,11 @@
 use mathlib.Core.Path.{_≡_, sym, ap, _∙_}
 use Rattle.stored_form.specs.Reading.{found}
 use Rattle.stored_form.specs.Fields.{count-at, count-read}
-use Rattle.stored_form.specs.Classes.{curve-read, class-at}
+use Rattle.stored_form.specs.Classes.{curve-first, curve-read, class-at}
 use Rattle.stored_form.proofs.Readings.{then-found, then-refused}
-use Rattle.seal_archive.specs.Records.{curve-first, ended, register-record}
-use Rattle.seal_archive.proofs.Readers.{refused-by, class-refused-by, class-found-by, bytes-remain, at-end}
+use Rattle.stored_form.proofs.Places.{place-found, place-refused, read-reading}
+use Rattle.seal_archive.specs.Records.{ended, register-record}
+use Rattle.seal_archive.proofs.Readers.{refused-by, bytes-remain, at-end}
 use borrow.Author.Needs.{needs}
 use Rattle.seal_archive.proofs.records.register_record.Statement.{statement}
 use Rattle.seal_archive.proofs.records.register_record.Tie as tie
@@ -24,7 +25,7 @@ curve-number-requires c κs = search needs
 
 -- the curve that was found
 first : (c : tie.After-known-told) →
-    curve-first (c .before .before .before .before .before .args .s .now) ≡ found (c .before .c .given .0 .0) (c .before .c .given .0 .1 .0 .at)
+    curve-first (c .before .before .before .before .before .args .s .now) 0 ≡ found (c .before .c .given .0 .0) (c .before .c .given .0 .1 .0 .at)
 first c = sym (c .before .before .before .curve-first .ensures) ∙ ap curve-read (c .before .c .given .1)
 
 register-refused-requires : tie.Need-register-refused-requires
@@ -77,8 +78,8 @@ enum-known-place c = search needs
 enum-told-3 : tie.Need-enum-told-3
 enum-told-3 c = search needs
 
-place-number-requires : tie.Need-place-number-requires
-place-number-requires c κs = search needs
+place-refusal-requires : tie.Need-place-refusal-requires
+place-refusal-requires c κs = search needs
 
 register-refused-requires-3 : tie.Need-register-refused-requires-3
 register-refused-requires-3 c κs = search needs
@@ -91,7 +92,7 @@ returns-3 c =
     c .register-refused3 .ensures
     ∙ sym (then-found _ (first (read .before .before .before .before .before))
     ∙ then-found _ (counted (read .before))
-    ∙ then-refused _ (class-refused-by (read .class-at .result) (read .class-at .ensures) (told .enum-told3 .given .1) (c .before .place-number .ensures)))
+    ∙ then-refused _ (place-refused _ _ (read-reading (read .class-at .result) (read .class-at .ensures)) (told .enum-told3 .given .1) (c .before .place-refusal .ensures)))
 
 -- the seal that was found
 second : (c : tie.After-known-told3) →
@@ -99,7 +100,7 @@ second : (c : tie.After-known-told3) →
     let k = read .before in
     class-at 0x43 (k .before .before .before .before .before .c .given .0 .0) (k .before .before .before .before .before .before .before .before .before .args .s .now) (k .before .k .given .0 .1 .0 .at)
     ≡ found (read .class-at .result .class) (c .before .place .given .0 .0 .at)
-second c = let read = c .before .before .before .before in class-found-by (read .class-at .result) (read .class-at .ensures) (c .before .place .given .1)
+second c = let read = c .before .before .before .before in place-found _ _ (read-reading (read .class-at .result) (read .class-at .ensures)) (c .before .place .given .1)
 
 operation-at-requires : tie.Need-operation-at-requires
 operation-at-requires c κs = search needs
@@ -110,8 +111,8 @@ enum-known-last c = search needs
 enum-told-4 : tie.Need-enum-told-4
 enum-told-4 c = search needs
 
-place-number-requires-2 : tie.Need-place-number-requires-2
-place-number-requires-2 c κs = search needs
+place-refusal-requires-2 : tie.Need-place-refusal-requires-2
+place-refusal-requires-2 c κs = search needs
 
 register-refused-requires-4 : tie.Need-register-refused-requires-4
 register-refused-requires-4 c κs = search needs
@@ -126,7 +127,7 @@ returns-4 c =
     ∙ sym (then-found _ (first (seal .before .before .before .before .before))
     ∙ then-found _ (counted (seal .before))
     ∙ then-found _ (second (read .before))
-    ∙ then-refused _ (class-refused-by (read .operation-at .result) (read .operation-at .ensures) (told .enum-told4 .given .1) (c .before .place-number2 .ensures)))
+    ∙ then-refused _ (place-refused _ _ (read-reading (read .operation-at .result) (read .operation-at .ensures)) (told .enum-told4 .given .1) (c .before .place-refusal2 .ensures)))
 
 -- all fields, and what is left to check
 fields-first : (c : tie.After-known-told4) →
@@ -146,7 +147,7 @@ fields-first c =
     then-found _ (first (seal .before .before .before .before .before))
     ∙ then-found _ (counted (seal .before))
     ∙ then-found _ (second (read .before))
-    ∙ then-found _ (class-found-by (read .operation-at .result) (read .operation-at .ensures) (c .before .last .given .1))
+    ∙ then-found _ (place-found _ _ (read-reading (read .operation-at .result) (read .operation-at .ensures)) (c .before .last .given .1))
 
 end-at-requires : tie.Need-end-at-requires
 end-at-requires c κs = search needs
@@ -160,8 +161,8 @@ returns-5 c =
     let ends = c .before .before in
     c .register-refused5 .ensures ∙ sym (fields-first (ends .before) ∙ bytes-remain _ _ _ (ends .end-at .ensures) (c .before .if1 .taken))
 
-cast-t23 : tie.Need-cast-t23
-cast-t23 c = search needs
+cast-t24 : tie.Need-cast-t24
+cast-t24 c = search needs
 
 returns-6 : tie.Need-returns-6
 unfolding register-record
@@ -188,17 +189,17 @@ register-record-spec =
     class-at-requires
     enum-known-place
     enum-told-3
-    place-number-requires
+    place-refusal-requires
     register-refused-requires-3
     returns-3
     operation-at-requires
     enum-known-last
     enum-told-4
-    place-number-requires-2
+    place-refusal-requires-2
     register-refused-requires-4
     returns-4
     end-at-requires
     register-refused-requires-5
     returns-5
-    cast-t23
+    cast-t24
     returns-6)

@@ -1,10 +1,11 @@
 -- `records::sum_record` meets its contract.
 use mathlib.Core.Path.{_≡_, sym, ap, _∙_}
 use Rattle.stored_form.specs.Reading.{found}
-use Rattle.stored_form.specs.Classes.{curve-read, class-at}
+use Rattle.stored_form.specs.Classes.{curve-first, curve-read, class-at}
 use Rattle.stored_form.proofs.Readings.{then-found, then-refused}
-use Rattle.seal_archive.specs.Records.{curve-first, ended, sum-record}
-use Rattle.seal_archive.proofs.Readers.{refused-by, class-refused-by, class-found-by, bytes-remain, at-end}
+use Rattle.stored_form.proofs.Places.{place-found, place-refused, read-reading}
+use Rattle.seal_archive.specs.Records.{ended, sum-record}
+use Rattle.seal_archive.proofs.Readers.{refused-by, bytes-remain, at-end}
 use borrow.Author.Needs.{needs}
 use Rattle.seal_archive.proofs.records.sum_record.Statement.{statement}
 use Rattle.seal_archive.proofs.records.sum_record.Tie as tie
@@ -23,7 +24,7 @@ curve-number-requires c κs = search needs
 
 -- the curve that was found
 first : (c : tie.After-known-told) →
-    curve-first (c .before .before .before .before .before .args .s .now) ≡ found (c .before .c .given .0 .0) (c .before .c .given .0 .1 .0 .at)
+    curve-first (c .before .before .before .before .before .args .s .now) 0 ≡ found (c .before .c .given .0 .0) (c .before .c .given .0 .1 .0 .at)
 first c = sym (c .before .before .before .curve-first .ensures) ∙ ap curve-read (c .before .c .given .1)
 
 sum-refused-requires : tie.Need-sum-refused-requires
@@ -45,8 +46,8 @@ enum-known-place c = search needs
 enum-told-2 : tie.Need-enum-told-2
 enum-told-2 c = search needs
 
-place-number-requires : tie.Need-place-number-requires
-place-number-requires c κs = search needs
+place-refusal-requires : tie.Need-place-refusal-requires
+place-refusal-requires c κs = search needs
 
 sum-refused-requires-2 : tie.Need-sum-refused-requires-2
 sum-refused-requires-2 c κs = search needs
@@ -58,7 +59,7 @@ returns-2 c =
     let read = told .before .before .before in
     c .sum-refused2 .ensures
     ∙ sym (then-found _ (first (read .before))
-    ∙ then-refused _ (class-refused-by (read .class-at .result) (read .class-at .ensures) (told .enum-told2 .given .1) (c .before .place-number .ensures)))
+    ∙ then-refused _ (place-refused _ _ (read-reading (read .class-at .result) (read .class-at .ensures)) (told .enum-told2 .given .1) (c .before .place-refusal .ensures)))
 
 -- the first class that was found
 second : (c : tie.After-known-told2) →
@@ -66,7 +67,7 @@ second : (c : tie.After-known-told2) →
     let k = read .before in
     class-at 0x43 (k .before .c .given .0 .0) (k .before .before .before .before .before .args .s .now) (k .before .c .given .0 .1 .0 .at)
     ≡ found (read .class-at .result .class) (c .before .place .given .0 .0 .at)
-second c = let read = c .before .before .before .before in class-found-by (read .class-at .result) (read .class-at .ensures) (c .before .place .given .1)
+second c = let read = c .before .before .before .before in place-found _ _ (read-reading (read .class-at .result) (read .class-at .ensures)) (c .before .place .given .1)
 
 class-at-requires-2 : tie.Need-class-at-requires-2
 class-at-requires-2 c κs = search needs
@@ -77,8 +78,8 @@ enum-known-last c = search needs
 enum-told-3 : tie.Need-enum-told-3
 enum-told-3 c = search needs
 
-place-number-requires-2 : tie.Need-place-number-requires-2
-place-number-requires-2 c κs = search needs
+place-refusal-requires-2 : tie.Need-place-refusal-requires-2
+place-refusal-requires-2 c κs = search needs
 
 sum-refused-requires-3 : tie.Need-sum-refused-requires-3
 sum-refused-requires-3 c κs = search needs
@@ -91,7 +92,7 @@ returns-3 c =
     c .sum-refused3 .ensures
     ∙ sym (then-found _ (first (read .before .before .before .before .before .before))
     ∙ then-found _ (second (read .before))
-    ∙ then-refused _ (class-refused-by (read .class-at2 .result) (read .class-at2 .ensures) (told .enum-told3 .given .1) (c .before .place-number2 .ensures)))
+    ∙ then-refused _ (place-refused _ _ (read-reading (read .class-at2 .result) (read .class-at2 .ensures)) (told .enum-told3 .given .1) (c .before .place-refusal2 .ensures)))
 
 -- both classes, and what is left to check
 classes-first : (c : tie.After-known-told3) →
@@ -105,7 +106,7 @@ classes-first c =
     let read = c .before .before .before .before in
     then-found _ (first (read .before .before .before .before .before .before))
     ∙ then-found _ (second (read .before))
-    ∙ then-found _ (class-found-by (read .class-at2 .result) (read .class-at2 .ensures) (c .before .last .given .1))
+    ∙ then-found _ (place-found _ _ (read-reading (read .class-at2 .result) (read .class-at2 .ensures)) (c .before .last .given .1))
 
 end-at-requires : tie.Need-end-at-requires
 end-at-requires c κs = search needs
@@ -138,13 +139,13 @@ sum-record-spec =
     class-at-requires
     enum-known-place
     enum-told-2
-    place-number-requires
+    place-refusal-requires
     sum-refused-requires-2
     returns-2
     class-at-requires-2
     enum-known-last
     enum-told-3
-    place-number-requires-2
+    place-refusal-requires-2
     sum-refused-requires-3
     returns-3
     end-at-requires

@@ -1,13 +1,11 @@
 -- `classes::class_at` meets its contract: the tag allows the lengths of a class.
 use borrow.Author.Needs.{needs}
-use mathlib.Core.Path.{refl}
-use Rattle.stored_form.specs.Head.{allowed}
+use Rattle.stored_form.proofs.Lengths.{class-lengths}
 use Rattle.stored_form.proofs.classes.class_at.Statement.{statement}
 use Rattle.stored_form.proofs.classes.class_at.Tie as tie
 
 tagged-at-requires : tie.Need-tagged-at-requires
-unfolding allowed
-tagged-at-requires c κs = λ n. refl
+tagged-at-requires c κs = class-lengths
 
 returns : tie.Need-returns
 returns c = search needs

@@ -1,13 +1,11 @@
 -- `classes::operation_at` meets its contract: the tag allows the lengths of a class.
 use borrow.Author.Needs.{needs}
-use mathlib.Core.Path.{refl}
-use Rattle.stored_form.specs.Head.{allowed}
+use Rattle.stored_form.proofs.Lengths.{operation-lengths}
 use Rattle.stored_form.proofs.classes.operation_at.Statement.{statement}
 use Rattle.stored_form.proofs.classes.operation_at.Tie as tie
 
 tagged-at-requires : tie.Need-tagged-at-requires
-unfolding allowed
-tagged-at-requires c κs = λ n. refl
+tagged-at-requires c κs = operation-lengths
 
 returns : tie.Need-returns
 returns c = search needs

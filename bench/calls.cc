@@ -1,0 +1,380 @@
+// Measures the calls on elements, classes, registers and archives in one run and prints ratios: against the element product,
+// against the same algorithms written straightforwardly in C (bench/plain.c), and against NTL's polynomials over GF(2^61) doing
+// Cantor's rule as document 01 writes it, without checks.
+//
+//     calls ARCHIVE WALKREPORT
+//
+// The classes are of degree 3, on a curve and from a point drawn at random. Before anything is measured every double and sum is
+// held to NTL's, every half to NTL's double, and every answer to that in C. The operations take turns, and the least time
+// of all rounds counts. Calls on elements run as a chain, each on what the last one answered. ARCHIVE has 1,024 operations; the
+// walk is timed on it, and the program WALKREPORT with it on standard input.
+#include <NTL/GF2EX.h>
+
+#include <cstdint>
+#include <cstdio>
+#include <cstdlib>
+#include <cstring>
+#include <ctime>
+#include <string>
+#include <sys/resource.h>
+#include <vector>
+
+#include "plain.h"
+#include "seal.h"
+
+using namespace NTL;
+
+extern "C" {
+uint32_t class_membership(uint8_t d, const uint64_t *f, const uint64_t *a);
+uint32_t class_double(uint8_t d, const uint64_t *f, const uint64_t *a, uint64_t *r);
+uint32_t class_half(uint8_t d, const uint64_t *f, const uint64_t *a, uint64_t *r);
+uint32_t class_sum(uint8_t d, const uint64_t *f, const uint64_t *a, const uint64_t *b, uint64_t *r);
+uint32_t class_double_and_add(uint8_t d, const uint64_t *f, const uint64_t *a, const uint64_t *b, uint64_t *r);
+uint32_t class_subtract_and_halve(uint8_t d, const uint64_t *f, const uint64_t *a, const uint64_t *b, uint64_t *r);
+uint32_t register_commit(uint8_t d, const uint64_t *f, uint64_t count, const uint64_t *a, const uint64_t *b, uint64_t *r);
+uint32_t register_undo(uint8_t d, const uint64_t *f, uint64_t count, const uint64_t *a, const uint64_t *b, uint64_t *r);
+size_t archive_report(const uint8_t *archive, size_t length, uint8_t *report, size_t room);
+uint64_t element_product(uint8_t d, uint64_t a, uint64_t b);
+uint64_t element_square(uint8_t d, uint64_t a);
+uint64_t element_square_root(uint8_t d, uint64_t a);
+uint64_t element_inverse(uint8_t d, uint64_t a);
+}
+
+enum { DEGREE = 61, CLASSES = 100, ROUNDS = 300, CHAIN = 10, KEPT = 1024, ROOM = 163840 };
+
+// Numbers that look random and are the same in every run: splitmix64 from a fixed seed.
+static uint64_t drawn() {
+    static uint64_t state = 2026;
+    uint64_t z = state += UINT64_C(0x9e3779b97f4a7c15);
+    z = (z ^ z >> 30) * UINT64_C(0xbf58476d1ce4e5b9);
+    z = (z ^ z >> 27) * UINT64_C(0x94d049bb133111eb);
+    return (z ^ z >> 31) >> (64 - DEGREE);
+}
+
+static GF2E element(uint64_t n) {
+    unsigned char bytes[8];
+    for (int i = 0; i < 8; i++) bytes[i] = n >> 8 * i;
+    return conv<GF2E>(GF2XFromBytes(bytes, 8));
+}
+
+static uint64_t number(const GF2E &a) {
+    unsigned char bytes[8];
+    uint64_t n = 0;
+    BytesFromGF2X(bytes, rep(a), 8);
+    for (int i = 0; i < 8; i++) n |= uint64_t(bytes[i]) << 8 * i;
+    return n;
+}
+
+struct Class {
+    uint64_t numbers[7];
+    bool operator==(const Class &other) const {
+        for (int i = 0; i < 7; i++)
+            if (numbers[i] != other.numbers[i]) return false;
+        return true;
+    }
+};
+
+struct Pair {
+    GF2EX u, v;
+};
+
+static uint64_t curve[3];
+static GF2EX f;
+
+static Pair pair_of(const Class &a) {
+    Pair pair;
+    long degree = a.numbers[0];
+    SetCoeff(pair.u, degree);
+    for (long i = 0; i < degree; i++) {
+        SetCoeff(pair.u, i, element(a.numbers[1 + i]));
+        SetCoeff(pair.v, i, element(a.numbers[4 + i]));
+    }
+    return pair;
+}
+
+static Class class_of(const Pair &a) {
+    Class r = {};
+    r.numbers[0] = deg(a.u);
+    for (long i = 0; i < deg(a.u); i++) {
+        r.numbers[1 + i] = number(coeff(a.u, i));
+        r.numbers[4 + i] = number(coeff(a.v, i));
+    }
+    return r;
+}
+
+static void reduce(Pair &a) {
+    while (deg(a.u) > 3) {
+        a.u = (f + a.v + sqr(a.v)) / a.u;
+        MakeMonic(a.u);
+        a.v = (a.v + 1) % a.u;
+    }
+}
+
+static Pair double_by_ntl(const Pair &a) {
+    Pair r;
+    r.u = sqr(a.u);
+    r.v = (sqr(a.v) + f) % r.u;
+    reduce(r);
+    return r;
+}
+
+static Pair sum_by_ntl(const Pair &a, const Pair &b) {
+    Pair r;
+    GF2EX g, e, t, t1, t2, s3;
+    XGCD(g, t1, t2, a.u, b.u);
+    XGCD(e, t, s3, g, a.v + b.v + 1);
+    r.u = a.u * b.u / sqr(e);
+    r.v = (t * t1 * a.u * b.v + t * t2 * b.u * a.v + s3 * (a.v * b.v + f)) / e % r.u;
+    reduce(r);
+    return r;
+}
+
+static std::vector<Class> classes;
+static std::vector<Pair> pairs;
+
+// The curve through a point drawn at random, and the classes D, 2 D + P, .. from that point on, as many as wanted that
+// are of degree 3.
+static void draw() {
+    uint64_t a = drawn(), y = drawn();
+    curve[0] = drawn();
+    curve[1] = drawn();
+    SetCoeff(f, 7);
+    SetCoeff(f, 3, element(curve[0]));
+    SetCoeff(f, 1, element(curve[1]));
+    curve[2] = number(eval(f, element(a)) + sqr(element(y)) + element(y));
+    SetCoeff(f, 0, element(curve[2]));
+    Pair point = pair_of({{1, a, 0, 0, y, 0, 0}}), pair = point;
+    while (classes.size() < CLASSES) {
+        pair = sum_by_ntl(double_by_ntl(pair), point);
+        if (deg(pair.u) < 3) continue;
+        pairs.push_back(pair);
+        classes.push_back(class_of(pair));
+    }
+}
+
+// The record of an undo: degree, curve, count, seal and operation.
+static std::vector<uint8_t> record_of(uint64_t count, const Class &seal, const Class &operation) {
+    std::vector<uint8_t> bytes = {0x40, 0, 1, DEGREE, 0x41, 0, 24};
+    auto put = [&bytes](uint64_t n) {
+        for (int i = 56; i >= 0; i -= 8) bytes.push_back(n >> i);
+    };
+    auto put_class = [&](uint8_t tag, const Class &a) {
+        int n = a.numbers[0];
+        bytes.insert(bytes.end(), {tag, 0, uint8_t(16 * n)});
+        for (int start : {1, 4})
+            for (int i = n - 1; i >= 0; i--) put(a.numbers[start + i]);
+    };
+    for (int i = 0; i < 3; i++) put(curve[i]);
+    bytes.insert(bytes.end(), {0x42, 0, 2, uint8_t(count >> 8), uint8_t(count)});
+    put_class(0x43, seal);
+    put_class(0x44, operation);
+    return bytes;
+}
+
+static std::vector<std::vector<uint8_t>> records;
+static std::vector<uint8_t> archive;
+
+static void read_archive(const char *name) {
+    FILE *file = fopen(name, "rb");
+    int c;
+    while (file && (c = getc(file)) != EOF) archive.push_back(c);
+    if (archive.empty()) {
+        fprintf(stderr, "%s cannot be read\n", name);
+        exit(1);
+    }
+    fclose(file);
+}
+
+static void hold(bool held, const char *what, int i) {
+    if (held) return;
+    fprintf(stderr, "%s of class %d: the two differ\n", what, i);
+    exit(1);
+}
+
+// Each call on each class, and on it and the next, held to NTL and to the same in C.
+static void compare() {
+    for (int i = 0; i < CLASSES; i++) {
+        int j = (i + 1) % CLASSES;
+        const uint64_t *a = classes[i].numbers, *b = classes[j].numbers;
+        Pair sum = sum_by_ntl(pairs[i], pairs[j]), twice = double_by_ntl(pairs[i]);
+        Class r, back, plain;
+        uint8_t out[56];
+        uint64_t x = a[1], y = b[1];
+        hold(element_product(DEGREE, x, y) == number(element(x) * element(y)), "product", i);
+        hold(element_product(DEGREE, x, y) == plain_product(x, y) && plain_product(x, y) == plain_loop_product(x, y), "product", i);
+        hold(element_square(DEGREE, x) == number(sqr(element(x))) && element_square(DEGREE, x) == plain_square(x), "square", i);
+        hold(element_square_root(DEGREE, x) == plain_root(x) && plain_square(plain_root(x)) == x, "square root", i);
+        hold(element_inverse(DEGREE, x) == number(inv(element(x))) && element_inverse(DEGREE, x) == plain_inverse(x), "inverse", i);
+        hold(class_membership(DEGREE, curve, a) == 0 && plain_membership(curve, a) == 0, "membership", i);
+        hold(class_double(DEGREE, curve, a, r.numbers) == 0 && r == class_of(twice), "double", i);
+        hold(plain_double(curve, a, plain.numbers) == 0 && r == plain, "double", i);
+        hold(class_sum(DEGREE, curve, a, b, r.numbers) == 0 && r == class_of(sum), "sum", i);
+        hold(plain_sum(curve, a, b, plain.numbers) == 0 && r == plain, "sum", i);
+        hold(class_half(DEGREE, curve, a, r.numbers) == 0, "half", i);
+        hold(classes[i] == class_of(double_by_ntl(pair_of(r))), "half", i);
+        hold(plain_half(curve, a, plain.numbers) == 0 && r == plain, "half", i);
+        hold(register_commit(DEGREE, curve, 7, a, b, r.numbers) == 0, "commit", i);
+        hold(r == class_of(sum_by_ntl(twice, pairs[j])), "commit", i);
+        hold(plain_double_and_add(curve, a, b, plain.numbers) == 0 && r == plain, "commit", i);
+        records.push_back(record_of(8, r, classes[j]));
+        hold(register_undo(DEGREE, curve, 8, r.numbers, b, back.numbers) == 0 && back == classes[i], "undo", i);
+        hold(plain_subtract_and_halve(curve, r.numbers, b, plain.numbers) == 0 && back == plain, "undo", i);
+        hold(seal_undo(records[i].data(), records[i].size(), out, sizeof out) == 56 && out[4] == 7, "undo by bytes", i);
+    }
+}
+
+// What is measured: an operation by the proved code, in C, or by NTL.
+enum Operation { PRODUCT, SQUARE, ROOT, INVERSE, MEMBERSHIP, DOUBLE, HALF, SUM, COMMIT, UNDO, BYTE_UNDO, WALK, LOOP_PRODUCT, OPERATIONS };
+enum Maker { PROVED, PLAIN, NTL_LIBRARY, MAKERS };
+
+static uint64_t element_step(int operation, int maker, uint64_t x, uint64_t y) {
+    switch (operation * MAKERS + maker) {
+    case PRODUCT * MAKERS + PROVED: return element_product(DEGREE, x, y);
+    case PRODUCT * MAKERS + PLAIN: return plain_product(x, y);
+    case SQUARE * MAKERS + PROVED: return element_square(DEGREE, x);
+    case SQUARE * MAKERS + PLAIN: return plain_square(x);
+    case ROOT * MAKERS + PROVED: return element_square_root(DEGREE, x);
+    case ROOT * MAKERS + PLAIN: return plain_root(x);
+    case INVERSE * MAKERS + PROVED: return element_inverse(DEGREE, x) ^ 1;
+    case INVERSE * MAKERS + PLAIN: return plain_inverse(x) ^ 1;
+    default: return plain_loop_product(x, y);
+    }
+}
+
+static GF2E element_step_by_ntl(int operation, const GF2E &x, const GF2E &y) {
+    if (operation == PRODUCT) return x * y;
+    if (operation == SQUARE) return sqr(x);
+    return inv(x) + 1;
+}
+
+static bool is_made(int operation, int maker) {
+    if (maker == PROVED) return operation != LOOP_PRODUCT;
+    if (maker == PLAIN) return operation != BYTE_UNDO && operation != WALK;
+    return operation == PRODUCT || operation == SQUARE || operation == INVERSE || operation == DOUBLE || operation == SUM ||
+        operation == COMMIT;
+}
+
+static bool is_of_elements(int operation) {
+    return operation <= INVERSE || operation == LOOP_PRODUCT;
+}
+
+// One round on classes: the operation on every class, or on each class and the next.
+static uint64_t class_round(int operation, int maker, uint64_t x) {
+    Class r;
+    uint8_t out[56];
+    for (int i = 0; i < CLASSES; i++) {
+        int j = (i + 1) % CLASSES;
+        const uint64_t *a = classes[i].numbers, *b = classes[j].numbers;
+        switch (operation * MAKERS + maker) {
+        case MEMBERSHIP * MAKERS + PROVED: x += class_membership(DEGREE, curve, a); break;
+        case MEMBERSHIP * MAKERS + PLAIN: x += plain_membership(curve, a); break;
+        case DOUBLE * MAKERS + PROVED: x += class_double(DEGREE, curve, a, r.numbers); break;
+        case DOUBLE * MAKERS + PLAIN: x += plain_double(curve, a, r.numbers); break;
+        case DOUBLE * MAKERS + NTL_LIBRARY: x += deg(double_by_ntl(pairs[i]).u); break;
+        case HALF * MAKERS + PROVED: x += class_half(DEGREE, curve, a, r.numbers); break;
+        case HALF * MAKERS + PLAIN: x += plain_half(curve, a, r.numbers); break;
+        case SUM * MAKERS + PROVED: x += class_sum(DEGREE, curve, a, b, r.numbers); break;
+        case SUM * MAKERS + PLAIN: x += plain_sum(curve, a, b, r.numbers); break;
+        case SUM * MAKERS + NTL_LIBRARY: x += deg(sum_by_ntl(pairs[i], pairs[j]).u); break;
+        case COMMIT * MAKERS + PROVED: x += register_commit(DEGREE, curve, 7, a, b, r.numbers); break;
+        case COMMIT * MAKERS + PLAIN: x += plain_double_and_add(curve, a, b, r.numbers); break;
+        case COMMIT * MAKERS + NTL_LIBRARY: x += deg(sum_by_ntl(double_by_ntl(pairs[i]), pairs[j]).u); break;
+        case UNDO * MAKERS + PROVED: x += register_undo(DEGREE, curve, 8, a, b, r.numbers); break;
+        case UNDO * MAKERS + PLAIN: x += plain_subtract_and_halve(curve, a, b, r.numbers); break;
+        default: x += seal_undo(records[i].data(), records[i].size(), out, sizeof out); break;
+        }
+    }
+    return x;
+}
+
+static uint64_t element_round(int operation, int maker, uint64_t x) {
+    GF2E at = element(x | 2), by = element(classes[0].numbers[1]);
+    for (int i = 0; i < CLASSES * CHAIN; i++) {
+        if (maker == NTL_LIBRARY) at = element_step_by_ntl(operation, at, by);
+        else x = element_step(operation, maker, x, classes[0].numbers[1]);
+    }
+    return maker == NTL_LIBRARY ? number(at) : x;
+}
+
+// The processor's time, so that what else runs on the machine counts little.
+static double now() {
+    timespec t;
+    clock_gettime(CLOCK_PROCESS_CPUTIME_ID, &t);
+    return t.tv_sec + t.tv_nsec * 1e-9;
+}
+
+// How long one operation took in a round.
+static double timed(int operation, int maker) {
+    static uint8_t report[ROOM];
+    static volatile uint64_t kept = 3;
+    double began = now();
+    if (operation == WALK) {
+        kept = kept + archive_report(archive.data(), archive.size(), report, ROOM);
+        return (now() - began) / KEPT;
+    }
+    kept = kept ^ (is_of_elements(operation) ? element_round(operation, maker, 3) : class_round(operation, maker, 3));
+    return (now() - began) / CLASSES / (is_of_elements(operation) ? CHAIN : 1);
+}
+
+static double children() {
+    rusage usage;
+    getrusage(RUSAGE_CHILDREN, &usage);
+    return usage.ru_utime.tv_sec + usage.ru_stime.tv_sec + (usage.ru_utime.tv_usec + usage.ru_stime.tv_usec) * 1e-6;
+}
+
+// How long the program takes with the archive on standard input, its start and its output included.
+static double program_time(const char *program, const char *name) {
+    std::string line = std::string("'") + program + "' <'" + name + "' >/dev/null";
+    double least = 0;
+    for (int round = 0; round < 20; round++) {
+        double began = children();
+        if (system(line.c_str()) != 0) exit(1);
+        double took = children() - began;
+        if (round == 0 || took < least) least = took;
+    }
+    return least;
+}
+
+static double least[OPERATIONS][MAKERS];
+
+static void print_line(const char *name, int operation) {
+    printf("  %-30s %10.2f %8.2f", name, least[operation][PROVED] / least[PRODUCT][PROVED], least[operation][PROVED] / least[HALF][PROVED]);
+    for (int maker : {PLAIN, NTL_LIBRARY}) {
+        if (is_made(operation, maker)) printf(" %8.2f", least[operation][maker] / least[operation][PROVED]);
+        else printf(" %8s", "");
+    }
+    printf("\n");
+}
+
+int main(int words, char **word) {
+    if (words != 3) {
+        fprintf(stderr, "usage: calls ARCHIVE WALKREPORT\n");
+        return 2;
+    }
+    GF2X modulus;
+    for (int i : {61, 5, 2, 1, 0}) SetCoeff(modulus, i);
+    GF2E::init(modulus);
+    read_archive(word[1]);
+    draw();
+    compare();
+    for (int round = 0; round < ROUNDS; round++) {
+        for (int operation = 0; operation < OPERATIONS; operation++) {
+            for (int maker = 0; maker < MAKERS; maker++) {
+                if (!is_made(operation, maker) || (operation == WALK && round % 30 != 0)) continue;
+                double took = timed(operation, maker);
+                if (round == 0 || took < least[operation][maker]) least[operation][maker] = took;
+            }
+        }
+    }
+    printf("GF(2^61), %d classes of degree 3; the checks that a call makes are timed with it, NTL makes none\n", CLASSES);
+    printf("  %-30s %10s %8s %8s %8s\n", "", "time in", "time in", "C by", "NTL by");
+    printf("  %-30s %10s %8s %8s %8s\n", "", "products", "halves", "ours", "ours");
+    const char *names[] = {"product", "square", "square root", "inverse", "membership", "double", "half", "sum", "commit", "undo",
+        "undo by bytes", "walk and report, by operation"};
+    for (int operation = 0; operation <= WALK; operation++) print_line(names[operation], operation);
+    printf("  the program walkreport on %d operations takes %.0f halves, %.2f for each operation\n", KEPT,
+        program_time(word[2], word[1]) / least[HALF][PROVED], program_time(word[2], word[1]) / least[HALF][PROVED] / KEPT);
+    printf("  NTL's double and sum take %.2f of an undo, a plain loop of 61 turns in C %.2f of a product\n",
+        least[COMMIT][NTL_LIBRARY] / least[UNDO][PROVED], least[LOOP_PRODUCT][PLAIN] / least[PRODUCT][PROVED]);
+    return 0;
+}

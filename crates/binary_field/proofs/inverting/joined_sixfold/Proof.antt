@@ -1,0 +1,42 @@
+-- `joined_sixfold` meets its contract: after i turns the loop holds x, squared 6 i times.
+use mathlib.Core.Path.{_≡_}
+use Prim.Native.Nat.{_≤_, _<_, _-_, _*_, _^_}
+use native.Mathlib.Omega.{arith}
+use Rattle.binary_field.specs.Element.{squarings}
+use Rattle.binary_field.proofs.ChainSteps.{none-squared, six-more, all-squared, multiplied}
+use Rattle.binary_field.proofs.inverting.joined_sixfold.Statement.{statement}
+use Rattle.binary_field.proofs.inverting.joined_sixfold.Tie as tie
+
+abbrev Inv-loop : tie.InvT-loop
+Inv-loop x n y sixfold r₀ i₀ r i = (i ≤ n) × ((r ≡ squarings 61 (i * 6) x) × (r < 2 ^ 61))
+
+abbrev μ-loop : tie.MeasureT-loop
+μ-loop x n y sixfold r₀ i₀ r i = n - i
+
+loop-holds : tie.Need-loop-holds Inv-loop μ-loop
+loop-holds c = (omega arith, none-squared 61 _ (c .pre .0))
+
+multisquare-requires : tie.Need-multisquare-requires Inv-loop μ-loop
+multisquare-requires c κs = c .before .before .pre .2
+
+add-i : tie.Need-add-i Inv-loop μ-loop
+add-i c = omega arith
+
+loop-less : tie.Need-loop-less Inv-loop μ-loop
+loop-less c = omega arith
+
+loop-again : tie.Need-loop-again Inv-loop μ-loop
+loop-again c = (omega arith, six-more _ _ (c .before .before .loop .inv .1) (c .multisquare .ensures))
+
+product-of-requires : tie.Need-product-of-requires Inv-loop μ-loop
+product-of-requires c κs = (tt, c .before .loop .inv .1 .1, c .before .before .pre .1)
+
+returns : tie.Need-returns Inv-loop μ-loop
+returns c =
+    let e = all-squared 61 _ {k = c .before .before .before .args .n * 6} (c .before .before .loop .inv .1) (omega arith) (omega arith) in
+    multiplied 61 _ _ tt (e .0) (c .product-of .ensures)
+
+pub joined-sixfold-spec : {M : Type 1} → statement M
+joined-sixfold-spec =
+    tie.close
+    (tie.spec Inv-loop μ-loop loop-holds multisquare-requires add-i loop-less loop-again product-of-requires returns)

@@ -1,0 +1,18 @@
+-- `opened` meets its contract.
+use mathlib.Core.Path.{_∙_, ap}
+use Rattle.lent_history.specs.RowWalk.{replied}
+use borrow.Author.Needs.{needs}
+use Rattle.lent_history.proofs.walk.opened.Statement.{statement}
+use Rattle.lent_history.proofs.walk.opened.Tie as tie
+
+opening-refusal-requires : tie.Need-opening-refusal-requires
+opening-refusal-requires c κs = search needs
+
+standing-requires : tie.Need-standing-requires
+standing-requires c κs = search needs
+
+returns : tie.Need-returns
+returns c = c .standing .ensures ∙ ap (λ n. replied n (c .before .before .args .last)) (c .before .opening-refusal .ensures)
+
+pub opened-spec : {M : Type 1} → statement M
+opened-spec = tie.close (tie.spec opening-refusal-requires standing-requires returns)

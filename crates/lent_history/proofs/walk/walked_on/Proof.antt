@@ -1,0 +1,28 @@
+-- `walked_on` meets its contract.
+use mathlib.Core.Path.{_∙_, ap}
+use Rattle.jacobian.specs.Answer.{verdict-of}
+use Rattle.lent_history.proofs.RowSteps.{refused-stays, stepped}
+use borrow.Author.Needs.{needs}
+use Rattle.lent_history.proofs.walk.walked_on.Statement.{statement}
+use Rattle.lent_history.proofs.walk.walked_on.Tie as tie
+
+returns : tie.Need-returns
+returns c =
+    let s = c .before .before in
+    refused-stays (s .args .curve) (s .args .w .refusal) (s .args .w .seal) (s .args .a) (c .if1 .taken)
+
+subtract-and-halve-requires : tie.Need-subtract-and-halve-requires
+subtract-and-halve-requires c κs = search needs
+
+outcome-number-requires : tie.Need-outcome-number-requires
+outcome-number-requires c κs = search needs
+
+returns-2 : tie.Need-returns-2
+returns-2 c =
+    let s = c .before .before .before .before .before .before in
+    let x = c .before .before .subtract-and-halve .result in
+    ap (λ n. record { outcome = verdict-of n; class = x .class }) (c .before .outcome-number .ensures)
+    ∙ stepped (s .args .curve) (s .args .w .refusal) (s .args .w .seal) (s .args .a) x (c .before .before .before .before .if1 .left) (c .before .before .subtract-and-halve .ensures)
+
+pub walked-on-spec : {M : Type 1} → statement M
+walked-on-spec = tie.close (tie.spec returns subtract-and-halve-requires outcome-number-requires returns-2)

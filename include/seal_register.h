@@ -1,0 +1,58 @@
+/* One register kept for a session and changed in place: the two calls of the proved library lent_history.
+ *
+ * To build and link (x86-64 Linux, nothing else is linked):
+ *
+ *     rt staticlib lent_history
+ *     cc -Iinclude model.c target/staticlib/liblent_history.a
+ *
+ * A call answers 0 where it is accepted, and the register is then the one that follows. Else it answers the refusal's
+ * number, and has changed no byte of the register. The numbers are those of seal.h; 101 to 103, 105, 108 and 112 are of
+ * byte areas alone. They are checked in this order: 106 and 107 of the curve, 109 of the count, then 104, 110 and 111 of
+ * the seal and of the class, then 113 or 114.
+ *
+ * The register and the class may hold any numbers: nothing has to be checked before a call. The one duty of the caller
+ * is to lend a register that is his and that nobody else uses during the call. The calls keep nothing from one to the
+ * next.
+ */
+#ifndef SEAL_REGISTER_H
+#define SEAL_REGISTER_H
+
+#include <stdint.h>
+
+#ifdef __cplusplus
+extern "C" {
+#endif
+
+/* The curve y^2 + y = x^7 + f3 x^3 + f1 x + f0 over GF(2^degree), where the degree is 5 or 61. */
+struct seal_curve {
+    uint8_t degree;
+    uint64_t f3, f1, f0;
+};
+
+/* The class [u, v]: u is monic of this degree, 0 to 3. The coefficient of x^i is in place i, the leading 1 of u is left
+ * out, and the places from the degree on are 0. */
+struct seal_class {
+    uint64_t degree;
+    uint64_t u[3], v[3];
+};
+
+/* The count of operations is at most 1,024. */
+struct seal_register {
+    struct seal_curve curve;
+    uint64_t count;
+    struct seal_class seal;
+};
+
+/* An operation: the seal becomes twice the seal plus the class, and the count grows by 1.
+ * Refusals: 104, 106, 107, 109 to 111, 114 at count 1,024. */
+uint32_t seal_register_commit(struct seal_register *lent, struct seal_class operation);
+
+/* An operation undone: the seal becomes the half of the seal less the class, and the count falls by 1.
+ * Refusals: 104, 106, 107, 109 to 111, 113 at count 0. */
+uint32_t seal_register_undo(struct seal_register *lent, struct seal_class operation);
+
+#ifdef __cplusplus
+}
+#endif
+
+#endif

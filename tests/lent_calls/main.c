@@ -1,0 +1,105 @@
+/* Tests the two calls of include/seal_register.h.
+ *
+ *     lent_calls            the edges, a line for each test
+ *     lent_calls trial      answers calls that it reads from standard input, one line for each, on one register
+ *
+ * The records and the lines of a trial are those of the program history_trial (crates/history_trial/src/main.rt), where
+ * the register goes by value; so what it writes is held to what the second implementation owes (reference/,
+ * `history_vectors`). The status is 0 where no fault was noted.
+ */
+#include "edges.h"
+#include "lent.h"
+
+#include <inttypes.h>
+#include <stdio.h>
+#include <string.h>
+
+#define RECORD 146
+
+static uint64_t number(const unsigned char *at) {
+    uint64_t n = 0;
+    for (int i = 0; i < 8; i++)
+        n = n << 8 | at[i];
+    return n;
+}
+
+static struct seal_class class_at(const unsigned char *at) {
+    struct seal_class a;
+    a.degree = number(at);
+    for (int i = 0; i < 3; i++) {
+        a.u[i] = number(at + 8 + 8 * i);
+        a.v[i] = number(at + 32 + 8 * i);
+    }
+    return a;
+}
+
+static struct seal_register started(const unsigned char *record) {
+    struct seal_register r;
+    r.curve.degree = record[1];
+    r.curve.f3 = number(record + 2);
+    r.curve.f1 = number(record + 10);
+    r.curve.f0 = number(record + 18);
+    r.count = number(record + 26);
+    r.seal = class_at(record + 34);
+    return r;
+}
+
+/* The coefficients below x^n, from the highest power down. */
+static void print_row(uint64_t n, const uint64_t row[3]) {
+    for (int i = n > 3 ? 2 : (int)n - 1; i >= 0; i--)
+        printf("%" PRIx64 "%s", row[i], i > 0 ? "," : "");
+}
+
+static void print_class(struct seal_class a, uint64_t n) {
+    printf("%" PRIu64 ":", a.degree);
+    print_row(n, a.u);
+    putchar(':');
+    print_row(n, a.v);
+    putchar('\n');
+}
+
+static void answer(enum call call, struct seal_register *r, struct seal_class a, int at_end) {
+    uint32_t refused = lend(call, r, a, at_end);
+    if (refused != 0) {
+        printf("refused %" PRIu32 "\n", refused);
+        return;
+    }
+    printf("%" PRIu64 " ", r->count);
+    print_class(r->seal, r->seal.degree);
+}
+
+static void show(const struct seal_register *r) {
+    uint64_t f[3] = {r->curve.f0, r->curve.f1, r->curve.f3};
+    printf("%u ", r->curve.degree);
+    print_row(3, f);
+    printf(" %" PRIu64 " ", r->count);
+    print_class(r->seal, 3);
+}
+
+static void trial(void) {
+    unsigned char record[RECORD];
+    struct seal_register r;
+    size_t read;
+    memset(&r, 0, sizeof r);
+    for (unsigned long i = 0; (read = fread(record, 1, RECORD, stdin)) == RECORD; i++) {
+        switch (record[0]) {
+        case 0: r = started(record); break;
+        case 1: answer(COMMIT, &r, class_at(record + 90), i % 2); break;
+        case 2: answer(UNDO, &r, class_at(record + 90), i % 2); break;
+        case 3: show(&r); break;
+        default: puts("no such call");
+        }
+    }
+    if (read > 0)
+        puts("cut short");
+}
+
+int main(int words, char **word) {
+    make_area();
+    if (words == 1)
+        return test_edges() ? 0 : 1;
+    if (words != 2 || strcmp(word[1], "trial") != 0)
+        return 2;
+    trial();
+    return faults() == 0 ? 0 : 1;
+}

@@ -1,0 +1,133 @@
+/* Tests the call of include/seal_row.h.
+ *
+ *     lent_walk                             the edges, a line for each test
+ *     lent_walk trial LINES MET <RECORDS    walks back over lists of commits
+ *
+ * RECORDS are the calls that the program history_trial is run on, and LINES what the second implementation answers to
+ * them (reference/, `history_vectors`). After each accepted call, walks over the newest of the commits that stand are held
+ * to the seals that LINES has just before these. MET is the number of walks that this has to make. The status is 0 where
+ * no fault was noted.
+ */
+#include "edges.h"
+#include "walk.h"
+
+#include <inttypes.h>
+#include <stdio.h>
+#include <stdlib.h>
+#include <string.h>
+
+#define RECORD 146
+#define LIMIT 1024
+
+static uint64_t number(const unsigned char *at) {
+    uint64_t n = 0;
+    for (int i = 0; i < 8; i++)
+        n = n << 8 | at[i];
+    return n;
+}
+
+static struct seal_class class_at(const unsigned char *at) {
+    struct seal_class a;
+    a.degree = number(at);
+    for (int i = 0; i < 3; i++) {
+        a.u[i] = number(at + 8 + 8 * i);
+        a.v[i] = number(at + 32 + 8 * i);
+    }
+    return a;
+}
+
+/* A row of a line: as many numbers as the degree says, from the highest power down, with a comma between. */
+static char *read_row(char *at, uint64_t degree, uint64_t row[3]) {
+    for (uint64_t i = degree; i > 0 && i <= 3; i--) {
+        row[i - 1] = strtoull(at, &at, 16);
+        at += *at == ',';
+    }
+    return at;
+}
+
+/* The seal of a line: after the count the degree, u and v with a colon between. */
+static struct seal_class seal_in(char *at) {
+    struct seal_class a = {0, {0, 0, 0}, {0, 0, 0}};
+    at = strchr(at, ' ');
+    if (at == NULL)
+        return a;
+    a.degree = strtoull(at, &at, 10);
+    at = read_row(at + 1, a.degree, a.u);
+    read_row(at + 1, a.degree, a.v);
+    return a;
+}
+
+/* The commits that stand, the oldest first: each with its class and the seal just before it. */
+static struct seal_class operations[LIMIT], seals[LIMIT];
+static size_t standing;
+
+/* Walks over the k newest. */
+static void walk_back(struct seal_curve curve, struct seal_class last, size_t k) {
+    static struct seal_class row[LIMIT];
+    for (size_t i = 0; i < k; i++)
+        row[i] = operations[standing - 1 - i];
+    answers(curve, last, row, k, k == 0 ? last : seals[standing - k]);
+}
+
+/* Every walk over few classes, and over all where they are as many as a power of 2. */
+static void walk_all(struct seal_curve curve, struct seal_class last) {
+    for (size_t k = 0; k <= standing && k <= 3; k++)
+        walk_back(curve, last, k);
+    if (standing > 3 && (standing & (standing - 1)) == 0)
+        walk_back(curve, last, standing);
+}
+
+/* What an accepted call leaves standing: an undo takes the newest commit back where it has its class. */
+static void stands(int commit, struct seal_class operation, struct seal_class before) {
+    if (commit && standing < LIMIT) {
+        operations[standing] = operation;
+        seals[standing] = before;
+        standing++;
+    } else if (!commit && standing > 0 && same_class(operations[standing - 1], operation)) {
+        standing--;
+    } else {
+        standing = 0;
+    }
+}
+
+static int trial(FILE *lines) {
+    unsigned char record[RECORD];
+    char line[400];
+    struct seal_curve curve = {0, 0, 0, 0};
+    struct seal_class seal = {0, {0, 0, 0}, {0, 0, 0}};
+    while (fread(record, 1, RECORD, stdin) == RECORD) {
+        if (record[0] == 0) {
+            curve.degree = record[1];
+            curve.f3 = number(record + 2);
+            curve.f1 = number(record + 10);
+            curve.f0 = number(record + 18);
+            seal = class_at(record + 34);
+            standing = 0;
+            continue;
+        }
+        if (fgets(line, sizeof line, lines) == NULL)
+            return 0;
+        if ((record[0] == 1 || record[0] == 2) && strncmp(line, "refused", 7) != 0) {
+            stands(record[0] == 1, class_at(record + 90), seal);
+            seal = seal_in(line);
+            walk_all(curve, seal);
+        }
+    }
+    return fgets(line, sizeof line, lines) == NULL;
+}
+
+int main(int words, char **word) {
+    make_area();
+    if (words == 1)
+        return test_edges() ? 0 : 1;
+    FILE *lines = words == 4 && strcmp(word[1], "trial") == 0 ? fopen(word[2], "r") : NULL;
+    if (lines == NULL)
+        return 2;
+    int whole = trial(lines);
+    fclose(lines);
+    if (!whole || walks() != strtoul(word[3], NULL, 10)) {
+        fprintf(stderr, "%lu walks and not %s%s\n", walks(), word[3], whole ? "" : ", and other lines than calls");
+        return 1;
+    }
+    return faults() == 0 ? 0 : 1;
+}
