@@ -6,5 +6,5 @@ pub mod Filled
 pub mod Pairs
 pub mod Passing
 pub mod Answers
-pub mod Opposite
+pub mod Due
 pub mod Halved

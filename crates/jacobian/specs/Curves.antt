@@ -4,7 +4,8 @@ use Prim.Native.Nat.{ℕ, _^_}
 use mathlib.Core.{Bool._||_, List.List, List.[], List._∷_}
 use lib.{Dec.eqb, ListN.getD}
 use Rattle.class_group.specs.Coefficients.{curve-of}
-use Rattle.jacobian.specs.{Field.F, Field.𝔸, Field.el, Checks.unless, Checks._then_, Checks.below, declared.Curve.Curve}
+use Rattle.class_rows.specs.{Field.F, Field.𝔸, Field.el}
+use Rattle.jacobian.specs.{Checks.unless, Checks._then_, Checks.below, declared.Curve.Curve}
 use Rattle.class_group.specs.Curve as Theory
 
 -- 106 for a degree other than 5 and 61

@@ -1,17 +1,17 @@
 // A class by value: its checks, and its pair as rows.
 ghost use Prim.Native.Nat.{ℕ, _≤_};
 ghost use mathlib.Core.Path.{_≡_};
-ghost use lib.{Dec.eqb, ListN.drop};
-ghost use Rattle.class_group.specs.{Curve.Curve as TheoryCurve, Mumford.value, Mumford.opposite};
+ghost use lib.ListN.{drop};
 ghost use Rattle.binary_field.specs.Element.{Accepted};
-ghost use Rattle.jacobian.specs.{Field.𝔸, Field.poly, Row.InRange, Row.StandsPair, Row.filled, Row.row-len, Row.rows-pair, Core.OnCurve};
-ghost use Rattle.jacobian.specs.{Checks.below, Checks.blank, Curves.curve-refusal, Curves.f-row};
-ghost use Rattle.jacobian.specs.{Classes.class-of, Classes.shape-refusal, Classes.range-refusal, Classes.class-refusal, ClassRows.Led, ClassRows.Widened, ClassRows.RowsOf};
+ghost use Rattle.class_rows.specs.{Row.InRange, Row.rows-pair};
+ghost use Rattle.jacobian.specs.{Checks.below, Checks.blank, Curves.curve-refusal, Due.form-refusal};
+ghost use Rattle.jacobian.specs.{Classes.class-of, Classes.shape-refusal, Classes.range-refusal, Classes.class-refusal, ClassRows.Led, ClassRows.Widened, ClassRows.RowsOf, ClassRows.first};
 use crate::Class;
 use crate::Curve;
 use crate::curves;
-use crate::row;
-use crate::row::RowPair;
+use class_rows::is_divisor;
+use class_rows::row;
+use class_rows::row::RowPair;
 
 // Is every number from place n on 0?
 fn blank_from(n: u64, r: [u64; 3]) -> bool
@@ -56,13 +56,15 @@ fn leading_one(n: u64, r: [u64; 3]) -> [u64; 12]
     if n == 0 {
         return [1, 0, 0, 0, 0, 0, 0, 0, 0, 0, 0, 0];
     }
+    let low = r[0];
     if n == 1 {
-        return [r[0], 1, 0, 0, 0, 0, 0, 0, 0, 0, 0, 0];
+        return [low, 1, 0, 0, 0, 0, 0, 0, 0, 0, 0, 0];
     }
+    let middle = r[1];
     if n == 2 {
-        return [r[0], r[1], 1, 0, 0, 0, 0, 0, 0, 0, 0, 0];
+        return [low, middle, 1, 0, 0, 0, 0, 0, 0, 0, 0, 0];
     }
-    [r[0], r[1], r[2], 1, 0, 0, 0, 0, 0, 0, 0, 0]
+    [low, middle, r[2], 1, 0, 0, 0, 0, 0, 0, 0, 0]
 }
 
 // The three numbers in a longer row.
@@ -84,6 +86,22 @@ pub(crate) fn to_rows(a: Class) -> RowPair
     RowPair { u: u, v: v }
 }
 
+// The numbers below place n of a row, in a row of three.
+fn narrowed(n: u64, r: [u64; 12]) -> [u64; 3]
+    requires { ⌜ 1 ≤ n ⌝ }
+    ensures { λ t. ⌜ t ≡ first n r ⌝ }
+{
+    let low = r[0];
+    if n == 1 {
+        return [low, 0, 0];
+    }
+    let middle = r[1];
+    if n == 2 {
+        return [low, middle, 0];
+    }
+    [low, middle, r[2]]
+}
+
 // The class of a pair.
 pub(crate) fn from_rows(a: RowPair) -> Class
     ensures { λ r. ⌜ ((d : ℕ) → InRange d (a .u) → InRange d (a .v) → r ≡ class-of d (rows-pair d a)) ⌝ }
@@ -94,40 +112,14 @@ pub(crate) fn from_rows(a: RowPair) -> Class
     if n < 2 {
         return crate::neutral();
     }
-    if n == 2 {
-        return Class {
-            degree: 1,
-            u: [u[0], 0, 0],
-            v: [v[0], 0, 0],
-        };
-    }
-    if n == 3 {
-        return Class {
-            degree: 2,
-            u: [u[0], u[1], 0],
-            v: [v[0], v[1], 0],
-        };
-    }
+    let degree = (n - 1) as u64;
+    let below = narrowed(degree, u);
+    let low = narrowed(degree, v);
     Class {
-        degree: (n - 1) as u64,
-        u: [u[0], u[1], u[2]],
-        v: [v[0], v[1], v[2]],
+        degree: degree,
+        u: below,
+        v: low,
     }
-}
-
-// Does u divide v² + v + f?
-fn divides(d: u8, f: [u64; 12], a: RowPair) -> bool
-    requires { ⌜ Accepted d × InRange d f × InRange d (a .u) × InRange d (a .v) × (row-len d (a .v) ≤ 6) × ¬ (poly d (a .u) ≡ 𝔸 d .ring .nought) ⌝ }
-    ensures { λ t. ⌜ ((C : TheoryCurve (𝔸 d)) → OnCurve d f C → t ≡ eqb (𝔸 d .len (𝔸 d .rem (value C (rows-pair d a .v)) (rows-pair d a .u))) 0) ⌝ }
-{
-    let u = a.u;
-    let v = a.v;
-    let square = row::square_row(d, v);
-    let left = row::add_rows(d, square, v);
-    let all = row::add_rows(d, left, f);
-    let division = row::divide(d, all, u);
-    let rest = division.remainder;
-    row::length(rest) == 0
 }
 
 // 104 for a degree above 3 or a number other than 0 at or past the degree, else 0.
@@ -165,37 +157,27 @@ fn range_due(d: u8, a: Class) -> u32
     0
 }
 
-// The refusal that is due to a class, and 0 where none is.
-pub(crate) fn class_due(c: Curve, f: [u64; 12], a: Class) -> u32
-    requires { ⌜ (curve-refusal c ≡ 0) × (f ≡ filled (f-row c)) ⌝ }
-    ensures { λ r. ⌜ r ≡ class-refusal c a ⌝ }
+// What is due to a class before a division: 104, then 110, else 0.
+pub(crate) fn form_due(d: u8, a: Class) -> u32
+    requires { ⌜ Accepted d ⌝ }
+    ensures { λ r. ⌜ r ≡ form-refusal d a ⌝ }
 {
     let shape = shape_due(a);
     if shape != 0 {
         return shape;
     }
-    let range = range_due(c.degree, a);
-    if range != 0 {
-        return range;
-    }
+    range_due(d, a)
+}
+
+// The refusal that is due to a class in form: 111 where u does not divide v² + v + f, else 0.
+pub(crate) fn divisor_due(c: Curve, a: Class) -> u32
+    requires { ⌜ (curve-refusal c ≡ 0) × (form-refusal (c .degree) a ≡ 0) ⌝ }
+    ensures { λ r. ⌜ r ≡ class-refusal c a ⌝ }
+{
+    let f = curves::f_row(c);
     let rows = to_rows(a);
-    if divides(c.degree, f, rows) {
+    if is_divisor(c.degree, f, rows) {
         return 0;
     }
     111
-}
-
-// The opposite of a pair.
-pub(crate) fn opposite_rows(d: u8, a: RowPair) -> RowPair
-    requires { ⌜ Accepted d × InRange d (a .u) × InRange d (a .v) ⌝ }
-    ensures { λ r. ⌜ ((C : TheoryCurve (𝔸 d)) → StandsPair d r (opposite C (rows-pair d a))) ⌝ }
-{
-    let u = a.u;
-    let v = a.v;
-    if row::length(u) < 2 {
-        return a;
-    }
-    let one = [1, 0, 0, 0, 0, 0, 0, 0, 0, 0, 0, 0];
-    let w = row::add_rows(d, v, one);
-    RowPair { u: u, v: w }
 }

@@ -5,7 +5,7 @@ ghost use mathlib.Core.List.{[], _∷_};
 ghost use Rattle.binary_field.specs.Element.{Accepted};
 ghost use Rattle.jacobian.specs.Checks.{unless, below};
 ghost use Rattle.jacobian.specs.Curves.{curve-refusal, f-row};
-ghost use Rattle.jacobian.specs.Row.{filled};
+ghost use Rattle.class_rows.specs.Row.{filled};
 use crate::Curve;
 
 // 2^d.

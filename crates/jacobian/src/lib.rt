@@ -3,26 +3,26 @@
 // On a refusal the class of the answer is the neutral one.
 ghost use Prim.Native.Nat.{ℕ};
 ghost use mathlib.Core.Path.{_≡_};
+ghost use mathlib.Core.Bool.{true};
 ghost use Rattle.class_group.specs.Mumford.{Pair};
 ghost use Rattle.class_group.specs.Reduction.{Counted};
-ghost use Rattle.jacobian.specs.Field.{Poly};
-ghost use Rattle.jacobian.specs.Row.{StandsPair};
-ghost use Rattle.jacobian.specs.Core.{StandsCounted};
-ghost use Rattle.jacobian.specs.Answer.{neutral-class, refusal, refusal-of-two, verdict, reply, answered, counted-reply, counted-answered, membership-answer, opposite-answer, double-answer, HalfAnswers, sum-answer, counted-double-answer, counted-sum-answer, double-and-add-answer, subtract-and-halve-answer, curve-answer};
+ghost use Rattle.class_rows.specs.Field.{Poly};
+ghost use Rattle.class_rows.specs.Row.{StandsPair};
+ghost use Rattle.class_rows.specs.Core.{StandsCounted};
+ghost use Rattle.jacobian.specs.{Checks.unless, Checks._then_, Curves.curve-refusal, Due.form-refusal, Due.FormDueOfTwo};
+ghost use Rattle.jacobian.specs.Answer.{neutral-class, refusal, verdict, reply, answered, counted-reply, counted-answered, membership-answer, opposite-answer, double-answer, HalfAnswers, sum-answer, counted-double-answer, counted-sum-answer, double-and-add-answer, subtract-and-halve-answer, curve-answer};
 
 mod classes;
-mod composition;
 mod curves;
-mod element;
-mod euclid;
-mod halving;
-mod quotient;
-mod reduction;
-mod row;
-mod sums;
 
-use crate::reduction::CountedRows;
-use crate::row::RowPair;
+use class_rows::commit_rows;
+use class_rows::double_rows;
+use class_rows::half_rows;
+use class_rows::opposite_rows;
+use class_rows::reduction::CountedRows;
+use class_rows::row::RowPair;
+use class_rows::sum_rows;
+use class_rows::undo_rows;
 
 // The layout of a curve and of a class is C's: a register in C's layout holds them.
 #[repr(C)]
@@ -68,28 +68,46 @@ pub fn neutral() -> Class
     }
 }
 
-// The refusal that is due to a call on one class, and 0 where none is.
-fn due(c: Curve, a: Class) -> u32
-    ensures { λ r. ⌜ r ≡ refusal c a ⌝ }
+// What is due to a call on one class before a division, and 0 where nothing is.
+fn curve_and_form_due(c: Curve, a: Class) -> u32
+    ensures { λ r. ⌜ r ≡ (curve-refusal c then form-refusal (c .degree) a) ⌝ }
 {
     let n = curves::curve_due(c);
     if n != 0 {
         return n;
     }
-    let f = curves::f_row(c);
-    classes::class_due(c, f, a)
+    classes::form_due(c.degree, a)
 }
 
-// The refusal that is due to a call on two classes, and 0 where none is.
-fn due_of_two(c: Curve, a: Class, b: Class) -> u32
-    ensures { λ r. ⌜ r ≡ refusal-of-two c a b ⌝ }
+// The refusal that is due to a call on one class, and 0 where none is.
+fn due(c: Curve, a: Class) -> u32
+    ensures { λ r. ⌜ r ≡ refusal c a ⌝ }
 {
-    let n = due(c, a);
+    let n = curve_and_form_due(c, a);
     if n != 0 {
         return n;
     }
-    let f = curves::f_row(c);
-    classes::class_due(c, f, b)
+    classes::divisor_due(c, a)
+}
+
+// The refusal that is due to a call on two classes, and 0 where both are in form, divisors or not. The first class's 111 comes before the
+// second's 104 and 110.
+fn form_due_of_two(c: Curve, a: Class, b: Class) -> u32
+    ensures { λ r. ⌜ FormDueOfTwo c a b r ⌝ }
+{
+    let n = curve_and_form_due(c, a);
+    if n != 0 {
+        return n;
+    }
+    let m = classes::form_due(c.degree, b);
+    if m == 0 {
+        return 0;
+    }
+    let k = classes::divisor_due(c, a);
+    if k != 0 {
+        return k;
+    }
+    m
 }
 
 // A refusal, with the neutral class.
@@ -113,6 +131,16 @@ fn accepted(rows: RowPair) -> ClassAnswer
         outcome: Outcome::Accepted,
         class: class,
     }
+}
+
+// The class of a pair that was asked for on divisors, and 111 where they are none.
+fn settled(divisor: bool, rows: RowPair) -> ClassAnswer
+    ensures { λ r. ⌜ ((d : ℕ) (D : Pair (Poly d)) → (divisor ≡ true → StandsPair d rows D) → reply r ≡ answered d (unless divisor 111) D) ⌝ }
+{
+    if !divisor {
+        return refused(111);
+    }
+    accepted(rows)
 }
 
 // A refusal, with the neutral class and no step.
@@ -141,6 +169,16 @@ fn counted_accepted(rows: CountedRows) -> CountedAnswer
     }
 }
 
+// The same with the steps.
+fn counted_settled(divisor: bool, rows: CountedRows) -> CountedAnswer
+    ensures { λ r. ⌜ ((d : ℕ) (D : Counted (Poly d)) → (divisor ≡ true → StandsCounted d rows D) → counted-reply r ≡ counted-answered d (unless divisor 111) D) ⌝ }
+{
+    if !divisor {
+        return counted_refused(111);
+    }
+    counted_accepted(rows)
+}
+
 // Is the pair a class of the curve?
 pub fn membership(curve: Curve, a: Class) -> Outcome
     ensures { λ r. ⌜ verdict r ≡ membership-answer curve a ⌝ }
@@ -156,56 +194,61 @@ pub fn membership(curve: Curve, a: Class) -> Outcome
 pub fn opposite(curve: Curve, a: Class) -> ClassAnswer
     ensures { λ r. ⌜ reply r ≡ opposite-answer curve a ⌝ }
 {
-    let n = due(curve, a);
+    let n = curve_and_form_due(curve, a);
     if n != 0 {
         return refused(n);
     }
+    let f = curves::f_row(curve);
     let rows = classes::to_rows(a);
-    let opposed = classes::opposite_rows(curve.degree, rows);
-    accepted(opposed)
+    let opposed = opposite_rows(curve.degree, f, rows);
+    let pair = opposed.pair;
+    settled(opposed.divisor, pair)
 }
 
 // The half of a class: the class whose double is the one given.
 pub fn half(curve: Curve, a: Class) -> ClassAnswer
     ensures { λ r. ⌜ HalfAnswers curve a (reply r) ⌝ }
 {
-    let n = due(curve, a);
+    let n = curve_and_form_due(curve, a);
     if n != 0 {
         return refused(n);
     }
     let f = curves::f_row(curve);
     let rows = classes::to_rows(a);
-    let halved = halving::half_rows(curve.degree, f, rows);
-    accepted(halved)
+    let halved = half_rows(curve.degree, f, rows);
+    let pair = halved.pair;
+    settled(halved.divisor, pair)
 }
 
 // The double of a class, and the number of reduction steps that led to it.
 pub fn counted_double(curve: Curve, a: Class) -> CountedAnswer
     ensures { λ r. ⌜ counted-reply r ≡ counted-double-answer curve a ⌝ }
 {
-    let n = due(curve, a);
+    let n = curve_and_form_due(curve, a);
     if n != 0 {
         return counted_refused(n);
     }
     let f = curves::f_row(curve);
     let rows = classes::to_rows(a);
-    let doubled = reduction::double_rows(curve.degree, f, rows);
-    counted_accepted(doubled)
+    let doubled = double_rows(curve.degree, f, rows);
+    let counted = doubled.rows;
+    counted_settled(doubled.divisor, counted)
 }
 
 // The sum of two classes, and the number of reduction steps that led to it.
 pub fn counted_sum(curve: Curve, a: Class, b: Class) -> CountedAnswer
     ensures { λ r. ⌜ counted-reply r ≡ counted-sum-answer curve a b ⌝ }
 {
-    let n = due_of_two(curve, a, b);
+    let n = form_due_of_two(curve, a, b);
     if n != 0 {
         return counted_refused(n);
     }
     let f = curves::f_row(curve);
     let left = classes::to_rows(a);
     let right = classes::to_rows(b);
-    let summed = sums::sum_rows(curve.degree, f, left, right);
-    counted_accepted(summed)
+    let summed = sum_rows(curve.degree, f, left, right);
+    let counted = summed.rows;
+    counted_settled(summed.divisor, counted)
 }
 
 // The double of a class.
@@ -238,30 +281,32 @@ pub fn sum(curve: Curve, a: Class, b: Class) -> ClassAnswer
 pub fn double_and_add(curve: Curve, a: Class, b: Class) -> ClassAnswer
     ensures { λ r. ⌜ reply r ≡ double-and-add-answer curve a b ⌝ }
 {
-    let n = due_of_two(curve, a, b);
+    let n = form_due_of_two(curve, a, b);
     if n != 0 {
         return refused(n);
     }
     let f = curves::f_row(curve);
     let seal = classes::to_rows(a);
     let added = classes::to_rows(b);
-    let moved = sums::commit_rows(curve.degree, f, seal, added);
-    accepted(moved)
+    let moved = commit_rows(curve.degree, f, seal, added);
+    let pair = moved.pair;
+    settled(moved.divisor, pair)
 }
 
 // The half of a class less another, as an undo takes a seal to the one before.
 pub fn subtract_and_halve(curve: Curve, a: Class, b: Class) -> ClassAnswer
     ensures { λ r. ⌜ reply r ≡ subtract-and-halve-answer curve a b ⌝ }
 {
-    let n = due_of_two(curve, a, b);
+    let n = form_due_of_two(curve, a, b);
     if n != 0 {
         return refused(n);
     }
     let f = curves::f_row(curve);
     let later = classes::to_rows(a);
     let taken = classes::to_rows(b);
-    let moved = sums::undo_rows(curve.degree, f, later, taken);
-    accepted(moved)
+    let moved = undo_rows(curve.degree, f, later, taken);
+    let pair = moved.pair;
+    settled(moved.divisor, pair)
 }
 
 // Is the curve accepted?

@@ -1,17 +1,20 @@
--- The class by value of a pair of rows.
+-- The numbers of a row below a place, and the class by value of a pair of rows.
 use Prim.Native.Nat.{ℕ, _-_, _≤_}
 use mathlib.Core.Path.{_≡_, _∙_, ap, ap₂}
-use mathlib.Core.{Bool.cond, List.List, List.[], List._∷_}
+use mathlib.Core.List.{List, [], _∷_}
 use native.Mathlib.Omega.{arith}
-use lib.{Dec.ltb, ListN.getD}
+use lib.ListN.{getD}
 use borrow.Author.Tests.{lt-ltb}
 use Rattle.class_group.specs.Mumford.{Pair}
-use Rattle.jacobian.specs.{Field.Poly, Field.𝔸, Field.poly, Row.InRange, Row.StandsPair, Row.row-len, Row.rows-pair, Classes.numbers, Classes.class-of, declared.Class.Class, declared.row.RowPair.RowPair}
-use Rattle.jacobian.proofs.{Rows.Elements.el-number, Rows.Coefficients.coeff-poly}
+use Rattle.class_rows.specs.{Field.Poly, Field.𝔸, Field.poly, Row.InRange, Row.StandsPair, Row.row-len, Row.rows-pair, declared.row.RowPair.RowPair}
+use Rattle.jacobian.specs.{Classes.numbers, Classes.class-of, ClassRows.first, declared.Class.Class}
+use Rattle.class_rows.proofs.{Rows.Elements.el-number, Rows.Coefficients.coeff-poly}
 
--- the numbers of a row below place n, in a row of three
-abbrev pub first : ℕ → List ℕ → List ℕ
-first n r = cond (ltb 0 n) (getD r 0 0) 0 ∷ cond (ltb 1 n) (getD r 1 0) 0 ∷ cond (ltb 2 n) (getD r 2 0) 0 ∷ []
+pub first-one : {n : ℕ} (r : List ℕ) → n ≡ 1 → getD r 0 0 ∷ 0 ∷ 0 ∷ [] ≡ first n r
+first-one r e = rw e
+
+pub first-two : {n : ℕ} (r : List ℕ) → n ≡ 2 → getD r 0 0 ∷ getD r 1 0 ∷ 0 ∷ [] ≡ first n r
+first-two r e = rw e
 
 pub first-three : (n : ℕ) (r : List ℕ) → 3 ≤ n → first n r ≡ getD r 0 0 ∷ getD r 1 0 ∷ getD r 2 0 ∷ []
 first-three n r h = simp (lt-ltb 0 n (omega arith), lt-ltb 1 n (omega arith), lt-ltb 2 n (omega arith))

@@ -1,15 +1,15 @@
 -- A curve and a class that pass their checks: the rows of the curve stand for its f, and those of the class for its pair, which is reduced.
-use Prim.Native.Nat.{ℕ, _≤_}
-use mathlib.Core.Path.{_≡_, sym, _∙_, ap, ap₂}
-use mathlib.Core.{List.List, Bool.Bool}
-use native.Mathlib.Omega.{arith}
+use Prim.Native.Nat.{ℕ}
+use mathlib.Core.Path.{_≡_, _∙_, ap, ap₂}
+use mathlib.Core.List.{List}
 use lib.Dec.{eqb}
-use Rattle.char2_algebra.proofs.Lead.{monic-nonzero}
-use Rattle.class_group.specs.{Mumford.value, Coefficients.monic-7, Coefficients.curve-of}
-use Rattle.binary_field.specs.Element.{Accepted}
-use Rattle.jacobian.specs.{Field.𝔸, Field.Poly, Field.poly, Row.InRange, Row.Stands, Row.row-len, Row.filled, Row.rows-pair, Core.OnCurve, Core.ReducedRows, Checks.unless, Curves.f-row, Curves.curve, Classes.Three, ClassRows.RowsOf, Classes.u-row, Classes.pair, declared.Curve.Curve, declared.Class.Class, declared.row.RowPair.RowPair}
-use Rattle.jacobian.proofs.{Rows.Elements.degree-is, Rows.Elements.el-one, ByValue.Checks.CurvePasses, ByValue.Checks.ShapePasses, ByValue.Checks.RangePasses, ByValue.Checks.ClassPasses, ByValue.Filled.getD-filled, ByValue.Filled.poly-filled, Representation.Form.Formed, Representation.Form.passes-formed, Representation.Form.formed-reduced, Representation.Form.u-row-range, Representation.Form.u-monic, Representation.Form.v-len}
-use Rattle.class_group.specs.Curve as Theory
+use Rattle.char2_algebra.proofs.{Degree.len-nought, Division.rem-of-divides, Lead.monic-nonzero}
+use Rattle.class_group.specs.{Mumford.value, Mumford.Reduced, Coefficients.monic-7, Coefficients.curve-of}
+use Rattle.class_rows.specs.{Field.𝔸, Field.Poly, Field.poly, Row.InRange, Row.filled, Row.rows-pair, Core.OnCurve, Core.ReducedRows, Checked.Decides, Checked.Divisor, declared.row.RowPair.RowPair}
+use Rattle.class_rows.proofs.{CheckRows.by-number, ReductionRows.reduced-on}
+use Rattle.jacobian.specs.{Curves.f-row, Curves.curve, Classes.Three, ClassRows.RowsOf, Classes.u-row, Classes.pair, declared.Curve.Curve, declared.Class.Class}
+use Rattle.class_rows.proofs.{Rows.Elements.degree-is, Rows.Elements.el-one}
+use Rattle.jacobian.proofs.{ByValue.Checks.CurvePasses, ByValue.Checks.ShapePasses, ByValue.Checks.RangePasses, ByValue.Checks.ClassPasses, ByValue.Filled.getD-filled, ByValue.Filled.poly-filled, Representation.Form.Formed, Representation.Form.passes-formed, Representation.Form.formed-reduced, Representation.Form.u-row-range, Representation.Form.u-monic}
 
 pub filled-range : (d : ℕ) (r : List ℕ) → InRange d r → InRange d (filled r)
 filled-range d r h i = rw (getD-filled r i) (h i)
@@ -55,40 +55,17 @@ rows-reduced c a h k e rows =
       reduced = rw (rows-pair-is (c .degree) rows) (formed-reduced (c .degree) a formed (curve c) (k .divides));
     }
 
--- ---- u divides v² + v + f
-pub value-stands :
-    (d : ℕ) (v : List ℕ) {f square left all : List ℕ} {C : Theory.Curve (𝔸 d)} → OnCurve d f C
-    → Stands d square (𝔸 d .ring .mul (poly d v) (poly d v)) → Stands d left (𝔸 d .ring .add (poly d square) (poly d v))
-    → Stands d all (𝔸 d .ring .add (poly d left) (poly d f)) → poly d all ≡ value C (poly d v)
-unfolding value
-value-stands d v on s l a =
-    a .stands ∙ ap₂ (𝔸 d .ring .add) (l .stands ∙ ap (λ z. 𝔸 d .ring .add z (poly d v)) (s .stands)) (on .is-f)
-
-pub divides-due :
-    (c : Curve) {a : Class} {r : RowPair} → RowsOf a r → {t : Bool}
-    → t ≡ eqb (𝔸 (c .degree) .len (𝔸 (c .degree) .rem (value (curve c) (rows-pair (c .degree) r .v)) (rows-pair (c .degree) r .u))) 0
-    → {n : ℕ} → n ≡ unless t 111
-    → n ≡ unless (eqb (𝔸 (c .degree) .len (𝔸 (c .degree) .rem (value (curve c) (pair (c .degree) a .v)) (pair (c .degree) a .u))) 0) 111
-divides-due c rows e h =
+-- ---- u divides v² + v + f exactly where the rows are a divisor
+pub divides-decides :
+    (c : Curve) (a : Class) → CurvePasses c → ShapePasses a → RangePasses (c .degree) a → {f : List ℕ} → f ≡ filled (f-row c) → {r : RowPair} → RowsOf a r
+    → Decides (eqb (𝔸 (c .degree) .len (𝔸 (c .degree) .rem (value (curve c) (pair (c .degree) a .v)) (pair (c .degree) a .u))) 0) (Divisor (c .degree) f r)
+divides-decides c a h shape range {f} e {r} rows =
     let d = c .degree in
-    h ∙ ap (λ t. unless t 111) (e ∙ ap (λ D. eqb (𝔸 d .len (𝔸 d .rem (value (curve c) (D .v)) (D .u))) 0) (rows-pair-is d rows))
-
--- what `divides` requires
-pub rows-due :
-    (c : Curve) (a : Class) → CurvePasses c → ShapePasses a → RangePasses (c .degree) a → {r : RowPair} → RowsOf a r → {f : List ℕ} → f ≡ filled (f-row c)
-    → Accepted (c .degree) × InRange (c .degree) f × InRange (c .degree) (r .u) × InRange (c .degree) (r .v) × (row-len (c .degree) (r .v) ≤ 6)
-    × ¬ (poly (c .degree) (r .u) ≡ 𝔸 (c .degree) .ring .nought)
-unfolding rows-pair
-rows-due c a h shape range {r} rows e =
-    let d = c .degree in
+    let D = pair d a in
     let formed = passes-formed d (h .accepted) a (rows .three) shape range in
-    let low : a .degree ≤ 3 = shape .low in
-    let short : 𝔸 d .len (pair d a .v) ≤ a .degree = v-len d a formed in
-    let same : row-len d (r .v) ≡ 𝔸 d .len (pair d a .v) = ap (λ D. 𝔸 d .len (D .v)) (rows-pair-is d rows) in (
-      h .accepted,
-      on-curve c h e .in-range,
-      u-range d formed rows,
-      v-range d formed rows,
-      omega arith,
-      λ z. monic-nonzero (𝔸 d) (pair d a .u) (u-monic d a formed) (sym (ap (λ D. D .u) (rows-pair-is d rows)) ∙ z),
-    )
+    let nonzero = monic-nonzero (𝔸 d) (D .u) (u-monic d a formed) in
+    by-number
+    (λ z. record { degree = h .accepted; reduced = rows-reduced c a h (record { shape = shape; range = range; divides = z }) e rows })
+    (λ k.
+    let reduced : Reduced (curve c) D = rw (rows-pair-is d rows) at (reduced-on d (k .reduced) (on-curve c h e)) in
+    ap (𝔸 d .len) (rem-of-divides (𝔸 d) (D .u) nonzero (value (curve c) (D .v)) (reduced .divides)) ∙ len-nought (𝔸 d))

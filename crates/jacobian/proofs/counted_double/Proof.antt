@@ -1,54 +1,48 @@
 -- `counted_double` meets its contract.
+use mathlib.Core.Path.{sym, _∙_}
 use Rattle.jacobian.specs.{Curves.curve, Answer.counted-double-answer}
-use Rattle.jacobian.proofs.{ByValue.Passing.on-curve, ByValue.Passing.rows-pair-is, ByValue.Passing.rows-reduced, ByValue.Answers.counted-at-refusal, ByValue.Answers.counted-at-none, ByValue.Answers.passes}
+use Rattle.jacobian.proofs.{ByValue.Checks.then-zero, ByValue.Checks.curve-passes, ByValue.Passing.on-curve, ByValue.Passing.rows-pair-is, ByValue.Due.form-first, ByValue.Due.form-shape, ByValue.Due.one-due, ByValue.Answers.counted-at-refusal}
 use borrow.Author.Needs.{needs}
 use Rattle.jacobian.proofs.counted_double.Statement.{statement}
 use Rattle.jacobian.proofs.counted_double.Tie as tie
 
-due-requires : tie.Need-due-requires
-due-requires c κs = search needs
+curve-and-form-due-requires : tie.Need-curve-and-form-due-requires
+curve-and-form-due-requires c κs = search needs
 
 counted-refused-requires : tie.Need-counted-refused-requires
 counted-refused-requires c κs = search needs
 
 returns : tie.Need-returns
 unfolding counted-double-answer
-returns c = counted-at-refusal _ _ (c .before .before .due .ensures) (c .counted-refused .ensures _ _)
+returns c = counted-at-refusal _ _ (form-first _ _ (c .before .before .curve-and-form-due .ensures) (c .before .if1 .taken)) (c .counted-refused .ensures _ _)
 
 f-row-requires : tie.Need-f-row-requires
 f-row-requires c κs = search needs
 
 to-rows-requires : tie.Need-to-rows-requires
-to-rows-requires c κs = passes _ _ (c .before .before .due .ensures) (c .before .if1 .left) .1 .shape .low
+to-rows-requires c κs =
+    let s = c .before .before .before in
+    form-shape (s .args .curve) (s .args .a) (then-zero _ _ (sym (c .before .before .curve-and-form-due .ensures) ∙ c .before .if1 .left) .1) .low
 
 double-rows-requires : tie.Need-double-rows-requires
-double-rows-requires c κs =
-    let ok = passes _ _ (c .before .before .before .due .ensures) (c .before .before .if1 .left) in
-    (ok .0 .accepted, rows-reduced _ _ (ok .0) (ok .1) (c .before .f-row .ensures) (c .to-rows .ensures))
+double-rows-requires c κs = search needs
 
-counted-accepted-requires : tie.Need-counted-accepted-requires
-counted-accepted-requires c κs = search needs
+counted-settled-requires : tie.Need-counted-settled-requires
+counted-settled-requires c κs = search needs
 
 returns-2 : tie.Need-returns-2
 unfolding counted-double-answer
 returns-2 c =
-    let s = c .before .before .before .before .before .before in
-    let e = c .before .before .before .before .before .due .ensures in
-    let z = c .before .before .before .before .if1 .left in
+    let after = c .before .before in
+    let left = after .before .before .before in
+    let s = left .before .before in
     let d = s .args .curve .degree in
-    let on = on-curve _ (passes _ _ e z .0) (c .before .before .before .f-row .ensures) in
-    counted-at-none d _ e z
-    (c .counted-accepted .ensures d _ (rw (rows-pair-is d (c .before .before .to-rows .ensures)) at (c .before .double-rows .ensures (curve (s .args .curve)) on)))
+    let z = then-zero _ _ (sym (left .before .curve-and-form-due .ensures) ∙ left .if1 .left) in
+    let f = after .before .before .f-row .ensures in
+    let rows = after .before .to-rows .ensures in
+    let gives = after .double-rows .ensures in
+    counted-at-refusal d _ (one-due (s .args .curve) (s .args .a) (z .1) (z .0) f rows (gives .decides))
+    (c .counted-settled .ensures d _ (λ held. rw (rows-pair-is d rows) at (gives .stands held (curve (s .args .curve)) (on-curve _ (curve-passes _ (z .0)) f))))
 
 pub counted-double-spec : {M : Type 1} → statement M
-counted-double-spec =
-    tie.close
-    (tie.spec
-    due-requires
-    counted-refused-requires
-    returns
-    f-row-requires
-    to-rows-requires
-    double-rows-requires
-    counted-accepted-requires
-    returns-2)
+counted-double-spec = tie.close (tie.spec curve-and-form-due-requires counted-refused-requires returns f-row-requires to-rows-requires double-rows-requires counted-settled-requires returns-2)

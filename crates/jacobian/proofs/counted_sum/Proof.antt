@@ -1,61 +1,56 @@
 -- `counted_sum` meets its contract.
 use Rattle.jacobian.specs.{Curves.curve, Answer.counted-sum-answer}
-use Rattle.jacobian.proofs.{ByValue.Passing.on-curve, ByValue.Passing.rows-pair-is, ByValue.Passing.rows-reduced, ByValue.Answers.counted-at-refusal, ByValue.Answers.counted-at-none, ByValue.Answers.passes-two}
+use Rattle.jacobian.proofs.{ByValue.Checks.curve-passes, ByValue.Passing.on-curve, ByValue.Passing.rows-pair-is, ByValue.Due.form-shape, ByValue.Due.two-due, ByValue.Answers.counted-at-refusal}
 use borrow.Author.Needs.{needs}
 use Rattle.jacobian.proofs.counted_sum.Statement.{statement}
 use Rattle.jacobian.proofs.counted_sum.Tie as tie
 
-due-of-two-requires : tie.Need-due-of-two-requires
-due-of-two-requires c κs = search needs
+form-due-of-two-requires : tie.Need-form-due-of-two-requires
+form-due-of-two-requires c κs = search needs
 
 counted-refused-requires : tie.Need-counted-refused-requires
 counted-refused-requires c κs = c .if1 .taken
 
 returns : tie.Need-returns
 unfolding counted-sum-answer
-returns c = counted-at-refusal _ _ (c .before .before .due-of-two .ensures) (c .counted-refused .ensures _ _)
+returns c = counted-at-refusal _ _ (c .before .before .form-due-of-two .ensures .refused (c .before .if1 .taken)) (c .counted-refused .ensures _ _)
 
 f-row-requires : tie.Need-f-row-requires
 f-row-requires c κs = search needs
 
 to-rows-requires : tie.Need-to-rows-requires
-to-rows-requires c κs = passes-two _ _ _ (c .before .before .due-of-two .ensures) (c .before .if1 .left) .1 .shape .low
+to-rows-requires c κs =
+    let s = c .before .before .before in
+    form-shape (s .args .curve) (s .args .a) (c .before .before .form-due-of-two .ensures .first-none (c .before .if1 .left)) .low
 
 to-rows-requires-2 : tie.Need-to-rows-requires-2
-to-rows-requires-2 c κs = passes-two _ _ _ (c .before .before .before .due-of-two .ensures) (c .before .before .if1 .left) .2 .shape .low
+to-rows-requires-2 c κs =
+    let s = c .before .before .before .before in
+    form-shape (s .args .curve) (s .args .b) (c .before .before .before .form-due-of-two .ensures .second-none (c .before .before .if1 .left)) .low
 
 sum-rows-requires : tie.Need-sum-rows-requires
-sum-rows-requires c κs =
-    let ok = passes-two _ _ _ (c .before .before .before .before .due-of-two .ensures) (c .before .before .before .if1 .left) in
-    let f = c .before .before .f-row .ensures in
-    (ok .0 .accepted, rows-reduced _ _ (ok .0) (ok .1) f (c .before .to-rows .ensures), rows-reduced _ _ (ok .0) (ok .2) f (c .to-rows2 .ensures))
+sum-rows-requires c κs = search needs
 
-counted-accepted-requires : tie.Need-counted-accepted-requires
-counted-accepted-requires c κs = search needs
+counted-settled-requires : tie.Need-counted-settled-requires
+counted-settled-requires c κs = search needs
 
 returns-2 : tie.Need-returns-2
 unfolding counted-sum-answer
 returns-2 c =
-    let s = c .before .before .before .before .before .before .before in
-    let e = c .before .before .before .before .before .before .due-of-two .ensures in
-    let z = c .before .before .before .before .before .if1 .left in
+    let after = c .before .before in
+    let left = after .before .before .before .before in
+    let s = left .before .before in
     let d = s .args .curve .degree in
-    let on = on-curve _ (passes-two _ _ _ e z .0) (c .before .before .before .before .f-row .ensures) in
-    counted-at-none d _ e z
-    (c .counted-accepted .ensures d _
-    (rw (rows-pair-is d (c .before .before .before .to-rows .ensures), rows-pair-is d (c .before .before .to-rows2 .ensures)) at
-    (c .before .sum-rows .ensures (curve (s .args .curve)) on)))
+    let due = left .before .form-due-of-two .ensures in
+    let ok = due .curve-none (left .if1 .left) in
+    let f = after .before .before .before .f-row .ensures in
+    let first = after .before .before .to-rows .ensures in
+    let second = after .before .to-rows2 .ensures in
+    let gives = after .sum-rows .ensures in
+    counted-at-refusal d _
+    (two-due (s .args .curve) (s .args .a) (s .args .b) ok (due .first-none (left .if1 .left)) (due .second-none (left .if1 .left)) f first second (gives .decides))
+    (c .counted-settled .ensures d _
+    (λ held. rw (rows-pair-is d first, rows-pair-is d second) at (gives .stands held (curve (s .args .curve)) (on-curve _ (curve-passes _ ok) f))))
 
 pub counted-sum-spec : {M : Type 1} → statement M
-counted-sum-spec =
-    tie.close
-    (tie.spec
-    due-of-two-requires
-    counted-refused-requires
-    returns
-    f-row-requires
-    to-rows-requires
-    to-rows-requires-2
-    sum-rows-requires
-    counted-accepted-requires
-    returns-2)
+counted-sum-spec = tie.close (tie.spec form-due-of-two-requires counted-refused-requires returns f-row-requires to-rows-requires to-rows-requires-2 sum-rows-requires counted-settled-requires returns-2)

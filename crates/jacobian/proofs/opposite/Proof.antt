@@ -1,49 +1,48 @@
 -- `opposite` meets its contract.
+use mathlib.Core.Path.{sym, _∙_}
 use Rattle.jacobian.specs.{Curves.curve, Answer.opposite-answer}
-use Rattle.jacobian.proofs.{ByValue.Passing.class-formed, ByValue.Passing.u-range, ByValue.Passing.v-range, ByValue.Passing.rows-pair-is, ByValue.Answers.at-refusal, ByValue.Answers.at-none, ByValue.Answers.passes}
+use Rattle.jacobian.proofs.{ByValue.Checks.then-zero, ByValue.Checks.curve-passes, ByValue.Passing.on-curve, ByValue.Passing.rows-pair-is, ByValue.Due.form-first, ByValue.Due.form-shape, ByValue.Due.one-due, ByValue.Answers.at-refusal}
 use borrow.Author.Needs.{needs}
 use Rattle.jacobian.proofs.opposite.Statement.{statement}
 use Rattle.jacobian.proofs.opposite.Tie as tie
 
-due-requires : tie.Need-due-requires
-due-requires c κs = search needs
+curve-and-form-due-requires : tie.Need-curve-and-form-due-requires
+curve-and-form-due-requires c κs = search needs
 
 refused-requires : tie.Need-refused-requires
 refused-requires c κs = search needs
 
 returns : tie.Need-returns
 unfolding opposite-answer
-returns c = at-refusal _ _ (c .before .before .due .ensures) (c .refused .ensures _ _)
+returns c = at-refusal _ _ (form-first _ _ (c .before .before .curve-and-form-due .ensures) (c .before .if1 .taken)) (c .refused .ensures _ _)
+
+f-row-requires : tie.Need-f-row-requires
+f-row-requires c κs = search needs
 
 to-rows-requires : tie.Need-to-rows-requires
-to-rows-requires c κs = passes _ _ (c .before .due .ensures) (c .if1 .left) .1 .shape .low
+to-rows-requires c κs =
+    let s = c .before .before .before in
+    form-shape (s .args .curve) (s .args .a) (then-zero _ _ (sym (c .before .before .curve-and-form-due .ensures) ∙ c .before .if1 .left) .1) .low
 
 opposite-rows-requires : tie.Need-opposite-rows-requires
-opposite-rows-requires c κs =
-    let ok = passes _ _ (c .before .before .due .ensures) (c .before .if1 .left) in
-    let rows = c .to-rows .ensures in
-    let formed = class-formed (ok .0) (ok .1) (rows .three) in
-    (ok .0 .accepted, u-range _ formed rows, v-range _ formed rows)
+opposite-rows-requires c κs = search needs
 
-accepted-requires : tie.Need-accepted-requires
-accepted-requires c κs = search needs
+settled-requires : tie.Need-settled-requires
+settled-requires c κs = search needs
 
 returns-2 : tie.Need-returns-2
 unfolding opposite-answer
 returns-2 c =
-    let s = c .before .before .before .before .before in
+    let after = c .before .before in
+    let left = after .before .before .before in
+    let s = left .before .before in
     let d = s .args .curve .degree in
-    at-none d _ (c .before .before .before .before .due .ensures) (c .before .before .before .if1 .left)
-    (c .accepted .ensures d _ (rw (rows-pair-is d (c .before .before .to-rows .ensures)) at (c .before .opposite-rows .ensures (curve (s .args .curve)))))
+    let z = then-zero _ _ (sym (left .before .curve-and-form-due .ensures) ∙ left .if1 .left) in
+    let f = after .before .before .f-row .ensures in
+    let rows = after .before .to-rows .ensures in
+    let gives = after .opposite-rows .ensures in
+    at-refusal d _ (one-due (s .args .curve) (s .args .a) (z .1) (z .0) f rows (gives .decides))
+    (c .settled .ensures d _ (λ held. rw (rows-pair-is d rows) at (gives .stands held (curve (s .args .curve)) (on-curve _ (curve-passes _ (z .0)) f))))
 
 pub opposite-spec : {M : Type 1} → statement M
-opposite-spec =
-    tie.close
-    (tie.spec
-    due-requires
-    refused-requires
-    returns
-    to-rows-requires
-    opposite-rows-requires
-    accepted-requires
-    returns-2)
+opposite-spec = tie.close (tie.spec curve-and-form-due-requires refused-requires returns f-row-requires to-rows-requires opposite-rows-requires settled-requires returns-2)

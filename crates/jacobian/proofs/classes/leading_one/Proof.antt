@@ -2,7 +2,8 @@
 use mathlib.Core.Path.{_≡_, refl}
 use mathlib.Core.List.{[], _∷_}
 use lib.ListN.{getD}
-use Rattle.jacobian.specs.{Row.filled, ClassRows.Led}
+use Rattle.class_rows.specs.{Row.filled}
+use Rattle.jacobian.specs.{ClassRows.Led}
 use Rattle.jacobian.proofs.ByValue.Threes.{by-three, is-three}
 use borrow.Author.Needs.{needs}
 use Rattle.jacobian.proofs.classes.leading_one.Statement.{statement}
@@ -18,8 +19,8 @@ returns c =
     (c .before .good .1 .0 .1 .0 .1)
     (c .if1 .taken)
 
-array-read-t7 : tie.Need-array-read-t7
-array-read-t7 c = search needs
+array-read-low : tie.Need-array-read-low
+array-read-low c = search needs
 
 returns-2 : tie.Need-returns-2
 unfolding filled
@@ -31,11 +32,8 @@ returns-2 c =
     (c .before .before .good .1 .0 .1 .0 .1)
     (c .if2 .taken)
 
-array-read-t10 : tie.Need-array-read-t10
-array-read-t10 c = search needs
-
-array-read-t13 : tie.Need-array-read-t13
-array-read-t13 c = search needs
+array-read-middle : tie.Need-array-read-middle
+array-read-middle c = search needs
 
 returns-3 : tie.Need-returns-3
 unfolding filled
@@ -47,14 +45,8 @@ returns-3 c =
     (c .before .before .before .good .1 .0 .1 .0 .1)
     (c .if3 .taken)
 
-array-read-t16 : tie.Need-array-read-t16
-array-read-t16 c = search needs
-
-array-read-t19 : tie.Need-array-read-t19
-array-read-t19 c = search needs
-
-array-read-t22 : tie.Need-array-read-t22
-array-read-t22 c = search needs
+array-read-t9 : tie.Need-array-read-t9
+array-read-t9 c = search needs
 
 returns-4 : tie.Need-returns-4
 unfolding filled
@@ -71,12 +63,9 @@ leading-one-spec =
     tie.close
     (tie.spec
     returns
-    array-read-t7
+    array-read-low
     returns-2
-    array-read-t10
-    array-read-t13
+    array-read-middle
     returns-3
-    array-read-t16
-    array-read-t19
-    array-read-t22
+    array-read-t9
     returns-4)

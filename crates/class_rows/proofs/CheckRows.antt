@@ -1,0 +1,128 @@
+-- The check of rows of any numbers: what each test shows where it holds, and what fails where it does not.
+use Prim.Native.Nat.{ℕ, _+_, _-_, _≤_, _<_, _^_}
+use mathlib.Core.Path.{_≡_, refl, sym, _∙_, ap, subst}
+use mathlib.Core.{Bool.Bool, Bool.true, Bool.false, Bool.true≢false, List.List}
+use native.Mathlib.Omega.{arith}
+use native.Mathlib.Decide.{decLe}
+use lib.Dec.{eqb}
+use lib.ListN.{length, getD, List·getD-eq-default}
+use borrow.Author.Tests.{eqb-true, eq-eqb, ne-eqb}
+use Rattle.binary_field.specs.Element.{Accepted}
+use Rattle.char2_algebra.specs.Lead.{Monic}
+use Rattle.char2_algebra.proofs.{Degree.len-zero, Degree.len-nought, Division.rem-of-divides, Division.divides-of-rem, Lead.monic-nonzero}
+use Rattle.class_group.specs.Curve as Theory
+use Rattle.class_group.specs.{Mumford.Pair, Mumford.value, Reduction.Counted}
+use Rattle.class_rows.specs.{Field.degree-of, Field.Poly, Field.𝔸, Field.el, Field.poly, Row.InRange, Row.Stands, Row.StandsPair, Row.row-len, Row.rows-pair}
+use Rattle.class_rows.specs.{Core.OnCurve, Core.StandsCounted, Checked.Decides, Checked.Divisor, Checked.FormedRows, Checked.GivesPair, Checked.GivesCounted}
+use Rattle.class_rows.specs.declared.{row.RowPair.RowPair, reduction.CountedRows.CountedRows}
+use Rattle.class_rows.proofs.{Rows.Elements.degree-is, Rows.Elements.zero-lt, Rows.Elements.el-one, Rows.Elements.one-of-one}
+use Rattle.class_rows.proofs.{Rows.Lead.leads, Rows.Lead.lead-row, ReductionRows.reduced-on}
+
+-- ---- tests
+pub yes-it-is : {P : Type 0} → P → Decides true P
+yes-it-is p = (λ _. p, λ _. refl)
+
+pub denied : {t : Bool} {P : Type 0} → Decides t P → t ≡ false → ¬ P
+denied h e p = true≢false (sym (h .1 p) ∙ e)
+
+pub no-it-is-not : {t : Bool} {P : Type 0} → t ≡ false → ¬ P → Decides t P
+no-it-is-not e h = (λ t. absurd (true≢false (sym t ∙ e)), λ p. absurd (h p))
+
+pub also : {t : Bool} {P Q : Type 0} → Decides t P → (P → Q) → (Q → P) → Decides t Q
+also h f g = (λ e. f (h .0 e), λ q. h .1 (g q))
+
+pub by-number : {m n : ℕ} {P : Type 0} → (m ≡ n → P) → (P → m ≡ n) → Decides (eqb m n) P
+by-number {m} {n} f g = (λ e. f (eqb-true m n e), λ p. eq-eqb m n (g p))
+
+-- ---- the degree
+pub is-five : {d : ℕ} → ¬ (d ≡ 61) → Accepted d → d ≡ 5
+unfolding degree-of
+is-five {d} h ok = sym (degree-is d ok) ∙ rw (ne-eqb d 61 h)
+
+-- ---- the range of a row
+pub record Below (d : ℕ) (r : List ℕ) (i : ℕ) : Type 0 where
+  pub at : (j : ℕ) → j < i → getD r j 0 < 2 ^ degree-of d
+
+module _ (d : ℕ) where
+  module _ {r : List ℕ} where
+    pub below-none : Below d r 0
+    below-none = record { at = λ j h. absurd (omega arith) }
+
+    pub below-more : {i m : ℕ} → Below d r i → m ≡ 2 ^ degree-of d → getD r i 0 < m → Below d r (i + 1)
+    below-more {i} {m} b e h = record { at = λ j k. go j k (decLe i j) }
+      where
+        go : (j : ℕ) → j < i + 1 → Dec (i ≤ j) → getD r j 0 < 2 ^ degree-of d
+        go j k (no l) = b .at j (omega arith)
+        go j k (yes l) = let s : i ≡ j = omega arith in subst (λ n. getD r n 0 < 2 ^ degree-of d) s (omega (arith, e))
+
+    pub below-all : {i : ℕ} → Below d r i → 12 ≤ i → length r ≡ 12 → InRange d r
+    below-all {i} b h e j = go (decLe 12 j)
+      where
+        go : Dec (12 ≤ j) → getD r j 0 < 2 ^ degree-of d
+        go (no l) = b .at j (omega arith)
+        go (yes l) = subst (λ n. n < 2 ^ degree-of d) (sym (List·getD-eq-default r 0 (omega arith))) (zero-lt d)
+
+  -- ---- the leading coefficient
+  pub none-monic : (r : List ℕ) → 0 ≡ row-len d r → ¬ Monic (𝔸 d) (poly d r)
+  none-monic r e m = monic-nonzero (𝔸 d) (poly d r) m (len-zero (𝔸 d) (poly d r) (sym e))
+
+  pub monic-decides : (r : List ℕ) {n : ℕ} → length r ≡ 12 → InRange d r → n ≡ row-len d r → ¬ (n ≡ 0)
+      → Decides (eqb (getD r (n - 1) 0) 1) (Monic (𝔸 d) (poly d r))
+  monic-decides r {n} size range e h =
+      let l = leads d r size range e (λ z. h (e ∙ ap (𝔸 d .len) z ∙ len-nought (𝔸 d))) in
+      by-number (λ k. lead-row l ∙ ap (el d) k ∙ el-one d) (λ m. one-of-one d (getD r (n - 1) 0) (range (n - 1)) (sym (lead-row l) ∙ m))
+
+-- ---- a pair
+module _ {d : ℕ} {f : List ℕ} {a : RowPair} where
+  pub formed-divisor : Divisor d f a → FormedRows d f a
+  unfolding rows-pair
+  formed-divisor h =
+      let r = h .reduced in
+      record {
+        degree = h .degree;
+        curve = (r .C, r .on-curve);
+        pair = record { u-range = r .u-range; v-range = r .v-range; u-monic = r .reduced .u-monic; u-len = r .reduced .u-len; v-len = r .reduced .v-len };
+      }
+
+  -- the division tells whether it is a divisor
+  pub division-decides : {n : ℕ} {rest : List ℕ} (h : FormedRows d f a)
+      → Stands d rest (𝔸 d .rem (value (h .curve .0) (poly d (a .v))) (poly d (a .u))) → n ≡ row-len d rest → Decides (eqb n 0) (Divisor d f a)
+  unfolding rows-pair
+  division-decides h s e =
+      let nonzero = monic-nonzero (𝔸 d) (poly d (a .u)) (h .pair .u-monic) in
+      let C = h .curve .0 in
+      let same = e ∙ ap (𝔸 d .len) (s .stands) in
+      by-number
+      (λ z. record {
+        degree = h .degree;
+        reduced = record {
+          C = C;
+          on-curve = h .curve .1;
+          u-range = h .pair .u-range;
+          v-range = h .pair .v-range;
+          reduced = record {
+            u-monic = h .pair .u-monic;
+            u-len = h .pair .u-len;
+            v-len = h .pair .v-len;
+            divides = divides-of-rem (𝔸 d) (poly d (a .u)) nonzero (value C (poly d (a .v))) (len-zero (𝔸 d) _ (sym same ∙ z));
+          };
+        };
+      })
+      (λ D. same ∙ ap (𝔸 d .len) (rem-of-divides (𝔸 d) (poly d (a .u)) nonzero (value C (poly d (a .v))) (reduced-on d (D .reduced) (h .curve .1) .divides)) ∙ len-nought (𝔸 d))
+
+-- ---- what an open function answers
+module _ {d : ℕ} {f : List ℕ} {asked : Type 0} {a : RowPair} {t : Bool} (h : Decides t asked) where
+  pub pair-refused : {of : Theory.Curve (𝔸 d) → Pair (Poly d)} → t ≡ false → GivesPair d f asked a of (record { divisor = false; pair = a })
+  pair-refused e = record { decides = no-it-is-not refl (denied h e); stands = λ k. absurd (true≢false (sym k)); else = λ _. refl }
+
+  pub pair-given : {of : Theory.Curve (𝔸 d) → Pair (Poly d)} {b : RowPair} → t ≡ true
+      → ((C : Theory.Curve (𝔸 d)) → OnCurve d f C → StandsPair d b (of C)) → GivesPair d f asked a of (record { divisor = true; pair = b })
+  pair-given e s = record { decides = yes-it-is (h .0 e); stands = λ _. s; else = λ k. absurd (true≢false k) }
+
+  pub counted-refused : {of : Theory.Curve (𝔸 d) → Counted (Poly d)} → t ≡ false
+      → GivesCounted d f asked a of (record { divisor = false; rows = record { pair = a; steps = 0 } })
+  counted-refused e = record { decides = no-it-is-not refl (denied h e); stands = λ k. absurd (true≢false (sym k)); else = λ _. refl }
+
+  pub counted-given : {of : Theory.Curve (𝔸 d) → Counted (Poly d)} {b : CountedRows} → t ≡ true
+      → ((C : Theory.Curve (𝔸 d)) → OnCurve d f C → StandsCounted d b (of C)) → GivesCounted d f asked a of (record { divisor = true; rows = b })
+  counted-given e s = record { decides = yes-it-is (h .0 e); stands = λ _. s; else = λ k. absurd (true≢false k) }

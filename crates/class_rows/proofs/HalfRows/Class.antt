@@ -1,0 +1,98 @@
+-- From a reduced class by rows to the rows that the halving rule takes, and from the rule's pair to the half of the class.
+use Prim.Native.Nat.{ℕ, zero, suc, _≤_, _<_, _+_}
+use mathlib.Core.Path.{_≡_, refl, sym, _∙_, ap, subst}
+use mathlib.Core.List.{List}
+use native.Mathlib.Omega.{arith}
+use Rattle.char2_algebra.specs.Lead.{Monic}
+use Rattle.char2_algebra.proofs.{Degree.nonzero-of-len, Division.len-quot-exact, Lead.monic-nonzero, Lead.quot-monic}
+use Rattle.class_group.specs.Curve as Theory
+use Rattle.class_group.specs.{Mumford.value, Half.triple, Half.half, Half.half-by, Half.half-of-degree-1, Half.half-of-degree-2, Half.half-of-degree-3}
+use Rattle.class_group.proofs.HalfChain.{value-len, value-monic}
+use Rattle.class_rows.specs.{Field.𝔸, Field.poly, Row.Stands, Row.StandsPair, Row.row-len, Row.rows-pair, Core.OnCurve, Core.ReducedRows}
+use Rattle.class_rows.specs.{Cofactor.CofactorRow, declared.row.RowPair.RowPair, Halving.HalvingRows, Halving.rows-triple}
+use Rattle.class_rows.proofs.{DoubleRows.reduced-len, HalfRows.Rows.stands-pair-eq}
+
+-- a reduced class that is not neutral: w is its cofactor, n the length of u
+pub record NonNeutral (d : ℕ) (f : List ℕ) (a : RowPair) (w : List ℕ) (n : ℕ) : Type 0 where
+  pub reduced : ReducedRows d f a
+  pub cofactor : CofactorRow d f a w
+  pub length-is : n ≡ row-len d (a .u)
+  pub more : 1 < n
+
+module _ (d : ℕ) {f : List ℕ} {a : RowPair} where
+  -- the neutral class is its own half
+  pub half-neutral : {n : ℕ} → ReducedRows d f a → n ≡ row-len d (a .u) → n ≤ 1 → (C : Theory.Curve (𝔸 d)) → StandsPair d a (half C (rows-pair d a))
+  unfolding half half-by rows-pair
+  half-neutral {n} h e l C = subst (λ m. StandsPair d a (half-by C m (rows-pair d a))) e (go n l)
+    where
+      self : StandsPair d a (rows-pair d a)
+      self = record { u-stands = record { in-range = h .u-range; stands = refl }; v-stands = record { in-range = h .v-range; stands = refl } }
+
+      go : (n : ℕ) → n ≤ 1 → StandsPair d a (half-by C n (rows-pair d a))
+      go zero l = self
+      go (suc zero) l = self
+      go (suc (suc n)) l = absurd (omega arith)
+
+  module _ {w : List ℕ} {n : ℕ} (c : NonNeutral d f a w n) where
+    pub degree-three : ¬ (n ≡ 2) → ¬ (n ≡ 3) → n ≡ 4
+    degree-three h k = omega (arith, reduced-len d (c .reduced) .0, c .length-is, c .more)
+
+    abbrev E : Theory.Curve (𝔸 d)
+    E = c .reduced .C
+
+    w-is : Stands d w (𝔸 d .quot (value E (poly d (a .v))) (poly d (a .u)))
+    w-is = c .cofactor E (c .reduced .on-curve)
+
+    u-monic : Monic (𝔸 d) (poly d (a .u))
+    unfolding rows-pair
+    u-monic = c .reduced .reduced .u-monic
+
+    v-short : row-len d (a .v) ≤ 4
+    v-short = omega (arith, reduced-len d (c .reduced) .0, reduced-len d (c .reduced) .1)
+
+    w-monic : Monic (𝔸 d) (poly d w)
+    unfolding rows-pair
+    w-monic = subst (Monic (𝔸 d)) (sym (w-is .stands)) (quot-monic (𝔸 d) _ _ (value-monic E (poly d (a .v)) v-short) u-monic (c .reduced .reduced .divides))
+
+    w-len : row-len d w + row-len d (a .u) ≡ 9
+    unfolding rows-pair
+    w-len =
+        ap (λ p. 𝔸 d .len p + row-len d (a .u)) (w-is .stands)
+        ∙ sym (len-quot-exact (𝔸 d) (poly d (a .u)) (monic-nonzero (𝔸 d) _ u-monic) _ (nonzero-of-len (𝔸 d) _ (omega (arith, value-len E (poly d (a .v)) v-short))) (c .reduced .reduced .divides))
+        ∙ ap suc (value-len E (poly d (a .v)) v-short)
+
+    -- what the halving rule takes
+    pub halving-rows : (m : ℕ) → n ≡ m → HalvingRows d m (a .u) (a .v) w
+    halving-rows m e =
+        record {
+          u-range = c .reduced .u-range;
+          v-range = c .reduced .v-range;
+          w-range = w-is .in-range;
+          u-monic = u-monic;
+          w-monic = w-monic;
+          u-len = sym (c .length-is) ∙ e;
+          v-len = omega (arith, reduced-len d (c .reduced) .1, c .length-is);
+          w-len = omega (arith, w-len, c .length-is);
+        }
+
+    -- what it gives is the half on every curve of f
+    module _ (C : Theory.Curve (𝔸 d)) (o : OnCurve d f C) where
+      triple-path : rows-triple d (a .u) (a .v) w ≡ triple C (rows-pair d a)
+      unfolding triple rows-pair rows-triple
+      triple-path j = record { u = poly d (a .u); v = poly d (a .v); w = c .cofactor C o .stands j }
+
+      by-length : (m : ℕ) → n ≡ m → half-by C m (rows-pair d a) ≡ half C (rows-pair d a)
+      unfolding half rows-pair
+      by-length m e = ap (λ l. half-by C l (rows-pair d a)) (sym e ∙ c .length-is)
+
+      pub half-1 : {r : RowPair} → n ≡ 2 → StandsPair d r (half-of-degree-1 (𝔸 d) (rows-triple d (a .u) (a .v) w)) → StandsPair d r (half C (rows-pair d a))
+      unfolding half-by
+      half-1 e = stands-pair-eq d (ap (half-of-degree-1 (𝔸 d)) triple-path ∙ by-length 2 e)
+
+      pub half-2 : {r : RowPair} → n ≡ 3 → StandsPair d r (half-of-degree-2 (𝔸 d) (rows-triple d (a .u) (a .v) w)) → StandsPair d r (half C (rows-pair d a))
+      unfolding half-by
+      half-2 e = stands-pair-eq d (ap (half-of-degree-2 (𝔸 d)) triple-path ∙ by-length 3 e)
+
+      pub half-3 : {r : RowPair} → n ≡ 4 → StandsPair d r (half-of-degree-3 (𝔸 d) (rows-triple d (a .u) (a .v) w)) → StandsPair d r (half C (rows-pair d a))
+      unfolding half-by
+      half-3 e = stands-pair-eq d (ap (half-of-degree-3 (𝔸 d)) triple-path ∙ by-length 4 e)

@@ -1,0 +1,38 @@
+-- The opposite of a pair of rows.
+use Prim.Native.Nat.{ℕ, _≤_, _<_}
+use mathlib.Core.Path.{_≡_, refl, _∙_, ap}
+use mathlib.Core.List.{List}
+use borrow.Author.Tests.{lt-ltb, le-ltb}
+use Rattle.field_laws.specs.Field.{Field2}
+use Rattle.char2_algebra.specs.Polynomials.{Polynomials}
+use Rattle.class_group.specs.Curve as Theory
+use Rattle.class_group.specs.Mumford.{Pair, opposite}
+use Rattle.class_rows.specs.{Field.𝔸, Field.poly, Row.InRange, Row.Stands, Row.StandsPair, Row.row-len, Row.rows-pair, declared.row.RowPair.RowPair}
+use Rattle.class_rows.proofs.ReductionRows.{one-row, one-stands}
+
+-- the opposite by the length of u
+module _ {K P : Type 0} {F : Field2 K} {A : Polynomials F P} (C : Theory.Curve A) where
+  short-opposite : (D : Pair P) → A .len (D .u) ≤ 1 → opposite C D ≡ D
+  unfolding opposite
+  short-opposite D h = rw (le-ltb 1 (A .len (D .u)) h, opposite)
+
+  long-opposite : (D : Pair P) → 1 < A .len (D .u) → opposite C D ≡ record { u = D .u; v = A .ring .add (D .v) (A .ring .one) }
+  unfolding opposite
+  long-opposite D h = rw (lt-ltb 1 (A .len (D .u)) h, opposite)
+
+module _ (d : ℕ) (C : Theory.Curve (𝔸 d)) (a : RowPair) (hu : InRange d (a .u)) (hv : InRange d (a .v)) where
+  pub opposite-short : row-len d (a .u) ≤ 1 → StandsPair d a (opposite C (rows-pair d a))
+  unfolding rows-pair
+  opposite-short h =
+      rw (short-opposite C (rows-pair d a) h) (record { u-stands = record { in-range = hu; stands = refl }; v-stands = record { in-range = hv; stands = refl } })
+
+  pub opposite-long :
+      {w : List ℕ} → 1 < row-len d (a .u) → Stands d w (𝔸 d .ring .add (poly d (a .v)) (poly d one-row))
+      → StandsPair d (record { u = a .u; v = w }) (opposite C (rows-pair d a))
+  unfolding rows-pair
+  opposite-long h s =
+      rw (long-opposite C (rows-pair d a) h)
+      (record {
+        u-stands = record { in-range = hu; stands = refl };
+        v-stands = record { in-range = s .in-range; stands = s .stands ∙ ap (𝔸 d .ring .add (poly d (a .v))) (one-stands d .stands) };
+      })

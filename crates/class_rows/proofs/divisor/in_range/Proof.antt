@@ -1,0 +1,58 @@
+-- `in_range` meets its contract. The invariant: the numbers below i are elements.
+use Prim.Native.Nat.{_-_, _≤_}
+use mathlib.Core.Path.{refl}
+use native.Mathlib.Omega.{arith}
+use Rattle.class_rows.proofs.CheckRows.{Below, below-none, below-more, below-all, yes-it-is, no-it-is-not}
+use Rattle.class_rows.proofs.divisor.in_range.Statement.{statement}
+use Rattle.class_rows.proofs.divisor.in_range.Tie as tie
+
+abbrev Inv-loop : tie.InvT-loop
+Inv-loop d r m i₀ i = (i ≤ 12) × Below d r i
+
+abbrev μ-loop : tie.MeasureT-loop
+μ-loop d r m i₀ i = 12 - i
+
+bound-requires : tie.Need-bound-requires Inv-loop μ-loop
+bound-requires c κs = tt
+
+loop-holds : tie.Need-loop-holds Inv-loop μ-loop
+loop-holds c = (omega arith, below-none _)
+
+mul-if1 : tie.Need-mul-if1 Inv-loop μ-loop
+mul-if1 c = omega arith
+
+array-read-if1 : tie.Need-array-read-if1 Inv-loop μ-loop
+array-read-if1 c = omega arith
+
+returns : tie.Need-returns Inv-loop μ-loop
+returns c =
+    let e = c .before .before .before .bound .ensures in
+    no-it-is-not refl (λ h. absurd (omega (arith, e, h (c .before .before .loop .i), c .if1 .taken)))
+
+add-i : tie.Need-add-i Inv-loop μ-loop
+add-i c = omega arith
+
+loop-less : tie.Need-loop-less Inv-loop μ-loop
+loop-less c = omega arith
+
+loop-again : tie.Need-loop-again Inv-loop μ-loop
+loop-again c = (omega arith, below-more _ (c .before .before .loop .inv .1) (c .before .before .before .bound .ensures) (c .if1 .left))
+
+returns-2 : tie.Need-returns-2 Inv-loop μ-loop
+returns-2 c = yes-it-is (below-all _ (c .before .loop .inv .1) (omega arith) (c .before .before .before .good .1 .0 .1 .0 .1))
+
+pub in-range-spec : {M : Type 1} → statement M
+in-range-spec =
+    tie.close
+    (tie.spec
+    Inv-loop
+    μ-loop
+    bound-requires
+    loop-holds
+    mul-if1
+    array-read-if1
+    returns
+    add-i
+    loop-less
+    loop-again
+    returns-2)

@@ -1,0 +1,61 @@
+-- `is_pair` meets its contract: each test in turn.
+use mathlib.Core.Path.{refl}
+use native.Mathlib.Omega.{arith}
+use borrow.Author.Tests.{not-true, not-false}
+use Rattle.class_rows.proofs.CheckRows.{denied, no-it-is-not, also}
+use Rattle.class_rows.proofs.divisor.is_pair.Statement.{statement}
+use Rattle.class_rows.proofs.divisor.is_pair.Tie as tie
+
+in-range-requires : tie.Need-in-range-requires
+in-range-requires c κs = tt
+
+returns : tie.Need-returns
+returns c = no-it-is-not refl (λ p. denied (c .before .in-range .ensures) (not-true _ (c .if1 .taken)) (p .u-range))
+
+in-range-requires-2 : tie.Need-in-range-requires-2
+in-range-requires-2 c κs = tt
+
+returns-2 : tie.Need-returns-2
+returns-2 c = no-it-is-not refl (λ p. denied (c .before .in-range2 .ensures) (not-true _ (c .if2 .taken)) (p .v-range))
+
+length-requires : tie.Need-length-requires
+length-requires c κs = tt
+
+returns-3 : tie.Need-returns-3
+returns-3 c = no-it-is-not refl (λ p. absurd (omega (arith, c .before .length .ensures _ (p .u-range), p .u-len, c .if3 .taken)))
+
+length-requires-2 : tie.Need-length-requires-2
+length-requires-2 c κs = tt
+
+returns-4 : tie.Need-returns-4
+returns-4 c =
+    no-it-is-not refl
+    (λ p. absurd (omega (arith, c .before .before .before .length .ensures _ (p .u-range), c .before .length2 .ensures _ (p .v-range), p .v-len, c .if4 .taken)))
+
+is-monic-requires : tie.Need-is-monic-requires
+is-monic-requires c κs =
+    let first = c .before .before .before .before .before .before in
+    first .before .in-range .ensures .0 (not-false _ (first .if1 .left))
+
+returns-5 : tie.Need-returns-5
+returns-5 c =
+    let last = c .before in
+    let long = last .before .before in
+    let second = long .before .before in
+    let first = second .before .before in
+    let u-range = first .before .in-range .ensures .0 (not-false _ (first .if1 .left)) in
+    let v-range = second .before .in-range2 .ensures .0 (not-false _ (second .if2 .left)) in
+    let n = long .before .length .ensures _ u-range in
+    let m = last .before .length2 .ensures _ v-range in
+    also (c .is-monic .ensures)
+    (λ p. record {
+      u-range = u-range;
+      v-range = v-range;
+      u-monic = p;
+      u-len = omega (arith, n, long .if3 .left);
+      v-len = omega (arith, n, m, last .if4 .left);
+    })
+    (λ p. p .u-monic)
+
+pub is-pair-spec : {M : Type 1} → statement M
+is-pair-spec = tie.close (tie.spec in-range-requires returns in-range-requires-2 returns-2 length-requires returns-3 length-requires-2 returns-4 is-monic-requires returns-5)

@@ -1,0 +1,20 @@
+-- `element::number` meets its contract: the number is that of the answer's element. Assumes nothing.
+use borrow.Author.Needs.{needs}
+use Rattle.binary_field.proofs.Replies.{element-is, no-refusal}
+use Rattle.class_rows.proofs.element.number.Statement.{statement}
+use Rattle.class_rows.proofs.element.number.Tie as tie
+
+enum-known-answer : tie.Need-enum-known-answer
+enum-known-answer c = search needs
+
+enum-told : tie.Need-enum-told
+enum-told c = search needs
+
+returns : tie.Need-returns
+returns c n e = element-is (c .before .answer .given .1) e
+
+returns-2 : tie.Need-returns-2
+returns-2 c n e = absurd (no-refusal (c .enum-told .given .1) e)
+
+pub number-spec : {M : Type 1} → statement M
+number-spec = tie.close (tie.spec enum-known-answer enum-told returns returns-2)

@@ -1,0 +1,20 @@
+-- `element::plus` meets its contract: the call is answered, with the sum. Assumes nothing.
+use mathlib.Core.Path.{_∙_}
+use Rattle.class_rows.proofs.Rows.Answers.{sum-answers, sum-is}
+use borrow.Author.Needs.{needs}
+use Rattle.class_rows.proofs.element.plus.Statement.{statement}
+use Rattle.class_rows.proofs.element.plus.Tie as tie
+
+sum-requires : tie.Need-sum-requires
+sum-requires c κs = search needs
+
+number-requires : tie.Need-number-requires
+number-requires c κs = search needs
+
+returns : tie.Need-returns
+returns c =
+    let pre = c .before .before .pre in
+    sum-is _ (pre .0) _ (pre .1) _ (pre .2) (c .number .ensures _ (c .before .sum .ensures ∙ sum-answers _ (pre .0) _ (pre .1) _ (pre .2)))
+
+pub plus-spec : {M : Type 1} → statement M
+plus-spec = tie.close (tie.spec sum-requires number-requires returns)

@@ -1,0 +1,34 @@
+-- `element::times` meets its contract: the call is answered, with the product. Assumes nothing.
+use mathlib.Core.Path.{_∙_}
+use Rattle.class_rows.proofs.Rows.Answers.{zero-times, times-zero, one-times, times-one, product-answers, product-is}
+use borrow.Author.Needs.{needs}
+use Rattle.class_rows.proofs.element.times.Statement.{statement}
+use Rattle.class_rows.proofs.element.times.Tie as tie
+
+returns : tie.Need-returns
+returns c = zero-times _ _ _ (c .if1 .taken)
+
+returns-2 : tie.Need-returns-2
+returns-2 c = times-zero _ _ _ (c .if2 .taken)
+
+returns-3 : tie.Need-returns-3
+returns-3 c = one-times _ _ _ (c .before .before .before .pre .2) (c .if3 .taken)
+
+returns-4 : tie.Need-returns-4
+returns-4 c = times-one _ _ _ (c .before .before .before .before .pre .1) (c .if4 .taken)
+
+product-requires : tie.Need-product-requires
+product-requires c κs = search needs
+
+number-requires : tie.Need-number-requires
+number-requires c κs = search needs
+
+returns-5 : tie.Need-returns-5
+returns-5 c =
+    let pre = c .before .before .before .before .before .before .pre in
+    product-is _ (pre .0) _ (pre .1) _ (pre .2) (c .number .ensures _ (c .before .product .ensures ∙ product-answers _ (pre .0) _ (pre .1) _ (pre .2)))
+
+pub times-spec : {M : Type 1} → statement M
+times-spec =
+    tie.close
+    (tie.spec returns returns-2 returns-3 returns-4 product-requires number-requires returns-5)

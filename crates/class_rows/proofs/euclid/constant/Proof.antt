@@ -1,0 +1,10 @@
+-- `constant`: the row of c and zeros stands for the constant.
+use Rattle.class_rows.proofs.Bezout.{constant-stands}
+use Rattle.class_rows.proofs.euclid.constant.Statement.{statement}
+use Rattle.class_rows.proofs.euclid.constant.Tie as tie
+
+returns : tie.Need-returns
+returns c = constant-stands (c .args .d) (c .args .c) (c .pre .1)
+
+pub constant-spec : {M : Type 1} → statement M
+constant-spec = tie.close (tie.spec returns)

@@ -1,0 +1,26 @@
+-- `substituted`: the coefficients that one step of Euclid's rule gives.
+use mathlib.Core.Path.{refl, ap}
+use borrow.Author.Needs.{needs}
+use Rattle.class_rows.specs.Field.{𝔸, poly}
+use Rattle.class_rows.proofs.Rows.Coefficients.{stands-eq}
+use Rattle.class_rows.proofs.euclid.substituted.Statement.{statement}
+use Rattle.class_rows.proofs.euclid.substituted.Tie as tie
+
+multiply-requires : tie.Need-multiply-requires
+multiply-requires c κs = search needs
+
+add-rows-requires : tie.Need-add-rows-requires
+add-rows-requires c κs = search needs
+
+returns : tie.Need-returns
+returns c =
+    let s = c .before .before .before .before .before in
+    let d = s .args .d in
+    record {
+      g-is = refl;
+      s-is = refl;
+      t-stands = stands-eq d (ap (𝔸 d .ring .add (poly d (s .args .r .s))) (c .before .multiply .ensures .stands)) (c .add-rows .ensures);
+    }
+
+pub substituted-spec : {M : Type 1} → statement M
+substituted-spec = tie.close (tie.spec multiply-requires add-rows-requires returns)

@@ -1,0 +1,122 @@
+-- `half_of_degree_3` meets its contract: the first lift is a square where t is 0, else the second lift gives one (proofs/Halving/Computed3.antt, Lifted3.antt).
+use native.Mathlib.Omega.{arith}
+use Rattle.class_rows.proofs.HalfRows.Rows.{quadratic-fits}
+use Rattle.class_rows.proofs.HalfRows.Computed3.{Computed3, first-lift-short, root-nonzero-3-square, result-3-square}
+use Rattle.class_rows.proofs.HalfRows.Lifted3.{Lifted3, root-len, result-3}
+use borrow.Author.Needs.{needs}
+use Rattle.class_rows.proofs.halving.half_of_degree_3.Statement.{statement}
+use Rattle.class_rows.proofs.halving.half_of_degree_3.Tie as tie
+
+-- what the calls of the first lift promise
+first :
+    (c : tie.After-root-of2)
+    → Computed3 (c .before .before .before .args .d) (c .before .before .before .args .t2) (c .before .before .before .args .v) (c .before .before .before .args .t4) (c .before .before .root-of .result) (c .before .first-lift .result) (c .root-of2 .result)
+first c =
+    record { rows = c .before .before .before .pre .1; r-is = c .before .before .root-of .ensures; s-is = c .before .first-lift .ensures; t-is = c .root-of2 .ensures }
+
+-- and those of the second
+second :
+    (c : tie.After-root-row)
+    → Lifted3
+    (c .before .before .before .before .before .before .before .before .before .args .d)
+    (c .before .before .before .before .before .before .before .before .before .args .t2)
+    (c .before .before .before .before .before .before .before .before .before .args .v)
+    (c .before .before .before .before .before .before .before .before .before .args .t4)
+    (c .before .before .before .before .before .before .before .before .root-of .result)
+    (c .before .before .before .before .before .before .before .first-lift .result)
+    (c .before .before .before .before .before .before .root-of2 .result)
+    (c .before .before .before .before .inverted .result)
+    (c .before .before .before .plus .result)
+    (c .before .before .root-of3 .result)
+    (c .before .second-square .result)
+    (c .root-row .result)
+second c =
+    record {
+      first = first (c .before .before .before .before .before .before);
+      t-nonzero = c .before .before .before .before .before .if1 .left;
+      i-is = c .before .before .before .before .inverted .ensures;
+      g-is = c .before .before .before .plus .ensures;
+      q-is = c .before .before .root-of3 .ensures;
+      p-is = c .before .second-square .ensures;
+      a-is = c .root-row .ensures;
+    }
+
+array-read-w3 : tie.Need-array-read-w3
+array-read-w3 c = search needs
+
+root-of-requires : tie.Need-root-of-requires
+root-of-requires c κs = (c .pre .0, c .pre .1 .w-range 3)
+
+first-lift-requires : tie.Need-first-lift-requires
+first-lift-requires c κs = search needs
+
+array-read-e : tie.Need-array-read-e
+array-read-e c = search needs
+
+root-of-requires-2 : tie.Need-root-of-requires-2
+root-of-requires-2 c κs = (c .before .before .pre .0, c .first-lift .ensures .in-range 1)
+
+quadratic-row-requires : tie.Need-quadratic-row-requires
+quadratic-row-requires c κs = search needs
+
+stepped-row-requires : tie.Need-stepped-row-requires
+stepped-row-requires c κs =
+    let h = c .before .before .before .before .before .pre .1 in
+    (c .before .before .before .before .before .pre .0, h .v-range, c .quadratic-row .ensures .in-range, h .u-range, quadratic-fits _ _ _ _ _ (c .quadratic-row .ensures) (omega (arith, h .u-len)))
+
+root-pair-requires : tie.Need-root-pair-requires
+root-pair-requires c κs = (c .before .before .before .before .before .before .pre .0, c .before .before .before .before .first-lift .ensures .in-range, c .stepped-row .ensures .in-range, root-nonzero-3-square _ _ _ _ (first (c .before .before .before)) (c .before .before .if1 .taken))
+
+returns : tie.Need-returns
+returns c = result-3-square _ _ _ _ (first (c .before .before .before .before)) (c .before .before .before .if1 .taken) (c .before .before .quadratic-row .ensures) (c .before .stepped-row .ensures) (c .root-pair .ensures)
+
+inverted-requires : tie.Need-inverted-requires
+inverted-requires c κs = search needs
+
+array-read-u1 : tie.Need-array-read-u1
+array-read-u1 c = search needs
+
+plus-requires : tie.Need-plus-requires
+plus-requires c κs = (c .before .before .before .before .before .pre .0, c .before .before .before .before .before .pre .1 .u-range 1, c .inverted .ensures .in-range)
+
+root-of-requires-3 : tie.Need-root-of-requires-3
+root-of-requires-3 c κs = search needs
+
+second-square-requires : tie.Need-second-square-requires
+second-square-requires c κs =
+    let f = first (c .before .before .before .before) in
+    (c .before .before .before .before .before .before .before .pre .0, f .rows .u-range, f .s-is .in-range, f .t-is .in-range, c .root-of3 .ensures .in-range, c .before .plus .ensures .in-range, first-lift-short _ _ _ _ f)
+
+root-row-requires : tie.Need-root-row-requires
+root-row-requires c κs = search needs
+
+second-remainder-requires : tie.Need-second-remainder-requires
+second-remainder-requires c κs =
+    let s = second c in
+    let f = s .first in
+    (c .before .before .before .before .before .before .before .before .before .pre .0, f .rows .u-range, f .rows .v-range, f .s-is .in-range, s .a-is .in-range, f .r-is .in-range, s .i-is .in-range, s .q-is .in-range, omega (arith, f .rows .u-len), root-len _ _ _ _ s)
+
+returns-2 : tie.Need-returns-2
+returns-2 c = result-3 _ _ _ _ (second (c .before)) (c .second-remainder .ensures)
+
+pub half-of-degree-3-spec : {M : Type 1} → statement M
+half-of-degree-3-spec =
+    tie.close
+    (tie.spec
+    array-read-w3
+    root-of-requires
+    first-lift-requires
+    array-read-e
+    root-of-requires-2
+    quadratic-row-requires
+    stepped-row-requires
+    root-pair-requires
+    returns
+    inverted-requires
+    array-read-u1
+    plus-requires
+    root-of-requires-3
+    second-square-requires
+    root-row-requires
+    second-remainder-requires
+    returns-2)

@@ -1,0 +1,127 @@
+-- `lifted_half_of_degree_2` meets its contract: its calls give the lift of the rule (proofs/Halving/Computed2.antt).
+use native.Mathlib.Omega.{arith}
+use Rattle.class_rows.proofs.Rows.Elements.{one-lt}
+use Rattle.class_rows.proofs.HalfRows.Rows.{quadratic-fits, quartic-fits}
+use Rattle.class_rows.proofs.HalfRows.Computed2.{Computed2, root-nonzero-2, result-2}
+use borrow.Author.Needs.{needs}
+use Rattle.class_rows.proofs.halving.lifted_half_of_degree_2.Statement.{statement}
+use Rattle.class_rows.proofs.halving.lifted_half_of_degree_2.Tie as tie
+
+-- what the calls before the last promise
+computed :
+    (c : tie.After-stepped-row)
+    → Computed2
+    (c .before .before .before .before .before .before .before .before .before .before .before .before .before .args .d)
+    (c .before .before .before .before .before .before .before .before .before .before .before .before .before .args .t2)
+    (c .before .before .before .before .before .before .before .before .before .before .before .before .before .args .v)
+    (c .before .before .before .before .before .before .before .before .before .before .before .before .before .args .t4)
+    (c .before .before .before .before .before .before .before .before .before .before .before .before .inverted .result)
+    (c .before .before .before .before .before .before .before .before .before .before .before .root-of .result)
+    (c .before .before .before .before .before .before .before .before .before .before .times .result)
+    (c .before .before .before .before .before .before .before .before .before .root-of2 .result)
+    (c .before .before .before .before .before .before .before .before .plus .result)
+    (c .before .before .before .before .before .before .before .times2 .result)
+    (c .before .before .before .before .before .before .root-of3 .result)
+    (c .before .before .before .before .before .quadratic-row .result)
+    (c .before .before .before .before .quartic-row .result)
+    (c .before .before .before .scale .result)
+    (c .before .before .scale2 .result)
+    (c .before .lifted-row .result)
+    (c .stepped-row .result)
+computed c =
+    record {
+      i-is = c .before .before .before .before .before .before .before .before .before .before .before .before .inverted .ensures;
+      k2-is = c .before .before .before .before .before .before .before .before .before .before .before .root-of .ensures;
+      y-is = c .before .before .before .before .before .before .before .before .before .before .times .ensures;
+      k1-is = c .before .before .before .before .before .before .before .before .before .root-of2 .ensures;
+      s-is = c .before .before .before .before .before .before .before .before .plus .ensures;
+      z-is = c .before .before .before .before .before .before .before .times2 .ensures;
+      k0-is = c .before .before .before .before .before .before .root-of3 .ensures;
+      k-is = c .before .before .before .before .before .quadratic-row .ensures;
+      m-is = c .before .before .before .before .quartic-row .ensures;
+      cw-is = c .before .before .before .scale .ensures;
+      ck-is = c .before .before .scale2 .ensures;
+      p-is = c .before .lifted-row .ensures;
+      q-is = c .stepped-row .ensures;
+    }
+
+array-read-u1 : tie.Need-array-read-u1
+array-read-u1 c = search needs
+
+array-read-w3 : tie.Need-array-read-w3
+array-read-w3 c = search needs
+
+array-read-w1 : tie.Need-array-read-w1
+array-read-w1 c = search needs
+
+inverted-requires : tie.Need-inverted-requires
+inverted-requires c κs = (c .pre .0, c .pre .1 .u-range 1, c .pre .2)
+
+root-of-requires : tie.Need-root-of-requires
+root-of-requires c κs = search needs
+
+times-requires : tie.Need-times-requires
+times-requires c κs = (c .before .before .pre .0, c .before .before .pre .1 .w-range 3, c .before .inverted .ensures .in-range)
+
+root-of-requires-2 : tie.Need-root-of-requires-2
+root-of-requires-2 c κs = search needs
+
+plus-requires : tie.Need-plus-requires
+plus-requires c κs = (c .before .before .before .before .pre .0, c .before .before .before .before .pre .1 .w-range 1, c .root-of2 .ensures .in-range)
+
+times-requires-2 : tie.Need-times-requires-2
+times-requires-2 c κs = search needs
+
+root-of-requires-3 : tie.Need-root-of-requires-3
+root-of-requires-3 c κs = search needs
+
+quadratic-row-requires : tie.Need-quadratic-row-requires
+quadratic-row-requires c κs = search needs
+
+quartic-row-requires : tie.Need-quartic-row-requires
+quartic-row-requires c κs = (one-lt (c .before .before .before .before .before .before .before .before .args .d), c .before .before .before .before .before .before .before .before .pre .1 .w-range 3, c .before .before .before .plus .ensures .in-range)
+
+scale-requires : tie.Need-scale-requires
+scale-requires c κs = (c .before .before .before .before .before .before .before .before .before .pre .0, c .before .before .before .before .before .before .before .before .before .pre .1 .u-range 1, c .before .before .before .before .before .before .before .before .before .pre .1 .w-range)
+
+scale-requires-2 : tie.Need-scale-requires-2
+scale-requires-2 c κs = (c .before .before .before .before .before .before .before .before .before .before .pre .0, c .before .before .before .before .before .before .before .before .before .before .pre .1 .u-range 1, c .before .before .quadratic-row .ensures .in-range)
+
+lifted-row-requires : tie.Need-lifted-row-requires
+lifted-row-requires c κs =
+    let h = c .before .before .before .before .before .before .before .before .before .before .before .pre .1 in
+    (c .before .before .before .before .before .before .before .before .before .before .before .pre .0, c .before .scale .ensures .in-range, c .scale2 .ensures .in-range, c .before .before .quartic-row .ensures .in-range, h .u-range, quartic-fits _ _ _ _ _ (c .before .before .quartic-row .ensures) (omega (arith, h .u-len)))
+
+stepped-row-requires : tie.Need-stepped-row-requires
+stepped-row-requires c κs =
+    let h = c .before .before .before .before .before .before .before .before .before .before .before .before .pre .1 in
+    (c .before .before .before .before .before .before .before .before .before .before .before .before .pre .0, h .v-range, c .before .before .before .before .quadratic-row .ensures .in-range, h .u-range, quadratic-fits _ _ _ _ _ (c .before .before .before .before .quadratic-row .ensures) (omega (arith, h .u-len)))
+
+root-pair-requires : tie.Need-root-pair-requires
+root-pair-requires c κs = (c .before .before .before .before .before .before .before .before .before .before .before .before .before .pre .0, c .before .lifted-row .ensures .in-range, c .stepped-row .ensures .in-range, root-nonzero-2 _ _ _ _ (computed c) (c .before .before .before .before .before .before .before .before .before .before .before .before .before .pre .1) (c .before .before .before .before .before .before .before .before .before .before .before .before .before .pre .2))
+
+returns : tie.Need-returns
+returns c = result-2 _ _ _ _ (computed (c .before)) (c .before .before .before .before .before .before .before .before .before .before .before .before .before .before .pre .1) (c .before .before .before .before .before .before .before .before .before .before .before .before .before .before .pre .2) (c .root-pair .ensures)
+
+pub lifted-half-of-degree-2-spec : {M : Type 1} → statement M
+lifted-half-of-degree-2-spec =
+    tie.close
+    (tie.spec
+    array-read-u1
+    array-read-w3
+    array-read-w1
+    inverted-requires
+    root-of-requires
+    times-requires
+    root-of-requires-2
+    plus-requires
+    times-requires-2
+    root-of-requires-3
+    quadratic-row-requires
+    quartic-row-requires
+    scale-requires
+    scale-requires-2
+    lifted-row-requires
+    stepped-row-requires
+    root-pair-requires
+    returns)

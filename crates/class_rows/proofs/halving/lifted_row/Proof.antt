@@ -1,0 +1,22 @@
+-- `lifted_row` meets its contract: w + k first, then the product.
+use mathlib.Core.Path.{ap}
+use Rattle.class_rows.specs.Field.{𝔸, poly}
+use Rattle.class_rows.proofs.HalfRows.Rows.{stands-eq}
+use borrow.Author.Needs.{needs}
+use Rattle.class_rows.proofs.halving.lifted_row.Statement.{statement}
+use Rattle.class_rows.proofs.halving.lifted_row.Tie as tie
+
+add-rows-requires : tie.Need-add-rows-requires
+add-rows-requires c κs = search needs
+
+add-product-requires : tie.Need-add-product-requires
+add-product-requires c κs = search needs
+
+returns : tie.Need-returns
+returns c =
+    let d = c .before .before .args .d in
+    let a = c .before .before .args in
+    stands-eq d (ap (λ z. 𝔸 d .ring .add z (𝔸 d .ring .mul (poly d (a .m)) (poly d (a .u)))) (c .before .add-rows .ensures .stands)) (c .add-product .ensures)
+
+pub lifted-row-spec : {M : Type 1} → statement M
+lifted-row-spec = tie.close (tie.spec add-rows-requires add-product-requires returns)

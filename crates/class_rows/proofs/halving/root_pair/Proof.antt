@@ -1,0 +1,20 @@
+-- `root_pair` meets its contract: the root is not 0, and v is divided by it.
+use mathlib.Core.Path.{sym, _∙_}
+use Rattle.class_rows.proofs.HalfRows.Rows.{root-pair-stands}
+use borrow.Author.Needs.{needs}
+use Rattle.class_rows.proofs.halving.root_pair.Statement.{statement}
+use Rattle.class_rows.proofs.halving.root_pair.Tie as tie
+
+root-row-requires : tie.Need-root-row-requires
+root-row-requires c κs = search needs
+
+divide-requires : tie.Need-divide-requires
+divide-requires c κs =
+    let p = c .before .pre in
+    (p .0, p .2, c .root-row .ensures .in-range, λ e. p .3 (sym (c .root-row .ensures .stands) ∙ e))
+
+returns : tie.Need-returns
+returns c = root-pair-stands _ _ _ (c .before .before .root-row .ensures) (c .before .divide .ensures .1)
+
+pub root-pair-spec : {M : Type 1} → statement M
+root-pair-spec = tie.close (tie.spec root-row-requires divide-requires returns)

@@ -1,0 +1,42 @@
+-- `second_square` meets its contract: the summands as the rows stand for them.
+use Rattle.class_rows.proofs.Rows.Elements.{zero-lt, one-lt}
+use Rattle.class_rows.proofs.HalfRows.Rows.{quartic-fits}
+use Rattle.class_rows.proofs.HalfRows.Parts3.{second-square-stands}
+use borrow.Author.Needs.{needs}
+use Rattle.class_rows.proofs.halving.second_square.Statement.{statement}
+use Rattle.class_rows.proofs.halving.second_square.Tie as tie
+
+array-read-e : tie.Need-array-read-e
+array-read-e c = search needs
+
+times-requires : tie.Need-times-requires
+times-requires c κs = search needs
+
+quadratic-row-requires : tie.Need-quadratic-row-requires
+quadratic-row-requires c κs = search needs
+
+quartic-row-requires : tie.Need-quartic-row-requires
+quartic-row-requires c κs = (zero-lt (c .before .before .args .d), one-lt (c .before .before .args .d), c .before .before .pre .5)
+
+scale-requires : tie.Need-scale-requires
+scale-requires c κs = (c .before .before .before .pre .0, c .before .before .before .pre .2 1, c .before .before .before .pre .1)
+
+lifted-row-requires : tie.Need-lifted-row-requires
+lifted-row-requires c κs =
+    let p = c .before .before .before .before .pre in
+    (p .0, c .scale .ensures .in-range, c .before .before .quadratic-row .ensures .in-range, c .before .quartic-row .ensures .in-range, p .2, quartic-fits _ _ _ _ _ (c .before .quartic-row .ensures) (p .6))
+
+returns : tie.Need-returns
+returns c = second-square-stands _ _ _ _ _ _ (c .before .before .before .before .times .ensures) (c .before .before .before .quadratic-row .ensures) (c .before .before .quartic-row .ensures) (c .before .scale .ensures) (c .lifted-row .ensures)
+
+pub second-square-spec : {M : Type 1} → statement M
+second-square-spec =
+    tie.close
+    (tie.spec
+    array-read-e
+    times-requires
+    quadratic-row-requires
+    quartic-row-requires
+    scale-requires
+    lifted-row-requires
+    returns)

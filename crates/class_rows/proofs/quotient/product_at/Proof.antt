@@ -1,0 +1,63 @@
+-- `quotient::product_at` meets its contract. The invariant: the sum is that of the terms from the coefficients of q below j.
+use Prim.Native.Nat.{_+_, _-_}
+use native.Mathlib.Omega.{arith}
+use Rattle.class_rows.proofs.QuotientRows.{Partial, partial-start, partial-turn, partial-end}
+use Rattle.class_rows.proofs.quotient.product_at.Statement.{statement}
+use Rattle.class_rows.proofs.quotient.product_at.Tie as tie
+
+abbrev Inv-loop : tie.InvT-loop
+Inv-loop d from k q b sum₀ j₀ sum j = Partial d q b k j sum
+
+abbrev μ-loop : tie.MeasureT-loop
+μ-loop d from k q b sum₀ j₀ sum j = k + 1 - j
+
+loop-holds : tie.Need-loop-holds Inv-loop μ-loop
+loop-holds c = partial-start _ (c .pre .4)
+
+mul-times : tie.Need-mul-times Inv-loop μ-loop
+mul-times c = omega arith
+
+array-read-times : tie.Need-array-read-times Inv-loop μ-loop
+array-read-times c = omega arith
+
+mul-times-2 : tie.Need-mul-times-2 Inv-loop μ-loop
+mul-times-2 c = omega arith
+
+array-read-times-2 : tie.Need-array-read-times-2 Inv-loop μ-loop
+array-read-times-2 c = omega arith
+
+times-requires : tie.Need-times-requires Inv-loop μ-loop
+times-requires c κs = let p = c .before .before .pre in (p .0, p .1 _, p .2 _)
+
+plus-requires : tie.Need-plus-requires Inv-loop μ-loop
+plus-requires c κs = (c .before .before .before .pre .0, c .before .before .loop .inv .sum-is .in-range, c .times .ensures .in-range)
+
+add-j : tie.Need-add-j Inv-loop μ-loop
+add-j c = omega arith
+
+loop-less : tie.Need-loop-less Inv-loop μ-loop
+loop-less c = omega arith
+
+loop-again : tie.Need-loop-again Inv-loop μ-loop
+loop-again c = partial-turn _ (c .before .before .before .loop .inv) (omega arith) (c .before .times .ensures) (c .plus .ensures)
+
+returns : tie.Need-returns Inv-loop μ-loop
+returns c = partial-end _ (c .before .loop .inv) (omega arith)
+
+pub product-at-spec : {M : Type 1} → statement M
+product-at-spec =
+    tie.close
+    (tie.spec
+    Inv-loop
+    μ-loop
+    loop-holds
+    mul-times
+    array-read-times
+    mul-times-2
+    array-read-times-2
+    times-requires
+    plus-requires
+    add-j
+    loop-less
+    loop-again
+    returns)

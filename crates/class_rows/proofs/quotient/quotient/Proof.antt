@@ -1,0 +1,102 @@
+-- `quotient::quotient` meets its contract. The invariant: from k on a + q b has no coefficient, and q has none below k less b's degree.
+use Prim.Native.Nat.{suc, _≤_}
+use mathlib.Core.Path.{_≡_}
+use native.Mathlib.Omega.{arith}
+use Rattle.char2_algebra.proofs.{Lead.monic-nonzero, Degree.len-nonzero}
+use Rattle.class_rows.specs.{Field.𝔸, Row.row-len}
+use Rattle.class_rows.proofs.Rows.Coefficients.{row-len-length}
+use Rattle.class_rows.proofs.QuotientRows.{Divided, divided-start, divided-turn, divided-end}
+use Rattle.class_rows.proofs.quotient.quotient.Statement.{statement}
+use Rattle.class_rows.proofs.quotient.quotient.Tie as tie
+
+abbrev Inv-loop : tie.InvT-loop
+Inv-loop d b a top q₀ k₀ q k = (k ≤ 12) × (row-len d b ≡ suc top) × Divided d a b q top k
+
+abbrev μ-loop : tie.MeasureT-loop
+μ-loop d b a top q₀ k₀ q k = k
+
+length-requires : tie.Need-length-requires Inv-loop μ-loop
+length-requires c κs = tt
+
+sub-top : tie.Need-sub-top Inv-loop μ-loop
+sub-top c =
+    let p = c .before .pre in
+    let n = c .length .ensures _ (p .2) in
+    let z = len-nonzero (𝔸 _) _ (monic-nonzero (𝔸 _) _ (p .3)) in
+    omega arith
+
+length-requires-2 : tie.Need-length-requires-2 Inv-loop μ-loop
+length-requires-2 c κs = tt
+
+loop-holds : tie.Need-loop-holds Inv-loop μ-loop
+loop-holds c =
+    let p = c .before .before .pre in
+    let n = c .before .length .ensures _ (p .2) in
+    let m = c .length2 .ensures _ (p .1) in
+    let l = row-len-length (c .before .before .args .d) (c .before .before .args .t2) 12 (c .before .before .good .1 .0 .1 .0 .1) in
+    let z = len-nonzero (𝔸 _) _ (monic-nonzero (𝔸 _) _ (p .3)) in
+    (omega arith, omega arith, divided-start _ m)
+
+sub-k : tie.Need-sub-k Inv-loop μ-loop
+sub-k c = omega arith
+
+sub-s : tie.Need-sub-s Inv-loop μ-loop
+sub-s c = omega arith
+
+add-product-at : tie.Need-add-product-at Inv-loop μ-loop
+add-product-at c = omega arith
+
+product-at-requires : tie.Need-product-at-requires Inv-loop μ-loop
+product-at-requires c κs =
+    let p = c .before .before .before .before .pre in
+    let l = c .before .loop .inv in
+    (p .0, l .2 .range, p .2, omega arith, λ i h. l .2 .blank i (omega arith))
+
+mul-plus : tie.Need-mul-plus Inv-loop μ-loop
+mul-plus c = omega arith
+
+array-read-plus : tie.Need-array-read-plus Inv-loop μ-loop
+array-read-plus c = omega arith
+
+plus-requires : tie.Need-plus-requires Inv-loop μ-loop
+plus-requires c κs = let p = c .before .before .before .before .before .pre in (p .0, p .1 _, c .product-at .ensures .in-range)
+
+mul-q : tie.Need-mul-q Inv-loop μ-loop
+mul-q c = omega arith
+
+array-write-q : tie.Need-array-write-q Inv-loop μ-loop
+array-write-q c = omega arith
+
+loop-less : tie.Need-loop-less Inv-loop μ-loop
+loop-less c = omega arith
+
+loop-again : tie.Need-loop-again Inv-loop μ-loop
+loop-again c =
+    let l = c .before .before .before .loop .inv in
+    (omega arith, l .1, divided-turn _ (l .2) (omega arith) (l .0) (c .before .before .before .before .before .before .pre .3) (l .1) (c .before .product-at .ensures) (c .plus .ensures))
+
+returns : tie.Need-returns Inv-loop μ-loop
+returns c = let l = c .before .loop .inv in divided-end _ (l .2) (omega arith) (l .1)
+
+pub quotient-spec : {M : Type 1} → statement M
+quotient-spec =
+    tie.close
+    (tie.spec
+    Inv-loop
+    μ-loop
+    length-requires
+    sub-top
+    length-requires-2
+    loop-holds
+    sub-k
+    sub-s
+    add-product-at
+    product-at-requires
+    mul-plus
+    array-read-plus
+    plus-requires
+    mul-q
+    array-write-q
+    loop-less
+    loop-again
+    returns)

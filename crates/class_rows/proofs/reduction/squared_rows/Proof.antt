@@ -1,0 +1,33 @@
+-- `squared_rows` promises the composition of a double and the quotient beside it.
+use native.Mathlib.Omega.{arith}
+use Rattle.class_rows.proofs.DoubleRows.{reduced-len, squared-nonzero, squared}
+use Rattle.class_rows.proofs.reduction.squared_rows.Statement.{statement}
+use Rattle.class_rows.proofs.reduction.squared_rows.Tie as tie
+
+square-row-requires : tie.Need-square-row-requires
+square-row-requires c κs = let p = c .before .before .pre in let l = reduced-len _ (p .1) in (p .0, p .1 .u-range, omega arith)
+
+square-row-requires-2 : tie.Need-square-row-requires-2
+square-row-requires-2 c κs = let p = c .before .before .before .pre in let l = reduced-len _ (p .1) in (p .0, p .1 .v-range, omega arith)
+
+add-rows-requires : tie.Need-add-rows-requires
+add-rows-requires c κs = let p = c .before .before .before .before .pre in (p .0, c .square-row2 .ensures .in-range, p .1 .on-curve .in-range)
+
+divide-requires : tie.Need-divide-requires
+divide-requires c κs =
+    let p = c .before .before .before .before .before .pre in
+    let s = c .before .before .square-row .ensures in
+    (p .0, c .add-rows .ensures .in-range, s .in-range, squared-nonzero _ (p .1) s)
+
+returns : tie.Need-returns
+returns c =
+    squared
+    _
+    (c .before .before .before .before .before .before .before .before .args .a)
+    (c .before .before .before .before .before .square-row .ensures)
+    (c .before .before .before .before .square-row2 .ensures)
+    (c .before .before .before .add-rows .ensures)
+    (c .before .before .divide .ensures)
+
+pub squared-rows-spec : {M : Type 1} → statement M
+squared-rows-spec = tie.close (tie.spec square-row-requires square-row-requires-2 add-rows-requires divide-requires returns)

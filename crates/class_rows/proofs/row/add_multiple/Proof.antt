@@ -1,0 +1,102 @@
+-- `row::add_multiple` meets its contract. The invariant: the numbers below shift + i are those of a + c x^shift b, the others those of a.
+-- Assumes nothing.
+use Prim.Native.Nat.{_+_, _-_, _≤_}
+use native.Mathlib.Omega.{arith}
+use Rattle.class_rows.specs.Field.{𝔸, el, poly}
+use Rattle.class_rows.specs.Row.{x-power}
+use Rattle.class_rows.proofs.Rows.Fill.{Filled, filled-start, filled-turn, filled-to, filled-end}
+use Rattle.class_rows.proofs.Rows.Coefficients.{stands-eq, self-stands}
+use Rattle.class_rows.proofs.Rows.Sums.{multiple-nought, added-below, added-turn, added-past}
+use Rattle.class_rows.proofs.row.add_multiple.Statement.{statement}
+use Rattle.class_rows.proofs.row.add_multiple.Tie as tie
+
+abbrev Inv-loop : tie.InvT-loop
+Inv-loop d c shift b n r₀ i₀ r i =
+    (i ≤ n)
+    × (shift + n ≤ 12)
+    × Filled d r (shift + i) (𝔸 d .ring .add (poly d r₀) (𝔸 d .ring .mul (𝔸 d .con (el d c)) (𝔸 d .ring .mul (x-power d shift) (poly d b)))) (poly d r₀)
+
+abbrev μ-loop : tie.MeasureT-loop
+μ-loop d c shift b n r₀ i₀ r i = n - i
+
+length-requires : tie.Need-length-requires Inv-loop μ-loop
+length-requires c κs = tt
+
+loop-holds : tie.Need-loop-holds Inv-loop μ-loop
+loop-holds c =
+    let pre = c .before .before .pre in
+    let len = c .length .ensures _ (pre .3) in
+    let room = pre .4 in
+    (omega arith, omega arith, filled-start (c .before .before .good .1 .0 .1 .0 .1) (pre .1) (λ i h. added-below _ _ _ _ _ i (omega arith)))
+
+add-j : tie.Need-add-j Inv-loop μ-loop
+add-j c = omega arith
+
+mul-plus : tie.Need-mul-plus Inv-loop μ-loop
+mul-plus c = omega arith
+
+array-read-plus : tie.Need-array-read-plus Inv-loop μ-loop
+array-read-plus c = omega arith
+
+mul-times : tie.Need-mul-times Inv-loop μ-loop
+mul-times c = omega arith
+
+array-read-times : tie.Need-array-read-times Inv-loop μ-loop
+array-read-times c = omega arith
+
+times-requires : tie.Need-times-requires Inv-loop μ-loop
+times-requires c κs = let pre = c .before .before .before .before .pre in (pre .0, pre .2, pre .3 (c .before .loop .i))
+
+plus-requires : tie.Need-plus-requires Inv-loop μ-loop
+plus-requires c κs = (c .before .before .before .before .before .pre .0, c .before .before .loop .inv .2 .range _, c .times .ensures .in-range)
+
+mul-r : tie.Need-mul-r Inv-loop μ-loop
+mul-r c = omega arith
+
+array-write-r : tie.Need-array-write-r Inv-loop μ-loop
+array-write-r c = omega arith
+
+add-i : tie.Need-add-i Inv-loop μ-loop
+add-i c = omega arith
+
+loop-less : tie.Need-loop-less Inv-loop μ-loop
+loop-less c = omega arith
+
+loop-again : tie.Need-loop-again Inv-loop μ-loop
+loop-again c =
+    let s = c .before .before .before .loop .inv .2 in (
+      omega arith,
+      omega arith,
+      filled-to (omega arith) (filled-turn s (omega arith) (added-turn _ _ _ _ _ _ (s .above _ (omega arith)) (c .before .times .ensures) (c .plus .ensures))),
+    )
+
+returns : tie.Need-returns Inv-loop μ-loop
+returns c = let pre = c .before .pre in stands-eq _ (multiple-nought _ _ _ (c .if1 .taken)) (self-stands _ _ (pre .1))
+
+returns-2 : tie.Need-returns-2 Inv-loop μ-loop
+returns-2 c =
+    let len = c .before .before .length .ensures _ (c .before .before .before .before .pre .3) in
+    filled-end (c .before .loop .inv .2) (λ i h. added-past _ _ _ _ _ (c .before .before .length .result) i (omega arith) (omega arith))
+
+pub add-multiple-spec : {M : Type 1} → statement M
+add-multiple-spec =
+    tie.close
+    (tie.spec
+    Inv-loop
+    μ-loop
+    returns
+    length-requires
+    loop-holds
+    add-j
+    mul-plus
+    array-read-plus
+    mul-times
+    array-read-times
+    times-requires
+    plus-requires
+    mul-r
+    array-write-r
+    add-i
+    loop-less
+    loop-again
+    returns-2)

@@ -1,0 +1,18 @@
+-- `row::add_rows` meets its contract: a sum is a multiple added with factor 1 and no shift. Assumes nothing.
+use native.Mathlib.Omega.{arith}
+use Rattle.class_rows.proofs.Rows.Elements.{one-lt}
+use Rattle.class_rows.proofs.Rows.Coefficients.{row-len-length, stands-eq}
+use Rattle.class_rows.proofs.Rows.Sums.{multiple-one}
+use Rattle.class_rows.proofs.row.add_rows.Statement.{statement}
+use Rattle.class_rows.proofs.row.add_rows.Tie as tie
+
+add-multiple-requires : tie.Need-add-multiple-requires
+add-multiple-requires c κs =
+    let len = row-len-length (c .args .d) (c .args .b) 12 (c .good .1 .1 .0 .1 .0 .1) in
+    (c .pre .0, c .pre .1, one-lt _, c .pre .2, omega arith)
+
+returns : tie.Need-returns
+returns c = stands-eq _ (multiple-one _ _ _) (c .add-multiple .ensures)
+
+pub add-rows-spec : {M : Type 1} → statement M
+add-rows-spec = tie.close (tie.spec add-multiple-requires returns)

@@ -1,0 +1,134 @@
+-- `row::divide` meets its contract. The invariant: a = q b + r, and r has no numbers from k on. Assumes nothing.
+use Prim.Native.Nat.{_-_, _≤_}
+use native.Mathlib.Omega.{arith}
+use Rattle.class_rows.specs.Field.{poly}
+use Rattle.class_rows.proofs.Rows.Length.{length-le}
+use Rattle.class_rows.proofs.Rows.Lead.{length-pos, Leads, leads, low-range, low-len}
+use Rattle.class_rows.proofs.Rows.Divide.{divisor, Dividing, dividing-start, struck-range, dividing-turn, quotient-stands, remainder-stands}
+use Rattle.class_rows.proofs.row.divide.Statement.{statement}
+use Rattle.class_rows.proofs.row.divide.Tie as tie
+
+abbrev Inv-loop : tie.InvT-loop
+Inv-loop d top inverse low q₀ r₀ k₀ q r k = (k ≤ 12) × Dividing d low top inverse (poly d r₀) q r k
+
+abbrev μ-loop : tie.MeasureT-loop
+μ-loop d top inverse low q₀ r₀ k₀ q r k = k
+
+length-requires : tie.Need-length-requires Inv-loop μ-loop
+length-requires c κs = tt
+
+sub-top : tie.Need-sub-top Inv-loop μ-loop
+sub-top c = length-pos _ _ (c .length .ensures _ (c .before .pre .2)) (c .before .pre .3)
+
+-- the leading number of b stands at top
+at-top : (c : tie.After-length Inv-loop μ-loop) → Leads (c .before .args .d) (c .before .args .t3) (c .length .result - 1)
+at-top c = leads _ _ (c .before .good .1 .1 .0 .1 .0 .1) (c .before .pre .2) (c .length .ensures _ (c .before .pre .2)) (c .before .pre .3)
+
+mul-inverted : tie.Need-mul-inverted Inv-loop μ-loop
+mul-inverted c = let s = at-top c in omega (arith, s .top-lt)
+
+array-read-inverted : tie.Need-array-read-inverted Inv-loop μ-loop
+array-read-inverted c = let s = at-top c in omega (arith, s .top-lt)
+
+inverted-requires : tie.Need-inverted-requires Inv-loop μ-loop
+inverted-requires c κs = let s = at-top c in (c .before .pre .0, s .range _, s .nonzero)
+
+mul-low : tie.Need-mul-low Inv-loop μ-loop
+mul-low c = let s = at-top (c .before) in omega (arith, s .top-lt)
+
+array-write-low : tie.Need-array-write-low Inv-loop μ-loop
+array-write-low c = let s = at-top (c .before) in omega (arith, s .top-lt)
+
+length-requires-2 : tie.Need-length-requires-2 Inv-loop μ-loop
+length-requires-2 c κs = tt
+
+loop-holds : tie.Need-loop-holds Inv-loop μ-loop
+loop-holds c =
+    let pre = c .before .before .before .pre in
+    let size = c .before .before .before .good .1 .0 .1 .0 .1 in
+    let len = c .length2 .ensures _ (pre .1) in
+    (length-le _ _ len size, dividing-start size (pre .1) len)
+
+sub-k : tie.Need-sub-k Inv-loop μ-loop
+sub-k c = omega arith
+
+mul-times : tie.Need-mul-times Inv-loop μ-loop
+mul-times c = omega arith
+
+array-read-times : tie.Need-array-read-times Inv-loop μ-loop
+array-read-times c = omega arith
+
+times-requires : tie.Need-times-requires Inv-loop μ-loop
+times-requires c κs =
+    (c .before .before .before .before .before .pre .0, c .before .loop .inv .1 .r-range _, c .before .before .before .inverted .ensures .in-range)
+
+sub-s : tie.Need-sub-s Inv-loop μ-loop
+sub-s c = omega arith
+
+mul-q : tie.Need-mul-q Inv-loop μ-loop
+mul-q c = omega arith
+
+array-write-q : tie.Need-array-write-q Inv-loop μ-loop
+array-write-q c = omega arith
+
+mul-r : tie.Need-mul-r Inv-loop μ-loop
+mul-r c = omega arith
+
+array-write-r : tie.Need-array-write-r Inv-loop μ-loop
+array-write-r c = omega arith
+
+add-multiple-requires : tie.Need-add-multiple-requires Inv-loop μ-loop
+add-multiple-requires c κs =
+    let s = at-top (c .before .before .before .before .before) in
+    let v = c .before .before .loop .inv .1 in (
+      c .before .before .before .before .before .before .pre .0,
+      struck-range v (c .before .loop-test .taken) (c .before .before .loop .inv .0),
+      c .times .ensures .in-range,
+      low-range s,
+      omega (arith, low-len s, c .before .before .loop .inv .0, c .before .loop-test .taken),
+    )
+
+loop-less : tie.Need-loop-less Inv-loop μ-loop
+loop-less c = omega arith
+
+loop-again : tie.Need-loop-again Inv-loop μ-loop
+loop-again c =
+    let at = c .before .before .before .before .before .before in
+    let v = c .before .before .before .loop .inv in
+    (omega arith, dividing-turn (v .1) (c .before .before .loop-test .taken) (v .0) (low-len (at-top at)) (c .before .times .ensures) (c .add-multiple .ensures) (c .add-multiple .ok .1 .0 .1))
+
+returns : tie.Need-returns Inv-loop μ-loop
+returns c =
+    let at = at-top (c .before .before .before .before) in
+    let w = divisor at (c .before .before .before .inverted .ensures) in
+    let v = c .before .loop .inv .1 in
+    (quotient-stands v w (c .loop-test .left) (at .len), remainder-stands v w (c .loop-test .left) (at .len))
+
+pub divide-spec : {M : Type 1} → statement M
+divide-spec =
+    tie.close
+    (tie.spec
+    Inv-loop
+    μ-loop
+    length-requires
+    sub-top
+    mul-inverted
+    array-read-inverted
+    inverted-requires
+    mul-low
+    array-write-low
+    length-requires-2
+    loop-holds
+    sub-k
+    mul-times
+    array-read-times
+    times-requires
+    sub-s
+    mul-q
+    array-write-q
+    mul-r
+    array-write-r
+    add-multiple-requires
+    loop-less
+    loop-again
+    returns)

@@ -1,0 +1,63 @@
+-- `row::multiply` meets its contract. The invariant: the row stands for the part of a below x^i, times b. Assumes nothing.
+use Prim.Native.Nat.{_-_, _≤_}
+use native.Mathlib.Omega.{arith}
+use Rattle.class_rows.proofs.Rows.Length.{length-le}
+use Rattle.class_rows.proofs.Rows.Multiply.{Partial, partial-start, partial-turn, partial-end}
+use Rattle.class_rows.proofs.row.multiply.Statement.{statement}
+use Rattle.class_rows.proofs.row.multiply.Tie as tie
+
+abbrev Inv-loop : tie.InvT-loop
+Inv-loop d b a n r₀ i₀ r i = (i ≤ n) × (n ≤ 12) × Partial d a b r i
+
+abbrev μ-loop : tie.MeasureT-loop
+μ-loop d b a n r₀ i₀ r i = n - i
+
+length-requires : tie.Need-length-requires Inv-loop μ-loop
+length-requires c κs = tt
+
+loop-holds : tie.Need-loop-holds Inv-loop μ-loop
+loop-holds c =
+    (omega arith, length-le _ _ (c .length .ensures _ (c .before .pre .1)) (c .before .good .1 .0 .1 .0 .1), partial-start)
+
+mul-add-multiple : tie.Need-mul-add-multiple Inv-loop μ-loop
+mul-add-multiple c = omega arith
+
+array-read-add-multiple : tie.Need-array-read-add-multiple Inv-loop μ-loop
+array-read-add-multiple c = omega arith
+
+add-multiple-requires : tie.Need-add-multiple-requires Inv-loop μ-loop
+add-multiple-requires c κs =
+    let pre = c .before .before .before .pre in
+    let len = c .before .before .length .ensures _ (pre .1) in
+    let room = pre .3 in
+    (pre .0, c .before .loop .inv .2 .range, pre .1 _, pre .2, omega arith)
+
+add-i : tie.Need-add-i Inv-loop μ-loop
+add-i c = omega arith
+
+loop-less : tie.Need-loop-less Inv-loop μ-loop
+loop-less c = omega arith
+
+loop-again : tie.Need-loop-again Inv-loop μ-loop
+loop-again c = (omega arith, omega arith, partial-turn (c .before .before .loop .inv .2) (c .add-multiple .ensures))
+
+returns : tie.Need-returns Inv-loop μ-loop
+returns c =
+    let len = c .before .before .length .ensures _ (c .before .before .before .pre .1) in
+    partial-end (c .before .loop .inv .2) (omega arith)
+
+pub multiply-spec : {M : Type 1} → statement M
+multiply-spec =
+    tie.close
+    (tie.spec
+    Inv-loop
+    μ-loop
+    length-requires
+    loop-holds
+    mul-add-multiple
+    array-read-add-multiple
+    add-multiple-requires
+    add-i
+    loop-less
+    loop-again
+    returns)

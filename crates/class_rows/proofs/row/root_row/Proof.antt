@@ -1,0 +1,85 @@
+-- `row::root_row` meets its contract. The invariant: the numbers below i are those of the square root, the others 0. Assumes nothing.
+use Prim.Native.Nat.{_-_, _≤_}
+use mathlib.Core.Path.{refl, sym, _∙_}
+use native.Mathlib.Omega.{arith}
+use lib.ListN.{replicate}
+use Rattle.char2_algebra.specs.Square.{sqrt}
+use Rattle.class_rows.specs.Field.{𝔸, poly}
+use Rattle.class_rows.proofs.Rows.Length.{length-le}
+use Rattle.class_rows.proofs.Rows.Fill.{Filled, zeros-range, coeff-zeros, filled-start, filled-turn, filled-end}
+use Rattle.class_rows.proofs.Rows.Squares.{root-at, root-past}
+use Rattle.class_rows.proofs.row.root_row.Statement.{statement}
+use Rattle.class_rows.proofs.row.root_row.Tie as tie
+
+abbrev Inv-loop : tie.InvT-loop
+Inv-loop d a n r₀ i₀ r i =
+    (i ≤ n) × (n ≤ 12) × Filled d r i (sqrt (𝔸 d) (poly d a)) (poly d (replicate 12 0))
+
+abbrev μ-loop : tie.MeasureT-loop
+μ-loop d a n r₀ i₀ r i = n - i
+
+length-requires : tie.Need-length-requires Inv-loop μ-loop
+length-requires c κs = tt
+
+loop-holds : tie.Need-loop-holds Inv-loop μ-loop
+loop-holds c = (
+  omega arith,
+  length-le _ _ (c .length .ensures _ (c .before .pre .1)) (c .before .good .1 .0 .1 .0 .1),
+  filled-start refl (zeros-range _ 12) (λ i h. absurd (omega arith)),
+)
+
+add-loop : tie.Need-add-loop Inv-loop μ-loop
+add-loop c = omega arith
+
+add-root-of : tie.Need-add-root-of Inv-loop μ-loop
+add-root-of c = omega arith
+
+mul-root-of : tie.Need-mul-root-of Inv-loop μ-loop
+mul-root-of c = omega arith
+
+array-read-root-of : tie.Need-array-read-root-of Inv-loop μ-loop
+array-read-root-of c = omega arith
+
+root-of-requires : tie.Need-root-of-requires Inv-loop μ-loop
+root-of-requires c κs = let pre = c .before .before .before .pre in (pre .0, pre .1 _)
+
+mul-r : tie.Need-mul-r Inv-loop μ-loop
+mul-r c = omega arith
+
+array-write-r : tie.Need-array-write-r Inv-loop μ-loop
+array-write-r c = omega arith
+
+add-i : tie.Need-add-i Inv-loop μ-loop
+add-i c = omega arith
+
+loop-less : tie.Need-loop-less Inv-loop μ-loop
+loop-less c = omega arith
+
+loop-again : tie.Need-loop-again Inv-loop μ-loop
+loop-again c =
+    (omega arith, omega arith, filled-turn (c .before .before .loop .inv .2) (omega arith) (root-at _ _ _ (c .root-of .ensures)))
+
+returns : tie.Need-returns Inv-loop μ-loop
+returns c =
+    let len = c .before .before .length .ensures _ (c .before .before .before .pre .1) in
+    filled-end (c .before .loop .inv .2) (λ i h. coeff-zeros _ 12 i ∙ sym (root-past _ _ i (omega arith)))
+
+pub root-row-spec : {M : Type 1} → statement M
+root-row-spec =
+    tie.close
+    (tie.spec
+    Inv-loop
+    μ-loop
+    length-requires
+    loop-holds
+    add-loop
+    add-root-of
+    mul-root-of
+    array-read-root-of
+    root-of-requires
+    mul-r
+    array-write-r
+    add-i
+    loop-less
+    loop-again
+    returns)

@@ -1,0 +1,71 @@
+-- `row::scale` meets its contract. The invariant: the numbers below i are those of c a, the others those of a. Assumes nothing.
+use Prim.Native.Nat.{_-_, _≤_}
+use native.Mathlib.Omega.{arith}
+use Rattle.class_rows.specs.Field.{𝔸, el, poly}
+use Rattle.class_rows.proofs.Rows.Length.{length-le}
+use Rattle.class_rows.proofs.Rows.Fill.{Filled, filled-start, filled-turn, filled-end}
+use Rattle.class_rows.proofs.Rows.Sums.{scaled-at, scaled-past}
+use Rattle.class_rows.proofs.row.scale.Statement.{statement}
+use Rattle.class_rows.proofs.row.scale.Tie as tie
+
+abbrev Inv-loop : tie.InvT-loop
+Inv-loop d c a n r₀ i₀ r i = (i ≤ n) × (n ≤ 12) × Filled d r i (𝔸 d .ring .mul (𝔸 d .con (el d c)) (poly d a)) (poly d a)
+
+abbrev μ-loop : tie.MeasureT-loop
+μ-loop d c a n r₀ i₀ r i = n - i
+
+length-requires : tie.Need-length-requires Inv-loop μ-loop
+length-requires c κs = tt
+
+loop-holds : tie.Need-loop-holds Inv-loop μ-loop
+loop-holds c =
+    let size = c .before .good .1 .1 .0 .1 .0 .1 in
+    (omega arith, length-le _ _ (c .length .ensures _ (c .before .pre .2)) size, filled-start size (c .before .pre .2) (λ i h. absurd (omega arith)))
+
+mul-times : tie.Need-mul-times Inv-loop μ-loop
+mul-times c = omega arith
+
+array-read-times : tie.Need-array-read-times Inv-loop μ-loop
+array-read-times c = omega arith
+
+times-requires : tie.Need-times-requires Inv-loop μ-loop
+times-requires c κs = let pre = c .before .before .before .pre in (pre .0, pre .1, pre .2 (c .before .loop .i))
+
+mul-r : tie.Need-mul-r Inv-loop μ-loop
+mul-r c = omega arith
+
+array-write-r : tie.Need-array-write-r Inv-loop μ-loop
+array-write-r c = omega arith
+
+add-i : tie.Need-add-i Inv-loop μ-loop
+add-i c = omega arith
+
+loop-less : tie.Need-loop-less Inv-loop μ-loop
+loop-less c = omega arith
+
+loop-again : tie.Need-loop-again Inv-loop μ-loop
+loop-again c =
+    (omega arith, omega arith, filled-turn (c .before .before .loop .inv .2) (omega arith) (scaled-at _ _ _ _ (c .times .ensures)))
+
+returns : tie.Need-returns Inv-loop μ-loop
+returns c =
+    let len = c .before .before .length .ensures _ (c .before .before .before .pre .2) in
+    filled-end (c .before .loop .inv .2) (λ i h. scaled-past _ _ _ i (omega arith))
+
+pub scale-spec : {M : Type 1} → statement M
+scale-spec =
+    tie.close
+    (tie.spec
+    Inv-loop
+    μ-loop
+    length-requires
+    loop-holds
+    mul-times
+    array-read-times
+    times-requires
+    mul-r
+    array-write-r
+    add-i
+    loop-less
+    loop-again
+    returns)

@@ -1,0 +1,81 @@
+-- `row::square_row` meets its contract. The invariant: the numbers below 2 i are those of a², the others 0. Assumes nothing.
+use Prim.Native.Nat.{_+_, _-_, _≤_}
+use mathlib.Core.Path.{refl, sym, _∙_}
+use native.Mathlib.Omega.{arith}
+use lib.ListN.{replicate}
+use Rattle.class_rows.specs.Field.{𝔸, poly}
+use Rattle.class_rows.proofs.Rows.Fill.{Filled, zeros-range, coeff-zeros, filled-start, filled-turn, filled-skip, filled-to, filled-end}
+use Rattle.class_rows.proofs.Rows.Squares.{squared-at, squared-odd, squared-past}
+use Rattle.class_rows.proofs.row.square_row.Statement.{statement}
+use Rattle.class_rows.proofs.row.square_row.Tie as tie
+
+abbrev Inv-loop : tie.InvT-loop
+Inv-loop d a n r₀ i₀ r i =
+    (i ≤ n) × (n ≤ 6) × Filled d r (i + i) (𝔸 d .ring .mul (poly d a) (poly d a)) (poly d (replicate 12 0))
+
+abbrev μ-loop : tie.MeasureT-loop
+μ-loop d a n r₀ i₀ r i = n - i
+
+length-requires : tie.Need-length-requires Inv-loop μ-loop
+length-requires c κs = tt
+
+loop-holds : tie.Need-loop-holds Inv-loop μ-loop
+loop-holds c =
+    let len = c .length .ensures _ (c .before .pre .1) in
+    let room = c .before .pre .2 in
+    (omega arith, omega arith, filled-start refl (zeros-range _ 12) (λ i h. absurd (omega arith)))
+
+mul-squared : tie.Need-mul-squared Inv-loop μ-loop
+mul-squared c = omega arith
+
+array-read-squared : tie.Need-array-read-squared Inv-loop μ-loop
+array-read-squared c = omega arith
+
+squared-requires : tie.Need-squared-requires Inv-loop μ-loop
+squared-requires c κs = let pre = c .before .before .before .pre in (pre .0, pre .1 (c .before .loop .i))
+
+add-r : tie.Need-add-r Inv-loop μ-loop
+add-r c = omega arith
+
+mul-r : tie.Need-mul-r Inv-loop μ-loop
+mul-r c = omega arith
+
+array-write-r : tie.Need-array-write-r Inv-loop μ-loop
+array-write-r c = omega arith
+
+add-i : tie.Need-add-i Inv-loop μ-loop
+add-i c = omega arith
+
+loop-less : tie.Need-loop-less Inv-loop μ-loop
+loop-less c = omega arith
+
+loop-again : tie.Need-loop-again Inv-loop μ-loop
+loop-again c = (
+  omega arith,
+  omega arith,
+  filled-to (omega arith) (filled-skip (filled-turn (c .before .before .loop .inv .2) (omega arith) (squared-at _ _ _ (c .squared .ensures))) (coeff-zeros _ 12 _ ∙ sym (squared-odd _ _ _))),
+)
+
+returns : tie.Need-returns Inv-loop μ-loop
+returns c =
+    let len = c .before .before .length .ensures _ (c .before .before .before .pre .1) in
+    filled-end (c .before .loop .inv .2) (λ i h. coeff-zeros _ 12 i ∙ sym (squared-past _ _ (c .before .before .length .result) i (omega arith) (omega arith)))
+
+pub square-row-spec : {M : Type 1} → statement M
+square-row-spec =
+    tie.close
+    (tie.spec
+    Inv-loop
+    μ-loop
+    length-requires
+    loop-holds
+    mul-squared
+    array-read-squared
+    squared-requires
+    add-r
+    mul-r
+    array-write-r
+    add-i
+    loop-less
+    loop-again
+    returns)

