@@ -14,8 +14,10 @@ use Rattle.history.specs.Calls.{Call, OnlyCommits, last, newest, classes, seals
 use Rattle.history.specs.declared.Register.{Register}
 use Rattle.history.proofs.{TakingBack.Fits, WalkingBack.walk-steps}
 use Rattle.stored_form.specs.{Number.Bytes, Reading.found, Fields.printable}
-use Rattle.walk_archive.specs.{Archive.Archive, Archive.read-archive, Walk.seal-before, Walk.seals, Written.archive-bytes}
-use Rattle.walk_archive.proofs.{ArchiveRoundTrips.archive-read-back, ArchiveBytes.archive-is-bytes, Kept.kept-archive, Kept.kept-storable}
+use Rattle.archive_reader.specs.{Archive.Archive, Archive.read-archive, Written.archive-bytes}
+use Rattle.archive_reader.proofs.{ArchiveRoundTrips.archive-read-back, ArchiveBytes.archive-is-bytes}
+use Rattle.walk_archive.specs.Walk.{seal-before, seals}
+use Rattle.walk_archive.proofs.Kept.{kept-archive, kept-storable}
 
 -- the seals of a walk are the last one and what its steps answer
 seals-steps : (c : Curve) (seal : Class) (ops : List Class) → seals c seal ops ≡ seal ∷ map (λ (x : Reply). x .class) (steps-back c seal ops)

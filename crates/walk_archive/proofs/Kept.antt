@@ -14,8 +14,8 @@ use Rattle.history.specs.declared.Register.{Register}
 use Rattle.history.proofs.{Registers.register-passes, Chain.answer-fits, TakingBack.Fits, TakingBack.last-curve}
 use Rattle.history.proofs.{Preserved.last-passes, Preserved.accepted-classes, WalkingBack.accepted-few}
 use Rattle.stored_form.specs.Fields.{printable}
-use Rattle.walk_archive.specs.Archive.{Archive}
-use Rattle.walk_archive.specs.Written.{Allowed, Storable}
+use Rattle.archive_reader.specs.Archive.{Archive}
+use Rattle.archive_reader.specs.Written.{Allowed, Storable}
 
 -- ---- rows of three
 

@@ -10,10 +10,11 @@ use lib.Seq.{sets, sets-eq, length-take-le}
 use borrow.Author.Tests.{lt-ltb, le-ltb}
 use Rattle.stored_form.specs.{Number.part, Reading.found, Reading.refused}
 use Rattle.jacobian.specs.declared.{Curve.Curve, Class.Class}
-use Rattle.walk_archive.specs.declared.reader.Opening.{Opening}
-use Rattle.walk_archive.specs.{Archive.operations-at, Archive.read-archive, Reader.archive-of, Reader.Accepted, Report.line, Report.first-line, Report.lines-after, Report.walk-text, Report.refusal-text, Report.text-of, Report.report, Report.room, Report.Outcome, Report.outcome, Report.report-answer, Text.Wrote, Steps.area-left, Steps.place-left, Steps.Walked, Steps.Reported}
+use Rattle.archive_reader.specs.declared.Opening.{Opening}
+use Rattle.archive_reader.specs.{Archive.operations-at, Archive.read-archive, Reader.archive-of, Reader.Accepted}
+use Rattle.walk_archive.specs.{Report.line, Report.first-line, Report.lines-after, Report.walk-text, Report.refusal-text, Report.text-of, Report.report, Report.room, Report.Outcome, Report.outcome, Report.report-answer, Text.Wrote, Steps.area-left, Steps.place-left, Steps.Walked, Steps.Reported}
 use Rattle.walk_archive.proofs.Writing.{sets-both, wrote-both, wrote-length}
-use Rattle.walk_archive.proofs.Readings.{newest, no-operations}
+use Rattle.archive_reader.proofs.Readings.{newest, no-operations}
 
 operations-length : (n : ℕ) (c : Curve) (s : List ℕ) (at : ℕ) {ops : List Class} {end : ℕ} → operations-at n c s at ≡ found ops end → length ops ≡ n
 operations-length zero c s at e = ap length (no-operations c s at e)

@@ -13,9 +13,10 @@ use Rattle.stored_form.specs.declared.Cursor.{Cursor}
 use Rattle.stored_form.specs.declared.classes.Place.{Place}
 use Rattle.stored_form.specs.declared.classes.Place.the-variants as place
 use Rattle.walk_archive.specs.declared.walk.Walk.{Walk}
-use Rattle.walk_archive.specs.{Archive.operations-at, Walk.seal-before, Walk.letter, Report.line, Report.lines-after, Text.Wrote, Steps.area-left, Steps.place-left, Steps.Moved, Steps.Stepped, Steps.Walked}
+use Rattle.archive_reader.specs.Archive.{operations-at}
+use Rattle.walk_archive.specs.{Walk.seal-before, Walk.letter, Report.line, Report.lines-after, Text.Wrote, Steps.area-left, Steps.place-left, Steps.Moved, Steps.Stepped, Steps.Walked}
 use Rattle.walk_archive.proofs.Writing.{sets-both, wrote-length}
-use Rattle.walk_archive.proofs.Readings.{Newest, newest, no-operations}
+use Rattle.archive_reader.proofs.Readings.{Newest, newest, no-operations}
 
 lines-step : (c : Curve) (k : ℕ) (seal a : Class) {ops older : List Class} {m : ℕ} {before : Class} → ops ≡ a ∷ older → m ≡ letter c a older → before ≡ seal-before c seal a →
     lines-after c k seal ops ≡ line (k + 1) m before ++ lines-after c (k + 1) before older

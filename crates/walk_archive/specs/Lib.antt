@@ -1,9 +1,6 @@
--- An archive as it is read, its walk, and the bytes of the walk report.
-pub mod Archive
-pub mod Reader
+-- The walk of an archive, and the bytes of the walk report.
 pub mod Walk
 pub mod Report
 pub mod Text
 pub mod Steps
-pub mod Written
 pub mod Numerals

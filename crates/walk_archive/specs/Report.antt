@@ -7,7 +7,7 @@ use lib.Dec.{ltb}
 use Rattle.stored_form.specs.Reading.{Reading, found, refused}
 use Rattle.jacobian.specs.declared.Curve.{Curve}
 use Rattle.jacobian.specs.declared.Class.{Class}
-use Rattle.walk_archive.specs.Archive.{Archive, read-archive}
+use Rattle.archive_reader.specs.Archive.{Archive, read-archive}
 use Rattle.walk_archive.specs.Walk.{seal-before, letter}
 
 -- ---- numbers

@@ -7,10 +7,10 @@ use lib.Seq.{sets}
 use Rattle.stored_form.specs.Reading.{found}
 use Rattle.jacobian.specs.declared.Curve.{Curve}
 use Rattle.jacobian.specs.declared.Class.{Class}
-use Rattle.walk_archive.specs.declared.reader.Opening.{Opening}
+use Rattle.archive_reader.specs.declared.Opening.{Opening}
 use Rattle.walk_archive.specs.declared.walk.Walk.{Walk}
-use Rattle.walk_archive.specs.Archive.{operations-at}
-use Rattle.walk_archive.specs.Reader.{archive-of}
+use Rattle.archive_reader.specs.Archive.{operations-at}
+use Rattle.archive_reader.specs.Reader.{archive-of}
 use Rattle.walk_archive.specs.Report.{lines-after, walk-text}
 
 -- the lines that a walk has still to write

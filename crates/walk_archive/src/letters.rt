@@ -5,7 +5,7 @@ ghost use Prim.Native.Nat.{ℕ};
 ghost use Rattle.jacobian.specs.declared.Class.{Class as Value};
 ghost use Rattle.jacobian.specs.Answer.{opposite-answer};
 ghost use Rattle.stored_form.specs.Reading.{found};
-ghost use Rattle.walk_archive.specs.Archive.{operations-at};
+ghost use Rattle.archive_reader.specs.Archive.{operations-at};
 ghost use Rattle.walk_archive.specs.Walk.{same-row, same-class, seal-before, mark, letter};
 use jacobian::Class;
 use jacobian::Curve;

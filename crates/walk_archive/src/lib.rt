@@ -2,37 +2,16 @@
 ghost use mathlib.Core.Path.{_≡_};
 ghost use Prim.Native.Nat.{_≤_};
 ghost use lib.ListN.{length};
-ghost use Rattle.walk_archive.specs.Archive.{archive-refusal};
-ghost use Rattle.walk_archive.specs.Reader.{place-number, Bounded};
+ghost use Rattle.archive_reader.specs.Reader.{Bounded};
 ghost use Rattle.walk_archive.specs.Report.{room, outcome, report-answer};
 ghost use Rattle.walk_archive.specs.Steps.{Reported};
-use crate::reader::Opening;
 use crate::walk::Walk;
+use archive_reader::Opening;
 use stored_form::classes::Place;
 
 mod letters;
-mod reader;
 mod text;
 mod walk;
-
-// The number of a refusal, and 0 where none is.
-fn place_refusal(p: Place) -> u32
-    ensures { λ r. ⌜ r ≡ place-number p ⌝ }
-{
-    match p {
-        Place::Next(_) => 0,
-        Place::Refused(n) => n,
-    }
-}
-
-// The refusal that is due to an archive, and 0 where it is accepted.
-pub fn archive_due(s: &[u8]) -> u32
-    ensures { λ r. ⌜ r ≡ archive-refusal (now (s .entry)) ⌝ }
-{
-    let t = reader::read(s);
-    let p = t.place;
-    place_refusal(p)
-}
 
 // The report of an archive whose checks are made, in an area with room for it.
 fn put_walk(s: &[u8], out: &mut [u8], o: Opening) -> usize
@@ -68,11 +47,11 @@ pub fn report(s: &[u8], out: &mut [u8]) -> usize
     if out.len() < ROOM {
         return 0;
     }
-    let t = reader::read(s);
+    let t = archive_reader::read(s);
     let p = t.place;
     let r = t.reader;
     let Place::Next(_) = p else {
-        let n = place_refusal(p);
+        let n = stored_form::classes::place_refusal(p);
         let end = text::put_refusal(out, 0, n);
         return end;
     };

@@ -1,6 +1,6 @@
 -- `report` meets its contract.
 use Rattle.walk_archive.specs.Report.{room}
-use Rattle.walk_archive.proofs.ReaderSteps.{archive-refused, archive-accepted}
+use Rattle.archive_reader.proofs.ReaderSteps.{archive-refused, archive-accepted}
 use Rattle.walk_archive.proofs.Reports.{no-room, refusal-written, report-written}
 use borrow.Author.Needs.{needs}
 use Rattle.walk_archive.proofs.report.Statement.{statement}

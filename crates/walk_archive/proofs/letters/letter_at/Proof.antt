@@ -5,8 +5,8 @@ use Prim.Native.Nat.{ℕ, suc, _-_}
 use Rattle.jacobian.specs.Answer.{opposite-answer}
 use Rattle.jacobian.specs.declared.Class.{Class}
 use Rattle.walk_archive.specs.Walk.{same-class, mark}
-use Rattle.walk_archive.specs.Archive.{operations-at}
-use Rattle.walk_archive.proofs.Readings.{no-operations, newest, read-class}
+use Rattle.archive_reader.specs.Archive.{operations-at}
+use Rattle.archive_reader.proofs.Readings.{no-operations, newest, read-class}
 use Rattle.walk_archive.proofs.Marks.{letter-alone, letter-before}
 use borrow.Author.Needs.{needs}
 use Rattle.walk_archive.proofs.letters.letter_at.Statement.{statement}

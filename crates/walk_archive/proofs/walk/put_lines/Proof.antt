@@ -6,7 +6,7 @@ use native.Mathlib.Omega.{arith}
 use lib.ListN.{length}
 use Rattle.stored_form.specs.Reading.{found}
 use Rattle.jacobian.specs.declared.Class.{Class}
-use Rattle.walk_archive.specs.Archive.{operations-at}
+use Rattle.archive_reader.specs.Archive.{operations-at}
 use Rattle.walk_archive.specs.Steps.{Moved}
 use Rattle.walk_archive.proofs.Walks.{moved-none, moved-more, moved-end}
 use Rattle.walk_archive.proofs.walk.put_lines.Statement.{statement}

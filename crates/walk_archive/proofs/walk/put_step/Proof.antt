@@ -1,5 +1,5 @@
 -- `walk::put_step` meets its contract.
-use Rattle.walk_archive.proofs.Readings.{read-reading}
+use Rattle.archive_reader.proofs.Readings.{read-reading}
 use Rattle.walk_archive.proofs.Walks.{step-refused, step-found}
 use borrow.Author.Needs.{needs}
 use Rattle.walk_archive.proofs.walk.put_step.Statement.{statement}
