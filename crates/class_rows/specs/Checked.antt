@@ -19,7 +19,7 @@ pub record Divisor (d : ℕ) (f : List ℕ) (a : RowPair) : Type 0 where
   pub degree : Accepted d
   pub reduced : ReducedRows d f a
 
--- the rows of a class by value, or what is asked of them is not met: then the rows given come back
+-- where what is asked holds, rows that stand for the theory's pair on every curve of f; else the first pair given
 module _ (d : ℕ) (f : List ℕ) (asked : Type 0) (a : RowPair) where
   pub record GivesPair (of : Theory.Curve (𝔸 d) → Pair (Poly d)) (r : PairAnswer) : Type 0 where
     pub decides : Decides (r .divisor) asked

@@ -1,14 +1,13 @@
 // Is a pair a reduced divisor of the curve of f? The division that tells yields the cofactor w = (v² + v + f) / u besides.
-ghost use Prim.Native.Nat.{_^_};
-ghost use mathlib.Core.Path.{_≡_};
 ghost use Rattle.class_group.specs.{Curve.Curve as TheoryCurve, Mumford.value};
 ghost use Rattle.binary_field.specs.Element.{Accepted};
 ghost use Rattle.char2_algebra.specs.Lead.{Monic};
-ghost use Rattle.class_rows.specs.{Field.degree-of, Field.𝔸, Field.poly, Row.InRange, Row.Stands, Core.OnCurve};
+ghost use Rattle.class_rows.specs.{Field.𝔸, Field.poly, Row.InRange, Row.Stands, Core.OnCurve};
 ghost use Rattle.class_rows.specs.Checked.{Decides, FormedPair, FormedRows, CheckedRows, CheckedBoth};
 use crate::row::Division;
 use crate::row::RowPair;
 use crate::row::add_rows;
+use crate::row::bound;
 use crate::row::divide;
 use crate::row::length;
 use crate::row::square_row;
@@ -27,16 +26,6 @@ fn is_degree(d: u8) -> bool
         return true;
     }
     d == 5
-}
-
-// 2 to the field's degree.
-fn bound(d: u8) -> u64
-    ensures { λ r. ⌜ r ≡ 2 ^ degree-of d ⌝ }
-{
-    if d == 61 {
-        return 0x2000_0000_0000_0000;
-    }
-    0x20
 }
 
 // Is every number an element?

@@ -1,6 +1,6 @@
-// Pairs of rows of coefficients, for the calls on classes by value in the crate above: whether a pair is a divisor of the curve of the row f, and
-// the opposite, the double, the half and the sum of such pairs, and the two rules that move a seal. A function checks its rows itself; where
-// they fail the answer says so, with the rows given.
+// Pairs of rows of coefficients, for the calls on classes by value in the crate above: whether a pair is a reduced divisor of the curve of the row
+// f, the opposite, the double, the half and the sum of such pairs, and the two rules that move a seal. Each function checks its rows itself, by one
+// division for each pair, whose quotient w = (v² + v + f) / u serves the double and the half; where a check fails the answer says so.
 ghost use Rattle.class_group.specs.{Mumford.opposite, Operations.counted-double, Operations.counted-sum, Half.half, Walk.commit, Walk.undo};
 ghost use Rattle.class_rows.specs.{Row.rows-pair, Checked.Decides, Checked.Divisor, Checked.GivesPair, Checked.GivesCounted};
 

@@ -26,6 +26,16 @@ pub(crate) struct Division {
     pub remainder: [u64; 12],
 }
 
+// 2 to the field's degree: every number of a row is below it.
+pub fn bound(d: u8) -> u64
+    ensures { λ r. ⌜ r ≡ 2 ^ degree-of d ⌝ }
+{
+    if d == 61 {
+        return 0x2000_0000_0000_0000;
+    }
+    0x20
+}
+
 // The degree plus one: one past the last number that is not 0.
 pub fn length(a: [u64; 12]) -> usize
     ensures { λ r. ⌜ ((d : ℕ) → InRange d a → r ≡ row-len d a) ⌝ }

@@ -147,7 +147,7 @@ fn range_due(d: u8, a: Class) -> u32
 {
     let u = a.u;
     let v = a.v;
-    let m = curves::bound(d);
+    let m = row::bound(d);
     if !all_below(m, u) {
         return 110;
     }

@@ -1,23 +1,10 @@
 // A curve by value: its checks, and its f as a row. Nothing else names f3, f1 and f0.
-ghost use Prim.Native.Nat.{_^_};
 ghost use mathlib.Core.Path.{_≡_};
 ghost use mathlib.Core.List.{[], _∷_};
-ghost use Rattle.binary_field.specs.Element.{Accepted};
 ghost use Rattle.jacobian.specs.Checks.{unless, below};
 ghost use Rattle.jacobian.specs.Curves.{curve-refusal, f-row};
 ghost use Rattle.class_rows.specs.Row.{filled};
 use crate::Curve;
-
-// 2^d.
-pub(crate) fn bound(d: u8) -> u64
-    requires { ⌜ Accepted d ⌝ }
-    ensures { λ r. ⌜ r ≡ 2 ^ d ⌝ }
-{
-    if d == 61 {
-        return 0x2000_0000_0000_0000;
-    }
-    0x20
-}
 
 // 107 where a coefficient is m or more, else 0.
 fn coefficients_due(m: u64, c: Curve) -> u32

@@ -133,7 +133,7 @@ fn accepted(rows: RowPair) -> ClassAnswer
     }
 }
 
-// The class of a pair that was asked for on divisors, and 111 where they are none.
+// The class of a pair where the rows that it was made of are divisors, else 111.
 fn settled(divisor: bool, rows: RowPair) -> ClassAnswer
     ensures { λ r. ⌜ ((d : ℕ) (D : Pair (Poly d)) → (divisor ≡ true → StandsPair d rows D) → reply r ≡ answered d (unless divisor 111) D) ⌝ }
 {

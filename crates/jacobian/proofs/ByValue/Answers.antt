@@ -3,7 +3,7 @@ use Prim.Native.Nat.{ℕ, zero, suc}
 use mathlib.Core.Path.{_≡_, refl, sym, _∙_, ap}
 use Rattle.class_group.specs.{Mumford.Pair, Reduction.Counted}
 use Rattle.class_rows.specs.{Field.Poly}
-use Rattle.jacobian.specs.{Answer.accepted, Answer.refused, Answer.verdict-of, Answer.refusal, Answer.refusal-of-two, Answer.neutral-class, Answer.Reply, Answer.answered, Answer.CountedReply, Answer.counted-answered, declared.Curve.Curve, declared.Class.Class}
+use Rattle.jacobian.specs.{Answer.accepted, Answer.refused, Answer.verdict-of, Answer.refusal, Answer.neutral-class, Answer.Reply, Answer.answered, Answer.CountedReply, Answer.counted-answered, declared.Curve.Curve, declared.Class.Class}
 use Rattle.jacobian.proofs.ByValue.Checks.{CurvePasses, ClassPasses, then-zero, curve-passes, class-passes}
 
 pub refused-verdict : {n m : ℕ} → n ≡ m → ¬ (n ≡ 0) → refused n ≡ verdict-of m
@@ -32,15 +32,8 @@ module _ (d : ℕ) where
   pub at-refusal : (D : Pair (Poly d)) {n m : ℕ} → n ≡ m → {r : Reply} → r ≡ answered d n D → r ≡ answered d m D
   at-refusal D e h = h ∙ ap (λ k. answered d k D) e
 
-  pub at-none : (D : Pair (Poly d)) {n m : ℕ} → n ≡ m → n ≡ 0 → {r : Reply} → r ≡ answered d 0 D → r ≡ answered d m D
-  at-none D e z h = h ∙ ap (λ k. answered d k D) (sym z ∙ e)
-
   pub counted-at-refusal : (D : Counted (Poly d)) {n m : ℕ} → n ≡ m → {r : CountedReply} → r ≡ counted-answered d n D → r ≡ counted-answered d m D
   counted-at-refusal D e h = h ∙ ap (λ k. counted-answered d k D) e
-
-  pub counted-at-none :
-      (D : Counted (Poly d)) {n m : ℕ} → n ≡ m → n ≡ 0 → {r : CountedReply} → r ≡ counted-answered d 0 D → r ≡ counted-answered d m D
-  counted-at-none D e z h = h ∙ ap (λ k. counted-answered d k D) (sym z ∙ e)
 
 -- an answer without its count of steps
 abbrev pub uncounted : CountedReply → Reply
@@ -51,14 +44,7 @@ unfolding answered counted-answered
 uncounted-answered d zero D = refl
 uncounted-answered d (suc n) D = refl
 
--- the curve and the classes of a call that is not refused
+-- the curve and the class of a call that is not refused
 pub passes : (c : Curve) (a : Class) {n : ℕ} → n ≡ refusal c a → n ≡ 0 → CurvePasses c × ClassPasses c a
 unfolding refusal
 passes c a e h = let z = then-zero _ _ (sym e ∙ h) in (curve-passes c (z .0), class-passes c a (z .1))
-
-pub passes-two : (c : Curve) (a b : Class) {n : ℕ} → n ≡ refusal-of-two c a b → n ≡ 0 → CurvePasses c × ClassPasses c a × ClassPasses c b
-unfolding refusal-of-two
-passes-two c a b e h =
-    let z = then-zero _ _ (sym e ∙ h) in
-    let y = passes c a refl (z .0) in
-    (y .0, y .1, class-passes c b (z .1))

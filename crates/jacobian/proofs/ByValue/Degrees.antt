@@ -14,6 +14,3 @@ by-first false false P t h k = absurd t
 -- an accepted degree is 5 or 61
 pub by-degree : (P : ℕ → Type 0) → P 5 → P 61 → (d : ℕ) → Accepted d → P d
 by-degree P h k d t = by-first (eqb d 5) (eqb d 61) (P d) t (λ e. rw (eqb-true d 5 e) h) (λ e. rw (eqb-true d 61 e) k)
-
-pub is-five : {d : ℕ} → Accepted d → ¬ (d ≡ 61) → d ≡ 5
-is-five {d} t = by-degree (λ d. ¬ (d ≡ 61) → d ≡ 5) (λ _. refl) (λ n. absurd (n refl)) d t

@@ -1,6 +1,8 @@
 -- `range_due` meets its contract: each return by the tests that led to it.
-use mathlib.Core.Path.{sym, _∙_}
+use Prim.Native.Nat.{_^_}
+use mathlib.Core.Path.{_≡_, sym, _∙_, ap}
 use borrow.Author.{Tests.not-true, Tests.not-false, Needs.needs}
+use Rattle.class_rows.proofs.Rows.Elements.{degree-is}
 use Rattle.jacobian.specs.{Checks.unless, Classes.range-refusal}
 use Rattle.jacobian.proofs.classes.range_due.Statement.{statement}
 use Rattle.jacobian.proofs.classes.range_due.Tie as tie
@@ -8,13 +10,17 @@ use Rattle.jacobian.proofs.classes.range_due.Tie as tie
 bound-requires : tie.Need-bound-requires
 bound-requires c κs = search needs
 
+-- the field's degree is d
+bound-is : (s : tie.After-bound) → s .bound .result ≡ 2 ^ s .before .before .before .args .d
+bound-is s = s .bound .ensures ∙ ap (λ n. 2 ^ n) (degree-is _ (s .before .before .before .pre))
+
 all-below-requires : tie.Need-all-below-requires
 all-below-requires c κs = search needs
 
 returns : tie.Need-returns
 unfolding range-refusal unless
 returns c =
-    simp (← (c .before .before .bound .ensures), sym (c .before .all-below .ensures) ∙ not-true _ (c .if1 .taken))
+    simp (← (bound-is (c .before .before)), sym (c .before .all-below .ensures) ∙ not-true _ (c .if1 .taken))
 
 all-below-requires-2 : tie.Need-all-below-requires-2
 all-below-requires-2 c κs = search needs
@@ -23,7 +29,7 @@ returns-2 : tie.Need-returns-2
 unfolding range-refusal unless
 returns-2 c =
     simp (
-      ← (c .before .before .before .before .bound .ensures),
+      ← (bound-is (c .before .before .before .before)),
       sym (c .before .before .before .all-below .ensures) ∙ not-false _ (c .before .before .if1 .left),
       sym (c .before .all-below2 .ensures) ∙ not-true _ (c .if2 .taken),
     )
@@ -32,7 +38,7 @@ returns-3 : tie.Need-returns-3
 unfolding range-refusal unless
 returns-3 c =
     simp (
-      ← (c .before .before .before .before .bound .ensures),
+      ← (bound-is (c .before .before .before .before)),
       sym (c .before .before .before .all-below .ensures) ∙ not-false _ (c .before .before .if1 .left),
       sym (c .before .all-below2 .ensures) ∙ not-false _ (c .if2 .left),
     )

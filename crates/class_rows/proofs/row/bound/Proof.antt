@@ -1,8 +1,8 @@
--- `bound` meets its contract.
+-- `row::bound` meets its contract.
 use borrow.Author.Tests.{ne-eqb}
 use Rattle.class_rows.specs.Field.{degree-of}
-use Rattle.class_rows.proofs.divisor.bound.Statement.{statement}
-use Rattle.class_rows.proofs.divisor.bound.Tie as tie
+use Rattle.class_rows.proofs.row.bound.Statement.{statement}
+use Rattle.class_rows.proofs.row.bound.Tie as tie
 
 returns : tie.Need-returns
 unfolding degree-of
