@@ -372,8 +372,8 @@ int main(int words, char **word) {
     const char *names[] = {"product", "square", "square root", "inverse", "membership", "double", "half", "sum", "commit", "undo",
         "undo by bytes", "walk and report, by operation"};
     for (int operation = 0; operation <= WALK; operation++) print_line(names[operation], operation);
-    printf("  the program walkreport on %d operations takes %.0f halves, %.2f for each operation\n", KEPT,
-        program_time(word[2], word[1]) / least[HALF][PROVED], program_time(word[2], word[1]) / least[HALF][PROVED] / KEPT);
+    double program = program_time(word[2], word[1]) / least[HALF][PROVED];
+    printf("  the program walkreport on %d operations takes %.0f halves, %.2f for each operation\n", KEPT, program, program / KEPT);
     printf("  NTL's double and sum take %.2f of an undo, a plain loop of 61 turns in C %.2f of a product\n",
         least[COMMIT][NTL_LIBRARY] / least[UNDO][PROVED], least[LOOP_PRODUCT][PLAIN] / least[PRODUCT][PROVED]);
     return 0;
