@@ -7,7 +7,7 @@ use native.Mathlib.Omega.{arith}
 use lib.ListN.{length, drop, length-take}
 use Rattle.class_group.specs.Walk.{All, none, more}
 use Rattle.jacobian.specs.{Answer.refusal, declared.Curve.Curve, declared.Class.Class}
-use Rattle.stored_form.specs.{Number.Bytes, Number.part, Reading.found, Fields.drawing-place, Fields.drawing-at}
+use Rattle.stored_form.specs.{Number.Bytes, Number.part, Reading.found, Head.drawing-limit, Fields.drawing-place, Fields.drawing-at}
 use Rattle.stored_form.specs.{Fields.drawing-field, Fields.count-limit, Fields.count-field, Classes.curve-first-fields, Classes.class-at, Classes.class-field}
 use Rattle.stored_form.proofs.{Readings.then-found, Readings.both-found, Readings.same-found, Lengths.class-lengths, Lengths.operation-lengths}
 use Rattle.stored_form.proofs.RoundTrips.{Field, behind, apart, up-to, whole, is-whole, end-written, end-read-back, count-written, count-read-back, drawing-written, drawing-read-back}
@@ -59,7 +59,7 @@ module _ (c : Curve) (s : List ℕ) where
 
 -- ---- the drawing number
 
-drawing-small : (s : List ℕ) (at : ℕ) {xs : List ℕ} {next : ℕ} → drawing-at s at ≡ found xs next → length xs ≤ 255
+drawing-small : (s : List ℕ) (at : ℕ) {xs : List ℕ} {next : ℕ} → drawing-at s at ≡ found xs next → length xs ≤ drawing-limit
 unfolding drawing-at
 drawing-small s at {xs} h =
     let p = both-found _ (drawing-place s at) h in

@@ -6,7 +6,7 @@ use mathlib.Core.List.{List}
 use native.Mathlib.Omega.{arith}
 use lib.ListN.{length}
 use borrow.Author.Tests.{ltb-false}
-use Rattle.stored_form.specs.{Number.part, Number.number-of, Reading.Reading, Reading.found, Reading.refused, Reading.due, Reading._then_, Reading.number, Head.head-at, Head.body-at, Fields.printable, Fields.degree-at, Fields.drawing-place, Fields.drawing-at, Fields.count-at, Fields.count-limit, Fields.end-due, Classes.curve-at, Classes.curve-first, Classes.class-at, Classes.place-number}
+use Rattle.stored_form.specs.{Number.part, Number.number-of, Reading.Reading, Reading.found, Reading.refused, Reading.due, Reading._then_, Reading.number, Head.head-at, Head.body-at, Head.drawing-limit, Fields.printable, Fields.degree-at, Fields.drawing-place, Fields.drawing-at, Fields.count-at, Fields.count-limit, Fields.end-due, Classes.curve-at, Classes.curve-first, Classes.class-at, Classes.placed, Classes.place-number}
 use Rattle.stored_form.proofs.{Readings.then-found, Readings.then-refused, Readings.both-found, Readings.same-found, Readings.refuse-found, Readings.due-found, Readings.then-assoc, Readings.then-same, Heads.head-found, Lengths.drawing-length}
 use Rattle.jacobian.specs.declared.{Curve.Curve, Class.Class}
 use Rattle.stored_form.specs.declared.{Cursor.Cursor, Part.Part, classes.Place.Place}
@@ -14,7 +14,7 @@ use Rattle.stored_form.specs.declared.classes.Place.the-variants as place
 use Rattle.archive_reader.specs.declared.{Due.Due, Opening.Opening, Reader.Reader, Advance.Advance}
 use Rattle.archive_reader.specs.declared.Due.the-variants as awaits
 use Rattle.archive_reader.specs.Archive.{Archive, operations-at, read-archive, archive-refusal}
-use Rattle.archive_reader.specs.Reader.{reader, with-curve, with-drawing, with-count, with-seal, read-at, step, pending, reader-placed, advance-read, archive-of, Accepted, Agrees}
+use Rattle.archive_reader.specs.Reader.{reader, with-curve, with-drawing, with-count, with-seal, read-at, step, pending, advance-read, archive-of, Accepted, Agrees}
 
 -- ---- the step of a field
 
@@ -104,7 +104,7 @@ module _ (s : List ℕ) where
 
 -- ---- what was read keeps the limits
 
-count-bounded : (s : List ℕ) (at : ℕ) {k next : ℕ} → count-at s at ≡ found k next → k ≤ 1024
+count-bounded : (s : List ℕ) (at : ℕ) {k next : ℕ} → count-at s at ≡ found k next → k ≤ count-limit
 unfolding count-at count-limit
 count-bounded s at e =
     let b = both-found _ (body-at 0x42 s at) e in
@@ -112,7 +112,7 @@ count-bounded s at e =
     let same = same-found (r .1) .0 in
     omega (arith, ltb-false 1024 (number-of (b .0)) (r .0), same)
 
-pub drawing-bounded : (s : List ℕ) (at : ℕ) {p : Part} {next : ℕ} → drawing-place s at ≡ found p next → (p .len ≤ 255) × (p .start + p .len ≤ length s)
+pub drawing-bounded : (s : List ℕ) (at : ℕ) {p : Part} {next : ℕ} → drawing-place s at ≡ found p next → (p .len ≤ drawing-limit) × (p .start + p .len ≤ length s)
 unfolding drawing-place
 drawing-bounded s at {p} e =
     let head = both-found _ (head-at 0x46 s at) e in
@@ -128,10 +128,10 @@ drawing-bounded s at {p} e =
 
 -- at most as many fields
 pub fields-left : Due → Opening → ℕ
-fields-left awaits.Degree o = 1030
-fields-left (awaits.Curve d) o = 1029
-fields-left awaits.Drawing o = 1028
-fields-left awaits.Count o = 1027
+fields-left awaits.Degree o = count-limit + 6
+fields-left (awaits.Curve d) o = count-limit + 5
+fields-left awaits.Drawing o = count-limit + 4
+fields-left awaits.Count o = count-limit + 3
 fields-left awaits.Seal o = o .count + 2
 fields-left (awaits.Operations n) o = n + 1
 fields-left awaits.Nothing o = 0
@@ -214,27 +214,27 @@ module _ (s : List ℕ) where
 
       pub stopped-there : {n : ℕ} → t .place ≡ place.Refused n → Agrees s (advance-read t) (read-archive s)
       unfolding _then_
-      stopped-there {n} f = rw f (stepped (ap (λ (p : Place). reader-placed p (t .reader)) f))
+      stopped-there {n} f = rw f (stepped (ap (λ (p : Place). placed p (t .reader)) f))
 
       module _ {next : Cursor} (f : t .place ≡ place.Next next) where
         pub moved-there : Agrees s (left s (t .reader .due) (t .reader .opening) (next .at)) (read-archive s)
         unfolding _then_
-        moved-there = stepped (ap (λ (p : Place). reader-placed p (t .reader)) f)
+        moved-there = stepped (ap (λ (p : Place). placed p (t .reader)) f)
 
         pub less-there : pending (r .due) ≡ true → fields-left (t .reader .due) (t .reader .opening) < fields-left (r .due) (r .opening)
         unfolding step
-        less-there p = less-left s (r .opening) at (r .due) p (sym e ∙ ap (λ (q : Place). reader-placed q (t .reader)) f)
+        less-there p = less-left s (r .opening) at (r .due) p (sym e ∙ ap (λ (q : Place). placed q (t .reader)) f)
 
 -- ---- what a whole reading says
 
-module _ (s : List ℕ) (p : Place) (r : Reader) (h : Agrees s (reader-placed p r) (read-archive s)) where
+module _ (s : List ℕ) (p : Place) (r : Reader) (h : Agrees s (placed p r) (read-archive s)) where
   pub archive-refused : {n m : ℕ} → p ≡ place.Refused n → m ≡ place-number p → read-archive s ≡ refused m
   archive-refused e f = (rw e at h) ∙ ap refused (sym (f ∙ ap place-number e))
 
   pub archive-accepted : {next : Cursor} → p ≡ place.Next next → Accepted s (r .opening) (next .at) (read-archive s)
   archive-accepted e = rw e at h
 
-pub archive-number : (s : List ℕ) (p : Place) (r : Reader) → Agrees s (reader-placed p r) (read-archive s) → place-number p ≡ archive-refusal s
+pub archive-number : (s : List ℕ) (p : Place) (r : Reader) → Agrees s (placed p r) (read-archive s) → place-number p ≡ archive-refusal s
 unfolding archive-refusal
 archive-number s (place.Next next) r h = ap number (sym (h .archive))
 archive-number s (place.Refused n) r h = ap number (sym h)

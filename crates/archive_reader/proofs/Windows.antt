@@ -10,7 +10,7 @@ use lib.Dec.{eqb, ltb}
 use lib.ListN.{length, getD, take, drop, length-take, length-drop}
 use lib.Seq.{take-take, take-all, drop-drop, getD-take, getD-drop}
 use borrow.Author.Tests.{lt-ltb, le-ltb, ltb-true, ltb-false}
-use Rattle.stored_form.specs.{Number.part, Number.number-of, Reading.Reading, Reading.found, Reading.refused, Reading.refuse, Reading.due, Reading._then_, Head.head-at, Head.body-at, Head.body-length, Head.allowed, Head.class-length, Fields.degree-at, Fields.printable, Fields.drawing-place, Fields.count-at, Fields.count-limit, Fields.end-due, Classes.curve-at, Classes.class-at}
+use Rattle.stored_form.specs.{Number.part, Number.number-of, Reading.Reading, Reading.found, Reading.refused, Reading.refuse, Reading.due, Reading._then_, Head.head-at, Head.body-at, Head.body-length, Head.allowed, Head.drawing-limit, Head.class-length, Fields.degree-at, Fields.printable, Fields.drawing-place, Fields.count-at, Fields.count-limit, Fields.end-due, Classes.curve-at, Classes.class-at}
 use Rattle.stored_form.proofs.{Parts.drop-take, Heads.head-found, Lengths.degree-length, Lengths.curve-length, Lengths.drawing-length, Lengths.count-length, Lengths.class-lengths, Lengths.operation-lengths, Lengths.class-length-le}
 use Rattle.jacobian.specs.declared.Curve.{Curve}
 use Rattle.stored_form.specs.declared.Part.{Part}
@@ -162,7 +162,7 @@ module _ (m : ℕ) (s : List ℕ) where
   last-checks i n false h = refl
   last-checks i n true h = rw (ends-within (i + n) (h refl))
 
-  module _ (at : ℕ) (room : at + 258 ≤ m) (tag : ℕ) (short : (n : ℕ) → allowed tag n ≡ true → n ≤ 255) where
+  module _ (at : ℕ) (room : at + 258 ≤ m) (tag : ℕ) (short : (n : ℕ) → allowed tag n ≡ true → n ≤ drawing-limit) where
     head-within : head-at tag (take m s) at ≡ head-at tag s at
     unfolding head-at body-length
     head-within =

@@ -6,13 +6,12 @@ use mathlib.Core.List.{List}
 use lib.ListN.{length}
 use Rattle.stored_form.specs.Number.{part}
 use Rattle.stored_form.specs.Reading.{Reading, found, refused, due, _then_}
-use Rattle.stored_form.specs.Fields.{degree-at, drawing-place, count-at, end-due}
-use Rattle.stored_form.specs.Classes.{curve-at, class-at}
+use Rattle.stored_form.specs.Head.{drawing-limit}
+use Rattle.stored_form.specs.Fields.{degree-at, drawing-place, count-at, count-limit, end-due}
+use Rattle.stored_form.specs.Classes.{curve-at, class-at, placed}
 use Rattle.jacobian.specs.declared.Curve.{Curve}
 use Rattle.jacobian.specs.declared.Class.{Class}
 use Rattle.stored_form.specs.declared.Part.{Part}
-use Rattle.stored_form.specs.declared.classes.Place.{Place}
-use Rattle.stored_form.specs.declared.classes.Place.the-variants as place
 use Rattle.archive_reader.specs.declared.Due.{Due}
 use Rattle.archive_reader.specs.declared.Due.the-variants as awaits
 use Rattle.archive_reader.specs.declared.Opening.{Opening}
@@ -64,21 +63,17 @@ pending awaits.Seal = true
 pending (awaits.Operations n) = true
 pending awaits.Nothing = false
 
--- ---- what each case of the code's answers says
-
-abbrev pub reader-placed : Place → Reader → Reading Reader
-reader-placed (place.Next next) r = found r (next .at)
-reader-placed (place.Refused n) r = refused n
+-- ---- what the code's answer says
 
 abbrev pub advance-read : Advance → Reading Reader
-advance-read t = reader-placed (t .place) (t .reader)
+advance-read t = placed (t .place) (t .reader)
 
 -- ---- a whole archive
 
 -- an opening within the limits: the count, and the drawing number's length and place
 pub record Bounded (s : List ℕ) (o : Opening) : Type 0 where
-  pub count : o .count ≤ 1024
-  pub name : o .drawing .len ≤ 255
+  pub count : o .count ≤ count-limit
+  pub name : o .drawing .len ≤ drawing-limit
   pub within : o .drawing .start + o .drawing .len ≤ length s
 
 -- the archive that an opening and its operations make

@@ -6,7 +6,7 @@ use mathlib.Core.List.{List, [], _∷_, _++_}
 use lib.ListN.{length}
 use Rattle.class_group.specs.Walk.{All}
 use Rattle.jacobian.specs.{Curves.curve-refusal, Classes.Three, Answer.refusal, declared.Curve.Curve, declared.Class.Class}
-use Rattle.stored_form.specs.{Fields.drawing-field, Fields.count-field, Fields.printable, Fields.count-limit, Classes.curve-first-fields, Classes.class-field}
+use Rattle.stored_form.specs.{Head.drawing-limit, Fields.drawing-field, Fields.count-field, Fields.printable, Fields.count-limit, Classes.curve-first-fields, Classes.class-field}
 use Rattle.archive_reader.specs.Archive.{Archive}
 
 -- one 0x44 for each operation, newest first
@@ -32,7 +32,7 @@ pub record Allowed (c : Curve) (a : Class) : Type 0 where
 pub record Storable (a : Archive) : Type 0 where
   pub curve-allowed : curve-refusal (a .curve) ≡ 0
   pub drawing-printable : printable (a .drawing) ≡ true
-  pub drawing-short : length (a .drawing) ≤ 255
+  pub drawing-short : length (a .drawing) ≤ drawing-limit
   pub count-within : length (a .operations) ≤ count-limit
   pub seal-allowed : Allowed (a .curve) (a .seal)
   pub operations-allowed : All (Allowed (a .curve)) (a .operations)

@@ -5,7 +5,7 @@ use native.Mathlib.Decide.{ℕ-discrete}
 use mathlib.Core.Bool.{true, false}
 use lib.Dec.{eqb, lit≤}
 use borrow.Author.Tests.{ne-eqb, eqb-true, leb-true}
-use Rattle.stored_form.specs.Head.{allowed, class-length}
+use Rattle.stored_form.specs.Head.{allowed, class-length, drawing-limit}
 
 pub class-length-last : (n : ℕ) → (n ≡ 0 → ⊥) → (n ≡ 16 → ⊥) → (n ≡ 32 → ⊥) → class-length n ≡ eqb n 48
 unfolding class-length
@@ -27,7 +27,7 @@ pub count-length : {n : ℕ} → allowed 0x42 n ≡ true → n ≡ 2
 unfolding allowed
 count-length h = eqb-true _ _ h
 
-pub drawing-length : {n : ℕ} → allowed 0x46 n ≡ true → n ≤ 255
+pub drawing-length : {n : ℕ} → allowed 0x46 n ≡ true → n ≤ drawing-limit
 unfolding allowed
 drawing-length h = leb-true _ _ h
 

@@ -11,7 +11,7 @@ use lib.ListN.{length, take, drop, length-append}
 use lib.Seq.{take-take, take-length, take-all, take-append-seam, drop-append-seam}
 use borrow.Author.Tests.{eqb-true, ltb-false, le-ltb, le-leb, not-false}
 use Rattle.stored_form.specs.{Number.number-of, Number.bytes-of, Number.Bytes, Number.part, Reading.Reading, Reading.found, Reading.refuse, Reading._then_}
-use Rattle.stored_form.specs.{Head.allowed, Head.head-at, Head.body-at, Head.stored, Head.Stands, Fields.degree-at, Fields.degree-field}
+use Rattle.stored_form.specs.{Head.allowed, Head.drawing-limit, Head.head-at, Head.body-at, Head.stored, Head.Stands, Fields.degree-at, Fields.degree-field}
 use Rattle.stored_form.specs.{Fields.count-limit, Fields.count-at, Fields.count-field, Fields.printable, Fields.drawing-place, Fields.drawing-at}
 use Rattle.stored_form.specs.{Fields.drawing-field, Fields.end-due}
 use Rattle.stored_form.proofs.{Digits.bytes-number, Digits.number-bytes-small, Digits.length-bytes, Readings.then-found, Readings.both-found}
@@ -155,10 +155,10 @@ module _ (s : List ℕ) (at : ℕ) where
       let w = body-written 0x46 s at b (p .2) in
       (rw (← (e .0)) (not-false _ (q .0)), subst₂ (λ (x : List ℕ) (n : ℕ). Field s at (stored 0x46 x) n) (e .0) (e .1) (record { stands = w .stands; ends = w .ends }))
 
-  pub drawing-read-back : (xs : List ℕ) → printable xs ≡ true → length xs ≤ 255 → Stands s at (drawing-field xs) →
+  pub drawing-read-back : (xs : List ℕ) → printable xs ≡ true → length xs ≤ drawing-limit → Stands s at (drawing-field xs) →
       drawing-at s at ≡ found xs (at + length (drawing-field xs))
   unfolding drawing-field allowed
   drawing-read-back xs ok short h =
       drawing-body
-      ∙ then-found _ (body-read 0x46 s at xs (le-leb (length xs) 255 short) (omega arith) h)
+      ∙ then-found _ (body-read 0x46 s at xs (le-leb (length xs) drawing-limit short) (omega arith) h)
       ∙ rw ok

@@ -14,12 +14,16 @@ use Rattle.stored_form.specs.declared.Head.the-variants.{Body, Refused}
 unfoldable pub class-length : ℕ → Bool
 class-length n = eqb n 0 || eqb n 16 || eqb n 32 || eqb n 48
 
+-- the longest drawing number
+abbrev pub drawing-limit : ℕ
+drawing-limit = 255
+
 -- which lengths a tag allows
 unfoldable pub allowed : ℕ → ℕ → Bool
 allowed tag n =
     cond (eqb tag 0x40) (eqb n 1)
     (cond (eqb tag 0x41) (eqb n 24)
-    (cond (eqb tag 0x46) (leb n 255)
+    (cond (eqb tag 0x46) (leb n drawing-limit)
     (cond (eqb tag 0x42) (eqb n 2)
     (cond (eqb tag 0x43 || eqb tag 0x44) (class-length n)
     false))))

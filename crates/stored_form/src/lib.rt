@@ -27,6 +27,9 @@ pub const DRAWING: u8 = 0x46;
 // The most operations that a count may say.
 pub const COUNT_LIMIT: u64 = 1024;
 
+// The longest drawing number.
+pub const DRAWING_LIMIT: usize = 255;
+
 // A place in the input.
 pub struct Cursor {
     pub at: usize,
@@ -86,7 +89,7 @@ fn allows(tag: u8, len: usize) -> bool
         return len == 24;
     }
     if tag == DRAWING {
-        return len <= 255;
+        return len <= DRAWING_LIMIT;
     }
     if tag == COUNT {
         return len == 2;

@@ -13,7 +13,7 @@ use Rattle.history.specs.Register.{register-refusal}
 use Rattle.history.specs.Calls.{Call, OnlyCommits, last, newest, classes, seals-back, steps-back, met}
 use Rattle.history.specs.declared.Register.{Register}
 use Rattle.history.proofs.{TakingBack.Fits, WalkingBack.walk-steps}
-use Rattle.stored_form.specs.{Number.Bytes, Reading.found, Fields.printable}
+use Rattle.stored_form.specs.{Number.Bytes, Reading.found, Head.drawing-limit, Fields.printable}
 use Rattle.archive_reader.specs.{Archive.Archive, Archive.read-archive, Written.archive-bytes}
 use Rattle.archive_reader.proofs.{ArchiveRoundTrips.archive-read-back, ArchiveBytes.archive-is-bytes}
 use Rattle.walk_archive.specs.Walk.{seal-before, seals}
@@ -54,7 +54,7 @@ module _ (r : Register) (cs : List Call) (fits : Fits r cs) (only : OnlyCommits 
     pub reads : read-archive (archive-bytes a) ≡ found a (length (archive-bytes a))
     pub meets : seals (a .curve) (a .seal) (a .operations) ≡ seals-back r cs
 
-  pub archive-exists : register-refusal r ≡ 0 → (drawing : List ℕ) → printable drawing ≡ true → length drawing ≤ 255 →
+  pub archive-exists : register-refusal r ≡ 0 → (drawing : List ℕ) → printable drawing ≡ true → length drawing ≤ drawing-limit →
       Encodes drawing (kept-archive r cs drawing)
   unfolding kept-archive
   archive-exists passes drawing clean short =

@@ -13,7 +13,7 @@ use Rattle.history.specs.Calls.{Call, class, answer, Event, event, run, last, a
 use Rattle.history.specs.declared.Register.{Register}
 use Rattle.history.proofs.{Registers.register-passes, Chain.answer-fits, TakingBack.Fits, TakingBack.last-curve}
 use Rattle.history.proofs.{Preserved.last-passes, Preserved.accepted-classes, WalkingBack.accepted-few}
-use Rattle.stored_form.specs.Fields.{printable}
+use Rattle.stored_form.specs.{Head.drawing-limit, Fields.printable}
 use Rattle.archive_reader.specs.Archive.{Archive}
 use Rattle.archive_reader.specs.Written.{Allowed, Storable}
 
@@ -62,7 +62,7 @@ unfoldable pub kept-archive : Register → List Call → List ℕ → Archive
 kept-archive r cs drawing = record { curve = r .curve; drawing = drawing; seal = last r cs .seal; operations = classes (newest r cs) }
 
 pub kept-storable : (r : Register) (cs : List Call) → Fits r cs → OnlyCommits (newest r cs) → register-refusal r ≡ 0 →
-    (drawing : List ℕ) → printable drawing ≡ true → length drawing ≤ 255 → Storable (kept-archive r cs drawing)
+    (drawing : List ℕ) → printable drawing ≡ true → length drawing ≤ drawing-limit → Storable (kept-archive r cs drawing)
 unfolding kept-archive classes
 kept-storable r cs fits only passes drawing clean short =
     let first = register-passes r passes in

@@ -3,6 +3,7 @@ ghost use mathlib.Core.Path.{_≡_};
 ghost use mathlib.Core.List.{[], _∷_, _++_};
 ghost use Prim.Native.Nat.{_+_, _≤_, _<_};
 ghost use lib.ListN.{length};
+ghost use Rattle.stored_form.specs.Head.{drawing-limit};
 ghost use Rattle.walk_archive.specs.Text.{Wrote};
 ghost use Rattle.walk_archive.specs.Report.{digit, digits, decimal, hexadecimal, row-text, class-text, line, part-text, first-line, refusal-text};
 use jacobian::Class;
@@ -154,7 +155,7 @@ pub(crate) fn put_refusal(out: &mut [u8], at: usize, n: u32) -> usize
 
 // walk, the count and the drawing number.
 pub(crate) fn put_first_line(out: &mut [u8], at: usize, count: u64, drawing: &[u8]) -> usize
-    requires { ⌜ (at + 282 ≤ length (now out)) × (length (now drawing) ≤ 255) ⌝ }
+    requires { ⌜ (at + 282 ≤ length (now out)) × (length (now drawing) ≤ drawing-limit) ⌝ }
     ensures { λ r. ⌜ Wrote 282 (now (out .entry)) at (now (out .exit)) r (first-line count (now (drawing .entry))) ⌝ }
 {
     let word = put_bytes(out, at, b"walk ");

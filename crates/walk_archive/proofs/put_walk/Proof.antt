@@ -1,5 +1,7 @@
 -- `put_walk` meets its contract.
+use Prim.Native.Nat.{_≤_}
 use native.Mathlib.Omega.{arith}
+use Rattle.stored_form.specs.Fields.{count-limit}
 use Rattle.walk_archive.specs.Report.{room}
 use Rattle.walk_archive.proofs.Writing.{wrote-length}
 use Rattle.walk_archive.proofs.Reports.{piece-length, walk-reported}
@@ -37,12 +39,12 @@ put-line-requires c κs =
     omega (arith, start .pre .0, head .place, head .short, wrote-length head)
 
 put-lines-requires : tie.Need-put-lines-requires
-unfolding room
+unfolding room count-limit
 put-lines-requires c κs =
     let start = c .before .before .before .before .before .before .before .before .before .before .before .before .before .before .before .before .before in
     let head = c .before .before .before .before .before .before .before .put-first-line .ensures in
     let line = c .before .before .before .put-line .ensures in
-    let bound = start .pre .1 .count in
+    let bound : start .args .o .count ≤ 1024 = start .pre .1 .count in
     (omega (arith, start .pre .0, bound, head .place, head .short, wrote-length head, line .place, line .short, wrote-length line), omega (arith, bound))
 
 same-length : tie.Need-same-length
