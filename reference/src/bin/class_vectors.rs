@@ -3,7 +3,7 @@
 //!
 //! - `stored`, the cases that are kept with the program;
 //! - `thousand`, doubles and halves over GF(2^61);
-//! - `common`, six calls in the common case over GF(2^61), for bench/classes;
+//! - `common`, six calls in the common case over GF(2^61), for bench/run;
 //! - those of the sweep over every class of a curve of the bench field, which take the curve's coefficients.
 
 use reference::class_cases::{drawn, stored, sweep, Case, CurveValues};
