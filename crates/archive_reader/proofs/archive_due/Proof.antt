@@ -5,16 +5,10 @@ use borrow.Author.Needs.{needs}
 use Rattle.archive_reader.proofs.archive_due.Statement.{statement}
 use Rattle.archive_reader.proofs.archive_due.Tie as tie
 
-read-requires : tie.Need-read-requires
-read-requires c κs = search needs
-
-place-refusal-requires : tie.Need-place-refusal-requires
-place-refusal-requires c κs = search needs
-
 returns : tie.Need-returns
 returns c =
     let read = c .before .read in
     c .place-refusal .ensures ∙ archive-number _ (read .result .place) (read .result .reader) (read .ensures)
 
 pub archive-due-spec : {M : Type 1} → statement M
-archive-due-spec = tie.close (tie.spec read-requires place-refusal-requires returns)
+archive-due-spec = tie.close (tie.spec (λ c κs. search needs) (λ c κs. search needs) returns)

@@ -13,23 +13,8 @@ Inv-loop s r₀ at₀ r at = Agrees s (left s (r .due) (r .opening) at) (read-ar
 abbrev μ-loop : tie.MeasureT-loop
 μ-loop s r₀ at₀ r at = fields-left (r .due) (r .opening)
 
-start-requires : tie.Need-start-requires Inv-loop μ-loop
-start-requires c κs = tt
-
 loop-holds : tie.Need-loop-holds Inv-loop μ-loop
 loop-holds c = begun _ (c .start .result) (c .start .ensures)
-
-pending-requires : tie.Need-pending-requires Inv-loop μ-loop
-pending-requires c κs = tt
-
-step-requires : tie.Need-step-requires Inv-loop μ-loop
-step-requires c κs = tt
-
-enum-known-p : tie.Need-enum-known-p Inv-loop μ-loop
-enum-known-p c = search needs
-
-enum-told : tie.Need-enum-told Inv-loop μ-loop
-enum-told c = search needs
 
 returns : tie.Need-returns Inv-loop μ-loop
 returns c =
@@ -61,12 +46,12 @@ read-spec =
     (tie.spec
     Inv-loop
     μ-loop
-    start-requires
+    (λ c κs. tt)
     loop-holds
-    pending-requires
-    step-requires
-    enum-known-p
-    enum-told
+    (λ c κs. tt)
+    (λ c κs. tt)
+    (λ c. search needs)
+    (λ c. search needs)
     returns
     loop-less
     loop-again

@@ -7,21 +7,6 @@ use borrow.Author.Needs.{needs}
 use Rattle.archive_reader.proofs.read_count.Statement.{statement}
 use Rattle.archive_reader.proofs.read_count.Tie as tie
 
-count-at-requires : tie.Need-count-at-requires
-count-at-requires c κs = search needs
-
-enum-known-c : tie.Need-enum-known-c
-enum-known-c c = search needs
-
-stopped-requires : tie.Need-stopped-requires
-stopped-requires c κs = search needs
-
-enum-known-c-2 : tie.Need-enum-known-c-2
-enum-known-c-2 c = search needs
-
-moved-requires : tie.Need-moved-requires
-moved-requires c κs = search needs
-
 returns : tie.Need-returns
 unfolding read-at
 returns c = c .stopped .ensures ∙ sym (then-refused _ (sym (c .before .before .before .before .count-at .ensures) ∙ ap count-read (c .before .before .c .given .1)))
@@ -34,10 +19,10 @@ pub read-count-spec : {M : Type 1} → statement M
 read-count-spec =
     tie.close
     (tie.spec
-    count-at-requires
-    enum-known-c
-    stopped-requires
-    enum-known-c-2
-    moved-requires
+    (λ c κs. search needs)
+    (λ c. search needs)
+    (λ c κs. search needs)
+    (λ c. search needs)
+    (λ c κs. search needs)
     returns
     returns-2)

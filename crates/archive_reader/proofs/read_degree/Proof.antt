@@ -7,21 +7,6 @@ use borrow.Author.Needs.{needs}
 use Rattle.archive_reader.proofs.read_degree.Statement.{statement}
 use Rattle.archive_reader.proofs.read_degree.Tie as tie
 
-degree-at-requires : tie.Need-degree-at-requires
-degree-at-requires c κs = search needs
-
-enum-known-d : tie.Need-enum-known-d
-enum-known-d c = search needs
-
-stopped-requires : tie.Need-stopped-requires
-stopped-requires c κs = search needs
-
-enum-known-d-2 : tie.Need-enum-known-d-2
-enum-known-d-2 c = search needs
-
-moved-requires : tie.Need-moved-requires
-moved-requires c κs = search needs
-
 returns : tie.Need-returns
 unfolding read-at
 returns c = c .stopped .ensures ∙ sym (then-refused _ (sym (c .before .before .before .before .degree-at .ensures) ∙ ap degree-read (c .before .before .d .given .1)))
@@ -34,10 +19,10 @@ pub read-degree-spec : {M : Type 1} → statement M
 read-degree-spec =
     tie.close
     (tie.spec
-    degree-at-requires
-    enum-known-d
-    stopped-requires
-    enum-known-d-2
-    moved-requires
+    (λ c κs. search needs)
+    (λ c. search needs)
+    (λ c κs. search needs)
+    (λ c. search needs)
+    (λ c κs. search needs)
     returns
     returns-2)

@@ -7,21 +7,6 @@ use borrow.Author.Needs.{needs}
 use Rattle.archive_reader.proofs.read_drawing.Statement.{statement}
 use Rattle.archive_reader.proofs.read_drawing.Tie as tie
 
-drawing-at-requires : tie.Need-drawing-at-requires
-drawing-at-requires c κs = search needs
-
-enum-known-p : tie.Need-enum-known-p
-enum-known-p c = search needs
-
-stopped-requires : tie.Need-stopped-requires
-stopped-requires c κs = search needs
-
-enum-known-p-2 : tie.Need-enum-known-p-2
-enum-known-p-2 c = search needs
-
-moved-requires : tie.Need-moved-requires
-moved-requires c κs = search needs
-
 returns : tie.Need-returns
 unfolding read-at
 returns c = c .stopped .ensures ∙ sym (then-refused _ (sym (c .before .before .before .before .drawing-at .ensures) ∙ ap drawing-read (c .before .before .p .given .1)))
@@ -34,10 +19,10 @@ pub read-drawing-spec : {M : Type 1} → statement M
 read-drawing-spec =
     tie.close
     (tie.spec
-    drawing-at-requires
-    enum-known-p
-    stopped-requires
-    enum-known-p-2
-    moved-requires
+    (λ c κs. search needs)
+    (λ c. search needs)
+    (λ c κs. search needs)
+    (λ c. search needs)
+    (λ c κs. search needs)
     returns
     returns-2)

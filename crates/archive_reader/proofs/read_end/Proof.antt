@@ -9,12 +9,6 @@ use borrow.Author.Needs.{needs}
 use Rattle.archive_reader.proofs.read_end.Statement.{statement}
 use Rattle.archive_reader.proofs.read_end.Tie as tie
 
-end-at-requires : tie.Need-end-at-requires
-end-at-requires c κs = search needs
-
-stopped-requires : tie.Need-stopped-requires
-stopped-requires c κs = search needs
-
 returns : tie.Need-returns
 unfolding read-at
 returns c =
@@ -22,13 +16,10 @@ returns c =
     c .stopped .ensures
     ∙ sym (ap (λ (n : ℕ). due n (found (reader awaits.Nothing (a .o)) (a .at .at))) (sym (c .before .before .end-at .ensures)) ∙ due-some _ _ (c .before .if1 .taken))
 
-moved-requires : tie.Need-moved-requires
-moved-requires c κs = search needs
-
 returns-2 : tie.Need-returns-2
 unfolding read-at
 returns-2 c = c .moved .ensures ∙ sym (due-none _ _ (sym (c .before .before .end-at .ensures) ∙ c .before .if1 .left))
 
 pub read-end-spec : {M : Type 1} → statement M
 read-end-spec =
-    tie.close (tie.spec end-at-requires stopped-requires returns moved-requires returns-2)
+    tie.close (tie.spec (λ c κs. search needs) (λ c κs. search needs) returns (λ c κs. search needs) returns-2)

@@ -9,31 +9,10 @@ use borrow.Author.Needs.{needs}
 use Rattle.archive_reader.proofs.read_operation.Statement.{statement}
 use Rattle.archive_reader.proofs.read_operation.Tie as tie
 
-read-end-requires : tie.Need-read-end-requires
-read-end-requires c κs = search needs
-
 returns : tie.Need-returns
 returns c =
     let a = c .before .before .before .args in
     c .read-end .ensures ∙ ap (λ (n : ℕ). read-at (awaits.Operations n) (a .o) (a .s .now) (a .at .at)) (sym (c .before .if1 .taken))
-
-operation-at-requires : tie.Need-operation-at-requires
-operation-at-requires c κs = search needs
-
-enum-known-p : tie.Need-enum-known-p
-enum-known-p c = search needs
-
-stopped-requires : tie.Need-stopped-requires
-stopped-requires c κs = search needs
-
-enum-known-p-2 : tie.Need-enum-known-p-2
-enum-known-p-2 c = search needs
-
-sub-older : tie.Need-sub-older
-sub-older c = search needs
-
-moved-requires : tie.Need-moved-requires
-moved-requires c κs = search needs
 
 returns-2 : tie.Need-returns-2
 returns-2 c =
@@ -53,13 +32,13 @@ pub read-operation-spec : {M : Type 1} → statement M
 read-operation-spec =
     tie.close
     (tie.spec
-    read-end-requires
+    (λ c κs. search needs)
     returns
-    operation-at-requires
-    enum-known-p
-    stopped-requires
-    enum-known-p-2
-    sub-older
-    moved-requires
+    (λ c κs. search needs)
+    (λ c. search needs)
+    (λ c κs. search needs)
+    (λ c. search needs)
+    (λ c. search needs)
+    (λ c κs. search needs)
     returns-2
     returns-3)

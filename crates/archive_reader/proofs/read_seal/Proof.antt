@@ -7,21 +7,6 @@ use borrow.Author.Needs.{needs}
 use Rattle.archive_reader.proofs.read_seal.Statement.{statement}
 use Rattle.archive_reader.proofs.read_seal.Tie as tie
 
-class-at-requires : tie.Need-class-at-requires
-class-at-requires c κs = search needs
-
-enum-known-p : tie.Need-enum-known-p
-enum-known-p c = search needs
-
-stopped-requires : tie.Need-stopped-requires
-stopped-requires c κs = search needs
-
-enum-known-p-2 : tie.Need-enum-known-p-2
-enum-known-p-2 c = search needs
-
-moved-requires : tie.Need-moved-requires
-moved-requires c κs = search needs
-
 returns : tie.Need-returns
 unfolding read-at
 returns c = c .stopped .ensures ∙ sym (then-refused _ (read-refused _ (c .before .before .before .before .before .class-at .ensures) (c .before .before .p .given .1)))
@@ -34,10 +19,10 @@ pub read-seal-spec : {M : Type 1} → statement M
 read-seal-spec =
     tie.close
     (tie.spec
-    class-at-requires
-    enum-known-p
-    stopped-requires
-    enum-known-p-2
-    moved-requires
+    (λ c κs. search needs)
+    (λ c. search needs)
+    (λ c κs. search needs)
+    (λ c. search needs)
+    (λ c κs. search needs)
     returns
     returns-2)

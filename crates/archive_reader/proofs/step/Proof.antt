@@ -6,48 +6,6 @@ use borrow.Author.Needs.{needs}
 use Rattle.archive_reader.proofs.step.Statement.{statement}
 use Rattle.archive_reader.proofs.step.Tie as tie
 
-enum-told : tie.Need-enum-told
-enum-told c = search needs
-
-read-degree-requires : tie.Need-read-degree-requires
-read-degree-requires c κs = search needs
-
-enum-known-due : tie.Need-enum-known-due
-enum-known-due c = search needs
-
-read-curve-requires : tie.Need-read-curve-requires
-read-curve-requires c κs = search needs
-
-enum-told-2 : tie.Need-enum-told-2
-enum-told-2 c = search needs
-
-read-drawing-requires : tie.Need-read-drawing-requires
-read-drawing-requires c κs = search needs
-
-enum-told-3 : tie.Need-enum-told-3
-enum-told-3 c = search needs
-
-read-count-requires : tie.Need-read-count-requires
-read-count-requires c κs = search needs
-
-enum-told-4 : tie.Need-enum-told-4
-enum-told-4 c = search needs
-
-read-seal-requires : tie.Need-read-seal-requires
-read-seal-requires c κs = search needs
-
-enum-known-due-2 : tie.Need-enum-known-due-2
-enum-known-due-2 c = search needs
-
-read-operation-requires : tie.Need-read-operation-requires
-read-operation-requires c κs = search needs
-
-enum-told-5 : tie.Need-enum-told-5
-enum-told-5 c = search needs
-
-moved-requires : tie.Need-moved-requires
-moved-requires c κs = search needs
-
 returns : tie.Need-returns
 returns c =
     let a = c .before .before .before .before .before .args in
@@ -88,20 +46,20 @@ pub step-spec : {M : Type 1} → statement M
 step-spec =
     tie.close
     (tie.spec
-    enum-told
-    read-degree-requires
-    enum-known-due
-    read-curve-requires
-    enum-told-2
-    read-drawing-requires
-    enum-told-3
-    read-count-requires
-    enum-told-4
-    read-seal-requires
-    enum-known-due-2
-    read-operation-requires
-    enum-told-5
-    moved-requires
+    (λ c. search needs)
+    (λ c κs. search needs)
+    (λ c. search needs)
+    (λ c κs. search needs)
+    (λ c. search needs)
+    (λ c κs. search needs)
+    (λ c. search needs)
+    (λ c κs. search needs)
+    (λ c. search needs)
+    (λ c κs. search needs)
+    (λ c. search needs)
+    (λ c κs. search needs)
+    (λ c. search needs)
+    (λ c κs. search needs)
     returns
     returns-2
     returns-3

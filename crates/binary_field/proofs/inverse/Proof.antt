@@ -6,15 +6,9 @@ use Rattle.binary_field.proofs.Replies.{refuses-one, replies-one, none-
 use Rattle.binary_field.proofs.inverse.Statement.{statement}
 use Rattle.binary_field.proofs.inverse.Tie as tie
 
-refusal-due-requires : tie.Need-refusal-due-requires
-refusal-due-requires c κs = search needs
-
 returns : tie.Need-returns
 unfolding inverse-reply
 returns c = refuses-one _ _ _ (c .before .refusal-due .ensures) (c .if1 .taken)
-
-spreads-requires : tie.Need-spreads-requires
-spreads-requires c κs = search needs
 
 inverse-of-requires : tie.Need-inverse-of-requires
 inverse-of-requires c κs =
@@ -27,4 +21,4 @@ returns-2 c =
     ap element (c .inverse-of .ensures) ∙ replies-one _ _ (c .before .before .before .before .refusal-due .ensures) (c .before .before .before .if1 .left)
 
 pub inverse-spec : {M : Type 1} → statement M
-inverse-spec = tie.close (tie.spec refusal-due-requires returns spreads-requires inverse-of-requires returns-2)
+inverse-spec = tie.close (tie.spec (λ c κs. search needs) returns (λ c κs. search needs) inverse-of-requires returns-2)

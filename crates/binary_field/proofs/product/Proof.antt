@@ -6,9 +6,6 @@ use Rattle.binary_field.proofs.Replies.{refuses, replies, none-refused}
 use Rattle.binary_field.proofs.product.Statement.{statement}
 use Rattle.binary_field.proofs.product.Tie as tie
 
-refusal-due-requires : tie.Need-refusal-due-requires
-refusal-due-requires c κs = search needs
-
 returns : tie.Need-returns
 unfolding product-reply
 returns c = refuses _ (c .before .refusal-due .ensures) (c .if1 .taken)
@@ -21,4 +18,4 @@ unfolding product-reply
 returns-2 c = ap element (c .product-of .ensures) ∙ replies (c .before .before .refusal-due .ensures) (c .before .if1 .left)
 
 pub product-spec : {M : Type 1} → statement M
-product-spec = tie.close (tie.spec refusal-due-requires returns product-of-requires returns-2)
+product-spec = tie.close (tie.spec (λ c κs. search needs) returns product-of-requires returns-2)

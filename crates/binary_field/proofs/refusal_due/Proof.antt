@@ -5,15 +5,9 @@ use Rattle.binary_field.specs.Answer.{due}
 use Rattle.binary_field.proofs.refusal_due.Statement.{statement}
 use Rattle.binary_field.proofs.refusal_due.Tie as tie
 
-range-due-requires : tie.Need-range-due-requires
-range-due-requires c κs = search needs
-
 returns : tie.Need-returns
 unfolding due
 returns c = rw (c .before .if1 .taken) (c .range-due .ensures)
-
-range-due-requires-2 : tie.Need-range-due-requires-2
-range-due-requires-2 c κs = search needs
 
 returns-2 : tie.Need-returns-2
 unfolding due
@@ -24,4 +18,4 @@ unfolding due
 returns-3 c = simp (ne-eqb _ _ (c .before .if1 .left), ne-eqb _ _ (c .if2 .left))
 
 pub refusal-due-spec : {M : Type 1} → statement M
-refusal-due-spec = tie.close (tie.spec range-due-requires returns range-due-requires-2 returns-2 returns-3)
+refusal-due-spec = tie.close (tie.spec (λ c κs. search needs) returns (λ c κs. search needs) returns-2 returns-3)

@@ -6,15 +6,9 @@ use Rattle.binary_field.proofs.Replies.{refuses-one, replies-one, none-
 use Rattle.binary_field.proofs.square.Statement.{statement}
 use Rattle.binary_field.proofs.square.Tie as tie
 
-refusal-due-requires : tie.Need-refusal-due-requires
-refusal-due-requires c κs = search needs
-
 returns : tie.Need-returns
 unfolding square-reply
 returns c = refuses-one _ _ _ (c .before .refusal-due .ensures) (c .if1 .taken)
-
-spreads-requires : tie.Need-spreads-requires
-spreads-requires c κs = search needs
 
 square-of-requires : tie.Need-square-of-requires
 square-of-requires c κs =
@@ -27,4 +21,4 @@ returns-2 c =
     ap element (c .square-of .ensures) ∙ replies-one _ _ (c .before .before .before .before .refusal-due .ensures) (c .before .before .before .if1 .left)
 
 pub square-spec : {M : Type 1} → statement M
-square-spec = tie.close (tie.spec refusal-due-requires returns spreads-requires square-of-requires returns-2)
+square-spec = tie.close (tie.spec (λ c κs. search needs) returns (λ c κs. search needs) square-of-requires returns-2)

@@ -6,9 +6,6 @@ use Rattle.binary_field.proofs.Replies.{refuses-one, replies-one, none-
 use Rattle.binary_field.proofs.square_root.Statement.{statement}
 use Rattle.binary_field.proofs.square_root.Tie as tie
 
-refusal-due-requires : tie.Need-refusal-due-requires
-refusal-due-requires c κs = search needs
-
 returns : tie.Need-returns
 unfolding root-reply
 returns c = refuses-one _ _ _ (c .before .refusal-due .ensures) (c .if1 .taken)
@@ -24,4 +21,4 @@ returns-2 c =
     ap element (c .root-of .ensures) ∙ replies-one _ _ (c .before .before .refusal-due .ensures) (c .before .if1 .left)
 
 pub square-root-spec : {M : Type 1} → statement M
-square-root-spec = tie.close (tie.spec refusal-due-requires returns root-of-requires returns-2)
+square-root-spec = tie.close (tie.spec (λ c κs. search needs) returns root-of-requires returns-2)

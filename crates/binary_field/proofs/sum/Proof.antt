@@ -6,9 +6,6 @@ use Rattle.binary_field.proofs.Replies.{refuses, replies}
 use Rattle.binary_field.proofs.sum.Statement.{statement}
 use Rattle.binary_field.proofs.sum.Tie as tie
 
-refusal-due-requires : tie.Need-refusal-due-requires
-refusal-due-requires c κs = search needs
-
 returns : tie.Need-returns
 unfolding sum-reply
 returns c = refuses _ (c .before .refusal-due .ensures) (c .if1 .taken)
@@ -18,4 +15,4 @@ unfolding sum-reply _⊕_
 returns-2 c = replies (c .before .refusal-due .ensures) (c .if1 .left)
 
 pub sum-spec : {M : Type 1} → statement M
-sum-spec = tie.close (tie.spec refusal-due-requires returns returns-2)
+sum-spec = tie.close (tie.spec (λ c κs. search needs) returns returns-2)

@@ -4,9 +4,6 @@ use Rattle.class_rows.proofs.CheckRows.{counted-refused, counted-given}
 use Rattle.class_rows.proofs.double_rows.Statement.{statement}
 use Rattle.class_rows.proofs.double_rows.Tie as tie
 
-checked-requires : tie.Need-checked-requires
-checked-requires c κs = tt
-
 returns : tie.Need-returns
 returns c = counted-refused (c .before .before .checked .ensures .decides) (not-true _ (c .if1 .taken))
 
@@ -21,4 +18,4 @@ returns-2 : tie.Need-returns-2
 returns-2 c = counted-given (c .before .before .before .before .checked .ensures .decides) (not-false _ (c .before .before .if1 .left)) (c .double-of-reduced .ensures)
 
 pub double-rows-spec : {M : Type 1} → statement M
-double-rows-spec = tie.close (tie.spec checked-requires returns double-of-reduced-requires returns-2)
+double-rows-spec = tie.close (tie.spec (λ c κs. tt) returns double-of-reduced-requires returns-2)

@@ -4,9 +4,6 @@ use Rattle.class_rows.proofs.CheckRows.{pair-refused, pair-given}
 use Rattle.class_rows.proofs.half_rows.Statement.{statement}
 use Rattle.class_rows.proofs.half_rows.Tie as tie
 
-checked-requires : tie.Need-checked-requires
-checked-requires c κs = tt
-
 returns : tie.Need-returns
 returns c = pair-refused (c .before .before .checked .ensures .decides) (not-true _ (c .if1 .taken))
 
@@ -21,4 +18,4 @@ returns-2 : tie.Need-returns-2
 returns-2 c = pair-given (c .before .before .before .before .checked .ensures .decides) (not-false _ (c .before .before .if1 .left)) (c .half-of-reduced .ensures)
 
 pub half-rows-spec : {M : Type 1} → statement M
-half-rows-spec = tie.close (tie.spec checked-requires returns half-of-reduced-requires returns-2)
+half-rows-spec = tie.close (tie.spec (λ c κs. tt) returns half-of-reduced-requires returns-2)

@@ -4,9 +4,6 @@ use Rattle.class_rows.proofs.CheckRows.{pair-refused, pair-given}
 use Rattle.class_rows.proofs.opposite_rows.Statement.{statement}
 use Rattle.class_rows.proofs.opposite_rows.Tie as tie
 
-checked-requires : tie.Need-checked-requires
-checked-requires c κs = tt
-
 returns : tie.Need-returns
 returns c = pair-refused (c .before .before .checked .ensures .decides) (not-true _ (c .if1 .taken))
 
@@ -21,4 +18,4 @@ returns-2 : tie.Need-returns-2
 returns-2 c = pair-given (c .before .before .before .checked .ensures .decides) (not-false _ (c .before .if1 .left)) (λ C _. c .opposite-of-reduced .ensures C)
 
 pub opposite-rows-spec : {M : Type 1} → statement M
-opposite-rows-spec = tie.close (tie.spec checked-requires returns opposite-of-reduced-requires returns-2)
+opposite-rows-spec = tie.close (tie.spec (λ c κs. tt) returns opposite-of-reduced-requires returns-2)

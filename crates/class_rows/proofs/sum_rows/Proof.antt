@@ -4,9 +4,6 @@ use Rattle.class_rows.proofs.CheckRows.{counted-refused, counted-given}
 use Rattle.class_rows.proofs.sum_rows.Statement.{statement}
 use Rattle.class_rows.proofs.sum_rows.Tie as tie
 
-checked-both-requires : tie.Need-checked-both-requires
-checked-both-requires c κs = tt
-
 returns : tie.Need-returns
 returns c = counted-refused (c .before .before .checked-both .ensures .decides) (not-true _ (c .if1 .taken))
 
@@ -21,4 +18,4 @@ returns-2 : tie.Need-returns-2
 returns-2 c = counted-given (c .before .before .before .checked-both .ensures .decides) (not-false _ (c .before .if1 .left)) (c .sum-of-reduced .ensures)
 
 pub sum-rows-spec : {M : Type 1} → statement M
-sum-rows-spec = tie.close (tie.spec checked-both-requires returns sum-of-reduced-requires returns-2)
+sum-rows-spec = tie.close (tie.spec (λ c κs. tt) returns sum-of-reduced-requires returns-2)

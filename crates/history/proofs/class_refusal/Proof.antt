@@ -6,15 +6,9 @@ use borrow.Author.Needs.{needs}
 use Rattle.history.proofs.class_refusal.Statement.{statement}
 use Rattle.history.proofs.class_refusal.Tie as tie
 
-membership-requires : tie.Need-membership-requires
-membership-requires c κs = search needs
-
-outcome-number-requires : tie.Need-outcome-number-requires
-outcome-number-requires c κs = search needs
-
 returns : tie.Need-returns
 unfolding membership-answer
 returns c = c .outcome-number .ensures ∙ number-verdict (c .before .membership .result) _ (c .before .membership .ensures)
 
 pub class-refusal-spec : {M : Type 1} → statement M
-class-refusal-spec = tie.close (tie.spec membership-requires outcome-number-requires returns)
+class-refusal-spec = tie.close (tie.spec (λ c κs. search needs) (λ c κs. search needs) returns)

@@ -7,12 +7,6 @@ use borrow.Author.Needs.{needs}
 use Rattle.history.proofs.count_refusal.Statement.{statement}
 use Rattle.history.proofs.count_refusal.Tie as tie
 
-accepts-curve-requires : tie.Need-accepts-curve-requires
-accepts-curve-requires c κs = search needs
-
-outcome-number-requires : tie.Need-outcome-number-requires
-outcome-number-requires c κs = search needs
-
 returns : tie.Need-returns
 unfolding curve-answer
 returns c =
@@ -26,4 +20,4 @@ returns-2 c =
     (c .if1 .left)
 
 pub count-refusal-spec : {M : Type 1} → statement M
-count-refusal-spec = tie.close (tie.spec accepts-curve-requires outcome-number-requires returns returns-2)
+count-refusal-spec = tie.close (tie.spec (λ c κs. search needs) (λ c κs. search needs) returns returns-2)

@@ -6,15 +6,9 @@ use borrow.Author.Needs.{needs}
 use Rattle.history.proofs.edge_refusal.Statement.{statement}
 use Rattle.history.proofs.edge_refusal.Tie as tie
 
-class-refusal-requires : tie.Need-class-refusal-requires
-class-refusal-requires c κs = search needs
-
 returns : tie.Need-returns
 returns c =
     due-first _ (c .before .class-refusal .ensures ∙ first-refused _ _ _ (λ z. c .if1 .taken (c .before .class-refusal .ensures ∙ z))) (c .if1 .taken)
-
-class-refusal-requires-2 : tie.Need-class-refusal-requires-2
-class-refusal-requires-2 c κs = search needs
 
 returns-2 : tie.Need-returns-2
 returns-2 c =
@@ -27,4 +21,4 @@ returns-3 c =
 pub edge-refusal-spec : {M : Type 1} → statement M
 edge-refusal-spec =
     tie.close
-    (tie.spec class-refusal-requires returns class-refusal-requires-2 returns-2 returns-3)
+    (tie.spec (λ c κs. search needs) returns (λ c κs. search needs) returns-2 returns-3)

@@ -7,12 +7,6 @@ use borrow.Author.Needs.{needs}
 use Rattle.history.proofs.followed.Statement.{statement}
 use Rattle.history.proofs.followed.Tie as tie
 
-outcome-number-requires : tie.Need-outcome-number-requires
-outcome-number-requires c κs = search needs
-
-kept-requires : tie.Need-kept-requires
-kept-requires c κs = search needs
-
 returns : tie.Need-returns
 returns c d n D e =
     let s = c .before .before .before in
@@ -26,4 +20,4 @@ returns-2 c d n D e =
     at-none (s .args .r) _ z (ap (λ t. moved (s .args .count) t (s .args .r)) (class-answered (s .args .step) d n D e z))
 
 pub followed-spec : {M : Type 1} → statement M
-followed-spec = tie.close (tie.spec outcome-number-requires kept-requires returns returns-2)
+followed-spec = tie.close (tie.spec (λ c κs. search needs) (λ c κs. search needs) returns returns-2)

@@ -6,13 +6,10 @@ use borrow.Author.Needs.{needs}
 use Rattle.jacobian.proofs.accepted.Statement.{statement}
 use Rattle.jacobian.proofs.accepted.Tie as tie
 
-from-rows-requires : tie.Need-from-rows-requires
-from-rows-requires c κs = search needs
-
 returns : tie.Need-returns
 unfolding answered
 returns c =
     λ d D s. ap (λ (k : Class). record { outcome = accepted; class = k }) (stands-class d s (c .from-rows .ensures d))
 
 pub accepted-spec : {M : Type 1} → statement M
-accepted-spec = tie.close (tie.spec from-rows-requires returns)
+accepted-spec = tie.close (tie.spec (λ c κs. search needs) returns)

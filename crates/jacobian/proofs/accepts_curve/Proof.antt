@@ -5,9 +5,6 @@ use borrow.Author.Needs.{needs}
 use Rattle.jacobian.proofs.accepts_curve.Statement.{statement}
 use Rattle.jacobian.proofs.accepts_curve.Tie as tie
 
-curve-due-requires : tie.Need-curve-due-requires
-curve-due-requires c κs = search needs
-
 returns : tie.Need-returns
 unfolding curve-answer
 returns c = refused-verdict (c .before .curve-due .ensures) (c .if1 .taken)
@@ -17,4 +14,4 @@ unfolding curve-answer
 returns-2 c = accepted-verdict (c .before .curve-due .ensures) (c .if1 .left)
 
 pub accepts-curve-spec : {M : Type 1} → statement M
-accepts-curve-spec = tie.close (tie.spec curve-due-requires returns returns-2)
+accepts-curve-spec = tie.close (tie.spec (λ c κs. search needs) returns returns-2)

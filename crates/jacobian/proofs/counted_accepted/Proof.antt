@@ -7,9 +7,6 @@ use borrow.Author.Needs.{needs}
 use Rattle.jacobian.proofs.counted_accepted.Statement.{statement}
 use Rattle.jacobian.proofs.counted_accepted.Tie as tie
 
-from-rows-requires : tie.Need-from-rows-requires
-from-rows-requires c κs = search needs
-
 returns : tie.Need-returns
 unfolding counted-answered
 returns c =
@@ -17,4 +14,4 @@ returns c =
     ap₂ (λ (k : Class) (n : ℕ). record { outcome = accepted; class = k; steps = n }) (stands-class d (s .pair-stands) (c .from-rows .ensures d)) (s .steps-is)
 
 pub counted-accepted-spec : {M : Type 1} → statement M
-counted-accepted-spec = tie.close (tie.spec from-rows-requires returns)
+counted-accepted-spec = tie.close (tie.spec (λ c κs. search needs) returns)

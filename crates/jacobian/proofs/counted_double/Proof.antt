@@ -6,29 +6,14 @@ use borrow.Author.Needs.{needs}
 use Rattle.jacobian.proofs.counted_double.Statement.{statement}
 use Rattle.jacobian.proofs.counted_double.Tie as tie
 
-curve-and-form-due-requires : tie.Need-curve-and-form-due-requires
-curve-and-form-due-requires c κs = search needs
-
-counted-refused-requires : tie.Need-counted-refused-requires
-counted-refused-requires c κs = search needs
-
 returns : tie.Need-returns
 unfolding counted-double-answer
 returns c = counted-at-refusal _ _ (form-first _ _ (c .before .before .curve-and-form-due .ensures) (c .before .if1 .taken)) (c .counted-refused .ensures _ _)
-
-f-row-requires : tie.Need-f-row-requires
-f-row-requires c κs = search needs
 
 to-rows-requires : tie.Need-to-rows-requires
 to-rows-requires c κs =
     let s = c .before .before .before in
     form-shape (s .args .curve) (s .args .a) (then-zero _ _ (sym (c .before .before .curve-and-form-due .ensures) ∙ c .before .if1 .left) .1) .low
-
-double-rows-requires : tie.Need-double-rows-requires
-double-rows-requires c κs = search needs
-
-counted-settled-requires : tie.Need-counted-settled-requires
-counted-settled-requires c κs = search needs
 
 returns-2 : tie.Need-returns-2
 unfolding counted-double-answer
@@ -45,4 +30,4 @@ returns-2 c =
     (c .counted-settled .ensures d _ (λ held. rw (rows-pair-is d rows) at (gives .stands held (curve (s .args .curve)) (on-curve _ (curve-passes _ (z .0)) f))))
 
 pub counted-double-spec : {M : Type 1} → statement M
-counted-double-spec = tie.close (tie.spec curve-and-form-due-requires counted-refused-requires returns f-row-requires to-rows-requires double-rows-requires counted-settled-requires returns-2)
+counted-double-spec = tie.close (tie.spec (λ c κs. search needs) (λ c κs. search needs) returns (λ c κs. search needs) to-rows-requires (λ c κs. search needs) (λ c κs. search needs) returns-2)

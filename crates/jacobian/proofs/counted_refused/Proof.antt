@@ -6,9 +6,6 @@ use borrow.Author.Needs.{needs}
 use Rattle.jacobian.proofs.counted_refused.Statement.{statement}
 use Rattle.jacobian.proofs.counted_refused.Tie as tie
 
-neutral-requires : tie.Need-neutral-requires
-neutral-requires c κs = search needs
-
 returns : tie.Need-returns
 returns c =
     λ d D.
@@ -16,4 +13,4 @@ returns c =
     ∙ refused-counted d D _ (c .before .pre)
 
 pub counted-refused-spec : {M : Type 1} → statement M
-counted-refused-spec = tie.close (tie.spec neutral-requires returns)
+counted-refused-spec = tie.close (tie.spec (λ c κs. search needs) returns)

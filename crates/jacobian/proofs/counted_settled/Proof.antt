@@ -15,9 +15,6 @@ returns : tie.Need-returns
 unfolding unless
 returns c = λ d D _. counted-at-refusal d D (sym (ap (λ t. unless t 111) (not-true (c .before .before .args .divisor) (c .before .if1 .taken)))) (c .counted-refused .ensures d D)
 
-counted-accepted-requires : tie.Need-counted-accepted-requires
-counted-accepted-requires c κs = search needs
-
 returns-2 : tie.Need-returns-2
 unfolding unless
 returns-2 c =
@@ -26,4 +23,4 @@ returns-2 c =
     counted-at-refusal d D (sym (ap (λ t. unless t 111) held)) (c .counted-accepted .ensures d D (h held))
 
 pub counted-settled-spec : {M : Type 1} → statement M
-counted-settled-spec = tie.close (tie.spec counted-refused-requires returns counted-accepted-requires returns-2)
+counted-settled-spec = tie.close (tie.spec counted-refused-requires returns (λ c κs. search needs) returns-2)

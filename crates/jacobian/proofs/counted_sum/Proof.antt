@@ -5,18 +5,12 @@ use borrow.Author.Needs.{needs}
 use Rattle.jacobian.proofs.counted_sum.Statement.{statement}
 use Rattle.jacobian.proofs.counted_sum.Tie as tie
 
-form-due-of-two-requires : tie.Need-form-due-of-two-requires
-form-due-of-two-requires c κs = search needs
-
 counted-refused-requires : tie.Need-counted-refused-requires
 counted-refused-requires c κs = c .if1 .taken
 
 returns : tie.Need-returns
 unfolding counted-sum-answer
 returns c = counted-at-refusal _ _ (c .before .before .form-due-of-two .ensures .refused (c .before .if1 .taken)) (c .counted-refused .ensures _ _)
-
-f-row-requires : tie.Need-f-row-requires
-f-row-requires c κs = search needs
 
 to-rows-requires : tie.Need-to-rows-requires
 to-rows-requires c κs =
@@ -27,12 +21,6 @@ to-rows-requires-2 : tie.Need-to-rows-requires-2
 to-rows-requires-2 c κs =
     let s = c .before .before .before .before in
     form-shape (s .args .curve) (s .args .b) (c .before .before .before .form-due-of-two .ensures .second-none (c .before .before .if1 .left)) .low
-
-sum-rows-requires : tie.Need-sum-rows-requires
-sum-rows-requires c κs = search needs
-
-counted-settled-requires : tie.Need-counted-settled-requires
-counted-settled-requires c κs = search needs
 
 returns-2 : tie.Need-returns-2
 unfolding counted-sum-answer
@@ -53,4 +41,4 @@ returns-2 c =
     (λ held. rw (rows-pair-is d first, rows-pair-is d second) at (gives .stands held (curve (s .args .curve)) (on-curve _ (curve-passes _ ok) f))))
 
 pub counted-sum-spec : {M : Type 1} → statement M
-counted-sum-spec = tie.close (tie.spec form-due-of-two-requires counted-refused-requires returns f-row-requires to-rows-requires to-rows-requires-2 sum-rows-requires counted-settled-requires returns-2)
+counted-sum-spec = tie.close (tie.spec (λ c κs. search needs) counted-refused-requires returns (λ c κs. search needs) to-rows-requires to-rows-requires-2 (λ c κs. search needs) (λ c κs. search needs) returns-2)

@@ -5,9 +5,6 @@ use borrow.Author.Needs.{needs}
 use Rattle.jacobian.proofs.curve_and_form_due.Statement.{statement}
 use Rattle.jacobian.proofs.curve_and_form_due.Tie as tie
 
-curve-due-requires : tie.Need-curve-due-requires
-curve-due-requires c κs = search needs
-
 returns : tie.Need-returns
 returns c = first-due _ (c .before .curve-due .ensures) (c .if1 .taken)
 
@@ -18,4 +15,4 @@ returns-2 : tie.Need-returns-2
 returns-2 c = next-due (c .before .before .curve-due .ensures) (c .before .if1 .left) (c .form-due .ensures)
 
 pub curve-and-form-due-spec : {M : Type 1} → statement M
-curve-and-form-due-spec = tie.close (tie.spec curve-due-requires returns form-due-requires returns-2)
+curve-and-form-due-spec = tie.close (tie.spec (λ c κs. search needs) returns form-due-requires returns-2)

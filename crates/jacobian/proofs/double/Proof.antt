@@ -7,12 +7,9 @@ use borrow.Author.Needs.{needs}
 use Rattle.jacobian.proofs.double.Statement.{statement}
 use Rattle.jacobian.proofs.double.Tie as tie
 
-counted-double-requires : tie.Need-counted-double-requires
-counted-double-requires c κs = search needs
-
 returns : tie.Need-returns
 unfolding double-answer counted-double-answer double
 returns c = ap uncounted (c .before .counted-double .ensures) ∙ uncounted-answered _ _ _
 
 pub double-spec : {M : Type 1} → statement M
-double-spec = tie.close (tie.spec counted-double-requires returns)
+double-spec = tie.close (tie.spec (λ c κs. search needs) returns)

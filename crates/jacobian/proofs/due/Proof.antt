@@ -6,9 +6,6 @@ use borrow.Author.Needs.{needs}
 use Rattle.jacobian.proofs.due.Statement.{statement}
 use Rattle.jacobian.proofs.due.Tie as tie
 
-curve-and-form-due-requires : tie.Need-curve-and-form-due-requires
-curve-and-form-due-requires c κs = search needs
-
 returns : tie.Need-returns
 returns c = form-first _ _ (c .before .curve-and-form-due .ensures) (c .if1 .taken)
 
@@ -22,4 +19,4 @@ returns-2 c =
     next-due refl (z .0) (c .divisor-due .ensures)
 
 pub due-spec : {M : Type 1} → statement M
-due-spec = tie.close (tie.spec curve-and-form-due-requires returns divisor-due-requires returns-2)
+due-spec = tie.close (tie.spec (λ c κs. search needs) returns divisor-due-requires returns-2)

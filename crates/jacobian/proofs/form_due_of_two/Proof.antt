@@ -6,9 +6,6 @@ use borrow.Author.Needs.{needs}
 use Rattle.jacobian.proofs.form_due_of_two.Statement.{statement}
 use Rattle.jacobian.proofs.form_due_of_two.Tie as tie
 
-curve-and-form-due-requires : tie.Need-curve-and-form-due-requires
-curve-and-form-due-requires c κs = search needs
-
 returns : tie.Need-returns
 unfolding refusal-of-two
 returns c =
@@ -61,4 +58,4 @@ returns-4 c =
     }
 
 pub form-due-of-two-spec : {M : Type 1} → statement M
-form-due-of-two-spec = tie.close (tie.spec curve-and-form-due-requires returns form-due-requires returns-2 divisor-due-requires returns-3 returns-4)
+form-due-of-two-spec = tie.close (tie.spec (λ c κs. search needs) returns form-due-requires returns-2 divisor-due-requires returns-3 returns-4)

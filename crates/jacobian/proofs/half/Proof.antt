@@ -7,31 +7,16 @@ use borrow.Author.Needs.{needs}
 use Rattle.jacobian.proofs.half.Statement.{statement}
 use Rattle.jacobian.proofs.half.Tie as tie
 
-curve-and-form-due-requires : tie.Need-curve-and-form-due-requires
-curve-and-form-due-requires c κs = search needs
-
-refused-requires : tie.Need-refused-requires
-refused-requires c κs = search needs
-
 returns : tie.Need-returns
 unfolding half-answer
 returns c =
     let e = form-first _ _ (c .before .before .curve-and-form-due .ensures) (c .before .if1 .taken) in
     record { answer = at-refusal _ _ e (c .refused .ensures _ _); doubled = λ z. absurd (c .before .if1 .taken (e ∙ z)) }
 
-f-row-requires : tie.Need-f-row-requires
-f-row-requires c κs = search needs
-
 to-rows-requires : tie.Need-to-rows-requires
 to-rows-requires c κs =
     let s = c .before .before .before in
     form-shape (s .args .curve) (s .args .a) (then-zero _ _ (sym (c .before .before .curve-and-form-due .ensures) ∙ c .before .if1 .left) .1) .low
-
-half-rows-requires : tie.Need-half-rows-requires
-half-rows-requires c κs = search needs
-
-settled-requires : tie.Need-settled-requires
-settled-requires c κs = search needs
 
 returns-2 : tie.Need-returns-2
 unfolding half-answer
@@ -53,4 +38,4 @@ returns-2 c =
     }
 
 pub half-spec : {M : Type 1} → statement M
-half-spec = tie.close (tie.spec curve-and-form-due-requires refused-requires returns f-row-requires to-rows-requires half-rows-requires settled-requires returns-2)
+half-spec = tie.close (tie.spec (λ c κs. search needs) (λ c κs. search needs) returns (λ c κs. search needs) to-rows-requires (λ c κs. search needs) (λ c κs. search needs) returns-2)

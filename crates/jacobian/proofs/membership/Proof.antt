@@ -5,9 +5,6 @@ use borrow.Author.Needs.{needs}
 use Rattle.jacobian.proofs.membership.Statement.{statement}
 use Rattle.jacobian.proofs.membership.Tie as tie
 
-due-requires : tie.Need-due-requires
-due-requires c κs = search needs
-
 returns : tie.Need-returns
 unfolding membership-answer
 returns c = refused-verdict (c .before .due .ensures) (c .if1 .taken)
@@ -17,4 +14,4 @@ unfolding membership-answer
 returns-2 c = accepted-verdict (c .before .due .ensures) (c .if1 .left)
 
 pub membership-spec : {M : Type 1} → statement M
-membership-spec = tie.close (tie.spec due-requires returns returns-2)
+membership-spec = tie.close (tie.spec (λ c κs. search needs) returns returns-2)

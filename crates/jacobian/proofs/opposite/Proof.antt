@@ -6,29 +6,14 @@ use borrow.Author.Needs.{needs}
 use Rattle.jacobian.proofs.opposite.Statement.{statement}
 use Rattle.jacobian.proofs.opposite.Tie as tie
 
-curve-and-form-due-requires : tie.Need-curve-and-form-due-requires
-curve-and-form-due-requires c κs = search needs
-
-refused-requires : tie.Need-refused-requires
-refused-requires c κs = search needs
-
 returns : tie.Need-returns
 unfolding opposite-answer
 returns c = at-refusal _ _ (form-first _ _ (c .before .before .curve-and-form-due .ensures) (c .before .if1 .taken)) (c .refused .ensures _ _)
-
-f-row-requires : tie.Need-f-row-requires
-f-row-requires c κs = search needs
 
 to-rows-requires : tie.Need-to-rows-requires
 to-rows-requires c κs =
     let s = c .before .before .before in
     form-shape (s .args .curve) (s .args .a) (then-zero _ _ (sym (c .before .before .curve-and-form-due .ensures) ∙ c .before .if1 .left) .1) .low
-
-opposite-rows-requires : tie.Need-opposite-rows-requires
-opposite-rows-requires c κs = search needs
-
-settled-requires : tie.Need-settled-requires
-settled-requires c κs = search needs
 
 returns-2 : tie.Need-returns-2
 unfolding opposite-answer
@@ -45,4 +30,4 @@ returns-2 c =
     (c .settled .ensures d _ (λ held. rw (rows-pair-is d rows) at (gives .stands held (curve (s .args .curve)) (on-curve _ (curve-passes _ (z .0)) f))))
 
 pub opposite-spec : {M : Type 1} → statement M
-opposite-spec = tie.close (tie.spec curve-and-form-due-requires refused-requires returns f-row-requires to-rows-requires opposite-rows-requires settled-requires returns-2)
+opposite-spec = tie.close (tie.spec (λ c κs. search needs) (λ c κs. search needs) returns (λ c κs. search needs) to-rows-requires (λ c κs. search needs) (λ c κs. search needs) returns-2)

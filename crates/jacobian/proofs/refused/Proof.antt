@@ -6,13 +6,10 @@ use borrow.Author.Needs.{needs}
 use Rattle.jacobian.proofs.refused.Statement.{statement}
 use Rattle.jacobian.proofs.refused.Tie as tie
 
-neutral-requires : tie.Need-neutral-requires
-neutral-requires c κs = search needs
-
 returns : tie.Need-returns
 returns c =
     λ d D.
     ap (λ (k : Class). record { outcome = refused (c .before .args .n); class = k }) (c .neutral .ensures) ∙ refused-answered d D _ (c .before .pre)
 
 pub refused-spec : {M : Type 1} → statement M
-refused-spec = tie.close (tie.spec neutral-requires returns)
+refused-spec = tie.close (tie.spec (λ c κs. search needs) returns)

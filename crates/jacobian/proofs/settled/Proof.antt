@@ -15,9 +15,6 @@ returns : tie.Need-returns
 unfolding unless
 returns c = λ d D _. at-refusal d D (sym (ap (λ t. unless t 111) (not-true (c .before .before .args .divisor) (c .before .if1 .taken)))) (c .refused .ensures d D)
 
-accepted-requires : tie.Need-accepted-requires
-accepted-requires c κs = search needs
-
 returns-2 : tie.Need-returns-2
 unfolding unless
 returns-2 c =
@@ -26,4 +23,4 @@ returns-2 c =
     at-refusal d D (sym (ap (λ t. unless t 111) held)) (c .accepted .ensures d D (h held))
 
 pub settled-spec : {M : Type 1} → statement M
-settled-spec = tie.close (tie.spec refused-requires returns accepted-requires returns-2)
+settled-spec = tie.close (tie.spec refused-requires returns (λ c κs. search needs) returns-2)

@@ -5,18 +5,12 @@ use borrow.Author.Needs.{needs}
 use Rattle.jacobian.proofs.subtract_and_halve.Statement.{statement}
 use Rattle.jacobian.proofs.subtract_and_halve.Tie as tie
 
-form-due-of-two-requires : tie.Need-form-due-of-two-requires
-form-due-of-two-requires c κs = search needs
-
 refused-requires : tie.Need-refused-requires
 refused-requires c κs = c .if1 .taken
 
 returns : tie.Need-returns
 unfolding subtract-and-halve-answer
 returns c = at-refusal _ _ (c .before .before .form-due-of-two .ensures .refused (c .before .if1 .taken)) (c .refused .ensures _ _)
-
-f-row-requires : tie.Need-f-row-requires
-f-row-requires c κs = search needs
 
 to-rows-requires : tie.Need-to-rows-requires
 to-rows-requires c κs =
@@ -27,12 +21,6 @@ to-rows-requires-2 : tie.Need-to-rows-requires-2
 to-rows-requires-2 c κs =
     let s = c .before .before .before .before in
     form-shape (s .args .curve) (s .args .b) (c .before .before .before .form-due-of-two .ensures .second-none (c .before .before .if1 .left)) .low
-
-undo-rows-requires : tie.Need-undo-rows-requires
-undo-rows-requires c κs = search needs
-
-settled-requires : tie.Need-settled-requires
-settled-requires c κs = search needs
 
 returns-2 : tie.Need-returns-2
 unfolding subtract-and-halve-answer
@@ -53,4 +41,4 @@ returns-2 c =
     (λ held. rw (rows-pair-is d first, rows-pair-is d second) at (gives .stands held (curve (s .args .curve)) (on-curve _ (curve-passes _ ok) f))))
 
 pub subtract-and-halve-spec : {M : Type 1} → statement M
-subtract-and-halve-spec = tie.close (tie.spec form-due-of-two-requires refused-requires returns f-row-requires to-rows-requires to-rows-requires-2 undo-rows-requires settled-requires returns-2)
+subtract-and-halve-spec = tie.close (tie.spec (λ c κs. search needs) refused-requires returns (λ c κs. search needs) to-rows-requires to-rows-requires-2 (λ c κs. search needs) (λ c κs. search needs) returns-2)

@@ -7,12 +7,9 @@ use borrow.Author.Needs.{needs}
 use Rattle.jacobian.proofs.sum.Statement.{statement}
 use Rattle.jacobian.proofs.sum.Tie as tie
 
-counted-sum-requires : tie.Need-counted-sum-requires
-counted-sum-requires c κs = search needs
-
 returns : tie.Need-returns
 unfolding sum-answer counted-sum-answer sum
 returns c = ap uncounted (c .before .counted-sum .ensures) ∙ uncounted-answered _ _ _
 
 pub sum-spec : {M : Type 1} → statement M
-sum-spec = tie.close (tie.spec counted-sum-requires returns)
+sum-spec = tie.close (tie.spec (λ c κs. search needs) returns)

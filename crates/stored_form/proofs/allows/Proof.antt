@@ -23,17 +23,11 @@ returns-4 : tie.Need-returns-4
 unfolding allowed
 returns-4 c = sym (ap (λ (t : ℕ). allowed t (c .before .before .before .before .args .len)) (c .if4 .taken))
 
-class-allows-requires : tie.Need-class-allows-requires
-class-allows-requires c κs = search needs
-
 returns-5 : tie.Need-returns-5
 unfolding allowed
 returns-5 c =
     let at = c .before in
     c .class-allows .ensures ∙ sym (ap (λ (t : ℕ). allowed t (at .before .before .before .before .before .args .len)) (at .if5 .taken))
-
-class-allows-requires-2 : tie.Need-class-allows-requires-2
-class-allows-requires-2 c κs = search needs
 
 returns-6 : tie.Need-returns-6
 unfolding allowed
@@ -54,8 +48,8 @@ allows-spec =
     returns-2
     returns-3
     returns-4
-    class-allows-requires
+    (λ c κs. search needs)
     returns-5
-    class-allows-requires-2
+    (λ c κs. search needs)
     returns-6
     returns-7)

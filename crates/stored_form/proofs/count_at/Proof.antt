@@ -9,18 +9,6 @@ use Rattle.stored_form.proofs.Readers.{count-refused, count-readable, c
 use Rattle.stored_form.proofs.count_at.Statement.{statement}
 use Rattle.stored_form.proofs.count_at.Tie as tie
 
-head-at-requires : tie.Need-head-at-requires
-head-at-requires c κs = search needs
-
-enum-known-h : tie.Need-enum-known-h
-enum-known-h c = search needs
-
-enum-told : tie.Need-enum-told
-enum-told c = search needs
-
-head-refusal-requires : tie.Need-head-refusal-requires
-head-refusal-requires c κs = search needs
-
 returns : tie.Need-returns
 returns c =
     let told = c .before in
@@ -42,9 +30,6 @@ number-at-requires c κs = let r = count-readable _ _ (head c) in (r .short, r .
 returns-2 : tie.Need-returns-2
 returns-2 c = sym (count-109 _ _ (head (c .before .before)) (c .before .number-at .ensures) (c .if1 .taken))
 
-cast-t11 : tie.Need-cast-t11
-cast-t11 c = search needs
-
 returns-3 : tie.Need-returns-3
 returns-3 c = sym (count-within _ _ (head (c .before .before)) (c .before .number-at .ensures) (c .if1 .left))
 
@@ -52,13 +37,13 @@ pub count-at-spec : {M : Type 1} → statement M
 count-at-spec =
     tie.close
     (tie.spec
-    head-at-requires
-    enum-known-h
-    enum-told
-    head-refusal-requires
+    (λ c κs. search needs)
+    (λ c. search needs)
+    (λ c. search needs)
+    (λ c κs. search needs)
     returns
     add-number-at
     number-at-requires
     returns-2
-    cast-t11
+    (λ c. search needs)
     returns-3)

@@ -10,15 +10,9 @@ use Rattle.stored_form.proofs.Digits.{two-bytes}
 use Rattle.stored_form.proofs.count_field.Statement.{statement}
 use Rattle.stored_form.proofs.count_field.Tie as tie
 
-cast-t3 : tie.Need-cast-t3
-cast-t3 c = search needs
-
-cast-t5 : tie.Need-cast-t5
-cast-t5 c = search needs
-
 returns : tie.Need-returns
 unfolding count-field stored head-bytes bytes-of
 returns c = ap (λ (bs : List ℕ). 0x42 ∷ 0 ∷ 2 ∷ bs) (two-bytes _ (c .fits .n .fits))
 
 pub count-field-spec : {M : Type 1} → statement M
-count-field-spec = tie.close (tie.spec cast-t3 cast-t5 returns)
+count-field-spec = tie.close (tie.spec (λ c. search needs) (λ c. search needs) returns)

@@ -9,18 +9,6 @@ use Rattle.stored_form.proofs.Readers.{degree-refused, degree-readable,
 use Rattle.stored_form.proofs.degree_at.Statement.{statement}
 use Rattle.stored_form.proofs.degree_at.Tie as tie
 
-head-at-requires : tie.Need-head-at-requires
-head-at-requires c κs = search needs
-
-enum-known-h : tie.Need-enum-known-h
-enum-known-h c = search needs
-
-enum-told : tie.Need-enum-told
-enum-told c = search needs
-
-head-refusal-requires : tie.Need-head-refusal-requires
-head-refusal-requires c κs = search needs
-
 returns : tie.Need-returns
 returns c =
     let told = c .before in
@@ -52,10 +40,10 @@ pub degree-at-spec : {M : Type 1} → statement M
 degree-at-spec =
     tie.close
     (tie.spec
-    head-at-requires
-    enum-known-h
-    enum-told
-    head-refusal-requires
+    (λ c κs. search needs)
+    (λ c. search needs)
+    (λ c. search needs)
+    (λ c κs. search needs)
     returns
     add-number-at
     number-at-requires

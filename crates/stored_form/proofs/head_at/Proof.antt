@@ -8,26 +8,11 @@ use Rattle.stored_form.proofs.Heads.{head-102, head-103, head-104, head
 use Rattle.stored_form.proofs.head_at.Statement.{statement}
 use Rattle.stored_form.proofs.head_at.Tie as tie
 
-left-requires : tie.Need-left-requires
-left-requires c κs = search needs
-
 returns : tie.Need-returns
 returns c = sym (head-102 _ _ _ (omega arith))
 
-shared-slice-read-if2 : tie.Need-shared-slice-read-if2
-shared-slice-read-if2 c = search needs
-
 returns-2 : tie.Need-returns-2
 returns-2 c = sym (head-103 _ _ _ (omega arith) (c .if2 .taken))
-
-add-number-at : tie.Need-add-number-at
-add-number-at c = search needs
-
-number-at-requires : tie.Need-number-at-requires
-number-at-requires c κs = search needs
-
-allows-requires : tie.Need-allows-requires
-allows-requires c κs = search needs
 
 returns-3 : tie.Need-returns-3
 unfolding body-length
@@ -42,12 +27,6 @@ returns-4 c =
     sym (head-105 _ _ _ (len .ensures) (omega arith) (c .before .before .before .before .if2 .left)
     (sym (c .before .before .allows .ensures) ∙ not-false _ (c .before .if3 .left)) (omega arith))
 
-add-t11 : tie.Need-add-t11
-add-t11 c = search needs
-
-add-t13 : tie.Need-add-t13
-add-t13 c = search needs
-
 returns-5 : tie.Need-returns-5
 unfolding body-length
 returns-5 c =
@@ -59,15 +38,15 @@ pub head-at-spec : {M : Type 1} → statement M
 head-at-spec =
     tie.close
     (tie.spec
-    left-requires
+    (λ c κs. search needs)
     returns
-    shared-slice-read-if2
+    (λ c. search needs)
     returns-2
-    add-number-at
-    number-at-requires
-    allows-requires
+    (λ c. search needs)
+    (λ c κs. search needs)
+    (λ c κs. search needs)
     returns-3
     returns-4
-    add-t11
-    add-t13
+    (λ c. search needs)
+    (λ c. search needs)
     returns-5)

@@ -9,21 +9,6 @@ use borrow.Author.Needs.{needs}
 use Rattle.walk_archive.proofs.put_walk.Statement.{statement}
 use Rattle.walk_archive.proofs.put_walk.Tie as tie
 
-add-stop : tie.Need-add-stop
-add-stop c = search needs
-
-cast-put-first-line : tie.Need-cast-put-first-line
-cast-put-first-line c = search needs
-
-sub-put-first-line : tie.Need-sub-put-first-line
-sub-put-first-line c = search needs
-
-part-put-first-line-start : tie.Need-part-put-first-line-start
-part-put-first-line-start c = search needs
-
-part-put-first-line-end : tie.Need-part-put-first-line-end
-part-put-first-line-end c = search needs
-
 put-first-line-requires : tie.Need-put-first-line-requires
 unfolding room
 put-first-line-requires c κs =
@@ -47,9 +32,6 @@ put-lines-requires c κs =
     let bound : start .args .o .count ≤ 1024 = start .pre .1 .count in
     (omega (arith, start .pre .0, bound, head .place, head .short, wrote-length head, line .place, line .short, wrote-length line), omega (arith, bound))
 
-same-length : tie.Need-same-length
-same-length c = search needs
-
 returns : tie.Need-returns
 returns c =
     let start = c .before .before .before .before .before .before .before .before .before .before .before .before .before .before .before .before .before .before .before .before in
@@ -59,13 +41,13 @@ pub put-walk-spec : {M : Type 1} → statement M
 put-walk-spec =
     tie.close
     (tie.spec
-    add-stop
-    cast-put-first-line
-    sub-put-first-line
-    part-put-first-line-start
-    part-put-first-line-end
+    (λ c. search needs)
+    (λ c. search needs)
+    (λ c. search needs)
+    (λ c. search needs)
+    (λ c. search needs)
     put-first-line-requires
     put-line-requires
     put-lines-requires
-    same-length
+    (λ c. search needs)
     returns)

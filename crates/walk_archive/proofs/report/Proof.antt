@@ -9,24 +9,6 @@ use Rattle.walk_archive.proofs.report.Tie as tie
 returns : tie.Need-returns
 returns c = no-room _ _ (c .if1 .taken)
 
-read-requires : tie.Need-read-requires
-read-requires c κs = search needs
-
-enum-told : tie.Need-enum-told
-enum-told c = search needs
-
-enum-told-2 : tie.Need-enum-told-2
-enum-told-2 c = search needs
-
-place-refusal-requires : tie.Need-place-refusal-requires
-place-refusal-requires c κs = search needs
-
-put-refusal-requires : tie.Need-put-refusal-requires
-put-refusal-requires c κs = search needs
-
-same-length : tie.Need-same-length
-same-length c = search needs
-
 returns-2 : tie.Need-returns-2
 returns-2 c =
     let told = c .before .before .before .before .before in
@@ -43,9 +25,6 @@ put-walk-requires c κs =
     let t = read .read .result in
     (read .before .if1 .left, archive-accepted _ (t .place) (t .reader) (read .read .ensures) (told .enum-told .given .1) .bounded)
 
-same-length-2 : tie.Need-same-length-2
-same-length-2 c = search needs
-
 returns-3 : tie.Need-returns-3
 returns-3 c =
     let told = c .before .before .before .before .before in
@@ -58,13 +37,13 @@ report-spec =
     tie.close
     (tie.spec
     returns
-    read-requires
-    enum-told
-    enum-told-2
-    place-refusal-requires
-    put-refusal-requires
-    same-length
+    (λ c κs. search needs)
+    (λ c. search needs)
+    (λ c. search needs)
+    (λ c κs. search needs)
+    (λ c κs. search needs)
+    (λ c. search needs)
     returns-2
     put-walk-requires
-    same-length-2
+    (λ c. search needs)
     returns-3)

@@ -16,9 +16,6 @@ both-fit a h = xor-lt 32 (bitAnd a (2 ^ 31 - 1)) (a / 2 ^ 31) (low-fits a) (omeg
 clmul32-requires : tie.Need-clmul32-requires
 clmul32-requires c κs = (low-fits (c .args .a), low-fits (c .args .b))
 
-clmul32-requires-2 : tie.Need-clmul32-requires-2
-clmul32-requires-2 c κs = omega arith
-
 clmul32-requires-3 : tie.Need-clmul32-requires-3
 clmul32-requires-3 c κs = (both-fit _ (c .before .before .pre .0), both-fit _ (c .before .before .pre .1))
 
@@ -30,4 +27,4 @@ returns c =
     (c .before .before .clmul32 .ensures) (c .before .clmul322 .ensures) (c .clmul323 .ensures)
 
 pub wide-product-spec : {M : Type 1} → statement M
-wide-product-spec = tie.close (tie.spec clmul32-requires clmul32-requires-2 clmul32-requires-3 returns)
+wide-product-spec = tie.close (tie.spec clmul32-requires (λ c κs. omega arith) clmul32-requires-3 returns)

@@ -4,15 +4,6 @@ use Rattle.binary_field.proofs.ChainSteps.{first, joins, last}
 use Rattle.binary_field.proofs.inverting.inverse_5.Statement.{statement}
 use Rattle.binary_field.proofs.inverting.inverse_5.Tie as tie
 
-joined-requires : tie.Need-joined-requires
-joined-requires c κs = search needs
-
-joined-requires-2 : tie.Need-joined-requires-2
-joined-requires-2 c κs = search needs
-
-square-of-requires : tie.Need-square-of-requires
-square-of-requires c κs = search needs
-
 returns : tie.Need-returns
 returns c =
     let a = c .before .before .before .args .a in
@@ -22,4 +13,4 @@ returns c =
     last 5 a tt e₄ (c .square-of .ensures)
 
 pub inverse-5-spec : {M : Type 1} → statement M
-inverse-5-spec = tie.close (tie.spec joined-requires joined-requires-2 square-of-requires returns)
+inverse-5-spec = tie.close (tie.spec (λ c κs. search needs) (λ c κs. search needs) (λ c κs. search needs) returns)

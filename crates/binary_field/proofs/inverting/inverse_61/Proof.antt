@@ -4,30 +4,6 @@ use Rattle.binary_field.proofs.ChainSteps.{first, joins, last}
 use Rattle.binary_field.proofs.inverting.inverse_61.Statement.{statement}
 use Rattle.binary_field.proofs.inverting.inverse_61.Tie as tie
 
-joined-requires : tie.Need-joined-requires
-joined-requires c κs = search needs
-
-joined-requires-2 : tie.Need-joined-requires-2
-joined-requires-2 c κs = search needs
-
-joined-requires-3 : tie.Need-joined-requires-3
-joined-requires-3 c κs = search needs
-
-joined-sixfold-requires : tie.Need-joined-sixfold-requires
-joined-sixfold-requires c κs = search needs
-
-joined-sixfold-requires-2 : tie.Need-joined-sixfold-requires-2
-joined-sixfold-requires-2 c κs = search needs
-
-joined-sixfold-requires-3 : tie.Need-joined-sixfold-requires-3
-joined-sixfold-requires-3 c κs = search needs
-
-joined-sixfold-requires-4 : tie.Need-joined-sixfold-requires-4
-joined-sixfold-requires-4 c κs = search needs
-
-square-of-requires : tie.Need-square-of-requires
-square-of-requires c κs = search needs
-
 returns : tie.Need-returns
 returns c =
     let a = c .before .before .before .before .before .before .before .before .args .a in
@@ -45,12 +21,12 @@ pub inverse-61-spec : {M : Type 1} → statement M
 inverse-61-spec =
     tie.close
     (tie.spec
-    joined-requires
-    joined-requires-2
-    joined-requires-3
-    joined-sixfold-requires
-    joined-sixfold-requires-2
-    joined-sixfold-requires-3
-    joined-sixfold-requires-4
-    square-of-requires
+    (λ c κs. search needs)
+    (λ c κs. search needs)
+    (λ c κs. search needs)
+    (λ c κs. search needs)
+    (λ c κs. search needs)
+    (λ c κs. search needs)
+    (λ c κs. search needs)
+    (λ c κs. search needs)
     returns)

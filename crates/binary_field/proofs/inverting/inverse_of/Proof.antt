@@ -10,9 +10,6 @@ inverse-5-requires c κs = (rw (c .if1 .taken) at (c .before .pre .1), c .before
 returns : tie.Need-returns
 returns c = rw (c .before .if1 .taken) (c .inverse-5 .ensures)
 
-multisquares-requires : tie.Need-multisquares-requires
-multisquares-requires c κs = search needs
-
 inverse-61-requires : tie.Need-inverse-61-requires
 inverse-61-requires c κs =
     let s = c .before .before .before in
@@ -22,4 +19,4 @@ returns-2 : tie.Need-returns-2
 returns-2 c = rw (other-degree _ (c .before .before .before .before .pre .0) (c .before .before .before .if1 .left)) (c .inverse-61 .ensures)
 
 pub inverse-of-spec : {M : Type 1} → statement M
-inverse-of-spec = tie.close (tie.spec inverse-5-requires returns multisquares-requires inverse-61-requires returns-2)
+inverse-of-spec = tie.close (tie.spec inverse-5-requires returns (λ c κs. search needs) inverse-61-requires returns-2)

@@ -19,12 +19,6 @@ loop-holds c = (omega arith, none-squared _ _ (c .pre .1))
 square-of-requires : tie.Need-square-of-requires Inv-loop μ-loop
 square-of-requires c κs = (c .before .before .pre .0, c .before .loop .inv .1 .1, c .before .before .pre .3)
 
-add-i : tie.Need-add-i Inv-loop μ-loop
-add-i c = omega arith
-
-loop-less : tie.Need-loop-less Inv-loop μ-loop
-loop-less c = omega arith
-
 loop-again : tie.Need-loop-again Inv-loop μ-loop
 loop-again c =
     (omega arith, once-more _ _ _ (c .before .before .before .pre .0) (c .before .before .loop .inv .1 .0) (c .square-of .ensures))
@@ -40,4 +34,4 @@ returns c =
 pub joined-spec : {M : Type 1} → statement M
 joined-spec =
     tie.close
-    (tie.spec Inv-loop μ-loop loop-holds square-of-requires add-i loop-less loop-again product-of-requires returns)
+    (tie.spec Inv-loop μ-loop loop-holds square-of-requires (λ c. omega arith) (λ c. omega arith) loop-again product-of-requires returns)

@@ -19,12 +19,6 @@ loop-holds c = (omega arith, none-squared 61 _ (c .pre .0))
 multisquare-requires : tie.Need-multisquare-requires Inv-loop μ-loop
 multisquare-requires c κs = c .before .before .pre .2
 
-add-i : tie.Need-add-i Inv-loop μ-loop
-add-i c = omega arith
-
-loop-less : tie.Need-loop-less Inv-loop μ-loop
-loop-less c = omega arith
-
 loop-again : tie.Need-loop-again Inv-loop μ-loop
 loop-again c = (omega arith, six-more _ _ (c .before .before .loop .inv .1) (c .multisquare .ensures))
 
@@ -39,4 +33,4 @@ returns c =
 pub joined-sixfold-spec : {M : Type 1} → statement M
 joined-sixfold-spec =
     tie.close
-    (tie.spec Inv-loop μ-loop loop-holds multisquare-requires add-i loop-less loop-again product-of-requires returns)
+    (tie.spec Inv-loop μ-loop loop-holds multisquare-requires (λ c. omega arith) (λ c. omega arith) loop-again product-of-requires returns)

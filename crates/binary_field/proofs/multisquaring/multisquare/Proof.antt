@@ -16,15 +16,6 @@ abbrev μ-loop : tie.MeasureT-loop
 loop-holds : tie.Need-loop-holds Inv-loop μ-loop
 loop-holds c = (omega arith, no-digit _)
 
-mul-digit : tie.Need-mul-digit Inv-loop μ-loop
-mul-digit c = omega arith
-
-shr-digit : tie.Need-shr-digit Inv-loop μ-loop
-shr-digit c = omega arith
-
-mul-place : tie.Need-mul-place Inv-loop μ-loop
-mul-place c = omega arith
-
 add-place : tie.Need-add-place Inv-loop μ-loop
 add-place c = omega (arith, place-lt (c .before .before .args .a / 2 ^ (4 * c .before .loop .i)) (c .before .loop .i) (c .loop-test .taken))
 
@@ -33,12 +24,6 @@ mul-r c = omega (arith, place-lt (c .before .before .args .a / 2 ^ (4 * c .befor
 
 element-copy-out-r : tie.Need-element-copy-out-r Inv-loop μ-loop
 element-copy-out-r c = place-lt (c .before .before .args .a / 2 ^ (4 * c .before .loop .i)) (c .before .loop .i) (c .loop-test .taken)
-
-add-i : tie.Need-add-i Inv-loop μ-loop
-add-i c = omega arith
-
-loop-less : tie.Need-loop-less Inv-loop μ-loop
-loop-less c = omega arith
 
 loop-again : tie.Need-loop-again Inv-loop μ-loop
 loop-again c =
@@ -54,13 +39,13 @@ multisquare-spec =
     Inv-loop
     μ-loop
     loop-holds
-    mul-digit
-    shr-digit
-    mul-place
+    (λ c. omega arith)
+    (λ c. omega arith)
+    (λ c. omega arith)
     add-place
     mul-r
     element-copy-out-r
-    add-i
-    loop-less
+    (λ c. omega arith)
+    (λ c. omega arith)
     loop-again
     returns)

@@ -4,12 +4,6 @@ use Rattle.binary_field.proofs.Roots.{root-made, odd-below}
 use Rattle.binary_field.proofs.rooting.root_of.Statement.{statement}
 use Rattle.binary_field.proofs.rooting.root_of.Tie as tie
 
-evens-of-requires : tie.Need-evens-of-requires
-evens-of-requires c κs = search needs
-
-evens-of-requires-2 : tie.Need-evens-of-requires-2
-evens-of-requires-2 c κs = search needs
-
 times-root-of-t-requires : tie.Need-times-root-of-t-requires
 times-root-of-t-requires c κs =
     let p = c .before .before .pre in
@@ -23,4 +17,4 @@ returns c =
 
 pub root-of-spec : {M : Type 1} → statement M
 root-of-spec =
-    tie.close (tie.spec evens-of-requires evens-of-requires-2 times-root-of-t-requires returns)
+    tie.close (tie.spec (λ c κs. search needs) (λ c κs. search needs) times-root-of-t-requires returns)

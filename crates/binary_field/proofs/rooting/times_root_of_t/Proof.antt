@@ -17,9 +17,6 @@ product-of-requires c κs = (tt, rw (c .if1 .taken) at (c .before .pre .1), lit<
 returns : tie.Need-returns
 returns c = rw (c .before .if1 .taken) (times-root 5 tt _ _ root-5 (c .product-of .ensures))
 
-wide-times-root-requires : tie.Need-wide-times-root-requires
-wide-times-root-requires c κs = search needs
-
 fold-requires : tie.Need-fold-requires
 fold-requires c κs =
     let p = c .before .before .pre in (
@@ -38,4 +35,4 @@ returns-2 c =
 pub times-root-of-t-spec : {M : Type 1} → statement M
 times-root-of-t-spec =
     tie.close
-    (tie.spec product-of-requires returns wide-times-root-requires fold-requires returns-2)
+    (tie.spec product-of-requires returns (λ c κs. search needs) fold-requires returns-2)

@@ -5,12 +5,6 @@ use Rattle.binary_field.proofs.Spread.{spread-lt}
 use Rattle.binary_field.proofs.spreading.spread_8.Statement.{statement}
 use Rattle.binary_field.proofs.spreading.spread_8.Tie as tie
 
-mul-result : tie.Need-mul-result
-mul-result c = search needs
-
-element-copy-out-result : tie.Need-element-copy-out-result
-element-copy-out-result c = search needs
-
 cast-result : tie.Need-cast-result
 cast-result c =
     omega (arith, c .before .pre .0 .entry (c .before .args .w) (c .before .pre .1), spread-lt 8 (c .before .args .w) (c .before .pre .1))
@@ -19,4 +13,4 @@ returns : tie.Need-returns
 returns c = c .before .pre .0 .entry (c .before .args .w) (c .before .pre .1)
 
 pub spread-8-spec : {M : Type 1} → statement M
-spread-8-spec = tie.close (tie.spec mul-result element-copy-out-result cast-result returns)
+spread-8-spec = tie.close (tie.spec (λ c. search needs) (λ c. search needs) cast-result returns)

@@ -25,14 +25,8 @@ common e = record {
   second-is = e .bezout .ensures;
 }
 
-add-rows-requires : tie.Need-add-rows-requires
-add-rows-requires c κs = search needs
-
 constant-requires : tie.Need-constant-requires
 constant-requires c κs = let s = c .before .before .before .before .before .before in (s .pre .0, one-lt (s .args .d))
-
-add-rows-requires-2 : tie.Need-add-rows-requires-2
-add-rows-requires-2 c κs = search needs
 
 bezout-requires : tie.Need-bezout-requires
 bezout-requires c κs =
@@ -97,9 +91,9 @@ pub compose-common-spec : {M : Type 1} → statement M
 compose-common-spec =
     tie.close
     (tie.spec
-    add-rows-requires
+    (λ c κs. search needs)
     constant-requires
-    add-rows-requires-2
+    (λ c κs. search needs)
     bezout-requires
     cofactor-requires
     multiple-row-requires

@@ -13,18 +13,6 @@ bezout-requires c κs =
     let B = s .pre .2 in
     (s .pre .0, A .u-range, B .u-range, reduced-len (s .args .d) A .0, reduced-len (s .args .d) B .0)
 
-length-requires : tie.Need-length-requires
-length-requires c κs = search needs
-
-compose-common-requires : tie.Need-compose-common-requires
-compose-common-requires c κs = search needs
-
-returns : tie.Need-returns
-returns c = search needs
-
-add-rows-requires : tie.Need-add-rows-requires
-add-rows-requires c κs = search needs
-
 multiply-requires : tie.Need-multiply-requires
 multiply-requires c κs =
     let e = c .before .before .before .before .before in
@@ -63,4 +51,4 @@ returns-2 c =
 pub compose-rows-spec : {M : Type 1} → statement M
 compose-rows-spec =
     tie.close
-    (tie.spec bezout-requires length-requires compose-common-requires returns add-rows-requires multiply-requires joined-rows-requires returns-2)
+    (tie.spec bezout-requires (λ c κs. search needs) (λ c κs. search needs) (λ c. search needs) (λ c κs. search needs) multiply-requires joined-rows-requires returns-2)

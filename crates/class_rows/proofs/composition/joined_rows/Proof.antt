@@ -5,12 +5,6 @@ use Rattle.class_rows.proofs.ComposeRows.{joined-nonzero, joined-less, 
 use Rattle.class_rows.proofs.composition.joined_rows.Statement.{statement}
 use Rattle.class_rows.proofs.composition.joined_rows.Tie as tie
 
-multiply-requires : tie.Need-multiply-requires
-multiply-requires c κs = search needs
-
-divide-requires : tie.Need-divide-requires
-divide-requires c κs = search needs
-
 multiply-requires-2 : tie.Need-multiply-requires-2
 multiply-requires-2 c κs =
     let s = c .before .before .before in
@@ -18,9 +12,6 @@ multiply-requires-2 c κs =
     let k = c .before .divide .ensures .1 in
     let l = joined-less (a .d) (a .d1) (a .d2) (a .m) (c .before .before .multiply .ensures) (s .pre .5) (s .pre .6) k in
     (s .pre .0, s .pre .1 .in-range, k .in-range, omega (arith, l, s .pre .1 .len-le, s .pre .2 .len-le))
-
-add-rows-requires : tie.Need-add-rows-requires
-add-rows-requires c κs = search needs
 
 divide-requires-2 : tie.Need-divide-requires-2
 divide-requires-2 c κs =
@@ -42,4 +33,4 @@ returns c =
     (a .v1) (e .multiply2 .ensures) (c .before .before .add-rows .ensures) (c .before .divide2 .ensures .1)
 
 pub joined-rows-spec : {M : Type 1} → statement M
-joined-rows-spec = tie.close (tie.spec multiply-requires divide-requires multiply-requires-2 add-rows-requires divide-requires-2 returns)
+joined-rows-spec = tie.close (tie.spec (λ c κs. search needs) (λ c κs. search needs) multiply-requires-2 (λ c κs. search needs) divide-requires-2 returns)

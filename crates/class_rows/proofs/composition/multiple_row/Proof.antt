@@ -6,21 +6,12 @@ use Rattle.class_rows.proofs.ComposeRows.{product-len, multiple-stands}
 use Rattle.class_rows.proofs.composition.multiple_row.Statement.{statement}
 use Rattle.class_rows.proofs.composition.multiple_row.Tie as tie
 
-multiply-requires : tie.Need-multiply-requires
-multiply-requires c κs = search needs
-
 multiply-requires-2 : tie.Need-multiply-requires-2
 multiply-requires-2 c κs =
     let s = c .before .before .before .before in
     let d = s .args .d in
     let l = product-len d (poly d (s .args .second .s)) (poly d (s .args .first .s)) 3 4 (c .multiply .ensures) (s .pre .4 .len-le) (s .pre .3 .len-le) in
     (s .pre .0, c .multiply .ensures .in-range, s .pre .1 .in-range, omega (arith, l, s .pre .1 .len-le))
-
-multiply-requires-3 : tie.Need-multiply-requires-3
-multiply-requires-3 c κs = search needs
-
-add-rows-requires : tie.Need-add-rows-requires
-add-rows-requires c κs = search needs
 
 returns : tie.Need-returns
 returns c =
@@ -29,4 +20,4 @@ returns c =
     (c .before .before .multiply2 .ensures) (c .before .multiply3 .ensures) (c .add-rows .ensures)
 
 pub multiple-row-spec : {M : Type 1} → statement M
-multiple-row-spec = tie.close (tie.spec multiply-requires multiply-requires-2 multiply-requires-3 add-rows-requires returns)
+multiple-row-spec = tie.close (tie.spec (λ c κs. search needs) multiply-requires-2 (λ c κs. search needs) (λ c κs. search needs) returns)

@@ -6,9 +6,6 @@ use Rattle.class_rows.proofs.CheckRows.{denied, no-it-is-not, formed-di
 use Rattle.class_rows.proofs.divisor.checked.Statement.{statement}
 use Rattle.class_rows.proofs.divisor.checked.Tie as tie
 
-in-form-requires : tie.Need-in-form-requires
-in-form-requires c κs = tt
-
 returns : tie.Need-returns
 returns c =
     record {
@@ -18,9 +15,6 @@ returns c =
 
 divided-requires : tie.Need-divided-requires
 divided-requires c κs = c .before .in-form .ensures .0 (not-false _ (c .if1 .left))
-
-length-requires : tie.Need-length-requires
-length-requires c κs = tt
 
 returns-2 : tie.Need-returns-2
 returns-2 c =
@@ -33,4 +27,4 @@ returns-2 c =
     }
 
 pub checked-spec : {M : Type 1} → statement M
-checked-spec = tie.close (tie.spec in-form-requires returns divided-requires length-requires returns-2)
+checked-spec = tie.close (tie.spec (λ c κs. tt) returns divided-requires (λ c κs. tt) returns-2)

@@ -6,9 +6,6 @@ use Rattle.class_rows.proofs.CheckRows.{denied, no-it-is-not, also}
 use Rattle.class_rows.proofs.divisor.checked_both.Statement.{statement}
 use Rattle.class_rows.proofs.divisor.checked_both.Tie as tie
 
-checked-requires : tie.Need-checked-requires
-checked-requires c κs = tt
-
 returns : tie.Need-returns
 returns c =
     let refused = not-true _ (c .if1 .taken) in
@@ -17,13 +14,10 @@ returns c =
       cofactor = λ e. absurd (true≢false (sym e ∙ refused));
     }
 
-checked-requires-2 : tie.Need-checked-requires-2
-checked-requires-2 c κs = tt
-
 returns-2 : tie.Need-returns-2
 returns-2 c =
     let second = c .before .before .before .checked .ensures .decides .0 (not-false _ (c .before .if1 .left)) in
     record { decides = also (c .checked2 .ensures .decides) (λ p. (p, second)) (λ p. p .0); cofactor = c .checked2 .ensures .cofactor }
 
 pub checked-both-spec : {M : Type 1} → statement M
-checked-both-spec = tie.close (tie.spec checked-requires returns checked-requires-2 returns-2)
+checked-both-spec = tie.close (tie.spec (λ c κs. tt) returns (λ c κs. tt) returns-2)

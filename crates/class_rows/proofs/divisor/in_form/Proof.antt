@@ -5,20 +5,11 @@ use Rattle.class_rows.proofs.CheckRows.{denied, no-it-is-not, also}
 use Rattle.class_rows.proofs.divisor.in_form.Statement.{statement}
 use Rattle.class_rows.proofs.divisor.in_form.Tie as tie
 
-is-degree-requires : tie.Need-is-degree-requires
-is-degree-requires c κs = tt
-
 returns : tie.Need-returns
 returns c = no-it-is-not refl (λ p. denied (c .before .is-degree .ensures) (not-true _ (c .if1 .taken)) (p .degree))
 
-is-curve-requires : tie.Need-is-curve-requires
-is-curve-requires c κs = tt
-
 returns-2 : tie.Need-returns-2
 returns-2 c = no-it-is-not refl (λ p. denied (c .before .is-curve .ensures) (not-true _ (c .if2 .taken)) (p .curve))
-
-is-pair-requires : tie.Need-is-pair-requires
-is-pair-requires c κs = tt
 
 returns-3 : tie.Need-returns-3
 returns-3 c =
@@ -33,4 +24,4 @@ returns-3 c =
     (λ p. p .pair)
 
 pub in-form-spec : {M : Type 1} → statement M
-in-form-spec = tie.close (tie.spec is-degree-requires returns is-curve-requires returns-2 is-pair-requires returns-3)
+in-form-spec = tie.close (tie.spec (λ c κs. tt) returns (λ c κs. tt) returns-2 (λ c κs. tt) returns-3)

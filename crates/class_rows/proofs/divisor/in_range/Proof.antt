@@ -12,28 +12,13 @@ Inv-loop d r m i₀ i = (i ≤ 12) × Below d r i
 abbrev μ-loop : tie.MeasureT-loop
 μ-loop d r m i₀ i = 12 - i
 
-bound-requires : tie.Need-bound-requires Inv-loop μ-loop
-bound-requires c κs = tt
-
 loop-holds : tie.Need-loop-holds Inv-loop μ-loop
 loop-holds c = (omega arith, below-none _)
-
-mul-if1 : tie.Need-mul-if1 Inv-loop μ-loop
-mul-if1 c = omega arith
-
-array-read-if1 : tie.Need-array-read-if1 Inv-loop μ-loop
-array-read-if1 c = omega arith
 
 returns : tie.Need-returns Inv-loop μ-loop
 returns c =
     let e = c .before .before .before .bound .ensures in
     no-it-is-not refl (λ h. absurd (omega (arith, e, h (c .before .before .loop .i), c .if1 .taken)))
-
-add-i : tie.Need-add-i Inv-loop μ-loop
-add-i c = omega arith
-
-loop-less : tie.Need-loop-less Inv-loop μ-loop
-loop-less c = omega arith
 
 loop-again : tie.Need-loop-again Inv-loop μ-loop
 loop-again c = (omega arith, below-more _ (c .before .before .loop .inv .1) (c .before .before .before .bound .ensures) (c .if1 .left))
@@ -47,12 +32,12 @@ in-range-spec =
     (tie.spec
     Inv-loop
     μ-loop
-    bound-requires
+    (λ c κs. tt)
     loop-holds
-    mul-if1
-    array-read-if1
+    (λ c. omega arith)
+    (λ c. omega arith)
     returns
-    add-i
-    loop-less
+    (λ c. omega arith)
+    (λ c. omega arith)
     loop-again
     returns-2)

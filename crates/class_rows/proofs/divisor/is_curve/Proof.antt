@@ -7,14 +7,8 @@ use Rattle.class_rows.proofs.CheckRows.{denied, no-it-is-not, also}
 use Rattle.class_rows.proofs.divisor.is_curve.Statement.{statement}
 use Rattle.class_rows.proofs.divisor.is_curve.Tie as tie
 
-in-range-requires : tie.Need-in-range-requires
-in-range-requires c κs = tt
-
 returns : tie.Need-returns
 returns c = no-it-is-not refl (λ p. denied (c .before .in-range .ensures) (not-true _ (c .if1 .taken)) (p .1 .in-range))
-
-length-requires : tie.Need-length-requires
-length-requires c κs = tt
 
 returns-2 : tie.Need-returns-2
 returns-2 c =
@@ -36,4 +30,4 @@ returns-3 c =
     (λ p. subst (Monic (𝔸 d)) (sym (p .1 .is-f)) (p .0 .f-monic))
 
 pub is-curve-spec : {M : Type 1} → statement M
-is-curve-spec = tie.close (tie.spec in-range-requires returns length-requires returns-2 is-monic-requires returns-3)
+is-curve-spec = tie.close (tie.spec (λ c κs. tt) returns (λ c κs. tt) returns-2 is-monic-requires returns-3)

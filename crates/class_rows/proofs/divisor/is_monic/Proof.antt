@@ -6,9 +6,6 @@ use Rattle.class_rows.proofs.CheckRows.{no-it-is-not, none-monic, monic
 use Rattle.class_rows.proofs.divisor.is_monic.Statement.{statement}
 use Rattle.class_rows.proofs.divisor.is_monic.Tie as tie
 
-length-requires : tie.Need-length-requires
-length-requires c κs = tt
-
 returns : tie.Need-returns
 returns c = no-it-is-not refl (none-monic _ _ (sym (c .if1 .taken) ∙ c .before .length .ensures _ (c .before .before .pre)))
 
@@ -30,4 +27,4 @@ returns-2 c =
     monic-decides _ _ (c .before .before .good .1 .0 .1 .0 .1) (c .before .before .pre) (c .before .length .ensures _ (c .before .before .pre)) (c .if1 .left)
 
 pub is-monic-spec : {M : Type 1} → statement M
-is-monic-spec = tie.close (tie.spec length-requires returns sub-result mul-result array-read-result returns-2)
+is-monic-spec = tie.close (tie.spec (λ c κs. tt) returns sub-result mul-result array-read-result returns-2)

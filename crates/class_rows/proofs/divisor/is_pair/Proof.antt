@@ -6,26 +6,14 @@ use Rattle.class_rows.proofs.CheckRows.{denied, no-it-is-not, also}
 use Rattle.class_rows.proofs.divisor.is_pair.Statement.{statement}
 use Rattle.class_rows.proofs.divisor.is_pair.Tie as tie
 
-in-range-requires : tie.Need-in-range-requires
-in-range-requires c κs = tt
-
 returns : tie.Need-returns
 returns c = no-it-is-not refl (λ p. denied (c .before .in-range .ensures) (not-true _ (c .if1 .taken)) (p .u-range))
-
-in-range-requires-2 : tie.Need-in-range-requires-2
-in-range-requires-2 c κs = tt
 
 returns-2 : tie.Need-returns-2
 returns-2 c = no-it-is-not refl (λ p. denied (c .before .in-range2 .ensures) (not-true _ (c .if2 .taken)) (p .v-range))
 
-length-requires : tie.Need-length-requires
-length-requires c κs = tt
-
 returns-3 : tie.Need-returns-3
 returns-3 c = no-it-is-not refl (λ p. absurd (omega (arith, c .before .length .ensures _ (p .u-range), p .u-len, c .if3 .taken)))
-
-length-requires-2 : tie.Need-length-requires-2
-length-requires-2 c κs = tt
 
 returns-4 : tie.Need-returns-4
 returns-4 c =
@@ -58,4 +46,4 @@ returns-5 c =
     (λ p. p .u-monic)
 
 pub is-pair-spec : {M : Type 1} → statement M
-is-pair-spec = tie.close (tie.spec in-range-requires returns in-range-requires-2 returns-2 length-requires returns-3 length-requires-2 returns-4 is-monic-requires returns-5)
+is-pair-spec = tie.close (tie.spec (λ c κs. tt) returns (λ c κs. tt) returns-2 (λ c κs. tt) returns-3 (λ c κs. tt) returns-4 is-monic-requires returns-5)

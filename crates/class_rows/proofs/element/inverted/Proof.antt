@@ -8,16 +8,10 @@ use Rattle.class_rows.proofs.element.inverted.Tie as tie
 returns : tie.Need-returns
 returns c = inverse-one _ _ (c .if1 .taken)
 
-inverse-requires : tie.Need-inverse-requires
-inverse-requires c κs = search needs
-
-number-requires : tie.Need-number-requires
-number-requires c κs = search needs
-
 returns-2 : tie.Need-returns-2
 returns-2 c =
     let pre = c .before .before .before .pre in
     inverse-is _ (pre .0) _ (pre .1) (c .number .ensures _ (c .before .inverse .ensures ∙ inverse-answers _ (pre .0) _ (pre .1)))
 
 pub inverted-spec : {M : Type 1} → statement M
-inverted-spec = tie.close (tie.spec returns inverse-requires number-requires returns-2)
+inverted-spec = tie.close (tie.spec returns (λ c κs. search needs) (λ c κs. search needs) returns-2)

@@ -5,16 +5,10 @@ use borrow.Author.Needs.{needs}
 use Rattle.class_rows.proofs.element.root_of.Statement.{statement}
 use Rattle.class_rows.proofs.element.root_of.Tie as tie
 
-square-root-requires : tie.Need-square-root-requires
-square-root-requires c κs = search needs
-
-number-requires : tie.Need-number-requires
-number-requires c κs = search needs
-
 returns : tie.Need-returns
 returns c =
     let pre = c .before .before .pre in
     root-is _ (pre .0) _ (pre .1) (c .number .ensures _ (c .before .square-root .ensures ∙ root-answers _ (pre .0) _ (pre .1)))
 
 pub root-of-spec : {M : Type 1} → statement M
-root-of-spec = tie.close (tie.spec square-root-requires number-requires returns)
+root-of-spec = tie.close (tie.spec (λ c κs. search needs) (λ c κs. search needs) returns)

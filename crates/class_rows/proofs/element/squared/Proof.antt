@@ -5,16 +5,10 @@ use borrow.Author.Needs.{needs}
 use Rattle.class_rows.proofs.element.squared.Statement.{statement}
 use Rattle.class_rows.proofs.element.squared.Tie as tie
 
-square-requires : tie.Need-square-requires
-square-requires c κs = search needs
-
-number-requires : tie.Need-number-requires
-number-requires c κs = search needs
-
 returns : tie.Need-returns
 returns c =
     let pre = c .before .before .pre in
     square-is _ (pre .0) _ (pre .1) (c .number .ensures _ (c .before .square .ensures ∙ square-answers _ (pre .0) _ (pre .1)))
 
 pub squared-spec : {M : Type 1} → statement M
-squared-spec = tie.close (tie.spec square-requires number-requires returns)
+squared-spec = tie.close (tie.spec (λ c κs. search needs) (λ c κs. search needs) returns)

@@ -17,12 +17,6 @@ returns-3 c = one-times _ _ _ (c .before .before .before .pre .2) (c .if3 .taken
 returns-4 : tie.Need-returns-4
 returns-4 c = times-one _ _ _ (c .before .before .before .before .pre .1) (c .if4 .taken)
 
-product-requires : tie.Need-product-requires
-product-requires c κs = search needs
-
-number-requires : tie.Need-number-requires
-number-requires c κs = search needs
-
 returns-5 : tie.Need-returns-5
 returns-5 c =
     let pre = c .before .before .before .before .before .before .pre in
@@ -31,4 +25,4 @@ returns-5 c =
 pub times-spec : {M : Type 1} → statement M
 times-spec =
     tie.close
-    (tie.spec returns returns-2 returns-3 returns-4 product-requires number-requires returns-5)
+    (tie.spec returns returns-2 returns-3 returns-4 (λ c κs. search needs) (λ c κs. search needs) returns-5)

@@ -22,13 +22,10 @@ lead-inverse-requires c κs =
       nonzero-of-len (𝔸 (s .args .d)) (poly (s .args .d) (s .args .b)) (omega (arith, s .pre .2)),
     )
 
-constant-requires-3 : tie.Need-constant-requires-3
-constant-requires-3 c κs = search needs
-
 returns : tie.Need-returns
 returns c =
     let s = c .before .before .before .before in
     constant-rows (s .args .d) (s .args .b) (s .pre .2) (c .before .lead-inverse .ensures) (c .before .before .before .constant .ensures) (c .before .before .constant2 .ensures) (c .constant3 .ensures)
 
 pub bezout-constant-spec : {M : Type 1} → statement M
-bezout-constant-spec = tie.close (tie.spec constant-requires constant-requires-2 lead-inverse-requires constant-requires-3 returns)
+bezout-constant-spec = tie.close (tie.spec constant-requires constant-requires-2 lead-inverse-requires (λ c κs. search needs) returns)

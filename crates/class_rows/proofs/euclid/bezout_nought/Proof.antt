@@ -12,9 +12,6 @@ use Rattle.class_rows.proofs.euclid.bezout_nought.Tie as tie
 constant-requires : tie.Need-constant-requires
 constant-requires c κs = (c .pre .0, zero-lt (c .args .d))
 
-length-requires : tie.Need-length-requires
-length-requires c κs = search needs
-
 returns : tie.Need-returns
 returns c =
     let s = c .before .before .before in
@@ -29,12 +26,6 @@ lead-inverse-requires c κs =
       nonzero-of-len (𝔸 (s .args .d)) (poly (s .args .d) (s .args .a)) (omega (arith, e, c .if1 .left)),
     )
 
-constant-requires-2 : tie.Need-constant-requires-2
-constant-requires-2 c κs = search needs
-
-scale-requires : tie.Need-scale-requires
-scale-requires c κs = search needs
-
 returns-2 : tie.Need-returns-2
 returns-2 c =
     let s = c .before .before .before .before .before .before in
@@ -43,4 +34,4 @@ returns-2 c =
 pub bezout-nought-spec : {M : Type 1} → statement M
 bezout-nought-spec =
     tie.close
-    (tie.spec constant-requires length-requires returns lead-inverse-requires constant-requires-2 scale-requires returns-2)
+    (tie.spec constant-requires (λ c κs. search needs) returns lead-inverse-requires (λ c κs. search needs) (λ c κs. search needs) returns-2)

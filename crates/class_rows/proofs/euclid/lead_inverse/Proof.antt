@@ -9,9 +9,6 @@ use Rattle.class_rows.proofs.Rows.Lead.{length-pos, Leads, leads, lead-
 use Rattle.class_rows.proofs.euclid.lead_inverse.Statement.{statement}
 use Rattle.class_rows.proofs.euclid.lead_inverse.Tie as tie
 
-length-requires : tie.Need-length-requires
-length-requires c κs = search needs
-
 sub-top : tie.Need-sub-top
 sub-top c = length-pos _ _ (c .length .ensures _ (c .before .pre .1)) (c .before .pre .2)
 
@@ -31,4 +28,4 @@ returns : tie.Need-returns
 returns c = let a = c .before .before .args in is-eq (a .d) (ap (F (a .d) .inverse) (sym (lead-row (at-top (c .before))))) (c .inverted .ensures)
 
 pub lead-inverse-spec : {M : Type 1} → statement M
-lead-inverse-spec = tie.close (tie.spec length-requires sub-top mul-inverted array-read-inverted inverted-requires returns)
+lead-inverse-spec = tie.close (tie.spec (λ c κs. search needs) sub-top mul-inverted array-read-inverted inverted-requires returns)

@@ -6,12 +6,6 @@ use Rattle.class_rows.proofs.Rows.Coefficients.{stands-eq}
 use Rattle.class_rows.proofs.euclid.substituted.Statement.{statement}
 use Rattle.class_rows.proofs.euclid.substituted.Tie as tie
 
-multiply-requires : tie.Need-multiply-requires
-multiply-requires c κs = search needs
-
-add-rows-requires : tie.Need-add-rows-requires
-add-rows-requires c κs = search needs
-
 returns : tie.Need-returns
 returns c =
     let s = c .before .before .before .before .before in
@@ -23,4 +17,4 @@ returns c =
     }
 
 pub substituted-spec : {M : Type 1} → statement M
-substituted-spec = tie.close (tie.spec multiply-requires add-rows-requires returns)
+substituted-spec = tie.close (tie.spec (λ c κs. search needs) (λ c κs. search needs) returns)

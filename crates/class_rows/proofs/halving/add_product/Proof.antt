@@ -6,16 +6,10 @@ use borrow.Author.Needs.{needs}
 use Rattle.class_rows.proofs.halving.add_product.Statement.{statement}
 use Rattle.class_rows.proofs.halving.add_product.Tie as tie
 
-multiply-requires : tie.Need-multiply-requires
-multiply-requires c κs = search needs
-
-add-rows-requires : tie.Need-add-rows-requires
-add-rows-requires c κs = search needs
-
 returns : tie.Need-returns
 returns c =
     let d = c .before .before .args .d in
     stands-eq d (ap (𝔸 d .ring .add (poly d (c .before .before .args .a))) (c .before .multiply .ensures .stands)) (c .add-rows .ensures)
 
 pub add-product-spec : {M : Type 1} → statement M
-add-product-spec = tie.close (tie.spec multiply-requires add-rows-requires returns)
+add-product-spec = tie.close (tie.spec (λ c κs. search needs) (λ c κs. search needs) returns)

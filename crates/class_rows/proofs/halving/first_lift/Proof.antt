@@ -6,12 +6,6 @@ use borrow.Author.Needs.{needs}
 use Rattle.class_rows.proofs.halving.first_lift.Statement.{statement}
 use Rattle.class_rows.proofs.halving.first_lift.Tie as tie
 
-array-read-w3 : tie.Need-array-read-w3
-array-read-w3 c = search needs
-
-quadratic-row-requires : tie.Need-quadratic-row-requires
-quadratic-row-requires c κs = search needs
-
 quartic-row-requires : tie.Need-quartic-row-requires
 quartic-row-requires c κs = (zero-lt (c .before .args .d), zero-lt (c .before .args .d), c .before .pre .2 3)
 
@@ -27,8 +21,8 @@ pub first-lift-spec : {M : Type 1} → statement M
 first-lift-spec =
     tie.close
     (tie.spec
-    array-read-w3
-    quadratic-row-requires
+    (λ c. search needs)
+    (λ c κs. search needs)
     quartic-row-requires
     lifted-row-requires
     returns)

@@ -34,15 +34,6 @@ computed c =
       q-is = c .stepped-row .ensures;
     }
 
-array-read-w5 : tie.Need-array-read-w5
-array-read-w5 c = search needs
-
-array-read-w3 : tie.Need-array-read-w3
-array-read-w3 c = search needs
-
-array-read-w1 : tie.Need-array-read-w1
-array-read-w1 c = search needs
-
 root-of-requires : tie.Need-root-of-requires
 root-of-requires c κs = (c .pre .0, c .pre .1 .w-range 5)
 
@@ -51,12 +42,6 @@ root-of-requires-2 c κs = (c .before .pre .0, c .before .pre .1 .w-range 3)
 
 plus-requires : tie.Need-plus-requires
 plus-requires c κs = (c .before .before .pre .0, c .before .before .pre .1 .w-range 1, c .root-of2 .ensures .in-range)
-
-root-of-requires-3 : tie.Need-root-of-requires-3
-root-of-requires-3 c κs = search needs
-
-quadratic-row-requires : tie.Need-quadratic-row-requires
-quadratic-row-requires c κs = search needs
 
 quartic-row-requires : tie.Need-quartic-row-requires
 quartic-row-requires c κs = (c .before .before .before .before .before .pre .1 .w-range 5, c .before .before .before .before .before .pre .1 .w-range 3, c .before .before .plus .ensures .in-range)
@@ -81,14 +66,14 @@ pub half-of-degree-1-spec : {M : Type 1} → statement M
 half-of-degree-1-spec =
     tie.close
     (tie.spec
-    array-read-w5
-    array-read-w3
-    array-read-w1
+    (λ c. search needs)
+    (λ c. search needs)
+    (λ c. search needs)
     root-of-requires
     root-of-requires-2
     plus-requires
-    root-of-requires-3
-    quadratic-row-requires
+    (λ c κs. search needs)
+    (λ c κs. search needs)
     quartic-row-requires
     lifted-row-requires
     stepped-row-requires

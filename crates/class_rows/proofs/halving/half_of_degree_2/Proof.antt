@@ -4,22 +4,13 @@ use borrow.Author.Needs.{needs}
 use Rattle.class_rows.proofs.halving.half_of_degree_2.Statement.{statement}
 use Rattle.class_rows.proofs.halving.half_of_degree_2.Tie as tie
 
-array-read-u1 : tie.Need-array-read-u1
-array-read-u1 c = search needs
-
 root-pair-requires : tie.Need-root-pair-requires
 root-pair-requires c κs = (c .before .pre .0, c .before .pre .1 .u-range, c .before .pre .1 .v-range, root-nonzero-2-square _ _ _ (c .before .args .w) (c .if1 .taken) (c .before .pre .1))
 
 returns : tie.Need-returns
 returns c = result-2-square _ _ _ _ (c .before .if1 .taken) (c .root-pair .ensures)
 
-lifted-half-of-degree-2-requires : tie.Need-lifted-half-of-degree-2-requires
-lifted-half-of-degree-2-requires c κs = search needs
-
-returns-2 : tie.Need-returns-2
-returns-2 c = search needs
-
 pub half-of-degree-2-spec : {M : Type 1} → statement M
 half-of-degree-2-spec =
     tie.close
-    (tie.spec array-read-u1 root-pair-requires returns lifted-half-of-degree-2-requires returns-2)
+    (tie.spec (λ c. search needs) root-pair-requires returns (λ c κs. search needs) (λ c. search needs))

@@ -41,23 +41,11 @@ second c =
       a-is = c .root-row .ensures;
     }
 
-array-read-w3 : tie.Need-array-read-w3
-array-read-w3 c = search needs
-
 root-of-requires : tie.Need-root-of-requires
 root-of-requires c κs = (c .pre .0, c .pre .1 .w-range 3)
 
-first-lift-requires : tie.Need-first-lift-requires
-first-lift-requires c κs = search needs
-
-array-read-e : tie.Need-array-read-e
-array-read-e c = search needs
-
 root-of-requires-2 : tie.Need-root-of-requires-2
 root-of-requires-2 c κs = (c .before .before .pre .0, c .first-lift .ensures .in-range 1)
-
-quadratic-row-requires : tie.Need-quadratic-row-requires
-quadratic-row-requires c κs = search needs
 
 stepped-row-requires : tie.Need-stepped-row-requires
 stepped-row-requires c κs =
@@ -70,25 +58,13 @@ root-pair-requires c κs = (c .before .before .before .before .before .before .p
 returns : tie.Need-returns
 returns c = result-3-square _ _ _ _ (first (c .before .before .before .before)) (c .before .before .before .if1 .taken) (c .before .before .quadratic-row .ensures) (c .before .stepped-row .ensures) (c .root-pair .ensures)
 
-inverted-requires : tie.Need-inverted-requires
-inverted-requires c κs = search needs
-
-array-read-u1 : tie.Need-array-read-u1
-array-read-u1 c = search needs
-
 plus-requires : tie.Need-plus-requires
 plus-requires c κs = (c .before .before .before .before .before .pre .0, c .before .before .before .before .before .pre .1 .u-range 1, c .inverted .ensures .in-range)
-
-root-of-requires-3 : tie.Need-root-of-requires-3
-root-of-requires-3 c κs = search needs
 
 second-square-requires : tie.Need-second-square-requires
 second-square-requires c κs =
     let f = first (c .before .before .before .before) in
     (c .before .before .before .before .before .before .before .pre .0, f .rows .u-range, f .s-is .in-range, f .t-is .in-range, c .root-of3 .ensures .in-range, c .before .plus .ensures .in-range, first-lift-short _ _ _ _ f)
-
-root-row-requires : tie.Need-root-row-requires
-root-row-requires c κs = search needs
 
 second-remainder-requires : tie.Need-second-remainder-requires
 second-remainder-requires c κs =
@@ -103,20 +79,20 @@ pub half-of-degree-3-spec : {M : Type 1} → statement M
 half-of-degree-3-spec =
     tie.close
     (tie.spec
-    array-read-w3
+    (λ c. search needs)
     root-of-requires
-    first-lift-requires
-    array-read-e
+    (λ c κs. search needs)
+    (λ c. search needs)
     root-of-requires-2
-    quadratic-row-requires
+    (λ c κs. search needs)
     stepped-row-requires
     root-pair-requires
     returns
-    inverted-requires
-    array-read-u1
+    (λ c κs. search needs)
+    (λ c. search needs)
     plus-requires
-    root-of-requires-3
+    (λ c κs. search needs)
     second-square-requires
-    root-row-requires
+    (λ c κs. search needs)
     second-remainder-requires
     returns-2)

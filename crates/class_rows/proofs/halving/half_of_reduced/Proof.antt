@@ -4,9 +4,6 @@ use Rattle.class_rows.proofs.HalfRows.Class.{NonNeutral, half-neutral, 
 use Rattle.class_rows.proofs.halving.half_of_reduced.Statement.{statement}
 use Rattle.class_rows.proofs.halving.half_of_reduced.Tie as tie
 
-length-requires : tie.Need-length-requires
-length-requires c κs = search needs
-
 returns : tie.Need-returns
 returns c =
     let start = c .before .before .before .before in
@@ -56,7 +53,7 @@ pub half-of-reduced-spec : {M : Type 1} → statement M
 half-of-reduced-spec =
     tie.close
     (tie.spec
-    length-requires
+    (λ c κs. search needs)
     returns
     half-of-degree-1-requires
     returns-2

@@ -45,38 +45,14 @@ computed c =
       q-is = c .stepped-row .ensures;
     }
 
-array-read-u1 : tie.Need-array-read-u1
-array-read-u1 c = search needs
-
-array-read-w3 : tie.Need-array-read-w3
-array-read-w3 c = search needs
-
-array-read-w1 : tie.Need-array-read-w1
-array-read-w1 c = search needs
-
 inverted-requires : tie.Need-inverted-requires
 inverted-requires c κs = (c .pre .0, c .pre .1 .u-range 1, c .pre .2)
-
-root-of-requires : tie.Need-root-of-requires
-root-of-requires c κs = search needs
 
 times-requires : tie.Need-times-requires
 times-requires c κs = (c .before .before .pre .0, c .before .before .pre .1 .w-range 3, c .before .inverted .ensures .in-range)
 
-root-of-requires-2 : tie.Need-root-of-requires-2
-root-of-requires-2 c κs = search needs
-
 plus-requires : tie.Need-plus-requires
 plus-requires c κs = (c .before .before .before .before .pre .0, c .before .before .before .before .pre .1 .w-range 1, c .root-of2 .ensures .in-range)
-
-times-requires-2 : tie.Need-times-requires-2
-times-requires-2 c κs = search needs
-
-root-of-requires-3 : tie.Need-root-of-requires-3
-root-of-requires-3 c κs = search needs
-
-quadratic-row-requires : tie.Need-quadratic-row-requires
-quadratic-row-requires c κs = search needs
 
 quartic-row-requires : tie.Need-quartic-row-requires
 quartic-row-requires c κs = (one-lt (c .before .before .before .before .before .before .before .before .args .d), c .before .before .before .before .before .before .before .before .pre .1 .w-range 3, c .before .before .before .plus .ensures .in-range)
@@ -107,17 +83,17 @@ pub lifted-half-of-degree-2-spec : {M : Type 1} → statement M
 lifted-half-of-degree-2-spec =
     tie.close
     (tie.spec
-    array-read-u1
-    array-read-w3
-    array-read-w1
+    (λ c. search needs)
+    (λ c. search needs)
+    (λ c. search needs)
     inverted-requires
-    root-of-requires
+    (λ c κs. search needs)
     times-requires
-    root-of-requires-2
+    (λ c κs. search needs)
     plus-requires
-    times-requires-2
-    root-of-requires-3
-    quadratic-row-requires
+    (λ c κs. search needs)
+    (λ c κs. search needs)
+    (λ c κs. search needs)
     quartic-row-requires
     scale-requires
     scale-requires-2

@@ -6,12 +6,6 @@ use borrow.Author.Needs.{needs}
 use Rattle.class_rows.proofs.halving.lifted_row.Statement.{statement}
 use Rattle.class_rows.proofs.halving.lifted_row.Tie as tie
 
-add-rows-requires : tie.Need-add-rows-requires
-add-rows-requires c κs = search needs
-
-add-product-requires : tie.Need-add-product-requires
-add-product-requires c κs = search needs
-
 returns : tie.Need-returns
 returns c =
     let d = c .before .before .args .d in
@@ -19,4 +13,4 @@ returns c =
     stands-eq d (ap (λ z. 𝔸 d .ring .add z (𝔸 d .ring .mul (poly d (a .m)) (poly d (a .u)))) (c .before .add-rows .ensures .stands)) (c .add-product .ensures)
 
 pub lifted-row-spec : {M : Type 1} → statement M
-lifted-row-spec = tie.close (tie.spec add-rows-requires add-product-requires returns)
+lifted-row-spec = tie.close (tie.spec (λ c κs. search needs) (λ c κs. search needs) returns)

@@ -5,9 +5,6 @@ use borrow.Author.Needs.{needs}
 use Rattle.class_rows.proofs.halving.root_pair.Statement.{statement}
 use Rattle.class_rows.proofs.halving.root_pair.Tie as tie
 
-root-row-requires : tie.Need-root-row-requires
-root-row-requires c κs = search needs
-
 divide-requires : tie.Need-divide-requires
 divide-requires c κs =
     let p = c .before .pre in
@@ -17,4 +14,4 @@ returns : tie.Need-returns
 returns c = root-pair-stands _ _ _ (c .before .before .root-row .ensures) (c .before .divide .ensures .1)
 
 pub root-pair-spec : {M : Type 1} → statement M
-root-pair-spec = tie.close (tie.spec root-row-requires divide-requires returns)
+root-pair-spec = tie.close (tie.spec (λ c κs. search needs) divide-requires returns)

@@ -21,9 +21,6 @@ multiply-requires c κs =
 divide-requires-2 : tie.Need-divide-requires-2
 divide-requires-2 c κs = (c .before .before .before .before .pre .0, c .multiply .ensures .in-range, c .before .before .before .before .pre .4, divisor-nonzero _ _ (c .before .before .before .before .pre .9))
 
-add-rows-requires : tie.Need-add-rows-requires
-add-rows-requires c κs = search needs
-
 add-multiple-requires : tie.Need-add-multiple-requires
 add-multiple-requires c κs =
     let p = c .before .before .before .before .before .before .before .pre in
@@ -46,7 +43,7 @@ second-remainder-spec =
     quadratic-row-requires
     multiply-requires
     divide-requires-2
-    add-rows-requires
+    (λ c κs. search needs)
     add-multiple-requires
     add-multiple-requires-2
     returns)

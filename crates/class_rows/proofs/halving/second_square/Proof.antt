@@ -6,15 +6,6 @@ use borrow.Author.Needs.{needs}
 use Rattle.class_rows.proofs.halving.second_square.Statement.{statement}
 use Rattle.class_rows.proofs.halving.second_square.Tie as tie
 
-array-read-e : tie.Need-array-read-e
-array-read-e c = search needs
-
-times-requires : tie.Need-times-requires
-times-requires c κs = search needs
-
-quadratic-row-requires : tie.Need-quadratic-row-requires
-quadratic-row-requires c κs = search needs
-
 quartic-row-requires : tie.Need-quartic-row-requires
 quartic-row-requires c κs = (zero-lt (c .before .before .args .d), one-lt (c .before .before .args .d), c .before .before .pre .5)
 
@@ -33,9 +24,9 @@ pub second-square-spec : {M : Type 1} → statement M
 second-square-spec =
     tie.close
     (tie.spec
-    array-read-e
-    times-requires
-    quadratic-row-requires
+    (λ c. search needs)
+    (λ c κs. search needs)
+    (λ c κs. search needs)
     quartic-row-requires
     scale-requires
     lifted-row-requires

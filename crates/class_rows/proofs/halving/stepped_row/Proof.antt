@@ -5,18 +5,12 @@ use borrow.Author.Needs.{needs}
 use Rattle.class_rows.proofs.halving.stepped_row.Statement.{statement}
 use Rattle.class_rows.proofs.halving.stepped_row.Tie as tie
 
-add-product-requires : tie.Need-add-product-requires
-add-product-requires c κs = search needs
-
 quadratic-row-requires : tie.Need-quadratic-row-requires
 quadratic-row-requires c κs = (zero-lt (c .before .args .d), zero-lt (c .before .args .d), one-lt (c .before .args .d))
-
-add-rows-requires : tie.Need-add-rows-requires
-add-rows-requires c κs = search needs
 
 returns : tie.Need-returns
 returns c = stepped-stands _ _ (c .before .before .add-product .ensures) (c .before .quadratic-row .ensures) (c .add-rows .ensures)
 
 pub stepped-row-spec : {M : Type 1} → statement M
 stepped-row-spec =
-    tie.close (tie.spec add-product-requires quadratic-row-requires add-rows-requires returns)
+    tie.close (tie.spec (λ c κs. search needs) quadratic-row-requires (λ c κs. search needs) returns)

@@ -14,29 +14,11 @@ abbrev μ-loop : tie.MeasureT-loop
 loop-holds : tie.Need-loop-holds Inv-loop μ-loop
 loop-holds c = partial-start _ (c .pre .4)
 
-mul-times : tie.Need-mul-times Inv-loop μ-loop
-mul-times c = omega arith
-
-array-read-times : tie.Need-array-read-times Inv-loop μ-loop
-array-read-times c = omega arith
-
-mul-times-2 : tie.Need-mul-times-2 Inv-loop μ-loop
-mul-times-2 c = omega arith
-
-array-read-times-2 : tie.Need-array-read-times-2 Inv-loop μ-loop
-array-read-times-2 c = omega arith
-
 times-requires : tie.Need-times-requires Inv-loop μ-loop
 times-requires c κs = let p = c .before .before .pre in (p .0, p .1 _, p .2 _)
 
 plus-requires : tie.Need-plus-requires Inv-loop μ-loop
 plus-requires c κs = (c .before .before .before .pre .0, c .before .before .loop .inv .sum-is .in-range, c .times .ensures .in-range)
-
-add-j : tie.Need-add-j Inv-loop μ-loop
-add-j c = omega arith
-
-loop-less : tie.Need-loop-less Inv-loop μ-loop
-loop-less c = omega arith
 
 loop-again : tie.Need-loop-again Inv-loop μ-loop
 loop-again c = partial-turn _ (c .before .before .before .loop .inv) (omega arith) (c .before .times .ensures) (c .plus .ensures)
@@ -51,13 +33,13 @@ product-at-spec =
     Inv-loop
     μ-loop
     loop-holds
-    mul-times
-    array-read-times
-    mul-times-2
-    array-read-times-2
+    (λ c. omega arith)
+    (λ c. omega arith)
+    (λ c. omega arith)
+    (λ c. omega arith)
     times-requires
     plus-requires
-    add-j
-    loop-less
+    (λ c. omega arith)
+    (λ c. omega arith)
     loop-again
     returns)

@@ -15,18 +15,12 @@ Inv-loop d b a top q₀ k₀ q k = (k ≤ 12) × (row-len d b ≡ suc top) × Di
 abbrev μ-loop : tie.MeasureT-loop
 μ-loop d b a top q₀ k₀ q k = k
 
-length-requires : tie.Need-length-requires Inv-loop μ-loop
-length-requires c κs = tt
-
 sub-top : tie.Need-sub-top Inv-loop μ-loop
 sub-top c =
     let p = c .before .pre in
     let n = c .length .ensures _ (p .2) in
     let z = len-nonzero (𝔸 _) _ (monic-nonzero (𝔸 _) _ (p .3)) in
     omega arith
-
-length-requires-2 : tie.Need-length-requires-2 Inv-loop μ-loop
-length-requires-2 c κs = tt
 
 loop-holds : tie.Need-loop-holds Inv-loop μ-loop
 loop-holds c =
@@ -37,38 +31,14 @@ loop-holds c =
     let z = len-nonzero (𝔸 _) _ (monic-nonzero (𝔸 _) _ (p .3)) in
     (omega arith, omega arith, divided-start _ m)
 
-sub-k : tie.Need-sub-k Inv-loop μ-loop
-sub-k c = omega arith
-
-sub-s : tie.Need-sub-s Inv-loop μ-loop
-sub-s c = omega arith
-
-add-product-at : tie.Need-add-product-at Inv-loop μ-loop
-add-product-at c = omega arith
-
 product-at-requires : tie.Need-product-at-requires Inv-loop μ-loop
 product-at-requires c κs =
     let p = c .before .before .before .before .pre in
     let l = c .before .loop .inv in
     (p .0, l .2 .range, p .2, omega arith, λ i h. l .2 .blank i (omega arith))
 
-mul-plus : tie.Need-mul-plus Inv-loop μ-loop
-mul-plus c = omega arith
-
-array-read-plus : tie.Need-array-read-plus Inv-loop μ-loop
-array-read-plus c = omega arith
-
 plus-requires : tie.Need-plus-requires Inv-loop μ-loop
 plus-requires c κs = let p = c .before .before .before .before .before .pre in (p .0, p .1 _, c .product-at .ensures .in-range)
-
-mul-q : tie.Need-mul-q Inv-loop μ-loop
-mul-q c = omega arith
-
-array-write-q : tie.Need-array-write-q Inv-loop μ-loop
-array-write-q c = omega arith
-
-loop-less : tie.Need-loop-less Inv-loop μ-loop
-loop-less c = omega arith
 
 loop-again : tie.Need-loop-again Inv-loop μ-loop
 loop-again c =
@@ -84,19 +54,19 @@ quotient-spec =
     (tie.spec
     Inv-loop
     μ-loop
-    length-requires
+    (λ c κs. tt)
     sub-top
-    length-requires-2
+    (λ c κs. tt)
     loop-holds
-    sub-k
-    sub-s
-    add-product-at
+    (λ c. omega arith)
+    (λ c. omega arith)
+    (λ c. omega arith)
     product-at-requires
-    mul-plus
-    array-read-plus
+    (λ c. omega arith)
+    (λ c. omega arith)
     plus-requires
-    mul-q
-    array-write-q
-    loop-less
+    (λ c. omega arith)
+    (λ c. omega arith)
+    (λ c. omega arith)
     loop-again
     returns)

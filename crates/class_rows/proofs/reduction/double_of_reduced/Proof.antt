@@ -5,9 +5,6 @@ use Rattle.class_rows.proofs.DoubleRows.{squared-len, squared-semi, dou
 use Rattle.class_rows.proofs.reduction.double_of_reduced.Statement.{statement}
 use Rattle.class_rows.proofs.reduction.double_of_reduced.Tie as tie
 
-length-requires : tie.Need-length-requires
-length-requires c κs = tt
-
 squared-rows-requires : tie.Need-squared-rows-requires
 squared-rows-requires c κs = let p = c .before .before .pre in (p .0, p .1)
 
@@ -39,4 +36,4 @@ returns-2 c = double-counted _ (c .before .before .before .before .before .befor
 pub double-of-reduced-spec : {M : Type 1} → statement M
 double-of-reduced-spec =
     tie.close
-    (tie.spec length-requires squared-rows-requires returns squared-cofactor-requires reduce-with-requires returns-2)
+    (tie.spec (λ c κs. tt) squared-rows-requires returns squared-cofactor-requires reduce-with-requires returns-2)

@@ -4,9 +4,6 @@ use Rattle.class_rows.proofs.ReductionRows.{none-counted}
 use Rattle.class_rows.proofs.reduction.reduce_rows.Statement.{statement}
 use Rattle.class_rows.proofs.reduction.reduce_rows.Tie as tie
 
-length-requires : tie.Need-length-requires
-length-requires c κs = tt
-
 returns : tie.Need-returns
 returns c =
     let p = c .before .before .before .pre in
@@ -26,4 +23,4 @@ returns-2 : tie.Need-returns-2
 returns-2 c = c .reduce-with .ensures
 
 pub reduce-rows-spec : {M : Type 1} → statement M
-reduce-rows-spec = tie.close (tie.spec length-requires returns cofactor-requires reduce-with-requires returns-2)
+reduce-rows-spec = tie.close (tie.spec (λ c κs. tt) returns cofactor-requires reduce-with-requires returns-2)

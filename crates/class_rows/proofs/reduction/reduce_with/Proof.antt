@@ -7,9 +7,6 @@ use Rattle.class_rows.proofs.reduction.reduce_with.Tie as tie
 step-requires : tie.Need-step-requires
 step-requires c κs = (c .pre .0, c .pre .1, c .pre .3)
 
-length-requires : tie.Need-length-requires
-length-requires c κs = tt
-
 returns : tie.Need-returns
 returns c =
     let p = c .before .before .before .before .pre in
@@ -31,4 +28,4 @@ returns-2 c =
     twice-counted _ (p .1) (p .2) t (omega (arith, n, c .before .before .if1 .left)) (c .step2 .ensures)
 
 pub reduce-with-spec : {M : Type 1} → statement M
-reduce-with-spec = tie.close (tie.spec step-requires length-requires returns cofactor-requires step-requires-2 returns-2)
+reduce-with-spec = tie.close (tie.spec step-requires (λ c κs. tt) returns cofactor-requires step-requires-2 returns-2)

@@ -19,9 +19,6 @@ Inv-loop d c shift b n r₀ i₀ r i =
 abbrev μ-loop : tie.MeasureT-loop
 μ-loop d c shift b n r₀ i₀ r i = n - i
 
-length-requires : tie.Need-length-requires Inv-loop μ-loop
-length-requires c κs = tt
-
 loop-holds : tie.Need-loop-holds Inv-loop μ-loop
 loop-holds c =
     let pre = c .before .before .pre in
@@ -29,38 +26,11 @@ loop-holds c =
     let room = pre .4 in
     (omega arith, omega arith, filled-start (c .before .before .good .1 .0 .1 .0 .1) (pre .1) (λ i h. added-below _ _ _ _ _ i (omega arith)))
 
-add-j : tie.Need-add-j Inv-loop μ-loop
-add-j c = omega arith
-
-mul-plus : tie.Need-mul-plus Inv-loop μ-loop
-mul-plus c = omega arith
-
-array-read-plus : tie.Need-array-read-plus Inv-loop μ-loop
-array-read-plus c = omega arith
-
-mul-times : tie.Need-mul-times Inv-loop μ-loop
-mul-times c = omega arith
-
-array-read-times : tie.Need-array-read-times Inv-loop μ-loop
-array-read-times c = omega arith
-
 times-requires : tie.Need-times-requires Inv-loop μ-loop
 times-requires c κs = let pre = c .before .before .before .before .pre in (pre .0, pre .2, pre .3 (c .before .loop .i))
 
 plus-requires : tie.Need-plus-requires Inv-loop μ-loop
 plus-requires c κs = (c .before .before .before .before .before .pre .0, c .before .before .loop .inv .2 .range _, c .times .ensures .in-range)
-
-mul-r : tie.Need-mul-r Inv-loop μ-loop
-mul-r c = omega arith
-
-array-write-r : tie.Need-array-write-r Inv-loop μ-loop
-array-write-r c = omega arith
-
-add-i : tie.Need-add-i Inv-loop μ-loop
-add-i c = omega arith
-
-loop-less : tie.Need-loop-less Inv-loop μ-loop
-loop-less c = omega arith
 
 loop-again : tie.Need-loop-again Inv-loop μ-loop
 loop-again c =
@@ -85,18 +55,18 @@ add-multiple-spec =
     Inv-loop
     μ-loop
     returns
-    length-requires
+    (λ c κs. tt)
     loop-holds
-    add-j
-    mul-plus
-    array-read-plus
-    mul-times
-    array-read-times
+    (λ c. omega arith)
+    (λ c. omega arith)
+    (λ c. omega arith)
+    (λ c. omega arith)
+    (λ c. omega arith)
     times-requires
     plus-requires
-    mul-r
-    array-write-r
-    add-i
-    loop-less
+    (λ c. omega arith)
+    (λ c. omega arith)
+    (λ c. omega arith)
+    (λ c. omega arith)
     loop-again
     returns-2)

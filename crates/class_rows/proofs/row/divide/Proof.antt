@@ -14,9 +14,6 @@ Inv-loop d top inverse low q₀ r₀ k₀ q r k = (k ≤ 12) × Dividing d low t
 abbrev μ-loop : tie.MeasureT-loop
 μ-loop d top inverse low q₀ r₀ k₀ q r k = k
 
-length-requires : tie.Need-length-requires Inv-loop μ-loop
-length-requires c κs = tt
-
 sub-top : tie.Need-sub-top Inv-loop μ-loop
 sub-top c = length-pos _ _ (c .length .ensures _ (c .before .pre .2)) (c .before .pre .3)
 
@@ -39,9 +36,6 @@ mul-low c = let s = at-top (c .before) in omega (arith, s .top-lt)
 array-write-low : tie.Need-array-write-low Inv-loop μ-loop
 array-write-low c = let s = at-top (c .before) in omega (arith, s .top-lt)
 
-length-requires-2 : tie.Need-length-requires-2 Inv-loop μ-loop
-length-requires-2 c κs = tt
-
 loop-holds : tie.Need-loop-holds Inv-loop μ-loop
 loop-holds c =
     let pre = c .before .before .before .pre in
@@ -49,33 +43,9 @@ loop-holds c =
     let len = c .length2 .ensures _ (pre .1) in
     (length-le _ _ len size, dividing-start size (pre .1) len)
 
-sub-k : tie.Need-sub-k Inv-loop μ-loop
-sub-k c = omega arith
-
-mul-times : tie.Need-mul-times Inv-loop μ-loop
-mul-times c = omega arith
-
-array-read-times : tie.Need-array-read-times Inv-loop μ-loop
-array-read-times c = omega arith
-
 times-requires : tie.Need-times-requires Inv-loop μ-loop
 times-requires c κs =
     (c .before .before .before .before .before .pre .0, c .before .loop .inv .1 .r-range _, c .before .before .before .inverted .ensures .in-range)
-
-sub-s : tie.Need-sub-s Inv-loop μ-loop
-sub-s c = omega arith
-
-mul-q : tie.Need-mul-q Inv-loop μ-loop
-mul-q c = omega arith
-
-array-write-q : tie.Need-array-write-q Inv-loop μ-loop
-array-write-q c = omega arith
-
-mul-r : tie.Need-mul-r Inv-loop μ-loop
-mul-r c = omega arith
-
-array-write-r : tie.Need-array-write-r Inv-loop μ-loop
-array-write-r c = omega arith
 
 add-multiple-requires : tie.Need-add-multiple-requires Inv-loop μ-loop
 add-multiple-requires c κs =
@@ -87,9 +57,6 @@ add-multiple-requires c κs =
       low-range s,
       omega (arith, low-len s, c .before .before .loop .inv .0, c .before .loop-test .taken),
     )
-
-loop-less : tie.Need-loop-less Inv-loop μ-loop
-loop-less c = omega arith
 
 loop-again : tie.Need-loop-again Inv-loop μ-loop
 loop-again c =
@@ -110,25 +77,25 @@ divide-spec =
     (tie.spec
     Inv-loop
     μ-loop
-    length-requires
+    (λ c κs. tt)
     sub-top
     mul-inverted
     array-read-inverted
     inverted-requires
     mul-low
     array-write-low
-    length-requires-2
+    (λ c κs. tt)
     loop-holds
-    sub-k
-    mul-times
-    array-read-times
+    (λ c. omega arith)
+    (λ c. omega arith)
+    (λ c. omega arith)
     times-requires
-    sub-s
-    mul-q
-    array-write-q
-    mul-r
-    array-write-r
+    (λ c. omega arith)
+    (λ c. omega arith)
+    (λ c. omega arith)
+    (λ c. omega arith)
+    (λ c. omega arith)
     add-multiple-requires
-    loop-less
+    (λ c. omega arith)
     loop-again
     returns)

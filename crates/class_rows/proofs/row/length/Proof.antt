@@ -14,23 +14,8 @@ abbrev μ-loop : tie.MeasureT-loop
 loop-holds : tie.Need-loop-holds Inv-loop μ-loop
 loop-holds c = (omega arith, blank-start (c .good .0 .1 .0 .1))
 
-sub-if1 : tie.Need-sub-if1 Inv-loop μ-loop
-sub-if1 c = omega arith
-
-mul-if1 : tie.Need-mul-if1 Inv-loop μ-loop
-mul-if1 c = omega arith
-
-array-read-if1 : tie.Need-array-read-if1 Inv-loop μ-loop
-array-read-if1 c = omega arith
-
 returns : tie.Need-returns Inv-loop μ-loop
 returns c d h = blank-length d h (c .before .before .loop .inv .1) (omega arith) (c .if1 .taken)
-
-sub-n : tie.Need-sub-n Inv-loop μ-loop
-sub-n c = omega arith
-
-loop-less : tie.Need-loop-less Inv-loop μ-loop
-loop-less c = omega arith
 
 loop-again : tie.Need-loop-again Inv-loop μ-loop
 loop-again c = (omega arith, blank-less (c .before .before .loop .inv .1) (c .if1 .left))
@@ -39,4 +24,4 @@ returns-2 : tie.Need-returns-2 Inv-loop μ-loop
 returns-2 c d h = blank-none d (c .before .loop .inv .1) (omega arith)
 
 pub length-spec : {M : Type 1} → statement M
-length-spec = tie.close (tie.spec Inv-loop μ-loop loop-holds sub-if1 mul-if1 array-read-if1 returns sub-n loop-less loop-again returns-2)
+length-spec = tie.close (tie.spec Inv-loop μ-loop loop-holds (λ c. omega arith) (λ c. omega arith) (λ c. omega arith) returns (λ c. omega arith) (λ c. omega arith) loop-again returns-2)

@@ -7,9 +7,6 @@ use borrow.Author.Needs.{needs}
 use Rattle.class_rows.proofs.row.monic.Statement.{statement}
 use Rattle.class_rows.proofs.row.monic.Tie as tie
 
-length-requires : tie.Need-length-requires
-length-requires c κs = search needs
-
 sub-top : tie.Need-sub-top
 sub-top c = length-pos _ _ (c .length .ensures _ (c .before .pre .1)) (c .before .pre .2)
 
@@ -51,7 +48,7 @@ pub monic-spec : {M : Type 1} → statement M
 monic-spec =
     tie.close
     (tie.spec
-    length-requires
+    (λ c κs. search needs)
     sub-top
     mul-lead
     array-read-lead

@@ -12,18 +12,9 @@ Inv-loop d b a n r₀ i₀ r i = (i ≤ n) × (n ≤ 12) × Partial d a b r i
 abbrev μ-loop : tie.MeasureT-loop
 μ-loop d b a n r₀ i₀ r i = n - i
 
-length-requires : tie.Need-length-requires Inv-loop μ-loop
-length-requires c κs = tt
-
 loop-holds : tie.Need-loop-holds Inv-loop μ-loop
 loop-holds c =
     (omega arith, length-le _ _ (c .length .ensures _ (c .before .pre .1)) (c .before .good .1 .0 .1 .0 .1), partial-start)
-
-mul-add-multiple : tie.Need-mul-add-multiple Inv-loop μ-loop
-mul-add-multiple c = omega arith
-
-array-read-add-multiple : tie.Need-array-read-add-multiple Inv-loop μ-loop
-array-read-add-multiple c = omega arith
 
 add-multiple-requires : tie.Need-add-multiple-requires Inv-loop μ-loop
 add-multiple-requires c κs =
@@ -31,12 +22,6 @@ add-multiple-requires c κs =
     let len = c .before .before .length .ensures _ (pre .1) in
     let room = pre .3 in
     (pre .0, c .before .loop .inv .2 .range, pre .1 _, pre .2, omega arith)
-
-add-i : tie.Need-add-i Inv-loop μ-loop
-add-i c = omega arith
-
-loop-less : tie.Need-loop-less Inv-loop μ-loop
-loop-less c = omega arith
 
 loop-again : tie.Need-loop-again Inv-loop μ-loop
 loop-again c = (omega arith, omega arith, partial-turn (c .before .before .loop .inv .2) (c .add-multiple .ensures))
@@ -52,12 +37,12 @@ multiply-spec =
     (tie.spec
     Inv-loop
     μ-loop
-    length-requires
+    (λ c κs. tt)
     loop-holds
-    mul-add-multiple
-    array-read-add-multiple
+    (λ c. omega arith)
+    (λ c. omega arith)
     add-multiple-requires
-    add-i
-    loop-less
+    (λ c. omega arith)
+    (λ c. omega arith)
     loop-again
     returns)

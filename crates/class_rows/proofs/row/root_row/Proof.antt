@@ -18,9 +18,6 @@ Inv-loop d a n r₀ i₀ r i =
 abbrev μ-loop : tie.MeasureT-loop
 μ-loop d a n r₀ i₀ r i = n - i
 
-length-requires : tie.Need-length-requires Inv-loop μ-loop
-length-requires c κs = tt
-
 loop-holds : tie.Need-loop-holds Inv-loop μ-loop
 loop-holds c = (
   omega arith,
@@ -28,32 +25,8 @@ loop-holds c = (
   filled-start refl (zeros-range _ 12) (λ i h. absurd (omega arith)),
 )
 
-add-loop : tie.Need-add-loop Inv-loop μ-loop
-add-loop c = omega arith
-
-add-root-of : tie.Need-add-root-of Inv-loop μ-loop
-add-root-of c = omega arith
-
-mul-root-of : tie.Need-mul-root-of Inv-loop μ-loop
-mul-root-of c = omega arith
-
-array-read-root-of : tie.Need-array-read-root-of Inv-loop μ-loop
-array-read-root-of c = omega arith
-
 root-of-requires : tie.Need-root-of-requires Inv-loop μ-loop
 root-of-requires c κs = let pre = c .before .before .before .pre in (pre .0, pre .1 _)
-
-mul-r : tie.Need-mul-r Inv-loop μ-loop
-mul-r c = omega arith
-
-array-write-r : tie.Need-array-write-r Inv-loop μ-loop
-array-write-r c = omega arith
-
-add-i : tie.Need-add-i Inv-loop μ-loop
-add-i c = omega arith
-
-loop-less : tie.Need-loop-less Inv-loop μ-loop
-loop-less c = omega arith
 
 loop-again : tie.Need-loop-again Inv-loop μ-loop
 loop-again c =
@@ -70,16 +43,16 @@ root-row-spec =
     (tie.spec
     Inv-loop
     μ-loop
-    length-requires
+    (λ c κs. tt)
     loop-holds
-    add-loop
-    add-root-of
-    mul-root-of
-    array-read-root-of
+    (λ c. omega arith)
+    (λ c. omega arith)
+    (λ c. omega arith)
+    (λ c. omega arith)
     root-of-requires
-    mul-r
-    array-write-r
-    add-i
-    loop-less
+    (λ c. omega arith)
+    (λ c. omega arith)
+    (λ c. omega arith)
+    (λ c. omega arith)
     loop-again
     returns)

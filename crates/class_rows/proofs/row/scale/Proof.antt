@@ -14,34 +14,13 @@ Inv-loop d c a n r₀ i₀ r i = (i ≤ n) × (n ≤ 12) × Filled d r i (𝔸 d
 abbrev μ-loop : tie.MeasureT-loop
 μ-loop d c a n r₀ i₀ r i = n - i
 
-length-requires : tie.Need-length-requires Inv-loop μ-loop
-length-requires c κs = tt
-
 loop-holds : tie.Need-loop-holds Inv-loop μ-loop
 loop-holds c =
     let size = c .before .good .1 .1 .0 .1 .0 .1 in
     (omega arith, length-le _ _ (c .length .ensures _ (c .before .pre .2)) size, filled-start size (c .before .pre .2) (λ i h. absurd (omega arith)))
 
-mul-times : tie.Need-mul-times Inv-loop μ-loop
-mul-times c = omega arith
-
-array-read-times : tie.Need-array-read-times Inv-loop μ-loop
-array-read-times c = omega arith
-
 times-requires : tie.Need-times-requires Inv-loop μ-loop
 times-requires c κs = let pre = c .before .before .before .pre in (pre .0, pre .1, pre .2 (c .before .loop .i))
-
-mul-r : tie.Need-mul-r Inv-loop μ-loop
-mul-r c = omega arith
-
-array-write-r : tie.Need-array-write-r Inv-loop μ-loop
-array-write-r c = omega arith
-
-add-i : tie.Need-add-i Inv-loop μ-loop
-add-i c = omega arith
-
-loop-less : tie.Need-loop-less Inv-loop μ-loop
-loop-less c = omega arith
 
 loop-again : tie.Need-loop-again Inv-loop μ-loop
 loop-again c =
@@ -58,14 +37,14 @@ scale-spec =
     (tie.spec
     Inv-loop
     μ-loop
-    length-requires
+    (λ c κs. tt)
     loop-holds
-    mul-times
-    array-read-times
+    (λ c. omega arith)
+    (λ c. omega arith)
     times-requires
-    mul-r
-    array-write-r
-    add-i
-    loop-less
+    (λ c. omega arith)
+    (λ c. omega arith)
+    (λ c. omega arith)
+    (λ c. omega arith)
     loop-again
     returns)

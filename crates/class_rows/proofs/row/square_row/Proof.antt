@@ -16,38 +16,14 @@ Inv-loop d a n r₀ i₀ r i =
 abbrev μ-loop : tie.MeasureT-loop
 μ-loop d a n r₀ i₀ r i = n - i
 
-length-requires : tie.Need-length-requires Inv-loop μ-loop
-length-requires c κs = tt
-
 loop-holds : tie.Need-loop-holds Inv-loop μ-loop
 loop-holds c =
     let len = c .length .ensures _ (c .before .pre .1) in
     let room = c .before .pre .2 in
     (omega arith, omega arith, filled-start refl (zeros-range _ 12) (λ i h. absurd (omega arith)))
 
-mul-squared : tie.Need-mul-squared Inv-loop μ-loop
-mul-squared c = omega arith
-
-array-read-squared : tie.Need-array-read-squared Inv-loop μ-loop
-array-read-squared c = omega arith
-
 squared-requires : tie.Need-squared-requires Inv-loop μ-loop
 squared-requires c κs = let pre = c .before .before .before .pre in (pre .0, pre .1 (c .before .loop .i))
-
-add-r : tie.Need-add-r Inv-loop μ-loop
-add-r c = omega arith
-
-mul-r : tie.Need-mul-r Inv-loop μ-loop
-mul-r c = omega arith
-
-array-write-r : tie.Need-array-write-r Inv-loop μ-loop
-array-write-r c = omega arith
-
-add-i : tie.Need-add-i Inv-loop μ-loop
-add-i c = omega arith
-
-loop-less : tie.Need-loop-less Inv-loop μ-loop
-loop-less c = omega arith
 
 loop-again : tie.Need-loop-again Inv-loop μ-loop
 loop-again c = (
@@ -67,15 +43,15 @@ square-row-spec =
     (tie.spec
     Inv-loop
     μ-loop
-    length-requires
+    (λ c κs. tt)
     loop-holds
-    mul-squared
-    array-read-squared
+    (λ c. omega arith)
+    (λ c. omega arith)
     squared-requires
-    add-r
-    mul-r
-    array-write-r
-    add-i
-    loop-less
+    (λ c. omega arith)
+    (λ c. omega arith)
+    (λ c. omega arith)
+    (λ c. omega arith)
+    (λ c. omega arith)
     loop-again
     returns)

@@ -6,9 +6,6 @@ use borrow.Author.Needs.{needs}
 use Rattle.class_rows.proofs.sums.opposite_of_reduced.Statement.{statement}
 use Rattle.class_rows.proofs.sums.opposite_of_reduced.Tie as tie
 
-length-requires : tie.Need-length-requires
-length-requires c κs = search needs
-
 returns : tie.Need-returns
 returns c =
     λ C.
@@ -31,4 +28,4 @@ returns-2 c =
     opposite-long d C (s .args .a) (s .pre .1) (s .pre .2) (omega arith) (c .add-rows .ensures)
 
 pub opposite-of-reduced-spec : {M : Type 1} → statement M
-opposite-of-reduced-spec = tie.close (tie.spec length-requires returns add-rows-requires returns-2)
+opposite-of-reduced-spec = tie.close (tie.spec (λ c κs. search needs) returns add-rows-requires returns-2)

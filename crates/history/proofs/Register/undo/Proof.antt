@@ -10,9 +10,6 @@ use borrow.Author.Needs.{needs}
 use Rattle.history.proofs.Register.undo.Statement.{statement}
 use Rattle.history.proofs.Register.undo.Tie as tie
 
-count-refusal-requires : tie.Need-count-refusal-requires
-count-refusal-requires c κs = search needs
-
 kept-requires : tie.Need-kept-requires
 kept-requires c κs = positive _ 108 (c .count-refusal .ensures)
 
@@ -22,9 +19,6 @@ returns c =
     let s = c .before .before .before .before .before in
     at-number (s .args .self) _ (c .before .count-refusal .ensures ∙ sym (undo-above (s .args .self) (s .args .class) (c .before .before .if1 .taken))) (c .kept .ensures _)
 
-edge-refusal-requires : tie.Need-edge-refusal-requires
-edge-refusal-requires c κs = search needs
-
 kept-requires-2 : tie.Need-kept-requires-2
 kept-requires-2 c κs = positive _ 112 (c .edge-refusal .ensures)
 
@@ -33,15 +27,6 @@ unfolding undo-answer count-limit
 returns-2 c =
     let s = c .before .before .before .before .before .before in
     at-number (s .args .self) _ (c .before .edge-refusal .ensures ∙ sym (undo-at (s .args .self) (s .args .class) (c .before .before .if2 .taken))) (c .kept2 .ensures _)
-
-subtract-and-halve-requires : tie.Need-subtract-and-halve-requires
-subtract-and-halve-requires c κs = search needs
-
-sub-followed : tie.Need-sub-followed
-sub-followed c = search needs
-
-followed-requires : tie.Need-followed-requires
-followed-requires c κs = search needs
 
 returns-3 : tie.Need-returns-3
 unfolding count-limit
@@ -55,13 +40,13 @@ pub undo-spec : {M : Type 1} → statement M
 undo-spec =
     tie.close
     (tie.spec
-    count-refusal-requires
+    (λ c κs. search needs)
     kept-requires
     returns
-    edge-refusal-requires
+    (λ c κs. search needs)
     kept-requires-2
     returns-2
-    subtract-and-halve-requires
-    sub-followed
-    followed-requires
+    (λ c κs. search needs)
+    (λ c. search needs)
+    (λ c κs. search needs)
     returns-3)

@@ -9,18 +9,12 @@ use Rattle.jacobian.proofs.ByValue.Threes.{by-three}
 use Rattle.jacobian.proofs.classes.all_below.Statement.{statement}
 use Rattle.jacobian.proofs.classes.all_below.Tie as tie
 
-array-read-if1 : tie.Need-array-read-if1
-array-read-if1 c = search needs
-
 returns : tie.Need-returns
 unfolding below
 returns c =
     let m = c .before .args .m in
     by-three (λ r. m ≤ getD r 0 0 → false ≡ below m r) (λ x y z h. simp (le-ltb x m h)) (c .before .args .t2) (c .before .good .1 .0 .1 .0 .1)
     (c .if1 .taken)
-
-array-read-if2 : tie.Need-array-read-if2
-array-read-if2 c = search needs
 
 returns-2 : tie.Need-returns-2
 unfolding below
@@ -32,9 +26,6 @@ returns-2 c =
     (c .before .before .good .1 .0 .1 .0 .1)
     (c .before .if1 .left)
     (c .if2 .taken)
-
-array-read-result : tie.Need-array-read-result
-array-read-result c = search needs
 
 returns-3 : tie.Need-returns-3
 unfolding below
@@ -50,4 +41,4 @@ returns-3 c =
 pub all-below-spec : {M : Type 1} → statement M
 all-below-spec =
     tie.close
-    (tie.spec array-read-if1 returns array-read-if2 returns-2 array-read-result returns-3)
+    (tie.spec (λ c. search needs) returns (λ c. search needs) returns-2 (λ c. search needs) returns-3)

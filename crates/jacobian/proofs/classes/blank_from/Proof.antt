@@ -19,9 +19,6 @@ returns c =
     (c .before .good .1 .0 .1 .0 .1)
     (c .if1 .taken)
 
-array-read-if2 : tie.Need-array-read-if2
-array-read-if2 c = search needs
-
 returns-2 : tie.Need-returns-2
 unfolding blank
 returns-2 c =
@@ -43,9 +40,6 @@ returns-3 c =
     (c .before .before .before .good .1 .0 .1 .0 .1)
     (c .if3 .taken)
     (c .before .if2 .left)
-
-array-read-if4 : tie.Need-array-read-if4
-array-read-if4 c = search needs
 
 returns-4 : tie.Need-returns-4
 unfolding blank
@@ -70,9 +64,6 @@ returns-5 c =
     (c .before .if4 .left)
     (c .before .before .before .if2 .left)
 
-array-read-result : tie.Need-array-read-result
-array-read-result c = search needs
-
 returns-6 : tie.Need-returns-6
 unfolding blank
 returns-6 c =
@@ -90,11 +81,11 @@ blank-from-spec =
     tie.close
     (tie.spec
     returns
-    array-read-if2
+    (λ c. search needs)
     returns-2
     returns-3
-    array-read-if4
+    (λ c. search needs)
     returns-4
     returns-5
-    array-read-result
+    (λ c. search needs)
     returns-6)

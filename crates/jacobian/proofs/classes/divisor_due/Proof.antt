@@ -6,14 +6,8 @@ use borrow.Author.Needs.{needs}
 use Rattle.jacobian.proofs.classes.divisor_due.Statement.{statement}
 use Rattle.jacobian.proofs.classes.divisor_due.Tie as tie
 
-f-row-requires : tie.Need-f-row-requires
-f-row-requires c κs = search needs
-
 to-rows-requires : tie.Need-to-rows-requires
 to-rows-requires c κs = let s = c .before in form-shape (s .args .c) (s .args .a) (s .pre .1) .low
-
-is-divisor-requires : tie.Need-is-divisor-requires
-is-divisor-requires c κs = search needs
 
 returns : tie.Need-returns
 unfolding unless
@@ -30,4 +24,4 @@ returns-2 c =
     ∙ class-due (s .args .c) (s .args .a) (s .pre .1) (s .pre .0) (c .before .before .before .f-row .ensures) (c .before .before .to-rows .ensures) (c .before .is-divisor .ensures)
 
 pub divisor-due-spec : {M : Type 1} → statement M
-divisor-due-spec = tie.close (tie.spec f-row-requires to-rows-requires is-divisor-requires returns returns-2)
+divisor-due-spec = tie.close (tie.spec (λ c κs. search needs) to-rows-requires (λ c κs. search needs) returns returns-2)

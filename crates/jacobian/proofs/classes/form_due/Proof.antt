@@ -5,9 +5,6 @@ use borrow.Author.Needs.{needs}
 use Rattle.jacobian.proofs.classes.form_due.Statement.{statement}
 use Rattle.jacobian.proofs.classes.form_due.Tie as tie
 
-shape-due-requires : tie.Need-shape-due-requires
-shape-due-requires c κs = search needs
-
 returns : tie.Need-returns
 unfolding form-refusal
 returns c = first-due _ (c .before .shape-due .ensures) (c .if1 .taken)
@@ -20,4 +17,4 @@ unfolding form-refusal
 returns-2 c = next-due (c .before .before .shape-due .ensures) (c .before .if1 .left) (c .range-due .ensures)
 
 pub form-due-spec : {M : Type 1} → statement M
-form-due-spec = tie.close (tie.spec shape-due-requires returns range-due-requires returns-2)
+form-due-spec = tie.close (tie.spec (λ c κs. search needs) returns range-due-requires returns-2)

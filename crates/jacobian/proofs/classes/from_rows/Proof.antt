@@ -9,27 +9,12 @@ use borrow.Author.Needs.{needs}
 use Rattle.jacobian.proofs.classes.from_rows.Statement.{statement}
 use Rattle.jacobian.proofs.classes.from_rows.Tie as tie
 
-length-requires : tie.Need-length-requires
-length-requires c κs = search needs
-
-neutral-requires : tie.Need-neutral-requires
-neutral-requires c κs = search needs
-
 returns : tie.Need-returns
 unfolding neutral-class
 returns c =
     λ d hu hv.
     let e = c .before .before .length .ensures d hu in
     c .neutral .ensures ∙ sym (class-of-rows d (c .before .before .before .before .before .args .a) hu hv 0 (omega arith))
-
-sub-degree : tie.Need-sub-degree
-sub-degree c = search needs
-
-narrowed-requires : tie.Need-narrowed-requires
-narrowed-requires c κs = search needs
-
-narrowed-requires-2 : tie.Need-narrowed-requires-2
-narrowed-requires-2 c κs = search needs
 
 returns-2 : tie.Need-returns-2
 returns-2 c =
@@ -43,10 +28,10 @@ pub from-rows-spec : {M : Type 1} → statement M
 from-rows-spec =
     tie.close
     (tie.spec
-    length-requires
-    neutral-requires
+    (λ c κs. search needs)
+    (λ c κs. search needs)
     returns
-    sub-degree
-    narrowed-requires
-    narrowed-requires-2
+    (λ c. search needs)
+    (λ c κs. search needs)
+    (λ c κs. search needs)
     returns-2)

@@ -19,9 +19,6 @@ returns c =
     (c .before .good .1 .0 .1 .0 .1)
     (c .if1 .taken)
 
-array-read-low : tie.Need-array-read-low
-array-read-low c = search needs
-
 returns-2 : tie.Need-returns-2
 unfolding filled
 returns-2 c =
@@ -32,9 +29,6 @@ returns-2 c =
     (c .before .before .good .1 .0 .1 .0 .1)
     (c .if2 .taken)
 
-array-read-middle : tie.Need-array-read-middle
-array-read-middle c = search needs
-
 returns-3 : tie.Need-returns-3
 unfolding filled
 returns-3 c =
@@ -44,9 +38,6 @@ returns-3 c =
     (c .before .before .before .args .t2)
     (c .before .before .before .good .1 .0 .1 .0 .1)
     (c .if3 .taken)
-
-array-read-t9 : tie.Need-array-read-t9
-array-read-t9 c = search needs
 
 returns-4 : tie.Need-returns-4
 unfolding filled
@@ -63,9 +54,9 @@ leading-one-spec =
     tie.close
     (tie.spec
     returns
-    array-read-low
+    (λ c. search needs)
     returns-2
-    array-read-middle
+    (λ c. search needs)
     returns-3
-    array-read-t9
+    (λ c. search needs)
     returns-4)

@@ -6,20 +6,11 @@ use borrow.Author.Needs.{needs}
 use Rattle.jacobian.proofs.classes.narrowed.Statement.{statement}
 use Rattle.jacobian.proofs.classes.narrowed.Tie as tie
 
-array-read-low : tie.Need-array-read-low
-array-read-low c = search needs
-
 returns : tie.Need-returns
 returns c = first-one (c .before .args .t2) (c .if1 .taken)
 
-array-read-middle : tie.Need-array-read-middle
-array-read-middle c = search needs
-
 returns-2 : tie.Need-returns-2
 returns-2 c = first-two (c .before .before .args .t2) (c .if2 .taken)
-
-array-read-t8 : tie.Need-array-read-t8
-array-read-t8 c = search needs
 
 returns-3 : tie.Need-returns-3
 returns-3 c =
@@ -30,4 +21,4 @@ returns-3 c =
     sym (first-three (s .args .n) (s .args .t2) (omega arith))
 
 pub narrowed-spec : {M : Type 1} → statement M
-narrowed-spec = tie.close (tie.spec array-read-low returns array-read-middle returns-2 array-read-t8 returns-3)
+narrowed-spec = tie.close (tie.spec (λ c. search needs) returns (λ c. search needs) returns-2 (λ c. search needs) returns-3)

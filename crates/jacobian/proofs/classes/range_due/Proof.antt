@@ -7,23 +7,14 @@ use Rattle.jacobian.specs.{Checks.unless, Classes.range-refusal}
 use Rattle.jacobian.proofs.classes.range_due.Statement.{statement}
 use Rattle.jacobian.proofs.classes.range_due.Tie as tie
 
-bound-requires : tie.Need-bound-requires
-bound-requires c κs = search needs
-
 -- the field's degree is d
 bound-is : (s : tie.After-bound) → s .bound .result ≡ 2 ^ s .before .before .before .args .d
 bound-is s = s .bound .ensures ∙ ap (λ n. 2 ^ n) (degree-is _ (s .before .before .before .pre))
-
-all-below-requires : tie.Need-all-below-requires
-all-below-requires c κs = search needs
 
 returns : tie.Need-returns
 unfolding range-refusal unless
 returns c =
     simp (← (bound-is (c .before .before)), sym (c .before .all-below .ensures) ∙ not-true _ (c .if1 .taken))
-
-all-below-requires-2 : tie.Need-all-below-requires-2
-all-below-requires-2 c κs = search needs
 
 returns-2 : tie.Need-returns-2
 unfolding range-refusal unless
@@ -46,4 +37,4 @@ returns-3 c =
 pub range-due-spec : {M : Type 1} → statement M
 range-due-spec =
     tie.close
-    (tie.spec bound-requires all-below-requires returns all-below-requires-2 returns-2 returns-3)
+    (tie.spec (λ c κs. search needs) (λ c κs. search needs) returns (λ c κs. search needs) returns-2 returns-3)

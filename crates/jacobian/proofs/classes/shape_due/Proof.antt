@@ -9,16 +9,10 @@ returns : tie.Need-returns
 unfolding shape-refusal unless
 returns c = simp (lt-leb _ _ (c .if1 .taken))
 
-blank-from-requires : tie.Need-blank-from-requires
-blank-from-requires c κs = search needs
-
 returns-2 : tie.Need-returns-2
 unfolding shape-refusal unless
 returns-2 c =
     simp (le-leb _ _ (c .before .before .if1 .left), sym (c .before .blank-from .ensures) ∙ not-true _ (c .if2 .taken))
-
-blank-from-requires-2 : tie.Need-blank-from-requires-2
-blank-from-requires-2 c κs = search needs
 
 returns-3 : tie.Need-returns-3
 unfolding shape-refusal unless
@@ -41,4 +35,4 @@ returns-4 c =
 pub shape-due-spec : {M : Type 1} → statement M
 shape-due-spec =
     tie.close
-    (tie.spec returns blank-from-requires returns-2 blank-from-requires-2 returns-3 returns-4)
+    (tie.spec returns (λ c κs. search needs) returns-2 (λ c κs. search needs) returns-3 returns-4)

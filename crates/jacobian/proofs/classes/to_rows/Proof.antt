@@ -4,12 +4,6 @@ use borrow.Author.Needs.{needs}
 use Rattle.jacobian.proofs.classes.to_rows.Statement.{statement}
 use Rattle.jacobian.proofs.classes.to_rows.Tie as tie
 
-leading-one-requires : tie.Need-leading-one-requires
-leading-one-requires c κs = search needs
-
-widened-requires : tie.Need-widened-requires
-widened-requires c κs = search needs
-
 returns : tie.Need-returns
 unfolding u-row
 returns c =
@@ -18,4 +12,4 @@ returns c =
     record { u-is = u .is; v-is = v .is; three = record { u-three = u .three; v-three = v .three } }
 
 pub to-rows-spec : {M : Type 1} → statement M
-to-rows-spec = tie.close (tie.spec leading-one-requires widened-requires returns)
+to-rows-spec = tie.close (tie.spec (λ c κs. search needs) (λ c κs. search needs) returns)

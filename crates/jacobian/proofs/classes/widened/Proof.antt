@@ -9,15 +9,6 @@ use borrow.Author.Needs.{needs}
 use Rattle.jacobian.proofs.classes.widened.Statement.{statement}
 use Rattle.jacobian.proofs.classes.widened.Tie as tie
 
-array-read-t5 : tie.Need-array-read-t5
-array-read-t5 c = search needs
-
-array-read-t8 : tie.Need-array-read-t8
-array-read-t8 c = search needs
-
-array-read-t11 : tie.Need-array-read-t11
-array-read-t11 c = search needs
-
 returns : tie.Need-returns
 unfolding filled
 returns c =
@@ -27,4 +18,4 @@ returns c =
     (c .good .0 .1 .0 .1)
 
 pub widened-spec : {M : Type 1} → statement M
-widened-spec = tie.close (tie.spec array-read-t5 array-read-t8 array-read-t11 returns)
+widened-spec = tie.close (tie.spec (λ c. search needs) (λ c. search needs) (λ c. search needs) returns)

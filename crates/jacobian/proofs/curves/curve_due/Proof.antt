@@ -4,15 +4,9 @@ use Rattle.jacobian.specs.{Checks.unless, Checks._then_, Curves.degree-r
 use Rattle.jacobian.proofs.curves.curve_due.Statement.{statement}
 use Rattle.jacobian.proofs.curves.curve_due.Tie as tie
 
-coefficients-due-requires : tie.Need-coefficients-due-requires
-coefficients-due-requires c κs = search needs
-
 returns : tie.Need-returns
 unfolding curve-refusal degree-refusal coefficient-refusal unless _then_
 returns c = rw (c .before .if1 .taken) (c .coefficients-due .ensures)
-
-coefficients-due-requires-2 : tie.Need-coefficients-due-requires-2
-coefficients-due-requires-2 c κs = search needs
 
 returns-2 : tie.Need-returns-2
 unfolding curve-refusal degree-refusal coefficient-refusal unless _then_
@@ -25,4 +19,4 @@ returns-3 c = simp (ne-eqb _ _ (c .before .before .if1 .left), ne-eqb _ _ (c .if
 pub curve-due-spec : {M : Type 1} → statement M
 curve-due-spec =
     tie.close
-    (tie.spec coefficients-due-requires returns coefficients-due-requires-2 returns-2 returns-3)
+    (tie.spec (λ c κs. search needs) returns (λ c κs. search needs) returns-2 returns-3)

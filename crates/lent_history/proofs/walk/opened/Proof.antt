@@ -5,14 +5,8 @@ use borrow.Author.Needs.{needs}
 use Rattle.lent_history.proofs.walk.opened.Statement.{statement}
 use Rattle.lent_history.proofs.walk.opened.Tie as tie
 
-opening-refusal-requires : tie.Need-opening-refusal-requires
-opening-refusal-requires c κs = search needs
-
-standing-requires : tie.Need-standing-requires
-standing-requires c κs = search needs
-
 returns : tie.Need-returns
 returns c = c .standing .ensures ∙ ap (λ n. replied n (c .before .before .args .last)) (c .before .opening-refusal .ensures)
 
 pub opened-spec : {M : Type 1} → statement M
-opened-spec = tie.close (tie.spec opening-refusal-requires standing-requires returns)
+opened-spec = tie.close (tie.spec (λ c κs. search needs) (λ c κs. search needs) returns)

@@ -7,16 +7,10 @@ use borrow.Author.Needs.{needs}
 use Rattle.lent_history.proofs.walk.opening_refusal.Statement.{statement}
 use Rattle.lent_history.proofs.walk.opening_refusal.Tie as tie
 
-class-refusal-requires : tie.Need-class-refusal-requires
-class-refusal-requires c κs = search needs
-
 returns : tie.Need-returns
 returns c =
     let s = c .before .before in
     c .class-refusal .ensures ∙ opening-empty (s .args .curve) (s .args .last) (s .args .classes) (c .before .if1 .taken)
-
-count-refusal-requires : tie.Need-count-refusal-requires
-count-refusal-requires c κs = search needs
 
 returns-2 : tie.Need-returns-2
 unfolding count-limit
@@ -32,4 +26,4 @@ returns-3 c =
     opening-within (s .args .curve) (s .args .last) (s .args .classes) (c .before .if1 .left) (omega arith)
 
 pub opening-refusal-spec : {M : Type 1} → statement M
-opening-refusal-spec = tie.close (tie.spec class-refusal-requires returns count-refusal-requires returns-2 returns-3)
+opening-refusal-spec = tie.close (tie.spec (λ c κs. search needs) returns (λ c κs. search needs) returns-2 returns-3)

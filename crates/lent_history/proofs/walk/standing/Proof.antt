@@ -6,9 +6,6 @@ use borrow.Author.Needs.{needs}
 use Rattle.lent_history.proofs.walk.standing.Statement.{statement}
 use Rattle.lent_history.proofs.walk.standing.Tie as tie
 
-neutral-requires : tie.Need-neutral-requires
-neutral-requires c κs = search needs
-
 returns : tie.Need-returns
 returns c =
     let s = c .before .before in
@@ -21,4 +18,4 @@ returns-2 c =
     accepted-is (s .args .n) (s .args .seal) (c .if1 .left)
 
 pub standing-spec : {M : Type 1} → statement M
-standing-spec = tie.close (tie.spec neutral-requires returns returns-2)
+standing-spec = tie.close (tie.spec (λ c κs. search needs) returns returns-2)

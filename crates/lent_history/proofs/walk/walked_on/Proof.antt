@@ -11,12 +11,6 @@ returns c =
     let s = c .before .before in
     refused-stays (s .args .curve) (s .args .w .refusal) (s .args .w .seal) (s .args .a) (c .if1 .taken)
 
-subtract-and-halve-requires : tie.Need-subtract-and-halve-requires
-subtract-and-halve-requires c κs = search needs
-
-outcome-number-requires : tie.Need-outcome-number-requires
-outcome-number-requires c κs = search needs
-
 returns-2 : tie.Need-returns-2
 returns-2 c =
     let s = c .before .before .before .before .before .before in
@@ -25,4 +19,4 @@ returns-2 c =
     ∙ stepped (s .args .curve) (s .args .w .refusal) (s .args .w .seal) (s .args .a) x (c .before .before .before .before .if1 .left) (c .before .before .subtract-and-halve .ensures)
 
 pub walked-on-spec : {M : Type 1} → statement M
-walked-on-spec = tie.close (tie.spec returns subtract-and-halve-requires outcome-number-requires returns-2)
+walked-on-spec = tie.close (tie.spec returns (λ c κs. search needs) (λ c κs. search needs) returns-2)

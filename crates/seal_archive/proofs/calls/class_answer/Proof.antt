@@ -4,24 +4,6 @@ use borrow.Author.Needs.{needs}
 use Rattle.seal_archive.proofs.calls.class_answer.Statement.{statement}
 use Rattle.seal_archive.proofs.calls.class_answer.Tie as tie
 
-enum-told : tie.Need-enum-told
-enum-told c = search needs
-
-opposite-requires : tie.Need-opposite-requires
-opposite-requires c κs = search needs
-
-enum-told-2 : tie.Need-enum-told-2
-enum-told-2 c = search needs
-
-double-requires : tie.Need-double-requires
-double-requires c κs = search needs
-
-enum-told-3 : tie.Need-enum-told-3
-enum-told-3 c = search needs
-
-half-requires : tie.Need-half-requires
-half-requires c κs = search needs
-
 returns : tie.Need-returns
 unfolding unary-answer
 returns c = rw (c .before .enum-told .given .1) (c .opposite .ensures)
@@ -38,12 +20,12 @@ pub class-answer-spec : {M : Type 1} → statement M
 class-answer-spec =
     tie.close
     (tie.spec
-    enum-told
-    opposite-requires
-    enum-told-2
-    double-requires
-    enum-told-3
-    half-requires
+    (λ c. search needs)
+    (λ c κs. search needs)
+    (λ c. search needs)
+    (λ c κs. search needs)
+    (λ c. search needs)
+    (λ c κs. search needs)
     returns
     returns-2
     returns-3)

@@ -11,33 +11,12 @@ returns : tie.Need-returns
 unfolding class-call class-room
 returns c = short _ _ _ (c .if1 .taken)
 
-class-record-requires : tie.Need-class-record-requires
-class-record-requires c κs = search needs
-
-enum-told : tie.Need-enum-told
-enum-told c = search needs
-
-enum-told-2 : tie.Need-enum-told-2
-enum-told-2 c = search needs
-
-place-refusal-requires : tie.Need-place-refusal-requires
-place-refusal-requires c κs = search needs
-
 returns-2 : tie.Need-returns-2
 unfolding class-call class-room
 returns-2 c =
     let told = c .before in
     let read = told .before .before .before .before in
     unread _ _ _ (read .before .if1 .left) (place-refused (read .class-record .result .place) _ (read .class-record .ensures) (told .enum-told2 .given .1) (c .place-refusal .ensures))
-
-class-answer-requires : tie.Need-class-answer-requires
-class-answer-requires c κs = search needs
-
-put-class-requires : tie.Need-put-class-requires
-put-class-requires c κs = search needs
-
-same-length : tie.Need-same-length
-same-length c = search needs
 
 returns-3 : tie.Need-returns-3
 unfolding class-call class-room
@@ -54,12 +33,12 @@ class-call-spec =
     tie.close
     (tie.spec
     returns
-    class-record-requires
-    enum-told
-    enum-told-2
-    place-refusal-requires
+    (λ c κs. search needs)
+    (λ c. search needs)
+    (λ c. search needs)
+    (λ c κs. search needs)
     returns-2
-    class-answer-requires
-    put-class-requires
-    same-length
+    (λ c κs. search needs)
+    (λ c κs. search needs)
+    (λ c. search needs)
     returns-3)

@@ -25,17 +25,8 @@ same c = ap length (c .before .loop .inv .1) ∙ simp length-sets
 shared-slice-read-output : tie.Need-shared-slice-read-output Inv-loop μ-loop
 shared-slice-read-output c = c .before .loop-test .taken
 
-add-output : tie.Need-add-output Inv-loop μ-loop
-add-output c = search needs
-
 slice-write-output : tie.Need-slice-write-output Inv-loop μ-loop
 slice-write-output c = omega (arith, same (c .before))
-
-add-i : tie.Need-add-i Inv-loop μ-loop
-add-i c = search needs
-
-loop-less : tie.Need-loop-less Inv-loop μ-loop
-loop-less c = search needs
 
 loop-again : tie.Need-loop-again Inv-loop μ-loop
 loop-again c = (search needs, put-more _ _ _ _ (c .before .loop-test .taken) (c .before .before .loop .inv .1))
@@ -54,10 +45,10 @@ put-spec =
     μ-loop
     loop-holds
     shared-slice-read-output
-    add-output
+    (λ c. search needs)
     slice-write-output
-    add-i
-    loop-less
+    (λ c. search needs)
+    (λ c. search needs)
     loop-again
     same-length
     returns)

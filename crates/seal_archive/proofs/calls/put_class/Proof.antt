@@ -5,27 +5,12 @@ use borrow.Author.Needs.{needs}
 use Rattle.seal_archive.proofs.calls.put_class.Statement.{statement}
 use Rattle.seal_archive.proofs.calls.put_class.Tie as tie
 
-enum-told : tie.Need-enum-told
-enum-told c = search needs
-
-enum-told-2 : tie.Need-enum-told-2
-enum-told-2 c = search needs
-
-outcome-number-requires : tie.Need-outcome-number-requires
-outcome-number-requires c κs = search needs
-
 returns : tie.Need-returns
 unfolding write-class
 returns c = put-refused _ _ (c .before .enum-told2 .given .1) (c .outcome-number .ensures)
 
-class-field-requires : tie.Need-class-field-requires
-class-field-requires c κs = search needs
-
 put-row-requires : tie.Need-put-row-requires
 put-row-requires c κs = (row-within _ (c .before .before .class-field .ensures), c .before .before .before .before .before .before .before .pre)
-
-same-length : tie.Need-same-length
-same-length c = search needs
 
 returns-2 : tie.Need-returns-2
 unfolding write-class
@@ -38,11 +23,11 @@ pub put-class-spec : {M : Type 1} → statement M
 put-class-spec =
     tie.close
     (tie.spec
-    enum-told
-    enum-told-2
-    outcome-number-requires
+    (λ c. search needs)
+    (λ c. search needs)
+    (λ c κs. search needs)
     returns
-    class-field-requires
+    (λ c κs. search needs)
     put-row-requires
-    same-length
+    (λ c. search needs)
     returns-2)

@@ -6,9 +6,6 @@ use borrow.Author.Needs.{needs}
 use Rattle.seal_archive.proofs.calls.put_row.Statement.{statement}
 use Rattle.seal_archive.proofs.calls.put_row.Tie as tie
 
-array-share-prefix-row : tie.Need-array-share-prefix-row
-array-share-prefix-row c = search needs
-
 slice-aggregate-put : tie.Need-slice-aggregate-put
 slice-aggregate-put c = let s = c .before .before in sym (length-take-le (s .args .n) (s .args .t1) (s .pre .0))
 
@@ -18,22 +15,13 @@ put-requires c κs =
     let long = s .good .0 .1 .0 .1 in
     omega (arith, length-take-le (s .args .n) (s .args .t1) (s .pre .0), long)
 
-cast-result : tie.Need-cast-result
-cast-result c = search needs
-
-same-length : tie.Need-same-length
-same-length c = search needs
-
-returns : tie.Need-returns
-returns c = search needs
-
 pub put-row-spec : {M : Type 1} → statement M
 put-row-spec =
     tie.close
     (tie.spec
-    array-share-prefix-row
+    (λ c. search needs)
     slice-aggregate-put
     put-requires
-    cast-result
-    same-length
-    returns)
+    (λ c. search needs)
+    (λ c. search needs)
+    (λ c. search needs))

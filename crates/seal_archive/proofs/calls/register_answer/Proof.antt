@@ -4,18 +4,6 @@ use borrow.Author.Needs.{needs}
 use Rattle.seal_archive.proofs.calls.register_answer.Statement.{statement}
 use Rattle.seal_archive.proofs.calls.register_answer.Tie as tie
 
-enum-told : tie.Need-enum-told
-enum-told c = search needs
-
-commit-requires : tie.Need-commit-requires
-commit-requires c κs = search needs
-
-enum-told-2 : tie.Need-enum-told-2
-enum-told-2 c = search needs
-
-undo-requires : tie.Need-undo-requires
-undo-requires c κs = search needs
-
 returns : tie.Need-returns
 unfolding step-answer
 returns c = rw (c .before .enum-told .given .1) (c .commit .ensures)
@@ -25,4 +13,4 @@ unfolding step-answer
 returns-2 c = rw (c .before .enum-told2 .given .1) (c .undo .ensures)
 
 pub register-answer-spec : {M : Type 1} → statement M
-register-answer-spec = tie.close (tie.spec enum-told commit-requires enum-told-2 undo-requires returns returns-2)
+register-answer-spec = tie.close (tie.spec (λ c. search needs) (λ c κs. search needs) (λ c. search needs) (λ c κs. search needs) returns returns-2)

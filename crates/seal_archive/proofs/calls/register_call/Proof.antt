@@ -12,18 +12,6 @@ returns : tie.Need-returns
 unfolding register-call register-room
 returns c = short _ _ _ (c .if1 .taken)
 
-register-record-requires : tie.Need-register-record-requires
-register-record-requires c κs = search needs
-
-enum-told : tie.Need-enum-told
-enum-told c = search needs
-
-enum-told-2 : tie.Need-enum-told-2
-enum-told-2 c = search needs
-
-place-refusal-requires : tie.Need-place-refusal-requires
-place-refusal-requires c κs = search needs
-
 returns-2 : tie.Need-returns-2
 unfolding register-call register-room
 returns-2 c =
@@ -31,14 +19,8 @@ returns-2 c =
     let read = told .before .before .before .before in
     unread _ _ _ (read .before .if1 .left) (place-refused (read .register-record .result .place) _ (read .register-record .ensures) (told .enum-told2 .given .1) (c .place-refusal .ensures))
 
-register-answer-requires : tie.Need-register-answer-requires
-register-answer-requires c κs = search needs
-
 put-register-requires : tie.Need-put-register-requires
 put-register-requires c κs = (search needs, step-count _ _ _ (c .before .register-answer .ensures))
-
-same-length : tie.Need-same-length
-same-length c = search needs
 
 returns-3 : tie.Need-returns-3
 unfolding register-call register-room
@@ -55,12 +37,12 @@ register-call-spec =
     tie.close
     (tie.spec
     returns
-    register-record-requires
-    enum-told
-    enum-told-2
-    place-refusal-requires
+    (λ c κs. search needs)
+    (λ c. search needs)
+    (λ c. search needs)
+    (λ c κs. search needs)
     returns-2
-    register-answer-requires
+    (λ c κs. search needs)
     put-register-requires
-    same-length
+    (λ c. search needs)
     returns-3)

@@ -4,15 +4,9 @@ use borrow.Author.Needs.{needs}
 use Rattle.seal_archive.proofs.calls.seal_commit.Statement.{statement}
 use Rattle.seal_archive.proofs.calls.seal_commit.Tie as tie
 
-register-call-requires : tie.Need-register-call-requires
-register-call-requires c κs = search needs
-
-same-length : tie.Need-same-length
-same-length c = search needs
-
 returns : tie.Need-returns
 unfolding commit-call step-answer
 returns c = c .before .before .register-call .ensures
 
 pub seal-commit-spec : {M : Type 1} → statement M
-seal-commit-spec = tie.close (tie.spec register-call-requires same-length returns)
+seal-commit-spec = tie.close (tie.spec (λ c κs. search needs) (λ c. search needs) returns)

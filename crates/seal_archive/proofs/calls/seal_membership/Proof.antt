@@ -7,15 +7,9 @@ use borrow.Author.Needs.{needs}
 use Rattle.seal_archive.proofs.calls.seal_membership.Statement.{statement}
 use Rattle.seal_archive.proofs.calls.seal_membership.Tie as tie
 
-class-record-requires : tie.Need-class-record-requires
-class-record-requires c κs = search needs
-
-place-refusal-requires : tie.Need-place-refusal-requires
-place-refusal-requires c κs = search needs
-
 returns : tie.Need-returns
 unfolding membership-call
 returns c = c .place-refusal .ensures ∙ sym (placed-number (c .before .class-record .result .place) _) ∙ ap number (c .before .class-record .ensures)
 
 pub seal-membership-spec : {M : Type 1} → statement M
-seal-membership-spec = tie.close (tie.spec class-record-requires place-refusal-requires returns)
+seal-membership-spec = tie.close (tie.spec (λ c κs. search needs) (λ c κs. search needs) returns)

@@ -11,33 +11,12 @@ returns : tie.Need-returns
 unfolding sum-call class-room
 returns c = short _ _ _ (c .if1 .taken)
 
-sum-record-requires : tie.Need-sum-record-requires
-sum-record-requires c κs = search needs
-
-enum-told : tie.Need-enum-told
-enum-told c = search needs
-
-enum-told-2 : tie.Need-enum-told-2
-enum-told-2 c = search needs
-
-place-refusal-requires : tie.Need-place-refusal-requires
-place-refusal-requires c κs = search needs
-
 returns-2 : tie.Need-returns-2
 unfolding sum-call class-room
 returns-2 c =
     let told = c .before in
     let read = told .before .before .before .before .before in
     unread _ _ _ (read .before .if1 .left) (place-refused (read .sum-record .result .place) _ (read .sum-record .ensures) (told .enum-told2 .given .1) (c .place-refusal .ensures))
-
-sum-requires : tie.Need-sum-requires
-sum-requires c κs = search needs
-
-put-class-requires : tie.Need-put-class-requires
-put-class-requires c κs = search needs
-
-same-length : tie.Need-same-length
-same-length c = search needs
 
 returns-3 : tie.Need-returns-3
 unfolding sum-call class-room
@@ -54,12 +33,12 @@ seal-sum-spec =
     tie.close
     (tie.spec
     returns
-    sum-record-requires
-    enum-told
-    enum-told-2
-    place-refusal-requires
+    (λ c κs. search needs)
+    (λ c. search needs)
+    (λ c. search needs)
+    (λ c κs. search needs)
     returns-2
-    sum-requires
-    put-class-requires
-    same-length
+    (λ c κs. search needs)
+    (λ c κs. search needs)
+    (λ c. search needs)
     returns-3)

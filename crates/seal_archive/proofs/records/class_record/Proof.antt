@@ -10,25 +10,10 @@ use borrow.Author.Needs.{needs}
 use Rattle.seal_archive.proofs.records.class_record.Statement.{statement}
 use Rattle.seal_archive.proofs.records.class_record.Tie as tie
 
-curve-first-requires : tie.Need-curve-first-requires
-curve-first-requires c κs = search needs
-
-enum-known-c : tie.Need-enum-known-c
-enum-known-c c = search needs
-
-enum-told : tie.Need-enum-told
-enum-told c = search needs
-
-curve-number-requires : tie.Need-curve-number-requires
-curve-number-requires c κs = search needs
-
 -- the curve that was found
 first : (c : tie.After-known-told) →
     curve-first (c .before .before .before .before .before .args .s .now) 0 ≡ found (c .before .c .given .0 .0) (c .before .c .given .0 .1 .0 .at)
 first c = sym (c .before .before .before .curve-first .ensures) ∙ ap curve-read (c .before .c .given .1)
-
-class-refused-requires : tie.Need-class-refused-requires
-class-refused-requires c κs = search needs
 
 returns : tie.Need-returns
 unfolding class-record
@@ -36,21 +21,6 @@ returns c =
     let told = c .before .before in
     c .class-refused .ensures
     ∙ sym (then-refused _ (refused-by (told .before .before .curve-first .ensures) (ap curve-read (told .enum-told .given .1)) (c .before .curve-number .ensures)))
-
-class-at-requires : tie.Need-class-at-requires
-class-at-requires c κs = search needs
-
-enum-known-place : tie.Need-enum-known-place
-enum-known-place c = search needs
-
-enum-told-2 : tie.Need-enum-told-2
-enum-told-2 c = search needs
-
-place-refusal-requires : tie.Need-place-refusal-requires
-place-refusal-requires c κs = search needs
-
-class-refused-requires-2 : tie.Need-class-refused-requires-2
-class-refused-requires-2 c κs = search needs
 
 returns-2 : tie.Need-returns-2
 unfolding class-record
@@ -72,12 +42,6 @@ class-first c =
     let read = c .before .before .before .before in
     then-found _ (first (read .before)) ∙ then-found _ (place-found _ _ (read-reading (read .class-at .result) (read .class-at .ensures)) (c .before .place .given .1))
 
-end-at-requires : tie.Need-end-at-requires
-end-at-requires c κs = search needs
-
-class-refused-requires-3 : tie.Need-class-refused-requires-3
-class-refused-requires-3 c κs = search needs
-
 returns-3 : tie.Need-returns-3
 unfolding class-record
 returns-3 c =
@@ -94,19 +58,19 @@ pub class-record-spec : {M : Type 1} → statement M
 class-record-spec =
     tie.close
     (tie.spec
-    curve-first-requires
-    enum-known-c
-    enum-told
-    curve-number-requires
-    class-refused-requires
+    (λ c κs. search needs)
+    (λ c. search needs)
+    (λ c. search needs)
+    (λ c κs. search needs)
+    (λ c κs. search needs)
     returns
-    class-at-requires
-    enum-known-place
-    enum-told-2
-    place-refusal-requires
-    class-refused-requires-2
+    (λ c κs. search needs)
+    (λ c. search needs)
+    (λ c. search needs)
+    (λ c κs. search needs)
+    (λ c κs. search needs)
     returns-2
-    end-at-requires
-    class-refused-requires-3
+    (λ c κs. search needs)
+    (λ c κs. search needs)
     returns-3
     returns-4)

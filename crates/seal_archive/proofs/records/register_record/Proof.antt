@@ -11,25 +11,10 @@ use borrow.Author.Needs.{needs}
 use Rattle.seal_archive.proofs.records.register_record.Statement.{statement}
 use Rattle.seal_archive.proofs.records.register_record.Tie as tie
 
-curve-first-requires : tie.Need-curve-first-requires
-curve-first-requires c κs = search needs
-
-enum-known-c : tie.Need-enum-known-c
-enum-known-c c = search needs
-
-enum-told : tie.Need-enum-told
-enum-told c = search needs
-
-curve-number-requires : tie.Need-curve-number-requires
-curve-number-requires c κs = search needs
-
 -- the curve that was found
 first : (c : tie.After-known-told) →
     curve-first (c .before .before .before .before .before .args .s .now) 0 ≡ found (c .before .c .given .0 .0) (c .before .c .given .0 .1 .0 .at)
 first c = sym (c .before .before .before .curve-first .ensures) ∙ ap curve-read (c .before .c .given .1)
-
-register-refused-requires : tie.Need-register-refused-requires
-register-refused-requires c κs = search needs
 
 returns : tie.Need-returns
 unfolding register-record
@@ -37,21 +22,6 @@ returns c =
     let told = c .before .before in
     c .register-refused .ensures
     ∙ sym (then-refused _ (refused-by (told .before .before .curve-first .ensures) (ap curve-read (told .enum-told .given .1)) (c .before .curve-number .ensures)))
-
-count-at-requires : tie.Need-count-at-requires
-count-at-requires c κs = search needs
-
-enum-known-k : tie.Need-enum-known-k
-enum-known-k c = search needs
-
-enum-told-2 : tie.Need-enum-told-2
-enum-told-2 c = search needs
-
-count-number-requires : tie.Need-count-number-requires
-count-number-requires c κs = search needs
-
-register-refused-requires-2 : tie.Need-register-refused-requires-2
-register-refused-requires-2 c κs = search needs
 
 returns-2 : tie.Need-returns-2
 unfolding register-record
@@ -68,21 +38,6 @@ counted : (c : tie.After-known-told2) →
     let k = read .before in
     count-at (k .before .before .before .before .before .args .s .now) (k .before .c .given .0 .1 .0 .at) ≡ found (c .before .k .given .0 .0) (c .before .k .given .0 .1 .0 .at)
 counted c = sym (c .before .before .before .count-at .ensures) ∙ ap count-read (c .before .k .given .1)
-
-class-at-requires : tie.Need-class-at-requires
-class-at-requires c κs = search needs
-
-enum-known-place : tie.Need-enum-known-place
-enum-known-place c = search needs
-
-enum-told-3 : tie.Need-enum-told-3
-enum-told-3 c = search needs
-
-place-refusal-requires : tie.Need-place-refusal-requires
-place-refusal-requires c κs = search needs
-
-register-refused-requires-3 : tie.Need-register-refused-requires-3
-register-refused-requires-3 c κs = search needs
 
 returns-3 : tie.Need-returns-3
 unfolding register-record
@@ -101,21 +56,6 @@ second : (c : tie.After-known-told3) →
     class-at 0x43 (k .before .before .before .before .before .c .given .0 .0) (k .before .before .before .before .before .before .before .before .before .args .s .now) (k .before .k .given .0 .1 .0 .at)
     ≡ found (read .class-at .result .class) (c .before .place .given .0 .0 .at)
 second c = let read = c .before .before .before .before in place-found _ _ (read-reading (read .class-at .result) (read .class-at .ensures)) (c .before .place .given .1)
-
-operation-at-requires : tie.Need-operation-at-requires
-operation-at-requires c κs = search needs
-
-enum-known-last : tie.Need-enum-known-last
-enum-known-last c = search needs
-
-enum-told-4 : tie.Need-enum-told-4
-enum-told-4 c = search needs
-
-place-refusal-requires-2 : tie.Need-place-refusal-requires-2
-place-refusal-requires-2 c κs = search needs
-
-register-refused-requires-4 : tie.Need-register-refused-requires-4
-register-refused-requires-4 c κs = search needs
 
 returns-4 : tie.Need-returns-4
 unfolding register-record
@@ -149,20 +89,11 @@ fields-first c =
     ∙ then-found _ (second (read .before))
     ∙ then-found _ (place-found _ _ (read-reading (read .operation-at .result) (read .operation-at .ensures)) (c .before .last .given .1))
 
-end-at-requires : tie.Need-end-at-requires
-end-at-requires c κs = search needs
-
-register-refused-requires-5 : tie.Need-register-refused-requires-5
-register-refused-requires-5 c κs = search needs
-
 returns-5 : tie.Need-returns-5
 unfolding register-record
 returns-5 c =
     let ends = c .before .before in
     c .register-refused5 .ensures ∙ sym (fields-first (ends .before) ∙ bytes-remain _ _ _ (ends .end-at .ensures) (c .before .if1 .taken))
-
-cast-t24 : tie.Need-cast-t24
-cast-t24 c = search needs
 
 returns-6 : tie.Need-returns-6
 unfolding register-record
@@ -174,32 +105,32 @@ pub register-record-spec : {M : Type 1} → statement M
 register-record-spec =
     tie.close
     (tie.spec
-    curve-first-requires
-    enum-known-c
-    enum-told
-    curve-number-requires
-    register-refused-requires
+    (λ c κs. search needs)
+    (λ c. search needs)
+    (λ c. search needs)
+    (λ c κs. search needs)
+    (λ c κs. search needs)
     returns
-    count-at-requires
-    enum-known-k
-    enum-told-2
-    count-number-requires
-    register-refused-requires-2
+    (λ c κs. search needs)
+    (λ c. search needs)
+    (λ c. search needs)
+    (λ c κs. search needs)
+    (λ c κs. search needs)
     returns-2
-    class-at-requires
-    enum-known-place
-    enum-told-3
-    place-refusal-requires
-    register-refused-requires-3
+    (λ c κs. search needs)
+    (λ c. search needs)
+    (λ c. search needs)
+    (λ c κs. search needs)
+    (λ c κs. search needs)
     returns-3
-    operation-at-requires
-    enum-known-last
-    enum-told-4
-    place-refusal-requires-2
-    register-refused-requires-4
+    (λ c κs. search needs)
+    (λ c. search needs)
+    (λ c. search needs)
+    (λ c κs. search needs)
+    (λ c κs. search needs)
     returns-4
-    end-at-requires
-    register-refused-requires-5
+    (λ c κs. search needs)
+    (λ c κs. search needs)
     returns-5
-    cast-t24
+    (λ c. search needs)
     returns-6)

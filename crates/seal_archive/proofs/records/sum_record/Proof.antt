@@ -10,25 +10,10 @@ use borrow.Author.Needs.{needs}
 use Rattle.seal_archive.proofs.records.sum_record.Statement.{statement}
 use Rattle.seal_archive.proofs.records.sum_record.Tie as tie
 
-curve-first-requires : tie.Need-curve-first-requires
-curve-first-requires c κs = search needs
-
-enum-known-c : tie.Need-enum-known-c
-enum-known-c c = search needs
-
-enum-told : tie.Need-enum-told
-enum-told c = search needs
-
-curve-number-requires : tie.Need-curve-number-requires
-curve-number-requires c κs = search needs
-
 -- the curve that was found
 first : (c : tie.After-known-told) →
     curve-first (c .before .before .before .before .before .args .s .now) 0 ≡ found (c .before .c .given .0 .0) (c .before .c .given .0 .1 .0 .at)
 first c = sym (c .before .before .before .curve-first .ensures) ∙ ap curve-read (c .before .c .given .1)
-
-sum-refused-requires : tie.Need-sum-refused-requires
-sum-refused-requires c κs = search needs
 
 returns : tie.Need-returns
 unfolding sum-record
@@ -36,21 +21,6 @@ returns c =
     let told = c .before .before in
     c .sum-refused .ensures
     ∙ sym (then-refused _ (refused-by (told .before .before .curve-first .ensures) (ap curve-read (told .enum-told .given .1)) (c .before .curve-number .ensures)))
-
-class-at-requires : tie.Need-class-at-requires
-class-at-requires c κs = search needs
-
-enum-known-place : tie.Need-enum-known-place
-enum-known-place c = search needs
-
-enum-told-2 : tie.Need-enum-told-2
-enum-told-2 c = search needs
-
-place-refusal-requires : tie.Need-place-refusal-requires
-place-refusal-requires c κs = search needs
-
-sum-refused-requires-2 : tie.Need-sum-refused-requires-2
-sum-refused-requires-2 c κs = search needs
 
 returns-2 : tie.Need-returns-2
 unfolding sum-record
@@ -68,21 +38,6 @@ second : (c : tie.After-known-told2) →
     class-at 0x43 (k .before .c .given .0 .0) (k .before .before .before .before .before .args .s .now) (k .before .c .given .0 .1 .0 .at)
     ≡ found (read .class-at .result .class) (c .before .place .given .0 .0 .at)
 second c = let read = c .before .before .before .before in place-found _ _ (read-reading (read .class-at .result) (read .class-at .ensures)) (c .before .place .given .1)
-
-class-at-requires-2 : tie.Need-class-at-requires-2
-class-at-requires-2 c κs = search needs
-
-enum-known-last : tie.Need-enum-known-last
-enum-known-last c = search needs
-
-enum-told-3 : tie.Need-enum-told-3
-enum-told-3 c = search needs
-
-place-refusal-requires-2 : tie.Need-place-refusal-requires-2
-place-refusal-requires-2 c κs = search needs
-
-sum-refused-requires-3 : tie.Need-sum-refused-requires-3
-sum-refused-requires-3 c κs = search needs
 
 returns-3 : tie.Need-returns-3
 unfolding sum-record
@@ -108,12 +63,6 @@ classes-first c =
     ∙ then-found _ (second (read .before))
     ∙ then-found _ (place-found _ _ (read-reading (read .class-at2 .result) (read .class-at2 .ensures)) (c .before .last .given .1))
 
-end-at-requires : tie.Need-end-at-requires
-end-at-requires c κs = search needs
-
-sum-refused-requires-4 : tie.Need-sum-refused-requires-4
-sum-refused-requires-4 c κs = search needs
-
 returns-4 : tie.Need-returns-4
 unfolding sum-record
 returns-4 c =
@@ -130,25 +79,25 @@ pub sum-record-spec : {M : Type 1} → statement M
 sum-record-spec =
     tie.close
     (tie.spec
-    curve-first-requires
-    enum-known-c
-    enum-told
-    curve-number-requires
-    sum-refused-requires
+    (λ c κs. search needs)
+    (λ c. search needs)
+    (λ c. search needs)
+    (λ c κs. search needs)
+    (λ c κs. search needs)
     returns
-    class-at-requires
-    enum-known-place
-    enum-told-2
-    place-refusal-requires
-    sum-refused-requires-2
+    (λ c κs. search needs)
+    (λ c. search needs)
+    (λ c. search needs)
+    (λ c κs. search needs)
+    (λ c κs. search needs)
     returns-2
-    class-at-requires-2
-    enum-known-last
-    enum-told-3
-    place-refusal-requires-2
-    sum-refused-requires-3
+    (λ c κs. search needs)
+    (λ c. search needs)
+    (λ c. search needs)
+    (λ c κs. search needs)
+    (λ c κs. search needs)
     returns-3
-    end-at-requires
-    sum-refused-requires-4
+    (λ c κs. search needs)
+    (λ c κs. search needs)
     returns-4
     returns-5)

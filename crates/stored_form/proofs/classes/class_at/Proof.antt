@@ -7,8 +7,5 @@ use Rattle.stored_form.proofs.classes.class_at.Tie as tie
 tagged-at-requires : tie.Need-tagged-at-requires
 tagged-at-requires c κs = class-lengths
 
-returns : tie.Need-returns
-returns c = search needs
-
 pub class-at-spec : {M : Type 1} → statement M
-class-at-spec = tie.close (tie.spec tagged-at-requires returns)
+class-at-spec = tie.close (tie.spec tagged-at-requires (λ c. search needs))

@@ -7,12 +7,6 @@ use Rattle.stored_form.proofs.classes.class_of.Tie as tie
 row-at-requires : tie.Need-row-at-requires
 row-at-requires c κs = let start = c .before in row-asks (start .args .s .now) (start .args .at) (start .args .len) (start .pre .0) (start .pre .1)
 
-mul-row-at : tie.Need-mul-row-at
-mul-row-at c = search needs
-
-add-row-at : tie.Need-add-row-at
-add-row-at c = search needs
-
 row-at-requires-2 : tie.Need-row-at-requires-2
 row-at-requires-2 c κs =
     let start = c .before .before in
@@ -25,4 +19,4 @@ returns c =
     (c .before .row-at .ensures) (c .row-at2 .ensures)
 
 pub class-of-spec : {M : Type 1} → statement M
-class-of-spec = tie.close (tie.spec row-at-requires mul-row-at add-row-at row-at-requires-2 returns)
+class-of-spec = tie.close (tie.spec row-at-requires (λ c. search needs) (λ c. search needs) row-at-requires-2 returns)

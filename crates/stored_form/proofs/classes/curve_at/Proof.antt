@@ -9,18 +9,6 @@ use Rattle.stored_form.proofs.ClassReaders.{curve-refused, curve-within
 use Rattle.stored_form.proofs.classes.curve_at.Statement.{statement}
 use Rattle.stored_form.proofs.classes.curve_at.Tie as tie
 
-head-at-requires : tie.Need-head-at-requires
-head-at-requires c κs = search needs
-
-enum-known-h : tie.Need-enum-known-h
-enum-known-h c = search needs
-
-enum-told : tie.Need-enum-told
-enum-told c = search needs
-
-head-refusal-requires : tie.Need-head-refusal-requires
-head-refusal-requires c κs = search needs
-
 returns : tie.Need-returns
 returns c =
     let told = c .before in
@@ -39,9 +27,6 @@ add-curve-of c = omega (arith, curve-within _ _ 5 (head c))
 curve-of-requires : tie.Need-curve-of-requires
 curve-of-requires c κs = curve-within _ _ 5 (head c)
 
-curve-due-requires : tie.Need-curve-due-requires
-curve-due-requires c κs = search needs
-
 returns-2 : tie.Need-returns-2
 returns-2 c =
     let due = c .before in
@@ -56,13 +41,13 @@ pub curve-at-spec : {M : Type 1} → statement M
 curve-at-spec =
     tie.close
     (tie.spec
-    head-at-requires
-    enum-known-h
-    enum-told
-    head-refusal-requires
+    (λ c κs. search needs)
+    (λ c. search needs)
+    (λ c. search needs)
+    (λ c κs. search needs)
     returns
     add-curve-of
     curve-of-requires
-    curve-due-requires
+    (λ c κs. search needs)
     returns-2
     returns-3)

@@ -4,15 +4,9 @@ use Rattle.jacobian.specs.Answer.{curve-answer}
 use Rattle.stored_form.proofs.classes.curve_due.Statement.{statement}
 use Rattle.stored_form.proofs.classes.curve_due.Tie as tie
 
-accepts-curve-requires : tie.Need-accepts-curve-requires
-accepts-curve-requires c κs = search needs
-
-due-requires : tie.Need-due-requires
-due-requires c κs = search needs
-
 returns : tie.Need-returns
 unfolding curve-answer
 returns c = c .due .ensures _ (c .before .accepts-curve .ensures)
 
 pub curve-due-spec : {M : Type 1} → statement M
-curve-due-spec = tie.close (tie.spec accepts-curve-requires due-requires returns)
+curve-due-spec = tie.close (tie.spec (λ c κs. search needs) (λ c κs. search needs) returns)

@@ -7,18 +7,6 @@ use borrow.Author.Needs.{needs}
 use Rattle.stored_form.proofs.classes.curve_first.Statement.{statement}
 use Rattle.stored_form.proofs.classes.curve_first.Tie as tie
 
-degree-at-requires : tie.Need-degree-at-requires
-degree-at-requires c κs = search needs
-
-enum-known-d : tie.Need-enum-known-d
-enum-known-d c = search needs
-
-enum-known-d-2 : tie.Need-enum-known-d-2
-enum-known-d-2 c = search needs
-
-curve-at-requires : tie.Need-curve-at-requires
-curve-at-requires c κs = search needs
-
 returns : tie.Need-returns
 unfolding curve-first
 returns c = sym (then-refused _ (sym (c .before .before .before .degree-at .ensures) ∙ ap degree-read (c .before .d .given .1)))
@@ -30,4 +18,4 @@ returns-2 c = c .curve-at .ensures ∙ sym (then-found _ (sym (c .before .before
 pub curve-first-spec : {M : Type 1} → statement M
 curve-first-spec =
     tie.close
-    (tie.spec degree-at-requires enum-known-d enum-known-d-2 curve-at-requires returns returns-2)
+    (tie.spec (λ c κs. search needs) (λ c. search needs) (λ c. search needs) (λ c κs. search needs) returns returns-2)

@@ -4,21 +4,6 @@ use Rattle.stored_form.proofs.Items.{curve-is}
 use Rattle.stored_form.proofs.classes.curve_of.Statement.{statement}
 use Rattle.stored_form.proofs.classes.curve_of.Tie as tie
 
-number-at-requires : tie.Need-number-at-requires
-number-at-requires c κs = search needs
-
-add-number-at : tie.Need-add-number-at
-add-number-at c = search needs
-
-number-at-requires-2 : tie.Need-number-at-requires-2
-number-at-requires-2 c κs = search needs
-
-add-number-at-2 : tie.Need-add-number-at-2
-add-number-at-2 c = search needs
-
-number-at-requires-3 : tie.Need-number-at-requires-3
-number-at-requires-3 c κs = search needs
-
 returns : tie.Need-returns
 returns c =
     let a = c .before .before .before .before .args in
@@ -28,9 +13,9 @@ pub curve-of-spec : {M : Type 1} → statement M
 curve-of-spec =
     tie.close
     (tie.spec
-    number-at-requires
-    add-number-at
-    number-at-requires-2
-    add-number-at-2
-    number-at-requires-3
+    (λ c κs. search needs)
+    (λ c. search needs)
+    (λ c κs. search needs)
+    (λ c. search needs)
+    (λ c κs. search needs)
     returns)

@@ -6,12 +6,6 @@ use Rattle.stored_form.proofs.Verdicts.{none-due, some-due}
 use Rattle.stored_form.proofs.classes.due.Statement.{statement}
 use Rattle.stored_form.proofs.classes.due.Tie as tie
 
-enum-told : tie.Need-enum-told
-enum-told c = search needs
-
-enum-known-o : tie.Need-enum-known-o
-enum-known-o c = search needs
-
 returns : tie.Need-returns
 returns c n e = none-due n (sym (ap verdict (c .enum-told .given .1)) ∙ e)
 
@@ -19,4 +13,4 @@ returns-2 : tie.Need-returns-2
 returns-2 c n e = some-due _ n (sym (ap verdict (c .before .o .given .1)) ∙ e)
 
 pub due-spec : {M : Type 1} → statement M
-due-spec = tie.close (tie.spec enum-told enum-known-o returns returns-2)
+due-spec = tie.close (tie.spec (λ c. search needs) (λ c. search needs) returns returns-2)

@@ -7,8 +7,5 @@ use Rattle.stored_form.proofs.classes.operation_at.Tie as tie
 tagged-at-requires : tie.Need-tagged-at-requires
 tagged-at-requires c κs = operation-lengths
 
-returns : tie.Need-returns
-returns c = search needs
-
 pub operation-at-spec : {M : Type 1} → statement M
-operation-at-spec = tie.close (tie.spec tagged-at-requires returns)
+operation-at-spec = tie.close (tie.spec tagged-at-requires (λ c. search needs))

@@ -12,39 +12,12 @@ returns c =
     let long = start .good .1 .1 .1 .0 .1 .0 .1 in
     (put-0 (start .args .d) (start .args .at) (start .args .t4) long (c .if1 .taken), long)
 
-sub-put-element : tie.Need-sub-put-element
-sub-put-element c = search needs
-
-mul-put-element : tie.Need-mul-put-element
-mul-put-element c = search needs
-
-array-read-put-element : tie.Need-array-read-put-element
-array-read-put-element c = search needs
-
-put-element-requires : tie.Need-put-element-requires
-put-element-requires c κs = search needs
-
 returns-2 : tie.Need-returns-2
 returns-2 c =
     let one = c .before in
     let start = one .before .before in
     let long = start .good .1 .1 .1 .0 .1 .0 .1 in
     (put-1 (start .args .d) (start .args .at) (start .args .t4) long (c .if2 .taken) (one .put-element .ensures), long)
-
-add-put-element : tie.Need-add-put-element
-add-put-element c = search needs
-
-sub-put-element-2 : tie.Need-sub-put-element-2
-sub-put-element-2 c = search needs
-
-mul-put-element-2 : tie.Need-mul-put-element-2
-mul-put-element-2 c = search needs
-
-array-read-put-element-2 : tie.Need-array-read-put-element-2
-array-read-put-element-2 c = search needs
-
-put-element-requires-2 : tie.Need-put-element-requires-2
-put-element-requires-2 c κs = search needs
 
 returns-3 : tie.Need-returns-3
 returns-3 c =
@@ -53,15 +26,6 @@ returns-3 c =
     let start = one .before .before in
     let long = start .good .1 .1 .1 .0 .1 .0 .1 in
     (put-2 (start .args .d) (start .args .at) (start .args .t4) long (c .if3 .taken) (one .put-element .ensures) (two .put-element2 .ensures), long)
-
-add-put-element-2 : tie.Need-add-put-element-2
-add-put-element-2 c = search needs
-
-array-read-put-element-3 : tie.Need-array-read-put-element-3
-array-read-put-element-3 c = search needs
-
-put-element-requires-3 : tie.Need-put-element-requires-3
-put-element-requires-3 c κs = search needs
 
 returns-4 : tie.Need-returns-4
 returns-4 c =
@@ -77,18 +41,18 @@ put-row-spec =
     tie.close
     (tie.spec
     returns
-    sub-put-element
-    mul-put-element
-    array-read-put-element
-    put-element-requires
+    (λ c. search needs)
+    (λ c. search needs)
+    (λ c. search needs)
+    (λ c κs. search needs)
     returns-2
-    add-put-element
-    sub-put-element-2
-    mul-put-element-2
-    array-read-put-element-2
-    put-element-requires-2
+    (λ c. search needs)
+    (λ c. search needs)
+    (λ c. search needs)
+    (λ c. search needs)
+    (λ c κs. search needs)
     returns-3
-    add-put-element-2
-    array-read-put-element-3
-    put-element-requires-3
+    (λ c. search needs)
+    (λ c. search needs)
+    (λ c κs. search needs)
     returns-4)

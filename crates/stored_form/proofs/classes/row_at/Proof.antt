@@ -9,20 +9,11 @@ use Rattle.stored_form.proofs.classes.row_at.Tie as tie
 returns : tie.Need-returns
 returns c = let a = c .before .before .args in row-0 (a .s .now) (a .at) (c .if1 .taken)
 
-number-at-requires : tie.Need-number-at-requires
-number-at-requires c κs = search needs
-
 returns-2 : tie.Need-returns-2
 returns-2 c =
     let one = c .before in
     let a = one .before .before .before .args in
     row-1 (a .s .now) (a .at) (one .number-at .ensures) (c .if2 .taken)
-
-add-number-at : tie.Need-add-number-at
-add-number-at c = search needs
-
-number-at-requires-2 : tie.Need-number-at-requires-2
-number-at-requires-2 c κs = search needs
 
 returns-3 : tie.Need-returns-3
 returns-3 c =
@@ -30,12 +21,6 @@ returns-3 c =
     let one = two .before .before in
     let a = one .before .before .before .args in
     row-2 (a .s .now) (a .at) (one .number-at .ensures) (two .number-at2 .ensures) (c .if3 .taken)
-
-add-number-at-2 : tie.Need-add-number-at-2
-add-number-at-2 c = search needs
-
-number-at-requires-3 : tie.Need-number-at-requires-3
-number-at-requires-3 c κs = search needs
 
 returns-4 : tie.Need-returns-4
 returns-4 c =
@@ -50,11 +35,11 @@ row-at-spec =
     tie.close
     (tie.spec
     returns
-    number-at-requires
+    (λ c κs. search needs)
     returns-2
-    add-number-at
-    number-at-requires-2
+    (λ c. search needs)
+    (λ c κs. search needs)
     returns-3
-    add-number-at-2
-    number-at-requires-3
+    (λ c. search needs)
+    (λ c κs. search needs)
     returns-4)

@@ -10,21 +10,6 @@ use Rattle.stored_form.proofs.ClassReaders.{class-head-refused, class-a
 use Rattle.stored_form.proofs.classes.tagged_at.Statement.{statement}
 use Rattle.stored_form.proofs.classes.tagged_at.Tie as tie
 
-head-at-requires : tie.Need-head-at-requires
-head-at-requires c κs = search needs
-
-enum-known-h : tie.Need-enum-known-h
-enum-known-h c = search needs
-
-enum-told : tie.Need-enum-told
-enum-told c = search needs
-
-head-refusal-requires : tie.Need-head-refusal-requires
-head-refusal-requires c κs = search needs
-
-class-refused-requires : tie.Need-class-refused-requires
-class-refused-requires c κs = search needs
-
 returns : tie.Need-returns
 returns c =
     let refusal = c .before in
@@ -49,12 +34,6 @@ class-of-requires c κs =
     let start = c .before .before .before .before .before in
     class-asks _ _ _ (start .args .c) (head c) (start .pre)
 
-class-due-requires : tie.Need-class-due-requires
-class-due-requires c κs = search needs
-
-class-refused-requires-2 : tie.Need-class-refused-requires-2
-class-refused-requires-2 c κs = search needs
-
 returns-2 : tie.Need-returns-2
 returns-2 c =
     let due = c .before .before in
@@ -71,15 +50,15 @@ pub tagged-at-spec : {M : Type 1} → statement M
 tagged-at-spec =
     tie.close
     (tie.spec
-    head-at-requires
-    enum-known-h
-    enum-told
-    head-refusal-requires
-    class-refused-requires
+    (λ c κs. search needs)
+    (λ c. search needs)
+    (λ c. search needs)
+    (λ c κs. search needs)
+    (λ c κs. search needs)
     returns
     add-class-of
     class-of-requires
-    class-due-requires
-    class-refused-requires-2
+    (λ c κs. search needs)
+    (λ c κs. search needs)
     returns-2
     returns-3)

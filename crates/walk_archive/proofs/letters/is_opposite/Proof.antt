@@ -7,14 +7,8 @@ use borrow.Author.Needs.{needs}
 use Rattle.walk_archive.proofs.letters.is_opposite.Statement.{statement}
 use Rattle.walk_archive.proofs.letters.is_opposite.Tie as tie
 
-opposite-requires : tie.Need-opposite-requires
-opposite-requires c κs = search needs
-
-same-class-requires : tie.Need-same-class-requires
-same-class-requires c κs = search needs
-
 returns : tie.Need-returns
 returns c = c .same-class .ensures ∙ ap (λ (r : Reply). same-class (c .before .before .before .args .a) (r .class)) (c .before .before .opposite .ensures)
 
 pub is-opposite-spec : {M : Type 1} → statement M
-is-opposite-spec = tie.close (tie.spec opposite-requires same-class-requires returns)
+is-opposite-spec = tie.close (tie.spec (λ c κs. search needs) (λ c κs. search needs) returns)

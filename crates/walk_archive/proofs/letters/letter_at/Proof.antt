@@ -12,23 +12,11 @@ use borrow.Author.Needs.{needs}
 use Rattle.walk_archive.proofs.letters.letter_at.Statement.{statement}
 use Rattle.walk_archive.proofs.letters.letter_at.Tie as tie
 
-mark-requires : tie.Need-mark-requires
-mark-requires c κs = search needs
-
 returns : tie.Need-returns
 returns c = λ ops end e.
     let a = c .before .before .before .args in
     c .mark .ensures
     ∙ letter-alone (a .curve) (a .a) (no-operations _ _ _ (ap (λ (n : ℕ). operations-at n (a .curve) (a .s .now) (a .at .at)) (sym (c .before .if1 .taken)) ∙ e))
-
-operation-at-requires : tie.Need-operation-at-requires
-operation-at-requires c κs = search needs
-
-is-opposite-requires : tie.Need-is-opposite-requires
-is-opposite-requires c κs = search needs
-
-mark-requires-2 : tie.Need-mark-requires-2
-mark-requires-2 c κs = search needs
 
 returns-2 : tie.Need-returns-2
 returns-2 c = λ ops end e.
@@ -45,9 +33,9 @@ pub letter-at-spec : {M : Type 1} → statement M
 letter-at-spec =
     tie.close
     (tie.spec
-    mark-requires
+    (λ c κs. search needs)
     returns
-    operation-at-requires
-    is-opposite-requires
-    mark-requires-2
+    (λ c κs. search needs)
+    (λ c κs. search needs)
+    (λ c κs. search needs)
     returns-2)

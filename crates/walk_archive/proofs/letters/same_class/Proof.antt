@@ -9,18 +9,12 @@ use Rattle.walk_archive.proofs.letters.same_class.Tie as tie
 returns : tie.Need-returns
 returns c = degree-differs _ _ (c .if1 .taken)
 
-same-row-requires : tie.Need-same-row-requires
-same-row-requires c κs = search needs
-
 returns-2 : tie.Need-returns-2
 returns-2 c = u-differs _ _ (c .before .before .before .before .if1 .left) (sym (c .before .same-row .ensures) ∙ not-true _ (c .if2 .taken))
-
-same-row-requires-2 : tie.Need-same-row-requires-2
-same-row-requires-2 c κs = search needs
 
 returns-3 : tie.Need-returns-3
 returns-3 c = c .same-row2 .ensures ∙ v-decides _ _ (c .before .before .before .before .before .before .before .if1 .left) (sym (c .before .before .before .before .same-row .ensures) ∙ not-false _ (c .before .before .before .if2 .left))
 
 pub same-class-spec : {M : Type 1} → statement M
 same-class-spec =
-    tie.close (tie.spec returns same-row-requires returns-2 same-row-requires-2 returns-3)
+    tie.close (tie.spec returns (λ c κs. search needs) returns-2 (λ c κs. search needs) returns-3)

@@ -6,12 +6,9 @@ use borrow.Author.Needs.{needs}
 use Rattle.walk_archive.proofs.letters.seal_before.Statement.{statement}
 use Rattle.walk_archive.proofs.letters.seal_before.Tie as tie
 
-subtract-and-halve-requires : tie.Need-subtract-and-halve-requires
-subtract-and-halve-requires c κs = search needs
-
 returns : tie.Need-returns
 unfolding seal-before
 returns c = ap (λ (r : Reply). r .class) (c .before .subtract-and-halve .ensures)
 
 pub seal-before-spec : {M : Type 1} → statement M
-seal-before-spec = tie.close (tie.spec subtract-and-halve-requires returns)
+seal-before-spec = tie.close (tie.spec (λ c κs. search needs) returns)

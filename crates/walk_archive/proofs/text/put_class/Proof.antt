@@ -7,9 +7,6 @@ use borrow.Author.Needs.{needs}
 use Rattle.walk_archive.proofs.text.put_class.Statement.{statement}
 use Rattle.walk_archive.proofs.text.put_class.Tie as tie
 
-put-decimal-requires : tie.Need-put-decimal-requires
-put-decimal-requires c κs = search needs
-
 put-requires : tie.Need-put-requires
 put-requires c κs =
     let w0 = c .before .before .before .put-decimal .ensures in
@@ -53,7 +50,7 @@ pub put-class-spec : {M : Type 1} → statement M
 put-class-spec =
     tie.close
     (tie.spec
-    put-decimal-requires
+    (λ c κs. search needs)
     put-requires
     put-row-requires
     put-requires-2

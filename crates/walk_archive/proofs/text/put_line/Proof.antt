@@ -7,9 +7,6 @@ use borrow.Author.Needs.{needs}
 use Rattle.walk_archive.proofs.text.put_line.Statement.{statement}
 use Rattle.walk_archive.proofs.text.put_line.Tie as tie
 
-put-decimal-requires : tie.Need-put-decimal-requires
-put-decimal-requires c κs = search needs
-
 put-requires : tie.Need-put-requires
 put-requires c κs =
     let w0 = c .before .before .before .put-decimal .ensures in
@@ -63,7 +60,7 @@ pub put-line-spec : {M : Type 1} → statement M
 put-line-spec =
     tie.close
     (tie.spec
-    put-decimal-requires
+    (λ c κs. search needs)
     put-requires
     put-requires-2
     put-requires-3

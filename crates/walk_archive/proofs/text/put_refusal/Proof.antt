@@ -7,12 +7,6 @@ use borrow.Author.Needs.{needs}
 use Rattle.walk_archive.proofs.text.put_refusal.Statement.{statement}
 use Rattle.walk_archive.proofs.text.put_refusal.Tie as tie
 
-slice-aggregate-put-bytes : tie.Need-slice-aggregate-put-bytes
-slice-aggregate-put-bytes c = search needs
-
-put-bytes-requires : tie.Need-put-bytes-requires
-put-bytes-requires c κs = search needs
-
 put-decimal-requires : tie.Need-put-decimal-requires
 put-decimal-requires c κs =
     let w0 = c .before .before .before .put-bytes .ensures in
@@ -39,8 +33,8 @@ pub put-refusal-spec : {M : Type 1} → statement M
 put-refusal-spec =
     tie.close
     (tie.spec
-    slice-aggregate-put-bytes
-    put-bytes-requires
+    (λ c. search needs)
+    (λ c κs. search needs)
     put-decimal-requires
     put-requires
     same-length

@@ -10,26 +10,11 @@ use Rattle.walk_archive.proofs.text.put_row.Tie as tie
 returns : tie.Need-returns
 returns c = wrote-more (omega arith) (wrote-same (row-0 _ _ (c .if1 .taken)) (wrote-none _ _))
 
-array-read-put-hexadecimal : tie.Need-array-read-put-hexadecimal
-array-read-put-hexadecimal c = search needs
-
-put-hexadecimal-requires : tie.Need-put-hexadecimal-requires
-put-hexadecimal-requires c κs = search needs
-
 same-length : tie.Need-same-length
 same-length c = c .before .before .put-hexadecimal .kept .0
 
 returns-2 : tie.Need-returns-2
 returns-2 c = wrote-more (omega arith) (wrote-same (row-1 _ _ (c .before .before .before .before .if2 .taken)) (c .before .before .put-hexadecimal .ensures))
-
-array-read-put-two : tie.Need-array-read-put-two
-array-read-put-two c = search needs
-
-array-read-put-two-2 : tie.Need-array-read-put-two-2
-array-read-put-two-2 c = search needs
-
-put-two-requires : tie.Need-put-two-requires
-put-two-requires c κs = search needs
 
 same-length-2 : tie.Need-same-length-2
 same-length-2 c = c .before .before .put-two .kept .0
@@ -37,22 +22,10 @@ same-length-2 c = c .before .before .put-two .kept .0
 returns-3 : tie.Need-returns-3
 returns-3 c = wrote-more (omega arith) (wrote-same (row-2 _ _ (c .before .before .before .before .if3 .taken)) (c .before .before .put-two .ensures))
 
-array-read-put-hexadecimal-2 : tie.Need-array-read-put-hexadecimal-2
-array-read-put-hexadecimal-2 c = search needs
-
-put-hexadecimal-requires-2 : tie.Need-put-hexadecimal-requires-2
-put-hexadecimal-requires-2 c κs = search needs
-
 put-requires : tie.Need-put-requires
 put-requires c κs =
     let w0 = c .before .before .before .put-hexadecimal2 .ensures in
     omega (arith, w0 .place, w0 .short, wrote-length w0)
-
-array-read-put-two-3 : tie.Need-array-read-put-two-3
-array-read-put-two-3 c = search needs
-
-array-read-put-two-4 : tie.Need-array-read-put-two-4
-array-read-put-two-4 c = search needs
 
 put-two-requires-2 : tie.Need-put-two-requires-2
 put-two-requires-2 c κs =
@@ -76,20 +49,20 @@ put-row-spec =
     tie.close
     (tie.spec
     returns
-    array-read-put-hexadecimal
-    put-hexadecimal-requires
+    (λ c. search needs)
+    (λ c κs. search needs)
     same-length
     returns-2
-    array-read-put-two
-    array-read-put-two-2
-    put-two-requires
+    (λ c. search needs)
+    (λ c. search needs)
+    (λ c κs. search needs)
     same-length-2
     returns-3
-    array-read-put-hexadecimal-2
-    put-hexadecimal-requires-2
+    (λ c. search needs)
+    (λ c κs. search needs)
     put-requires
-    array-read-put-two-3
-    array-read-put-two-4
+    (λ c. search needs)
+    (λ c. search needs)
     put-two-requires-2
     same-length-3
     returns-4)

@@ -6,9 +6,6 @@ use borrow.Author.Needs.{needs}
 use Rattle.walk_archive.proofs.text.put_two.Statement.{statement}
 use Rattle.walk_archive.proofs.text.put_two.Tie as tie
 
-put-hexadecimal-requires : tie.Need-put-hexadecimal-requires
-put-hexadecimal-requires c κs = search needs
-
 put-requires : tie.Need-put-requires
 put-requires c κs =
     let w0 = c .before .before .before .put-hexadecimal .ensures in
@@ -29,4 +26,4 @@ returns c = wrote-both (c .before .before .before .before .before .before .befor
 pub put-two-spec : {M : Type 1} → statement M
 put-two-spec =
     tie.close
-    (tie.spec put-hexadecimal-requires put-requires put-hexadecimal-requires-2 same-length returns)
+    (tie.spec (λ c κs. search needs) put-requires put-hexadecimal-requires-2 same-length returns)

@@ -27,14 +27,8 @@ loop-holds c =
     let start = c .before .before in
     (start .pre .0, start .pre .1, refl, λ ops end e. moved-none (start .args .curve) (start .args .s .now) _ _ _ e)
 
-sub-older : tie.Need-sub-older Inv-loop μ-loop
-sub-older c = omega arith
-
 put-step-requires : tie.Need-put-step-requires Inv-loop μ-loop
 put-step-requires c κs = (omega arith, omega arith)
-
-loop-less : tie.Need-loop-less Inv-loop μ-loop
-loop-less c = omega arith
 
 loop-again : tie.Need-loop-again Inv-loop μ-loop
 loop-again c =
@@ -68,9 +62,9 @@ put-lines-spec =
     Inv-loop
     μ-loop
     loop-holds
-    sub-older
+    (λ c. omega arith)
     put-step-requires
-    loop-less
+    (λ c. omega arith)
     loop-again
     same-length
     returns)

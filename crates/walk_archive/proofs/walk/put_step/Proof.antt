@@ -5,35 +5,11 @@ use borrow.Author.Needs.{needs}
 use Rattle.walk_archive.proofs.walk.put_step.Statement.{statement}
 use Rattle.walk_archive.proofs.walk.put_step.Tie as tie
 
-operation-at-requires : tie.Need-operation-at-requires
-operation-at-requires c κs = search needs
-
-enum-known-p : tie.Need-enum-known-p
-enum-known-p c = search needs
-
-enum-told : tie.Need-enum-told
-enum-told c = search needs
-
 returns : tie.Need-returns
 returns c =
     let a = c .before .before .before .before .before .before .args in
     let read = c .before .before .before .operation-at in
     step-refused (a .curve) (a .s .now) (a .older) _ (a .w) (read .result .place) (read .result .class) (read-reading (read .result) (read .ensures)) (c .enum-told .given .1)
-
-letter-at-requires : tie.Need-letter-at-requires
-letter-at-requires c κs = search needs
-
-seal-before-requires : tie.Need-seal-before-requires
-seal-before-requires c κs = search needs
-
-add-undone : tie.Need-add-undone
-add-undone c = search needs
-
-put-line-requires : tie.Need-put-line-requires
-put-line-requires c κs = search needs
-
-same-length : tie.Need-same-length
-same-length c = search needs
 
 returns-2 : tie.Need-returns-2
 returns-2 c =
@@ -47,13 +23,13 @@ pub put-step-spec : {M : Type 1} → statement M
 put-step-spec =
     tie.close
     (tie.spec
-    operation-at-requires
-    enum-known-p
-    enum-told
+    (λ c κs. search needs)
+    (λ c. search needs)
+    (λ c. search needs)
     returns
-    letter-at-requires
-    seal-before-requires
-    add-undone
-    put-line-requires
-    same-length
+    (λ c κs. search needs)
+    (λ c κs. search needs)
+    (λ c. search needs)
+    (λ c κs. search needs)
+    (λ c. search needs)
     returns-2)
