@@ -1,9 +1,9 @@
-/* Seals of a model's history: the seven calls on byte areas of the proved library seal_archive.
+/* Seals of a model's history: the seven calls on byte areas of the proved library seal.
  *
  * To build and link (x86-64 Linux, nothing else is linked):
  *
- *     rt staticlib seal_archive
- *     cc -Iinclude model.c target/staticlib/libseal_archive.a
+ *     rt staticlib seal
+ *     cc -Iinclude model.c target/staticlib/libseal.a
  *
  * Stored form. A field is a one-byte tag, a two-byte length and a body, high byte first. An element takes eight bytes,
  * high byte first.

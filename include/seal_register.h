@@ -1,22 +1,24 @@
-/* One register kept for a session and changed in place: the two calls of the proved library lent_history.
+/* A register kept for a session and changed in place, and a walk over a lent row of classes: the three calls of the proved
+ * library seal_register.
  *
  * To build and link (x86-64 Linux, nothing else is linked):
  *
- *     rt staticlib lent_history
- *     cc -Iinclude model.c target/staticlib/liblent_history.a
+ *     rt staticlib seal_register
+ *     cc -Iinclude model.c target/staticlib/libseal_register.a
  *
- * A call answers 0 where it is accepted, and the register is then the one that follows. Else it answers the refusal's
+ * A commit or an undo answers 0 where it is accepted, and the register is then the one that follows. Else it answers the refusal's
  * number, and has changed no byte of the register. The numbers are those of seal.h; 101 to 103, 105, 108 and 112 are of
  * byte areas alone. They are checked in this order: 106 and 107 of the curve, 109 of the count, then 104, 110 and 111 of
  * the seal and of the class, then 113 or 114.
  *
- * The register and the class may hold any numbers: nothing has to be checked before a call. The one duty of the caller
- * is to lend a register that is his and that nobody else uses during the call. The calls keep nothing from one to the
- * next.
+ * Register, curve and classes may hold any numbers: nothing has to be checked before a call. The one duty of the caller
+ * is to lend a register that is his and that nobody else uses during the call, and a row that is his and as long as
+ * said. The calls keep nothing from one to the next.
  */
 #ifndef SEAL_REGISTER_H
 #define SEAL_REGISTER_H
 
+#include <stddef.h>
 #include <stdint.h>
 
 #ifdef __cplusplus
@@ -50,6 +52,20 @@ uint32_t seal_register_commit(struct seal_register *lent, struct seal_class oper
 /* An operation undone: the seal becomes the half of the seal less the class, and the count falls by 1.
  * Refusals: 104, 106, 107, 109 to 111, 113 at count 0. */
 uint32_t seal_register_undo(struct seal_register *lent, struct seal_class operation);
+
+/* A walk's answer: 0 and the seal, or the refusal's number and the neutral class. */
+struct seal_row_walk {
+    uint32_t refusal;
+    struct seal_class seal;
+};
+
+/* A walk: from the last seal on, the class is subtracted and the difference halved, once for each class of the row, which
+ * is newest first and only read. The answer is the earliest seal; for an empty row, which may be NULL, the last seal
+ * itself. Checked in this order: 106 and 107 of the curve, 109 for more than 1,024 classes, then 104, 110 and 111 of the
+ * last seal, then of the classes, newest first.
+ * Refusals: 104, 106, 107, 109 to 111. */
+struct seal_row_walk seal_walk_row(struct seal_curve curve, struct seal_class last, const struct seal_class *row,
+                                   size_t classes);
 
 #ifdef __cplusplus
 }

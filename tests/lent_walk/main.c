@@ -1,4 +1,4 @@
-/* Tests the call of include/seal_row.h.
+/* Tests the call of include/seal_register.h.
  *
  *     lent_walk                             the edges, a line for each test
  *     lent_walk trial LINES MET <RECORDS    walks back over lists of commits

@@ -1,8 +1,8 @@
-/* One walk of include/seal_row.h over a row that is lent, and what is held of every walk, whatever it answers. */
+/* One walk of include/seal_register.h over a row that is lent, and what is held of every walk, whatever it answers. */
 #ifndef WALK_H
 #define WALK_H
 
-#include "seal_row.h"
+#include "seal_register.h"
 
 /* One class more than a walk takes. */
 #define ROOM 1025

@@ -6,6 +6,6 @@ fn main() {
     let mut archive = io::large_buffer();
     let read = io::read_full(STDIN_FILENO, &mut archive);
     let mut report = [0u8; 163840];
-    let written = walk_archive::report(&archive[..read], &mut report);
+    let written = walk_report::report(&archive[..read], &mut report);
     io::write_all(STDOUT_FILENO, &report[..written]);
 }

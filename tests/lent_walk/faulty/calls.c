@@ -9,7 +9,7 @@
  * - unchecked: for an empty row the last seal is not checked.
  * - seal-kept: a refusal hands back the last seal.
  */
-#include "seal_row.h"
+#include "seal_register.h"
 
 #include <stdlib.h>
 #include <string.h>

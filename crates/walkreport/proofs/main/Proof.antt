@@ -1,7 +1,7 @@
 -- `main` is safe and ends: the report lies within its area.
 use mathlib.Core.Path.{sym}
 use lib.Seq.{length-take-le}
-use Rattle.walk_archive.proofs.Reports.{answer-within}
+use Rattle.walk_report.proofs.Reports.{answer-within}
 use borrow.Author.Needs.{needs}
 use Rattle.walkreport.proofs.main.Statement.{statement}
 use Rattle.walkreport.proofs.main.Tie as tie

@@ -1,0 +1,29 @@
+-- `opening_refusal` meets its contract.
+use mathlib.Core.Path.{_∙_}
+use native.Mathlib.Omega.{arith}
+use Rattle.stored_form.specs.Fields.{count-limit}
+use Rattle.seal_register.proofs.RowSteps.{opening-empty, opening-above, opening-within}
+use borrow.Author.Needs.{needs}
+use Rattle.seal_register.proofs.walk.opening_refusal.Statement.{statement}
+use Rattle.seal_register.proofs.walk.opening_refusal.Tie as tie
+
+returns : tie.Need-returns
+returns c =
+    let s = c .before .before in
+    c .class-refusal .ensures ∙ opening-empty (s .args .curve) (s .args .last) (s .args .classes) (c .before .if1 .taken)
+
+returns-2 : tie.Need-returns-2
+unfolding count-limit
+returns-2 c =
+    let s = c .before .before .before in
+    c .count-refusal .ensures ∙ opening-above (s .args .curve) (s .args .last) (s .args .classes) (c .before .if2 .taken)
+
+returns-3 : tie.Need-returns-3
+unfolding count-limit
+returns-3 c =
+    let s = c .before .before in
+    let l = c .if2 .left in
+    opening-within (s .args .curve) (s .args .last) (s .args .classes) (c .before .if1 .left) (omega arith)
+
+pub opening-refusal-spec : {M : Type 1} → statement M
+opening-refusal-spec = tie.close (tie.spec (λ c κs. search needs) returns (λ c κs. search needs) returns-2 returns-3)

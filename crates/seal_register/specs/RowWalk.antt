@@ -1,0 +1,55 @@
+-- The walk over a lent row of classes, newest first, refusals included (document 01, 'The register', 'In checking order').
+use Prim.Native.Nat.{ℕ, zero, suc}
+use mathlib.Core.List.{List, [], _∷_}
+use lib.Dec.{leb}
+use lib.ListN.{length}
+use Rattle.jacobian.specs.Checks.{unless, _then_}
+use Rattle.jacobian.specs.Curves.{curve-refusal}
+use Rattle.jacobian.specs.Classes.{class-refusal}
+use Rattle.jacobian.specs.Answer.{Verdict, accepted, refused, verdict-of, neutral-class, refusal, Reply, subtract-and-halve-answer}
+use Rattle.jacobian.specs.declared.Curve.{Curve}
+use Rattle.jacobian.specs.declared.Class.{Class}
+use Rattle.history.specs.Register.{limit}
+use Rattle.history.specs.Calls.{walk-back}
+use Rattle.seal_register.specs.declared.walk.RowWalk.{RowWalk}
+
+-- 104, 110 or 111 of the first class of a row that is refused; 0 where none is
+unfoldable pub classes-refusal : Curve → List Class → ℕ
+classes-refusal c [] = 0
+classes-refusal c (a ∷ ops) = class-refusal c a then classes-refusal c ops
+
+-- 106 or 107 of the curve, then 109 for more classes than the limit, then 104, 110 or 111 of the last seal, then of the classes, newest first
+unfoldable pub row-refusal : Curve → Class → List Class → ℕ
+row-refusal c last ops =
+    curve-refusal c
+    then unless (leb (length ops) limit) 109
+    then class-refusal c last
+    then classes-refusal c ops
+
+-- the seal where no refusal is due, and else the refusal with the neutral class
+unfoldable pub replied : ℕ → Class → Reply
+replied zero seal = record { outcome = accepted; class = seal }
+replied (suc n) seal = record { outcome = refused (suc n); class = neutral-class }
+
+-- the walk answers the earliest seal
+unfoldable pub row-walk-answer : Curve → Class → List Class → Reply
+row-walk-answer c last ops = replied (row-refusal c last ops) (walk-back c last ops)
+
+-- ---- the walk on its way
+-- what the code's walk says: 0 is no refusal
+abbrev pub reached : RowWalk → Reply
+reached w = record { outcome = verdict-of (w .refusal); class = w .seal }
+
+-- what is checked before the first step over so many classes: where there is a class, the step over it checks the curve and the last seal
+unfoldable pub opening-refusal : Curve → Class → ℕ → ℕ
+opening-refusal c last zero = refusal c last
+opening-refusal c last (suc n) = unless (leb (suc n) limit) (curve-refusal c then 109)
+
+-- how many steps are due: none after a refusal
+unfoldable pub turns-due : Verdict → ℕ → ℕ
+turns-due accepted n = n
+turns-due (refused k) n = 0
+
+-- one step back, unless the walk was refused before
+unfoldable pub onward : Curve → Reply → Class → Reply
+onward c x a = elim (x .outcome) [ accepted ↦ subtract-and-halve-answer c (x .class) a | refused n ↦ x ]

@@ -1,0 +1,100 @@
+// A walk over a lent row of classes, newest first: from the last seal the undo rule, once for each class, leads to the earliest seal.
+// Checks are made in the stored order: 106 and 107 for the curve, 109 for a row of more classes than the limit, then 104, 110 and 111 for the last seal
+// and for each class.
+ghost use mathlib.Core.Path.{_≡_};
+ghost use Rattle.jacobian.specs.Answer.{verdict-of};
+ghost use Rattle.seal_register.specs.RowWalk.{replied, reached, opening-refusal, turns-due, onward, row-walk-answer};
+use jacobian::Class;
+use jacobian::Curve;
+
+// Where a walk stands: at a seal with 0, or at a refusal's number with the neutral class.
+#[repr(C)]
+pub struct RowWalk {
+    pub refusal: u32,
+    pub seal: Class,
+}
+
+// The most classes of a row: as many as the stored count may say.
+const LIMIT: u64 = stored_form::COUNT_LIMIT;
+
+// The refusal that is due before the first step, which itself checks the curve and the last seal.
+fn opening_refusal(curve: Curve, last: Class, classes: usize) -> u32
+    ensures { λ r. ⌜ r ≡ opening-refusal curve last classes ⌝ }
+{
+    if classes == 0 {
+        return history::class_refusal(curve, last);
+    }
+    if classes as u64 > LIMIT {
+        return history::count_refusal(curve);
+    }
+    0
+}
+
+// The seal, or the refusal that is due.
+fn standing(n: u32, seal: Class) -> RowWalk
+    ensures { λ r. ⌜ reached r ≡ replied n seal ⌝ }
+{
+    if n != 0 {
+        let none = jacobian::neutral();
+        return RowWalk {
+            refusal: n,
+            seal: none,
+        };
+    }
+    RowWalk {
+        refusal: 0,
+        seal: seal,
+    }
+}
+
+// A walk over so many classes, before its first step.
+fn opened(curve: Curve, last: Class, classes: usize) -> RowWalk
+    ensures { λ r. ⌜ reached r ≡ replied (opening-refusal curve last classes) last ⌝ }
+{
+    let due = opening_refusal(curve, last, classes);
+    standing(due, last)
+}
+
+// How many steps an opened walk over so many classes has to make: none after a refusal.
+fn turns(w: RowWalk, classes: usize) -> usize
+    ensures { λ r. ⌜ r ≡ turns-due (verdict-of (w .refusal)) classes ⌝ }
+{
+    if w.refusal != 0 {
+        return 0;
+    }
+    classes
+}
+
+// One step back, unless the walk was refused before.
+fn walked_on(curve: Curve, w: RowWalk, a: Class) -> RowWalk
+    ensures { λ r. ⌜ reached r ≡ onward curve (reached w) a ⌝ }
+{
+    if w.refusal != 0 {
+        return w;
+    }
+    let seal = w.seal;
+    let step = jacobian::subtract_and_halve(curve, seal, a);
+    let o = step.outcome;
+    let n = history::outcome_number(o);
+    let before = step.class;
+    RowWalk {
+        refusal: n,
+        seal: before,
+    }
+}
+
+// The earliest seal, or the refusal that is due.
+#[no_mangle]
+pub extern "C" fn seal_walk_row(curve: Curve, last: Class, row: &[Class]) -> RowWalk
+    ensures { λ r. ⌜ reached r ≡ row-walk-answer curve last (now (row .entry)) ⌝ }
+{
+    let mut w = opened(curve, last, row.len());
+    let n = turns(w, row.len());
+    let mut i: usize = 0;
+    while i < n {
+        let t = walked_on(curve, w, row[i]);
+        w = t;
+        i += 1;
+    }
+    w
+}
