@@ -7,5 +7,6 @@ pub mod Operations
 pub mod Half
 pub mod Coefficients
 pub mod Group
+pub mod Moves
 pub mod Walk
 pub mod NonSingular

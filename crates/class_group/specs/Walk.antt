@@ -1,11 +1,5 @@
--- The register's two rules on seals, and the walks they make (document 01, 'The register').
+-- What a rule leads to over a list, and what it meets on the way (document 01, 'The register').
 use mathlib.Core.List.{List, [], _∷_}
-use Rattle.field_laws.specs.Field.{Field2}
-use Rattle.char2_algebra.specs.Polynomials.{Polynomials}
-use Rattle.class_group.specs.Curve.{Curve}
-use Rattle.class_group.specs.Mumford.{Pair, opposite}
-use Rattle.class_group.specs.Operations.{sum, double}
-use Rattle.class_group.specs.Half.{half}
 
 -- each element of a list is a member
 pub data All {X : Type 0} (Member : X → Type 0) : List X → Type 0 where
@@ -22,12 +16,3 @@ module _ {X Y : Type 0} (rule : X → Y → X) where
   unfoldable pub walk : X → List Y → List X
   walk s [] = s ∷ []
   walk s (c ∷ l) = s ∷ walk (rule s c) l
-
-module _ {K P : Type 0} {F : Field2 K} {A : Polynomials F P} (C : Curve A) where
-  -- twice the seal plus the operation's class
-  unfoldable pub commit : Pair P → Pair P → Pair P
-  commit S D = sum C (double C S) D
-
-  -- the class is subtracted from the seal first; the half of that difference is the new seal
-  unfoldable pub undo : Pair P → Pair P → Pair P
-  undo S D = half C (sum C S (opposite C D))

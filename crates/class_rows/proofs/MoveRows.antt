@@ -3,7 +3,7 @@ use Prim.Native.Nat.{ℕ}
 use mathlib.Core.Path.{subst}
 use mathlib.Core.List.{List}
 use Rattle.class_group.specs.Curve as Theory
-use Rattle.class_group.specs.{Mumford.opposite, Operations.sum, Operations.double, Operations.counted-sum, Operations.counted-double, Half.half, Walk.commit, Walk.undo}
+use Rattle.class_group.specs.{Mumford.opposite, Operations.sum, Operations.double, Operations.counted-sum, Operations.counted-double, Half.half, Moves.double-and-add, Moves.subtract-and-halve}
 use Rattle.class_group.proofs.Closed.{sum-reduced, double-reduced, opposite-reduced}
 use Rattle.class_rows.specs.{Field.𝔸, Row.StandsPair, Row.rows-pair, Core.OnCurve, Core.ReducedRows, Core.StandsCounted}
 use Rattle.class_rows.specs.declared.{row.RowPair.RowPair, reduction.CountedRows.CountedRows}
@@ -31,14 +31,14 @@ module _ (d : ℕ) {f : List ℕ} {a : RowPair} (h : ReducedRows d f a) where
 
 module _ (d : ℕ) (a b : RowPair) (C : Theory.Curve (𝔸 d)) where
   pub commit-stands : {t e : CountedRows} → StandsCounted d t (counted-double C (rows-pair d a))
-      → StandsCounted d e (counted-sum C (rows-pair d (t .pair)) (rows-pair d b)) → StandsPair d (e .pair) (commit C (rows-pair d a) (rows-pair d b))
-  unfolding commit sum double
+      → StandsCounted d e (counted-sum C (rows-pair d (t .pair)) (rows-pair d b)) → StandsPair d (e .pair) (double-and-add C (rows-pair d a) (rows-pair d b))
+  unfolding double-and-add sum double
   commit-stands {t} {e} s r =
       subst (λ D. StandsPair d (e .pair) (sum C D (rows-pair d b))) (pair-eq d (s .pair-stands)) (r .pair-stands)
 
   pub undo-stands : {r e : RowPair} {t : CountedRows} → StandsPair d r (opposite C (rows-pair d b))
       → StandsCounted d t (counted-sum C (rows-pair d a) (rows-pair d r)) → StandsPair d e (half C (rows-pair d (t .pair)))
-      → StandsPair d e (undo C (rows-pair d a) (rows-pair d b))
-  unfolding undo sum
+      → StandsPair d e (subtract-and-halve C (rows-pair d a) (rows-pair d b))
+  unfolding subtract-and-halve sum
   undo-stands {r} {e} {t} o s g =
       subst (λ D. StandsPair d e (half C D)) (pair-eq d (subst (λ D. StandsPair d (t .pair) (sum C (rows-pair d a) D)) (pair-eq d o) (s .pair-stands))) g

@@ -1,7 +1,7 @@
 // Pairs of rows of coefficients, for the calls on classes by value in the crate above: whether a pair is a reduced divisor of the curve of the row
 // f, the opposite, the double, the half and the sum of such pairs, and the two rules that move a seal. Each function checks its rows itself, by one
 // division for each pair, whose quotient w = (v² + v + f) / u serves the double and the half; where a check fails the answer says so.
-ghost use Rattle.class_group.specs.{Mumford.opposite, Operations.counted-double, Operations.counted-sum, Half.half, Walk.commit, Walk.undo};
+ghost use Rattle.class_group.specs.{Mumford.opposite, Operations.counted-double, Operations.counted-sum, Half.half, Moves.double-and-add, Moves.subtract-and-halve};
 ghost use Rattle.class_rows.specs.{Row.rows-pair, Checked.Decides, Checked.Divisor, Checked.GivesPair, Checked.GivesCounted};
 
 mod composition;
@@ -123,7 +123,7 @@ pub fn sum_rows(d: u8, f: [u64; 12], a: RowPair, b: RowPair) -> CountedRowsAnswe
 
 // Twice the first pair plus the second.
 pub fn commit_rows(d: u8, f: [u64; 12], a: RowPair, b: RowPair) -> PairAnswer
-    ensures { λ r. ⌜ GivesPair d f (Divisor d f a × Divisor d f b) a (λ C. commit C (rows-pair d a) (rows-pair d b)) r ⌝ }
+    ensures { λ r. ⌜ GivesPair d f (Divisor d f a × Divisor d f b) a (λ C. double-and-add C (rows-pair d a) (rows-pair d b)) r ⌝ }
 {
     let check = checked_both(d, f, a, b);
     if !check.divisor {
@@ -142,7 +142,7 @@ pub fn commit_rows(d: u8, f: [u64; 12], a: RowPair, b: RowPair) -> PairAnswer
 
 // The half of the first pair less the second.
 pub fn undo_rows(d: u8, f: [u64; 12], a: RowPair, b: RowPair) -> PairAnswer
-    ensures { λ r. ⌜ GivesPair d f (Divisor d f a × Divisor d f b) a (λ C. undo C (rows-pair d a) (rows-pair d b)) r ⌝ }
+    ensures { λ r. ⌜ GivesPair d f (Divisor d f a × Divisor d f b) a (λ C. subtract-and-halve C (rows-pair d a) (rows-pair d b)) r ⌝ }
 {
     let check = checked_both(d, f, a, b);
     if !check.divisor {

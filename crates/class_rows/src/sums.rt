@@ -1,7 +1,7 @@
 // The sum and the opposite of reduced pairs, and the rules of a commit and an undo on them.
 ghost use Rattle.binary_field.specs.Element.{Accepted};
 ghost use Rattle.class_group.specs.Curve.{Curve as TheoryCurve};
-ghost use Rattle.class_group.specs.{Mumford.opposite, Operations.counted-sum, Walk.commit, Walk.undo};
+ghost use Rattle.class_group.specs.{Mumford.opposite, Operations.counted-sum, Moves.double-and-add, Moves.subtract-and-halve};
 ghost use Rattle.class_rows.specs.Field.{𝔸};
 ghost use Rattle.class_rows.specs.Row.{InRange, StandsPair, rows-pair};
 ghost use Rattle.class_rows.specs.Core.{OnCurve, ReducedRows, StandsCounted};
@@ -49,7 +49,7 @@ pub(crate) fn commit_of_reduced(
     b: RowPair,
 ) -> RowPair
     requires { ⌜ Accepted d × ReducedRows d f a × CofactorRow d f a w × ReducedRows d f b ⌝ }
-    ensures { λ r. ⌜ ((C : TheoryCurve (𝔸 d)) → OnCurve d f C → StandsPair d r (commit C (rows-pair d a) (rows-pair d b))) ⌝ }
+    ensures { λ r. ⌜ ((C : TheoryCurve (𝔸 d)) → OnCurve d f C → StandsPair d r (double-and-add C (rows-pair d a) (rows-pair d b))) ⌝ }
 {
     let doubled = double_of_reduced(d, f, a, w);
     let twice = doubled.pair;
@@ -60,7 +60,7 @@ pub(crate) fn commit_of_reduced(
 // The half of the first pair less the second.
 pub(crate) fn undo_of_reduced(d: u8, f: [u64; 12], a: RowPair, b: RowPair) -> RowPair
     requires { ⌜ Accepted d × ReducedRows d f a × ReducedRows d f b ⌝ }
-    ensures { λ r. ⌜ ((C : TheoryCurve (𝔸 d)) → OnCurve d f C → StandsPair d r (undo C (rows-pair d a) (rows-pair d b))) ⌝ }
+    ensures { λ r. ⌜ ((C : TheoryCurve (𝔸 d)) → OnCurve d f C → StandsPair d r (subtract-and-halve C (rows-pair d a) (rows-pair d b))) ⌝ }
 {
     let opposed = opposite_of_reduced(d, b);
     let summed = sum_of_reduced(d, f, a, opposed);

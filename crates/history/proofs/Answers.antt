@@ -5,7 +5,7 @@ use mathlib.Core.Path.{_≡_, refl, sym, _∙_, ap}
 use native.Mathlib.Omega.{arith}
 use Rattle.class_group.specs.Mumford.{Pair}
 use Rattle.jacobian.specs.Field.{Poly}
-use Rattle.jacobian.specs.Checks.{_then_}
+use Rattle.jacobian.specs.Checks.{_or-else_}
 use Rattle.jacobian.specs.Curves.{curve-refusal}
 use Rattle.jacobian.specs.Classes.{class-of, class-refusal}
 use Rattle.jacobian.specs.Answer.{verdict, verdict-of, Reply, reply, answered, refusal, refusal-of-two, double-and-add-answer, subtract-and-halve-answer}
@@ -49,7 +49,7 @@ module _ (c : Curve) (s a : Class) where
   first-refused h = sym (then-first (refusal c s) _ h)
 
   pub second-refused : refusal c s ≡ 0 → refusal c a ≡ refusal-of-two c s a
-  unfolding refusal refusal-of-two _then_
+  unfolding refusal refusal-of-two _or-else_
   second-refused z = rw (z, then-zero (curve-refusal c) (class-refusal c s) z .0)
 
 -- the register x with the next count and the seal of y, or the refusal of y

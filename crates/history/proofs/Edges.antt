@@ -4,7 +4,7 @@ use Prim.Native.Nat.{suc, _≤_, _<_}
 use mathlib.Core.Path.{_≡_, _∙_, ap}
 use native.Mathlib.Omega.{arith}
 use borrow.Author.Tests.{le-ltb, lt-leb, le-leb}
-use Rattle.jacobian.specs.Checks.{unless, _then_}
+use Rattle.jacobian.specs.Checks.{unless, _or-else_}
 use Rattle.jacobian.specs.Curves.{curve-refusal}
 use Rattle.jacobian.specs.Classes.{class-refusal}
 use Rattle.jacobian.specs.Answer.{accepted, refused}
@@ -35,11 +35,11 @@ module _ (r : Register) (a : Class) (p : PassesButCount r a) where
   commit-to-limit e = ap (λ (x : RegisterReply). x .register .count) (commit-below-limit (omega arith)) ∙ (omega arith)
 
   pub commit-at-limit : r .count ≡ limit → commit-answer r a ≡ record { outcome = refused 114; register = r }
-  unfolding commit-answer commit-refusal register-refusal unless _then_ follows
+  unfolding commit-answer commit-refusal register-refusal unless _or-else_ follows
   commit-at-limit e = rw (p .curve-passes, p .seal-passes, p .class-passes, le-leb (r .count) limit (omega arith), le-ltb (r .count) limit (omega arith))
 
   pub commit-above-limit : limit < r .count → commit-answer r a ≡ record { outcome = refused 109; register = r }
-  unfolding commit-answer commit-refusal register-refusal unless _then_ follows
+  unfolding commit-answer commit-refusal register-refusal unless _or-else_ follows
   commit-above-limit h = rw (p .curve-passes, lt-leb (r .count) limit h)
 
   -- ---- an undo
@@ -48,9 +48,9 @@ module _ (r : Register) (a : Class) (p : PassesButCount r a) where
   undo-within-limit h k = follows-zero _ r (undone r a) (passes-undo r a (record { register = within k; class-passes = p .class-passes; bound = h }))
 
   pub undo-at-zero : r .count ≡ 0 → undo-answer r a ≡ record { outcome = refused 113; register = r }
-  unfolding undo-answer undo-refusal register-refusal unless _then_ follows
+  unfolding undo-answer undo-refusal register-refusal unless _or-else_ follows
   undo-at-zero e = rw (p .curve-passes, p .seal-passes, p .class-passes, le-leb (r .count) limit (omega arith), le-ltb 0 (r .count) (omega arith))
 
   pub undo-above-limit : limit < r .count → undo-answer r a ≡ record { outcome = refused 109; register = r }
-  unfolding undo-answer undo-refusal register-refusal unless _then_ follows
+  unfolding undo-answer undo-refusal register-refusal unless _or-else_ follows
   undo-above-limit h = rw (p .curve-passes, lt-leb (r .count) limit h)

@@ -3,7 +3,7 @@ use Prim.Native.Nat.{ℕ, zero, suc, _≤_, _<_}
 use mathlib.Core.Path.{_≡_, refl, sym, _∙_, ap}
 use native.Mathlib.Omega.{arith}
 use borrow.Author.Tests.{ltb-true, leb-true, lt-ltb, le-leb}
-use Rattle.jacobian.specs.Checks.{unless, _then_}
+use Rattle.jacobian.specs.Checks.{unless, _or-else_}
 use Rattle.jacobian.specs.Curves.{curve-refusal}
 use Rattle.jacobian.specs.Classes.{class-refusal}
 use Rattle.jacobian.specs.Answer.{accepted, refused}
@@ -26,7 +26,7 @@ register-passes r e =
     record { curve-passes = h .0; count-passes = leb-true _ _ (unless-zero _ 108 (k .0)); seal-passes = k .1 }
 
 pub passes-register : (r : Register) → Passes r → register-refusal r ≡ 0
-unfolding register-refusal unless _then_
+unfolding register-refusal unless _or-else_
 passes-register r p = rw (p .curve-passes, le-leb (r .count) limit (p .count-passes)) (p .seal-passes)
 
 -- ---- a call that passes: the register, the class and a bound on the count
@@ -44,7 +44,7 @@ module _ (r : Register) (a : Class) where
       record { register = register-passes r (h .0); class-passes = k .0; bound = ltb-true _ _ (unless-zero _ 113 (k .1)) }
 
   pub passes-commit : Passing (r .count < limit) r a → commit-refusal r a ≡ 0
-  unfolding commit-refusal unless _then_
+  unfolding commit-refusal unless _or-else_
   passes-commit p = rw (passes-register r (p .register), p .class-passes, lt-ltb (r .count) limit (p .bound))
 
   pub undo-passes : undo-refusal r a ≡ 0 → Passing (0 < r .count) r a
@@ -55,7 +55,7 @@ module _ (r : Register) (a : Class) where
       record { register = register-passes r (h .0); class-passes = k .0; bound = ltb-true _ _ (unless-zero _ 112 (k .1)) }
 
   pub passes-undo : Passing (0 < r .count) r a → undo-refusal r a ≡ 0
-  unfolding undo-refusal unless _then_
+  unfolding undo-refusal unless _or-else_
   passes-undo p = rw (passes-register r (p .register), p .class-passes, lt-ltb 0 (r .count) (p .bound))
 
 -- ---- what a call answers
@@ -107,7 +107,7 @@ pub at-none : (given next : Register) {n : ℕ} {t : Register} → n ≡ 0 → t
 at-none given next {n} z e = ap (λ s. record { outcome = accepted; register = s }) e ∙ sym (follows-zero n given next z)
 
 -- a refusal of the first check is the refusal
-pub then-first : (m n : ℕ) → ¬ (m ≡ 0) → m then n ≡ m
-unfolding _then_
+pub then-first : (m n : ℕ) → ¬ (m ≡ 0) → m or-else n ≡ m
+unfolding _or-else_
 then-first zero n h = absurd (h refl)
 then-first (suc m) n h = refl

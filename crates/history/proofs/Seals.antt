@@ -2,7 +2,7 @@
 -- (`later-accepted`, `earlier-accepted`), and they take each other back (`earlier-later`, `later-earlier`).
 use mathlib.Core.Path.{_≡_, refl, _∙_, ap}
 use Rattle.class_group.specs.Mumford.{Reduced}
-use Rattle.class_group.specs.Walk.{commit, undo}
+use Rattle.class_group.specs.Moves.{double-and-add, subtract-and-halve}
 use Rattle.class_group.proofs.Register.{commit-reduced, undo-reduced, undo-commit, commit-undo}
 use Rattle.jacobian.specs.Curves.{curve-refusal, curve}
 use Rattle.jacobian.specs.Classes.{pair, numbers, class-of, class-refusal}
@@ -46,7 +46,7 @@ module _ {c : Curve} (ok : curve-refusal c ≡ 0) {s a : Class} (hs : Sound c s)
   pub earlier-later : earlier c (later c s a) a ≡ s
   unfolding later earlier
   earlier-later =
-      ap (λ D. class-of (c .degree) (undo (curve c) D (pair (c .degree) a))) (pair-class-of (c .degree) (curve c) _ (commit-reduced (curve c) seal operation))
+      ap (λ D. class-of (c .degree) (subtract-and-halve (curve c) D (pair (c .degree) a))) (pair-class-of (c .degree) (curve c) _ (commit-reduced (curve c) seal operation))
       ∙ ap (class-of (c .degree)) (undo-commit (curve c) seal operation)
       ∙ class-of-pair c ok s (hs .three) (hs .unrefused)
 
@@ -54,6 +54,6 @@ module _ {c : Curve} (ok : curve-refusal c ≡ 0) {s a : Class} (hs : Sound c s)
   pub later-earlier : later c (earlier c s a) a ≡ s
   unfolding later earlier
   later-earlier =
-      ap (λ D. class-of (c .degree) (commit (curve c) D (pair (c .degree) a))) (pair-class-of (c .degree) (curve c) _ (undo-reduced (curve c) seal operation))
+      ap (λ D. class-of (c .degree) (double-and-add (curve c) D (pair (c .degree) a))) (pair-class-of (c .degree) (curve c) _ (undo-reduced (curve c) seal operation))
       ∙ ap (class-of (c .degree)) (commit-undo (curve c) seal operation)
       ∙ class-of-pair c ok s (hs .three) (hs .unrefused)

@@ -2,8 +2,8 @@
 -- Nothing else names all the fields of a register.
 use Prim.Native.Nat.{ℕ, zero, suc, _+_, _-_}
 use lib.Dec.{ltb, leb}
-use Rattle.class_group.specs.Walk.{commit, undo}
-use Rattle.jacobian.specs.Checks.{unless, _then_}
+use Rattle.class_group.specs.Moves.{double-and-add, subtract-and-halve}
+use Rattle.jacobian.specs.Checks.{unless, _or-else_}
 use Rattle.jacobian.specs.Curves.{curve-refusal, curve}
 use Rattle.jacobian.specs.Classes.{pair, class-of, class-refusal}
 use Rattle.jacobian.specs.Answer.{Verdict, accepted, refused, verdict}
@@ -22,27 +22,27 @@ limit = count-limit
 -- ---- seals
 -- the seal after a commit: twice the seal plus the operation's class
 unfoldable pub later : Curve → Class → Class → Class
-later c seal a = let d = c .degree in class-of d (commit (curve c) (pair d seal) (pair d a))
+later c seal a = let d = c .degree in class-of d (double-and-add (curve c) (pair d seal) (pair d a))
 
 -- the seal after an undo: the class is subtracted from the seal first, and the half of that difference is the new seal
 unfoldable pub earlier : Curve → Class → Class → Class
-earlier c seal a = let d = c .degree in class-of d (undo (curve c) (pair d seal) (pair d a))
+earlier c seal a = let d = c .degree in class-of d (subtract-and-halve (curve c) (pair d seal) (pair d a))
 
 -- ---- checks, in the stored order; 0 where no refusal is due
 -- 106 or 107 of the curve, then 109 for a count above the limit, then 104, 110 or 111 of the seal
 unfoldable pub register-refusal : Register → ℕ
 register-refusal r =
     curve-refusal (r .curve)
-    then unless (leb (r .count) limit) 109
-    then class-refusal (r .curve) (r .seal)
+    or-else unless (leb (r .count) limit) 109
+    or-else class-refusal (r .curve) (r .seal)
 
 -- then 104, 110 or 111 of the operation's class, then 114 at the limit
 unfoldable pub commit-refusal : Register → Class → ℕ
-commit-refusal r a = register-refusal r then class-refusal (r .curve) a then unless (ltb (r .count) limit) 114
+commit-refusal r a = register-refusal r or-else class-refusal (r .curve) a or-else unless (ltb (r .count) limit) 114
 
 -- then 104, 110 or 111 of the operation's class, then 113 at count 0
 unfoldable pub undo-refusal : Register → Class → ℕ
-undo-refusal r a = register-refusal r then class-refusal (r .curve) a then unless (ltb 0 (r .count)) 113
+undo-refusal r a = register-refusal r or-else class-refusal (r .curve) a or-else unless (ltb 0 (r .count)) 113
 
 -- ---- the register that follows
 -- the register with this count and this seal, all else as it was

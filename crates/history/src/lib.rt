@@ -5,7 +5,7 @@ ghost use Prim.Native.Nat.{ℕ};
 ghost use mathlib.Core.Path.{_≡_};
 ghost use Rattle.class_group.specs.Mumford.{Pair};
 ghost use Rattle.jacobian.specs.Field.{Poly};
-ghost use Rattle.jacobian.specs.Checks.{_then_};
+ghost use Rattle.jacobian.specs.Checks.{_or-else_};
 ghost use Rattle.jacobian.specs.Curves.{curve-refusal};
 ghost use Rattle.jacobian.specs.Classes.{class-of};
 ghost use Rattle.jacobian.specs.Answer.{refusal, refusal-of-two, reply, answered};
@@ -53,7 +53,7 @@ pub fn class_refusal(curve: Curve, a: Class) -> u32
 
 // The refusal of a count above the limit, unless the curve is refused first.
 pub fn count_refusal(curve: Curve) -> u32
-    ensures { λ r. ⌜ r ≡ curve-refusal curve then 109 ⌝ }
+    ensures { λ r. ⌜ r ≡ curve-refusal curve or-else 109 ⌝ }
 {
     let o = jacobian::accepts_curve(curve);
     let n = outcome_number(o);
@@ -65,7 +65,7 @@ pub fn count_refusal(curve: Curve) -> u32
 
 // The first refusal that is due to the seal and the class, and where none is the last number.
 fn edge_refusal(curve: Curve, seal: Class, a: Class, last: u32) -> u32
-    ensures { λ r. ⌜ r ≡ refusal-of-two curve seal a then last ⌝ }
+    ensures { λ r. ⌜ r ≡ refusal-of-two curve seal a or-else last ⌝ }
 {
     let n = class_refusal(curve, seal);
     if n != 0 {

@@ -2,9 +2,9 @@
 use Prim.Native.Nat.{ℕ, zero, suc}
 use mathlib.Core.Path.{_≡_}
 use mathlib.Core.List.{[], _∷_}
-use Rattle.class_group.specs.{Mumford.Pair, Mumford.opposite, Reduction.Counted, Operations.sum, Operations.double, Operations.counted-sum, Operations.counted-double, Half.half, Walk.commit, Walk.undo}
+use Rattle.class_group.specs.{Mumford.Pair, Mumford.opposite, Reduction.Counted, Operations.sum, Operations.double, Operations.counted-sum, Operations.counted-double, Half.half, Moves.double-and-add, Moves.subtract-and-halve}
 use Rattle.class_rows.specs.{Field.Poly}
-use Rattle.jacobian.specs.{Checks._then_, Curves.curve-refusal, Curves.curve, Classes.pair, Classes.class-of, Classes.class-refusal, declared.Curve.Curve, declared.Class.Class, declared.Outcome.Outcome, declared.Outcome.the-variants.Accepted, declared.Outcome.the-variants.Refused, declared.ClassAnswer.ClassAnswer, declared.CountedAnswer.CountedAnswer}
+use Rattle.jacobian.specs.{Checks._or-else_, Curves.curve-refusal, Curves.curve, Classes.pair, Classes.class-of, Classes.class-refusal, declared.Curve.Curve, declared.Class.Class, declared.Outcome.Outcome, declared.Outcome.the-variants.Accepted, declared.Outcome.the-variants.Refused, declared.ClassAnswer.ClassAnswer, declared.CountedAnswer.CountedAnswer}
 
 -- an outcome is acceptance or a refusal with its number
 pub data Verdict : Type 0 where
@@ -18,10 +18,10 @@ verdict (Refused n) = refused n
 
 -- the refusal that is due to a call on one class, and to a call on two: 0 where none is
 unfoldable pub refusal : Curve → Class → ℕ
-refusal c a = curve-refusal c then class-refusal c a
+refusal c a = curve-refusal c or-else class-refusal c a
 
 unfoldable pub refusal-of-two : Curve → Class → Class → ℕ
-refusal-of-two c a b = refusal c a then class-refusal c b
+refusal-of-two c a b = refusal c a or-else class-refusal c b
 
 -- acceptance where no refusal is due
 unfoldable pub verdict-of : ℕ → Verdict
@@ -93,7 +93,7 @@ counted-sum-answer c a b = let d = c .degree in counted-answered d (refusal-of-t
 
 -- twice a class plus another, and the half of a class less another: the rules by which a commit and an undo move a seal
 unfoldable pub double-and-add-answer : Curve → Class → Class → Reply
-double-and-add-answer c a b = let d = c .degree in answered d (refusal-of-two c a b) (commit (curve c) (pair d a) (pair d b))
+double-and-add-answer c a b = let d = c .degree in answered d (refusal-of-two c a b) (double-and-add (curve c) (pair d a) (pair d b))
 
 unfoldable pub subtract-and-halve-answer : Curve → Class → Class → Reply
-subtract-and-halve-answer c a b = let d = c .degree in answered d (refusal-of-two c a b) (undo (curve c) (pair d a) (pair d b))
+subtract-and-halve-answer c a b = let d = c .degree in answered d (refusal-of-two c a b) (subtract-and-halve (curve c) (pair d a) (pair d b))

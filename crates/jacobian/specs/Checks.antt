@@ -3,15 +3,15 @@ use Prim.Native.Nat.{ℕ, zero, suc}
 use mathlib.Core.{Bool.Bool, Bool.true, Bool.cond, Bool._&&_, List.List, List.[], List._∷_}
 use lib.Dec.{eqb, ltb}
 
-infixr 20 _then_
+infixr 20 _or-else_
 -- the refusal with number n, unless the test holds; 0 is no refusal
 unfoldable pub unless : Bool → ℕ → ℕ
 unless holds n = cond holds 0 n
 
 -- the refusal that is due first
-unfoldable pub _then_ : ℕ → ℕ → ℕ
-_then_ zero m = m
-_then_ (suc n) m = suc n
+unfoldable pub _or-else_ : ℕ → ℕ → ℕ
+_or-else_ zero m = m
+_or-else_ (suc n) m = suc n
 
 -- every number is below m
 unfoldable pub below : ℕ → List ℕ → Bool

@@ -5,7 +5,7 @@ use mathlib.Core.{Bool.cond, Bool._&&_, List.List, List.[], List._∷_, List._++
 use lib.{Dec.eqb, Dec.ltb, Dec.leb, ListN.length, ListN.take, ListN.drop}
 use Rattle.class_group.specs.Mumford.{Pair, value}
 use Rattle.class_rows.specs.{Field.Poly, Field.𝔸, Field.poly}
-use Rattle.jacobian.specs.{Checks.unless, Checks._then_, Checks.below, Checks.blank, Curves.curve, declared.Curve.Curve, declared.Class.Class}
+use Rattle.jacobian.specs.{Checks.unless, Checks._or-else_, Checks.below, Checks.blank, Curves.curve, declared.Curve.Curve, declared.Class.Class}
 
 -- u, the lowest coefficient first, with its leading 1, which is not in the row of the class
 unfoldable pub u-row : Class → List ℕ
@@ -41,7 +41,7 @@ unfoldable pub class-refusal : Curve → Class → ℕ
 class-refusal c a =
     let d = c .degree in
     let D = pair d a in
-    shape-refusal a then range-refusal d a then unless (eqb (𝔸 d .len (𝔸 d .rem (value (curve c) (D .v)) (D .u))) 0) 111
+    shape-refusal a or-else range-refusal d a or-else unless (eqb (𝔸 d .len (𝔸 d .rem (value (curve c) (D .v)) (D .u))) 0) 111
 
 -- rows of three numbers, as in every value of the code's type
 pub record Three (a : Class) : Type 0 where

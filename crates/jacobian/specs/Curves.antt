@@ -5,7 +5,7 @@ use mathlib.Core.{Bool._||_, List.List, List.[], List._∷_}
 use lib.{Dec.eqb, ListN.getD}
 use Rattle.class_group.specs.Coefficients.{curve-of}
 use Rattle.class_rows.specs.{Field.F, Field.𝔸, Field.el}
-use Rattle.jacobian.specs.{Checks.unless, Checks._then_, Checks.below, declared.Curve.Curve}
+use Rattle.jacobian.specs.{Checks.unless, Checks._or-else_, Checks.below, declared.Curve.Curve}
 use Rattle.class_group.specs.Curve as Theory
 
 -- 106 for a degree other than 5 and 61
@@ -18,7 +18,7 @@ coefficient-refusal c = unless (below (2 ^ c .degree) (c .f3 ∷ c .f1 ∷ c .f0
 
 -- 106, then 107; 0 where the curve is accepted
 unfoldable pub curve-refusal : Curve → ℕ
-curve-refusal c = degree-refusal c then coefficient-refusal c
+curve-refusal c = degree-refusal c or-else coefficient-refusal c
 
 -- f, the lowest coefficient first: f0 + f1 x + f3 x^3 + x^7
 unfoldable pub f-row : Curve → List ℕ

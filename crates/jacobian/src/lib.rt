@@ -9,7 +9,7 @@ ghost use Rattle.class_group.specs.Reduction.{Counted};
 ghost use Rattle.class_rows.specs.Field.{Poly};
 ghost use Rattle.class_rows.specs.Row.{StandsPair};
 ghost use Rattle.class_rows.specs.Core.{StandsCounted};
-ghost use Rattle.jacobian.specs.{Checks.unless, Checks._then_, Curves.curve-refusal, Due.form-refusal, Due.FormDueOfTwo};
+ghost use Rattle.jacobian.specs.{Checks.unless, Checks._or-else_, Curves.curve-refusal, Due.form-refusal, Due.FormDueOfTwo};
 ghost use Rattle.jacobian.specs.Answer.{neutral-class, refusal, verdict, reply, answered, counted-reply, counted-answered, membership-answer, opposite-answer, double-answer, HalfAnswers, sum-answer, counted-double-answer, counted-sum-answer, double-and-add-answer, subtract-and-halve-answer, curve-answer};
 
 mod classes;
@@ -70,7 +70,7 @@ pub fn neutral() -> Class
 
 // What is due to a call on one class before a division, and 0 where nothing is.
 fn curve_and_form_due(c: Curve, a: Class) -> u32
-    ensures { λ r. ⌜ r ≡ (curve-refusal c then form-refusal (c .degree) a) ⌝ }
+    ensures { λ r. ⌜ r ≡ (curve-refusal c or-else form-refusal (c .degree) a) ⌝ }
 {
     let n = curves::curve_due(c);
     if n != 0 {

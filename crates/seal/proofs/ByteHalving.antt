@@ -7,7 +7,7 @@ use mathlib.Core.Path.{_≡_, refl, sym, ap, _∙_, subst}
 use mathlib.Core.List.{List, _++_}
 use lib.ListN.{length, take, drop, take-append-drop}
 use lib.Seq.{take-append-seam, take-at, drop-at}
-use Rattle.jacobian.specs.Checks.{_then_}
+use Rattle.jacobian.specs.Checks.{_or-else_}
 use Rattle.jacobian.specs.Curves.{curve-refusal}
 use Rattle.jacobian.specs.Answer.{Reply, refusal, double-answer, half-answer}
 use Rattle.jacobian.specs.declared.Curve.{Curve}
@@ -63,7 +63,7 @@ module _ {s : List ℕ} {r : OneClass} (h : ClassStored s r) where
   -- the record rebuilt from it
   rebuilt-stored : {x : Class} (out : List ℕ) → Accepts (r .curve) (curve-passes _ _ (h .passes)) x →
       ClassStored (rebuilt s (write (class-field 0x43 x) out)) (record { curve = r .curve; class = x })
-  unfolding class-record-bytes refusal _then_
+  unfolding class-record-bytes refusal _or-else_
   rebuilt-stored {x} out ok =
       record {
         bytes = rebuilt-write s (class-field 0x43 x) out ∙ ap (λ (l : List ℕ). l ++ class-field 0x43 x) first-is;

@@ -7,7 +7,7 @@ use mathlib.Core.Path.{_≡_, refl, sym, ap, _∙_}
 use mathlib.Core.List.{List, _++_, append-assoc}
 use lib.ListN.{length, take, drop}
 use lib.Seq.{take-append-seam}
-use Rattle.jacobian.specs.Checks.{_then_}
+use Rattle.jacobian.specs.Checks.{_or-else_}
 use Rattle.jacobian.specs.Curves.{curve-refusal}
 use Rattle.jacobian.specs.Classes.{Three, class-refusal}
 use Rattle.jacobian.specs.Answer.{accepted, refused, refusal}
@@ -58,7 +58,7 @@ module _ (s out : List ℕ) (room : register-room ≤ length out) {r : Operation
 module _ (g : Register) (a : Class) (threes : Three (g .seal) × Three a) where
   both-pass : {Bound : Type 0} → Passing Bound g a →
       register-record (register-record-bytes g a) ≡ found (record { register = g; class = a }) (length (register-record-bytes g a))
-  unfolding refusal _then_
+  unfolding refusal _or-else_
   both-pass p =
       let curve-ok = p .register .curve-passes in
       register-record-back (record {

@@ -12,7 +12,7 @@ use borrow.Author.Tests.{leb-true, leb-false, lt-leb, le-leb}
 use Rattle.class_group.specs.Walk.{All, none, more, after}
 use Rattle.class_group.specs.Mumford.{Pair}
 use Rattle.jacobian.specs.Field.{Poly}
-use Rattle.jacobian.specs.Checks.{unless, _then_}
+use Rattle.jacobian.specs.Checks.{unless, _or-else_}
 use Rattle.jacobian.specs.Curves.{curve-refusal}
 use Rattle.jacobian.specs.Classes.{class-of, class-refusal}
 use Rattle.jacobian.specs.Answer.{Verdict, accepted, refused, verdict-of, neutral-class, refusal, refusal-of-two, Reply, reply, answered, subtract-and-halve-answer}
@@ -66,7 +66,7 @@ module _ (c : Curve) (s : Class) where
   unfolding opening-refusal
   opening-empty n e = rw e
 
-  pub opening-above : (n : ℕ) → limit < n → curve-refusal c then 109 ≡ opening-refusal c s n
+  pub opening-above : (n : ℕ) → limit < n → curve-refusal c or-else 109 ≡ opening-refusal c s n
   unfolding opening-refusal unless
   opening-above zero h = absurd (omega arith)
   opening-above (suc n) h = rw (lt-leb (suc n) limit h)
@@ -92,13 +92,13 @@ turns-few accepted m = omega arith
 turns-few (refused k) m = omega arith
 
 -- ---- checks one after the other
-then-within : (a s b : ℕ) → (a then s) then b ≡ a then 0 then s then b
-unfolding _then_
+then-within : (a s b : ℕ) → (a or-else s) or-else b ≡ a or-else 0 or-else s or-else b
+unfolding _or-else_
 then-within zero s b = refl
 then-within (suc a) s b = refl
 
-then-above : (a n s : ℕ) → a then suc n ≡ a then suc n then s
-unfolding _then_
+then-above : (a n s : ℕ) → a or-else suc n ≡ a or-else suc n or-else s
+unfolding _or-else_
 then-above zero n s = refl
 then-above (suc a) n s = refl
 
@@ -143,12 +143,12 @@ module _ (c : Curve) where
   -- from an accepted seal, the steps lead along the walk to the first class that is refused, or to its end
   module _ (ok : curve-refusal c ≡ 0) where
     next-refusal : (s a : Class) → Sound c s → refusal-of-two c s a ≡ class-refusal c a
-    unfolding refusal-of-two refusal _then_
+    unfolding refusal-of-two refusal _or-else_
     next-refusal s a h = rw (ok, h .unrefused)
 
     going : (n : ℕ) (t : Class) (ops : List Class) → (n ≡ 0 → after (onward c) (replied 0 t) ops ≡ replied (classes-refusal c ops) (walk-back c t ops))
-        → after (onward c) (replied n t) ops ≡ replied (n then classes-refusal c ops) (walk-back c t ops)
-    unfolding _then_ replied
+        → after (onward c) (replied n t) ops ≡ replied (n or-else classes-refusal c ops) (walk-back c t ops)
+    unfolding _or-else_ replied
     going zero t ops h = h refl
     going (suc n) t ops h = refused-stands n t ops
 
@@ -161,13 +161,13 @@ module _ (c : Curve) where
 
   -- ---- all steps
   first-refusal : (n : ℕ) (s a : Class) → refusal c s ≡ suc n → refusal-of-two c s a ≡ suc n
-  unfolding refusal-of-two _then_
+  unfolding refusal-of-two _or-else_
   first-refusal n s a e = rw e
 
   -- the first step checks the curve and the last seal
   opens-sound : (n : ℕ) (s a : Class) (ops : List Class) → refusal c s ≡ n → Three s → All Three (a ∷ ops)
-      → after (onward c) (replied 0 s) (a ∷ ops) ≡ replied (n then classes-refusal c (a ∷ ops)) (walk-back c s (a ∷ ops))
-  unfolding refusal _then_ after
+      → after (onward c) (replied 0 s) (a ∷ ops) ≡ replied (n or-else classes-refusal c (a ∷ ops)) (walk-back c s (a ∷ ops))
+  unfolding refusal _or-else_ after
   opens-sound zero s a ops e h ts = let p = then-zero _ _ e in sound-walk (p .0) s (a ∷ ops) (record { three = h; unrefused = p .1 }) ts
   opens-sound (suc n) s a ops e h ts =
       ap (λ x. after (onward c) x ops) (step-replied s a ∙ ap (λ k. replied k (earlier c s a)) (first-refusal n s a e))
@@ -175,15 +175,15 @@ module _ (c : Curve) where
       ∙ replied-refused (suc n) _ _ (λ z. omega arith)
 
   -- the definition's checks, by the length of the row
-  row-within : (s : Class) (ops : List Class) → length ops ≤ limit → replied (refusal c s then classes-refusal c ops) (walk-back c s ops) ≡ row-walk-answer c s ops
+  row-within : (s : Class) (ops : List Class) → length ops ≤ limit → replied (refusal c s or-else classes-refusal c ops) (walk-back c s ops) ≡ row-walk-answer c s ops
   unfolding row-walk-answer row-refusal refusal unless
   row-within s ops h = rw (le-leb (length ops) limit h) (ap (λ n. replied n (walk-back c s ops)) (then-within (curve-refusal c) (class-refusal c s) (classes-refusal c ops)))
 
-  row-above : (s : Class) (ops : List Class) → limit < length ops → replied (curve-refusal c then 109) s ≡ row-walk-answer c s ops
+  row-above : (s : Class) (ops : List Class) → limit < length ops → replied (curve-refusal c or-else 109) s ≡ row-walk-answer c s ops
   unfolding row-walk-answer row-refusal unless
   row-above s ops h =
-      replied-refused (curve-refusal c then 109) s (walk-back c s ops) (then-positive (curve-refusal c) 109 (λ z. omega arith))
-      ∙ rw (lt-leb (length ops) limit h) (ap (λ n. replied n (walk-back c s ops)) (then-above (curve-refusal c) 108 (class-refusal c s then classes-refusal c ops)))
+      replied-refused (curve-refusal c or-else 109) s (walk-back c s ops) (then-positive (curve-refusal c) 109 (λ z. omega arith))
+      ∙ rw (lt-leb (length ops) limit h) (ap (λ n. replied n (walk-back c s ops)) (then-above (curve-refusal c) 108 (class-refusal c s or-else classes-refusal c ops)))
 
   module _ (s : Class) (h : Three s) where
     by-length : (a : Class) (ops : List Class) (x : Reply) (n : ℕ) (d : Class) (b : Bool) → leb (length (a ∷ ops)) limit ≡ b
@@ -199,7 +199,7 @@ module _ (c : Curve) where
         ∙ row-within s (a ∷ ops) within
     by-length a ops x n d false l e m ts =
         let above = leb-false _ _ l in
-        let k = curve-refusal c then 109 in
+        let k = curve-refusal c or-else 109 in
         let start : x ≡ replied k s = e ∙ ap (λ k. replied k s) (sym (opening-above c s (length (a ∷ ops)) above)) in
         let still : n ≡ 0 =
         m ∙ ap (λ (y : Reply). turns-due (y .outcome) (length (a ∷ ops))) start

@@ -9,7 +9,7 @@ use lib.ListN.{length, take, getD, length-map}
 use lib.Seq.{length-take-le}
 use borrow.Author.Tests.{le-leb}
 use Rattle.class_group.specs.Walk.{All, none, more}
-use Rattle.jacobian.specs.Checks.{unless, _then_}
+use Rattle.jacobian.specs.Checks.{unless, _or-else_}
 use Rattle.jacobian.specs.Curves.{curve-refusal}
 use Rattle.jacobian.specs.Classes.{class-refusal}
 use Rattle.jacobian.specs.Answer.{accepted, verdict-of, Reply}
@@ -27,7 +27,7 @@ use Rattle.seal_register.specs.declared.walk.RowWalk.{RowWalk}
 
 -- no class among those of unrefused calls is refused
 unrefused : (c : Curve) (es : List Event) (k : ℕ) → All (λ e. class-refusal c (class (e .call)) ≡ 0) es → classes-refusal c (take k (classes es)) ≡ 0
-unfolding classes-refusal classes _then_
+unfolding classes-refusal classes _or-else_
 unrefused c [] zero none = refl
 unrefused c [] (suc k) none = refl
 unrefused c (e ∷ es) zero (more h hs) = refl
@@ -36,7 +36,7 @@ unrefused c (e ∷ es) (suc k) (more h hs) = rw h (unrefused c es k hs)
 -- what is answered where no check fails
 row-answered : (c : Curve) (s : Class) (ops : List Class) → curve-refusal c ≡ 0 → class-refusal c s ≡ 0 → length ops ≤ limit → classes-refusal c ops ≡ 0
     → row-walk-answer c s ops ≡ record { outcome = accepted; class = walk-back c s ops }
-unfolding row-walk-answer row-refusal replied unless _then_
+unfolding row-walk-answer row-refusal replied unless _or-else_
 row-answered c s ops hc hs hl ho = rw (hc, le-leb (length ops) limit hl, hs, ho)
 
 accepted-zero : (n : ℕ) → verdict-of n ≡ accepted → n ≡ 0

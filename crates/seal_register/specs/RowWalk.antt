@@ -3,7 +3,7 @@ use Prim.Native.Nat.{ℕ, zero, suc}
 use mathlib.Core.List.{List, [], _∷_}
 use lib.Dec.{leb}
 use lib.ListN.{length}
-use Rattle.jacobian.specs.Checks.{unless, _then_}
+use Rattle.jacobian.specs.Checks.{unless, _or-else_}
 use Rattle.jacobian.specs.Curves.{curve-refusal}
 use Rattle.jacobian.specs.Classes.{class-refusal}
 use Rattle.jacobian.specs.Answer.{Verdict, accepted, refused, verdict-of, neutral-class, refusal, Reply, subtract-and-halve-answer}
@@ -16,15 +16,15 @@ use Rattle.seal_register.specs.declared.walk.RowWalk.{RowWalk}
 -- 104, 110 or 111 of the first class of a row that is refused; 0 where none is
 unfoldable pub classes-refusal : Curve → List Class → ℕ
 classes-refusal c [] = 0
-classes-refusal c (a ∷ ops) = class-refusal c a then classes-refusal c ops
+classes-refusal c (a ∷ ops) = class-refusal c a or-else classes-refusal c ops
 
 -- 106 or 107 of the curve, then 109 for more classes than the limit, then 104, 110 or 111 of the last seal, then of the classes, newest first
 unfoldable pub row-refusal : Curve → Class → List Class → ℕ
 row-refusal c last ops =
     curve-refusal c
-    then unless (leb (length ops) limit) 109
-    then class-refusal c last
-    then classes-refusal c ops
+    or-else unless (leb (length ops) limit) 109
+    or-else class-refusal c last
+    or-else classes-refusal c ops
 
 -- the seal where no refusal is due, and else the refusal with the neutral class
 unfoldable pub replied : ℕ → Class → Reply
@@ -43,7 +43,7 @@ reached w = record { outcome = verdict-of (w .refusal); class = w .seal }
 -- what is checked before the first step over so many classes: where there is a class, the step over it checks the curve and the last seal
 unfoldable pub opening-refusal : Curve → Class → ℕ → ℕ
 opening-refusal c last zero = refusal c last
-opening-refusal c last (suc n) = unless (leb (suc n) limit) (curve-refusal c then 109)
+opening-refusal c last (suc n) = unless (leb (suc n) limit) (curve-refusal c or-else 109)
 
 -- how many steps are due: none after a refusal
 unfoldable pub turns-due : Verdict → ℕ → ℕ

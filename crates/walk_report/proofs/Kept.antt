@@ -6,7 +6,7 @@ use mathlib.Core.Bool.{true}
 use mathlib.Core.List.{List, [], _∷_, reverseAux}
 use lib.ListN.{length, length-map}
 use Rattle.class_group.specs.Walk.{All, none, more, after}
-use Rattle.jacobian.specs.{Checks._then_, Curves.curve-refusal, Classes.Three, Classes.class-refusal, Answer.Verdict, Answer.accepted, Answer.refused, Answer.refusal}
+use Rattle.jacobian.specs.{Checks._or-else_, Curves.curve-refusal, Classes.Three, Classes.class-refusal, Answer.Verdict, Answer.accepted, Answer.refused, Answer.refusal}
 use Rattle.jacobian.specs.declared.{Curve.Curve, Class.Class}
 use Rattle.history.specs.Register.{register-refusal}
 use Rattle.history.specs.Calls.{Call, class, answer, Event, event, run, last, accepted-of, newest, classes, OnlyCommits}
@@ -49,7 +49,7 @@ accepted-fit r cs fits = all-onto (run-fits r cs (fits .classes-fit)) none
 
 module _ (c : Curve) (ok : curve-refusal c ≡ 0) where
   allowed : {a : Class} → Three a → class-refusal c a ≡ 0 → Allowed c a
-  unfolding refusal _then_
+  unfolding refusal _or-else_
   allowed three passes = record { three = three; passes = rw ok passes }
 
   allowed-classes : (es : List Event) → All (λ e. Three (class (e .call))) es → All (λ e. class-refusal c (class (e .call)) ≡ 0) es → All (Allowed c) (classes es)

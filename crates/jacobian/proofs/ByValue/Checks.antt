@@ -8,22 +8,22 @@ use borrow.Author.Tests.{ltb-true, leb-true, eqb-true}
 use Rattle.binary_field.specs.Element.{Accepted}
 use Rattle.class_group.specs.Mumford.{value}
 use Rattle.class_rows.specs.{Field.𝔸}
-use Rattle.jacobian.specs.{Checks.unless, Checks._then_, Checks.below, Checks.blank, Curves.degree-refusal, Curves.coefficient-refusal, Curves.curve-refusal, Curves.f-row, Curves.curve, Classes.pair, Classes.shape-refusal, Classes.range-refusal, Classes.class-refusal, declared.Curve.Curve, declared.Class.Class}
+use Rattle.jacobian.specs.{Checks.unless, Checks._or-else_, Checks.below, Checks.blank, Curves.degree-refusal, Curves.coefficient-refusal, Curves.curve-refusal, Curves.f-row, Curves.curve, Classes.pair, Classes.shape-refusal, Classes.range-refusal, Classes.class-refusal, declared.Curve.Curve, declared.Class.Class}
 use Rattle.jacobian.proofs.ByValue.Degrees.{by-degree}
 
 -- ---- one check, and one after the other
-pub then-zero : (m n : ℕ) → m then n ≡ 0 → (m ≡ 0) × (n ≡ 0)
-unfolding _then_
+pub then-zero : (m n : ℕ) → m or-else n ≡ 0 → (m ≡ 0) × (n ≡ 0)
+unfolding _or-else_
 then-zero zero n e = (refl, e)
 then-zero (suc m) n e = absurd (omega arith)
 
-pub first-due : {m n : ℕ} (k : ℕ) → n ≡ m → ¬ (n ≡ 0) → n ≡ m then k
-unfolding _then_
+pub first-due : {m n : ℕ} (k : ℕ) → n ≡ m → ¬ (n ≡ 0) → n ≡ m or-else k
+unfolding _or-else_
 first-due {m = zero} k e h = absurd (h e)
 first-due {m = suc m} k e h = e
 
-pub next-due : {m n k l : ℕ} → n ≡ m → n ≡ 0 → k ≡ l → k ≡ m then l
-unfolding _then_
+pub next-due : {m n k l : ℕ} → n ≡ m → n ≡ 0 → k ≡ l → k ≡ m or-else l
+unfolding _or-else_
 next-due {m = zero} e z h = h
 next-due {m = suc m} e z h = absurd (omega arith)
 

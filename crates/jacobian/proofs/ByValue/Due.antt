@@ -5,11 +5,11 @@ use mathlib.Core.{Bool.Bool, Bool.true, Bool.false, Bool._&&_, List.List}
 use lib.Dec.{eqb}
 use Rattle.class_group.specs.Mumford.{value}
 use Rattle.class_rows.specs.{Field.𝔸, Row.filled, Checked.Decides, Checked.Divisor, declared.row.RowPair.RowPair}
-use Rattle.jacobian.specs.{Checks.unless, Checks._then_, Curves.curve-refusal, Curves.f-row, Curves.curve, Classes.pair, Classes.shape-refusal, Classes.range-refusal, Classes.class-refusal, ClassRows.RowsOf, Due.form-refusal, Answer.refusal, Answer.refusal-of-two, declared.Curve.Curve, declared.Class.Class}
+use Rattle.jacobian.specs.{Checks.unless, Checks._or-else_, Curves.curve-refusal, Curves.f-row, Curves.curve, Classes.pair, Classes.shape-refusal, Classes.range-refusal, Classes.class-refusal, ClassRows.RowsOf, Due.form-refusal, Answer.refusal, Answer.refusal-of-two, declared.Curve.Curve, declared.Class.Class}
 use Rattle.jacobian.proofs.{ByValue.Checks.ShapePasses, ByValue.Checks.RangePasses, ByValue.Checks.then-zero, ByValue.Checks.first-due, ByValue.Checks.next-due, ByValue.Checks.curve-passes, ByValue.Checks.shape-passes, ByValue.Checks.range-passes, ByValue.Passing.divides-decides}
 
-then-assoc : (m n k : ℕ) → (m then n) then k ≡ m then (n then k)
-unfolding _then_
+then-assoc : (m n k : ℕ) → (m or-else n) or-else k ≡ m or-else (n or-else k)
+unfolding _or-else_
 then-assoc zero n k = refl
 then-assoc (suc m) n k = refl
 
@@ -24,8 +24,8 @@ both-decide true y h k = (λ e. (h .0 refl, k .0 e), λ p. k .1 (p .1))
 both-decide false true h k = (λ e. (h .0 e, k .0 refl), λ p. h .1 (p .0))
 both-decide false false h k = (λ e. (h .0 e, k .0 e), λ p. h .1 (p .0))
 
-unless-both : (x y : Bool) (n : ℕ) → unless (x && y) (suc n) ≡ unless x (suc n) then unless y (suc n)
-unfolding unless _then_
+unless-both : (x y : Bool) (n : ℕ) → unless (x && y) (suc n) ≡ unless x (suc n) or-else unless y (suc n)
+unfolding unless _or-else_
 unless-both true y n = refl
 unless-both false true n = refl
 unless-both false false n = refl
@@ -40,12 +40,12 @@ module _ (c : Curve) (a : Class) where
   unfolding form-refusal class-refusal
   class-first e h = first-due (unless divides 111) e h ∙ then-assoc (shape-refusal a) (range-refusal (c .degree) a) (unless divides 111)
 
-  pub form-first : {n : ℕ} → n ≡ (curve-refusal c then form-refusal (c .degree) a) → ¬ (n ≡ 0) → n ≡ refusal c a
+  pub form-first : {n : ℕ} → n ≡ (curve-refusal c or-else form-refusal (c .degree) a) → ¬ (n ≡ 0) → n ≡ refusal c a
   unfolding form-refusal class-refusal refusal
   form-first e h =
       first-due (unless divides 111) e h
       ∙ then-assoc (curve-refusal c) (form-refusal (c .degree) a) (unless divides 111)
-      ∙ ap (λ n. curve-refusal c then n) (then-assoc (shape-refusal a) (range-refusal (c .degree) a) (unless divides 111))
+      ∙ ap (λ n. curve-refusal c or-else n) (then-assoc (shape-refusal a) (range-refusal (c .degree) a) (unless divides 111))
 
   module _ (z : form-refusal (c .degree) a ≡ 0) where
     pub form-shape : ShapePasses a
@@ -81,4 +81,4 @@ module _ (c : Curve) (a b : Class) (ok : curve-refusal c ≡ 0) (y : form-refusa
       let w = divides c b in
       ap (λ t. unless t 111) (same-answer t (x && w) h (both-decide x w (divides-rows c a y ok e left) (divides-rows c b z ok e right)))
       ∙ unless-both x w 110
-      ∙ ap₂ _then_ (next-due refl ok (class-divides c a y)) (class-divides c b z)
+      ∙ ap₂ _or-else_ (next-due refl ok (class-divides c a y)) (class-divides c b z)

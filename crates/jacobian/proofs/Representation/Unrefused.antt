@@ -7,14 +7,14 @@ use native.Mathlib.Omega.{arith}
 use lib.ListN.{getD, drop}
 use lib.Seq.{getD-drop}
 use borrow.Author.Tests.{lt-ltb, le-leb, eq-eqb}
-use Rattle.jacobian.specs.Checks.{unless, _then_, below, blank}
+use Rattle.jacobian.specs.Checks.{unless, _or-else_, below, blank}
 use Rattle.jacobian.specs.declared.Curve.{Curve}
 use Rattle.jacobian.specs.declared.Class.{Class}
 use Rattle.jacobian.specs.Classes.{shape-refusal, range-refusal, class-refusal}
 use Rattle.jacobian.proofs.ByValue.Checks.{ClassPasses}
 
-pub zero-then : (m n : ℕ) → m ≡ 0 → n ≡ 0 → m then n ≡ 0
-unfolding _then_
+pub zero-then : (m n : ℕ) → m ≡ 0 → n ≡ 0 → m or-else n ≡ 0
+unfolding _or-else_
 zero-then zero n e f = f
 zero-then (suc m) n e f = e
 
