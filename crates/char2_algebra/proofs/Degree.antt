@@ -1,6 +1,6 @@
--- Coefficients and length (degree plus one): of nought, of sums, of constants, of x and of multiples of x; decided equality; a polynomial as
--- its lowest coefficient and x times the rest, its tail.
-use Prim.Native.Nat.{ℕ, zero, suc, _≤_, _<_, max}
+-- Coefficients and length (degree plus one): of nought, of sums, of constants, of x and of multiples of x; whether a polynomial is nought; a
+-- polynomial as its lowest coefficient and x times the rest, its tail.
+use Prim.Native.Nat.{ℕ, zero, suc, _≤_, _<_}
 use mathlib.Core.Path.{_≡_, refl, sym, _∙_, ap, ap₂}
 use native.Mathlib.Omega.{arith}
 use native.Mathlib.Decide.{decLe}
@@ -8,7 +8,7 @@ use Rattle.field_laws.specs.Ring.{Ring2}
 use Rattle.field_laws.specs.Field.{Field2}
 use Rattle.char2_algebra.specs.Polynomials.{Polynomials}
 use Rattle.char2_algebra.specs.Square.{tail}
-use Rattle.char2_algebra.proofs.Ring.{+-comm, +-𝟘, 𝟘-+, +-self, ·-comm, ·-𝟙, ·-𝟘, eq-of-sum, sum-of-eq}
+use Rattle.char2_algebra.proofs.Ring.{+-comm, +-𝟘, 𝟘-+, +-self, ·-comm, ·-𝟙, ·-𝟘}
 
 module _ {K P : Type 0} {F : Field2 K} (A : Polynomials F P) where
   open Polynomials A using (ring as R, coeff, con, x, len, quot, rem)
@@ -50,9 +50,6 @@ module _ {K P : Type 0} {F : Field2 K} (A : Polynomials F P) where
   pub len-add : (p q : P) (n : ℕ) → len p ≤ n → len q ≤ n → len (p + q) ≤ n
   len-add p q n h k =
       len-bound (p + q) n (λ i l. A .coeff-add p q i ∙ ap₂ _⊕_ (A .len-past p i (omega arith)) (A .len-past q i (omega arith)) ∙ +-self (F .ring) 𝟎)
-
-  pub len-add-max : (p q : P) → len (p + q) ≤ max (len p) (len q)
-  len-add-max p q = len-add p q (max (len p) (len q)) (omega arith) (omega arith)
 
   pub len-add-less : (p q : P) → len p < len q → len (p + q) ≡ len q
   len-add-less p q h = go (len q) refl
@@ -98,16 +95,6 @@ module _ {K P : Type 0} {F : Field2 K} (A : Polynomials F P) where
   pub con-one : con 𝟏 ≡ 𝟙
   con-one = sym (A .one-con)
 
-  pub con-add : (a b : K) → con (a ⊕ b) ≡ con a + con b
-  con-add a b = A .ext (con (a ⊕ b)) (con a + con b) go
-    where
-      go : (i : ℕ) → coeff (con (a ⊕ b)) i ≡ coeff (con a + con b) i
-      go zero = A .coeff-con (a ⊕ b) ∙ sym (A .coeff-add (con a) (con b) 0 ∙ ap₂ _⊕_ (A .coeff-con a) (A .coeff-con b))
-      go (suc i) =
-          A .coeff-con-suc (a ⊕ b) i
-          ∙ sym
-          (A .coeff-add (con a) (con b) (suc i) ∙ ap₂ _⊕_ (A .coeff-con-suc a i) (A .coeff-con-suc b i) ∙ +-self (F .ring) 𝟎)
-
   pub con-mul : (a b : K) → con (a ⊙ b) ≡ con a · con b
   con-mul a b = A .ext (con (a ⊙ b)) (con a · con b) go
     where
@@ -123,13 +110,6 @@ module _ {K P : Type 0} {F : Field2 K} (A : Polynomials F P) where
 
   pub one-nonzero : ¬ (𝟙 ≡ 𝟘)
   one-nonzero = nonzero-of-len 𝟙 (let h : len 𝟙 ≡ 1 = len-one in omega arith)
-
-  -- x
-  pub coeff-x : coeff x 0 ≡ 𝟎
-  coeff-x = ap (λ p. coeff p 0) (sym (·-𝟙 R x)) ∙ A .coeff-x-mul 𝟙
-
-  pub coeff-x-suc : (i : ℕ) → coeff x (suc i) ≡ coeff 𝟙 i
-  coeff-x-suc i = ap (λ p. coeff p (suc i)) (sym (·-𝟙 R x)) ∙ A .coeff-x-mul-suc 𝟙 i
 
   pub coeff-one : coeff 𝟙 0 ≡ 𝟏
   coeff-one = ap (λ p. coeff p 0) (A .one-con) ∙ A .coeff-con 𝟏
@@ -157,17 +137,13 @@ module _ {K P : Type 0} {F : Field2 K} (A : Polynomials F P) where
   pub x-nonzero : ¬ (x ≡ 𝟘)
   x-nonzero = nonzero-of-len x (let h : len x ≡ 2 = len-x in omega arith)
 
-  -- equality is decided by computing: p ≡ q where p + q has length 0
+  -- whether it is nought is decided by its length
   unfoldable pub is-nought : (p : P) → Dec (p ≡ 𝟘)
   is-nought p = go (len p) refl
     where
       go : (n : ℕ) → len p ≡ n → Dec (p ≡ 𝟘)
       go zero e = yes (len-zero p e)
       go (suc n) e = no (nonzero-of-len p (omega arith))
-
-  unfoldable pub polynomials-discrete : Discrete P
-  unfolding is-nought
-  polynomials-discrete p q = elim (is-nought (p + q)) [ yes e ↦ yes (eq-of-sum R p q e) | no h ↦ no (λ e. h (sum-of-eq R p q e)) ]
 
   -- the tail: the polynomial without its lowest coefficient, divided by x
   rem-x : (p : P) → rem p x ≡ con (coeff p 0)

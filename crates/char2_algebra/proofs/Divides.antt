@@ -2,7 +2,7 @@
 use mathlib.Core.Path.{_≡_, refl, sym, _∙_, ap, ap₂}
 use Rattle.field_laws.specs.Ring.{Ring2}
 use Rattle.char2_algebra.specs.Divides.{Divides}
-use Rattle.char2_algebra.proofs.Ring.{ring2, +-·, ·-comm, ·-assoc, 𝟙-·, ·-𝟘, 𝟘-·, +-cancel}
+use Rattle.char2_algebra.proofs.Ring.{ring2, +-·, ·-comm, ·-assoc, 𝟙-·, ·-𝟘, 𝟘-·}
 
 module _ {A : Type 0} (R : Ring2 A) where
   open Ring2 R using (add as _+_, mul as _·_, nought as 𝟘, one as 𝟙)
@@ -18,9 +18,6 @@ module _ {A : Type 0} (R : Ring2 A) where
   pub one-divides : (a : A) → Divides R 𝟙 a
   one-divides a = (a, sym (R .mul-one a))
 
-  pub divides-left : (a b : A) → Divides R a (a · b)
-  divides-left a b = (b, ·-comm R a b)
-
   pub divides-right : (a b : A) → Divides R b (a · b)
   divides-right a b = (a, refl)
 
@@ -32,10 +29,6 @@ module _ {A : Type 0} (R : Ring2 A) where
 
   pub divides-add : {b a a' : A} → Divides R b a → Divides R b a' → Divides R b (a + a')
   divides-add {b} (q, h) (s, k) = (q + s, ap₂ _+_ h k ∙ sym (+-· R q s b))
-
-  -- if b divides a sum and one summand, it divides the other
-  pub divides-summand : {b a a' : A} → Divides R b a → Divides R b (a + a') → Divides R b a'
-  divides-summand {b} {a} {a'} d e = divides-eq (+-cancel R a a') (divides-add d e)
 
   pub divides-mul : {b a : A} (c : A) → Divides R b a → Divides R b (c · a)
   divides-mul {b} c (q, h) = (c · q, ap (λ z. c · z) h ∙ sym (·-assoc R c q b))

@@ -1,17 +1,16 @@
 -- Division of polynomials with remainder: a multiple shorter than its divisor is nought, quotient and remainder are unique, the remainder is
--- nought exactly for multiples, remainders of sums and products, exact quotients, decided divisibility.
+-- nought exactly for multiples, congruent polynomials have one remainder, exact quotients and their length.
 use Prim.Native.Nat.{ℕ, zero, suc, _+_ as _+ℕ_, _≤_, _<_}
-use mathlib.Core.Path.{_≡_, refl, sym, _∙_, ap, ap₂}
-use mathlib.Core.HLevel.{Σ-prop-path}
+use mathlib.Core.Path.{_≡_, refl, sym, _∙_, ap}
 use native.Mathlib.{Omega.arith, Decide.decLe}
 use Rattle.field_laws.specs.Ring.{Ring2}
 use Rattle.field_laws.specs.Field.{Field2}
 use Rattle.char2_algebra.specs.Polynomials.{Polynomials}
 use Rattle.char2_algebra.specs.Divides.{Divides}
 use Rattle.char2_algebra.proofs.Ring.{ring2, +-comm, +-𝟘, 𝟘-+, ·-comm, 𝟘-·, eq-of-sum, sum-of-eq, by, both, combine}
-use Rattle.char2_algebra.proofs.Degree.{len-zero, len-nought, len-nonzero, nonzero-of-len, len-add, len-add-less, is-nought}
-use Rattle.char2_algebra.proofs.Product.{len-mul-monotone, cancel-left, cancel-right, len-mul, integral}
-use Rattle.char2_algebra.proofs.Divides.{divides-eq, divides-add, divides-right, divides-mul, divides-trans, divides-by-eq, nought-divides}
+use Rattle.char2_algebra.proofs.Degree.{len-nought, len-nonzero, nonzero-of-len, len-add, len-add-less, is-nought}
+use Rattle.char2_algebra.proofs.Product.{len-mul-monotone, cancel-right, len-mul, integral}
+use Rattle.char2_algebra.proofs.Divides.{divides-right}
 
 -- identities of a few terms, over plain variables
 module _ {A : Type 0} (R : Ring2 A) where
@@ -24,12 +23,6 @@ module _ {A : Type 0} (R : Ring2 A) where
 
   difference : (b q r q' r' : A) → q · b + r ≡ q' · b + r' → r + r' ≡ (q + q') · b
   difference b q r q' r' h = combine R (r + r') ((q + q') · b) (by R (R .one) h) (simp (ring2, R))
-
-  sum-of-divisions : (b q r q' r' : A) → (q · b + r) + (q' · b + r') ≡ (q + q') · b + (r + r')
-  sum-of-divisions b q r q' r' = simp (ring2, R)
-
-  add-to-division : (b q r k : A) → (q · b + r) + k · b ≡ (q + k) · b + r
-  add-to-division b q r k = simp (ring2, R)
 
   congruent-division : (b k a a' q r : A) → a + a' ≡ k · b → a ≡ q · b + r → a' ≡ (q + k) · b + r
   congruent-division b k a a' q r h e = combine R a' ((q + k) · b + r) (both R (by R (R .one) h) (by R (R .one) e)) (simp (ring2, R))
@@ -96,12 +89,6 @@ module _ {K P : Type 0} {F : Field2 K} (A : Polynomials F P) where
     rem-congruent a a' (k, e) =
         sym (rem-is a' b (quot a b + k) (rem a b) (A .rem-len a b h) (congruent-division R b k a a' (quot a b) (rem a b) e (A .division a b h)))
 
-    pub congruent-of-rem : (a a' : P) → rem a b ≡ rem a' b → Divides R b (a + a')
-    congruent-of-rem a a' e = divides-eq R (join a a' (rem a b)) (divides-add R (rem-divides a) (divides-eq R (ap (λ z. a' + z) (sym e)) (rem-divides a')))
-      where
-        join : (p q r : P) → p + r + (q + r) ≡ p + q
-        join p q r = simp (ring2, R)
-
     pub rem-of-divides : (a : P) → Divides R b a → rem a b ≡ 𝟘
     rem-of-divides a (q, e) = rem-is a b q 𝟘 (let l : len 𝟘 ≡ 0 = len-nought A in let m : 0 < len b = len-nonzero A b h in omega arith) (e ∙ sym (+-𝟘 R (q · b)))
 
@@ -115,27 +102,6 @@ module _ {K P : Type 0} {F : Field2 K} (A : Polynomials F P) where
 
     pub quot-mul : (q : P) → quot (q · b) b ≡ q
     quot-mul q = cancel-right A b (quot (q · b) b) q h (sym (quot-exact (q · b) (divides-right R q b)))
-
-    pub rem-add : (a a' : P) → rem (a + a') b ≡ rem a b + rem a' b
-    rem-add a a' = rem-is (a + a') b (quot a b + quot a' b) (rem a b + rem a' b) (go (len b) refl) (ap₂ _+_ (A .division a b h) (A .division a' b h) ∙ sum-of-divisions R b (quot a b) (rem a b) (quot a' b) (rem a' b))
-      where
-        go : (n : ℕ) → len b ≡ n → len (rem a b + rem a' b) < len b
-        go zero e = absurd (h (len-zero A b e))
-        go (suc n) e =
-            let k : len (rem a b) < len b = A .rem-len a b h in
-            let k' : len (rem a' b) < len b = A .rem-len a' b h in
-            let l : len (rem a b + rem a' b) ≤ n = len-add A (rem a b) (rem a' b) n (omega arith) (omega arith) in
-            omega arith
-
-    pub rem-add-multiple : (a k : P) → rem (a + k · b) b ≡ rem a b
-    rem-add-multiple a k =
-        rem-is (a + k · b) b (quot a b + k) (rem a b) (A .rem-len a b h) (ap (λ z. z + k · b) (A .division a b h) ∙ add-to-division R b (quot a b) (rem a b) k)
-
-    pub rem-rem : (a : P) → rem (rem a b) b ≡ rem a b
-    rem-rem a = rem-short (rem a b) b (A .rem-len a b h)
-
-    pub rem-mul-rem : (a c : P) → rem (c · rem a b) b ≡ rem (c · a) b
-    rem-mul-rem a c = sym (rem-congruent (c · a) (c · rem a b) (divides-eq R (A .ring .mul-add c a (rem a b)) (divides-mul R c (rem-divides a))))
 
     -- the length of a quotient
     pub len-quot : (a : P) → len b ≤ len a → suc (len a) ≡ len (quot a b) +ℕ len b
@@ -156,23 +122,6 @@ module _ {K P : Type 0} {F : Field2 K} (A : Polynomials F P) where
     pub quot-exact-nonzero : (a : P) → ¬ (a ≡ 𝟘) → Divides R b a → ¬ (quot a b ≡ 𝟘)
     quot-exact-nonzero a k d e = k (quot-exact a d ∙ ap (λ z. z · b) e ∙ 𝟘-· R b)
 
-    -- the remainder depends on the divisor up to a unit only
-    pub rem-associate : (b' a : P) → Divides R b b' → Divides R b' b → rem a b' ≡ rem a b
-    rem-associate b' a d d' =
-        let k : ¬ (b' ≡ 𝟘) = λ e. h (nought-divides R (divides-by-eq R e d')) in
-        let l : len b' ≤ len b = divides-len d' h in
-        let r : len (rem a b') < len b' = A .rem-len a b' k in
-        let c : Divides R b' (a + rem a b') = (quot a b', ap (λ z. z + rem a b') (A .division a b' k) ∙ last-cancels R (quot a b' · b') (rem a b')) in
-        sym (rem-congruent a (rem a b') (divides-trans R d c) ∙ rem-short (rem a b') b (omega arith))
-
-    -- divisibility is decided by computing the remainder
-    unfoldable pub divides-dec : (a : P) → Dec (Divides R b a)
-    unfolding is-nought
-    divides-dec a = elim (is-nought A (rem a b)) [ yes e ↦ yes (divides-of-rem a e) | no n ↦ no (λ d. n (rem-of-divides a d)) ]
-
-    pub divides-prop : (a : P) → IsProp (Divides R b a)
-    divides-prop a (q, e) (s, k) = Σ-prop-path (λ z. A .ring .isSet a (z · b)) (cancel-right A b q s h (sym e ∙ k))
-
   pub len-quot-le : (a b : P) → ¬ (b ≡ 𝟘) → len (quot a b) ≤ len a
   len-quot-le a b h = elim (decLe (len b) (len a)) [
     | yes k ↦
@@ -181,9 +130,3 @@ module _ {K P : Type 0} {F : Field2 K} (A : Polynomials F P) where
         omega arith)
     | no k ↦ (let l : len (quot a b) ≡ 0 = ap len (quot-short a b (omega arith)) ∙ len-nought A in omega arith)
   ]
-
-  pub divides-cancel : {b a : P} (c : P) → ¬ (c ≡ 𝟘) → Divides R (c · b) (c · a) → Divides R b a
-  divides-cancel {b} {a} c h (q, e) = (q, cancel-left A c a (q · b) h (e ∙ swap q c b))
-    where
-      swap : (q c b : P) → q · (c · b) ≡ c · (q · b)
-      swap q c b = simp (ring2, R)

@@ -151,9 +151,6 @@ module _ {K P : Type 0} {F : Field2 K} (A : Polynomials F P) where
   }
 
   -- the greatest: every common divisor divides it
-  pub bezout-greatest : {a b d : P} {B : Bezout P} → IsBezout a b B → Divides R d a → Divides R d b → Divides R d (B .g)
-  bezout-greatest {B = B} i p q = divides-eq R (sym (i .combination)) (divides-add R (divides-mul R (B .s) p) (divides-mul R (B .t) q))
-
   pub bezout3-greatest : {a b c d : P} {B : Bezout3 P} → IsBezout3 a b c B → Divides R d a → Divides R d b → Divides R d c → Divides R d (B .e)
   bezout3-greatest {B = B} i p q r =
       divides-eq

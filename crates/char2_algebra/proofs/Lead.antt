@@ -8,10 +8,10 @@ use Rattle.char2_algebra.specs.Polynomials.{Polynomials}
 use Rattle.char2_algebra.specs.Divides.{Divides}
 use Rattle.char2_algebra.specs.Lead.{lead, Monic, monic-of}
 use Rattle.char2_algebra.proofs.Ring.{𝟘-+, ·-comm, ·-assoc, ·-𝟘, 𝟘-·, ·-𝟙, 𝟙-·}
-use Rattle.char2_algebra.proofs.Degree.{coeff-nought, len-bound, len-is, len-zero, len-nought, len-nonzero, nonzero-of-len, len-add-less, len-one, len-con, con-mul, con-of-len, coeff-one, len-x, coeff-x-suc, is-nought}
+use Rattle.char2_algebra.proofs.Degree.{coeff-nought, len-bound, len-is, len-zero, len-nonzero, nonzero-of-len, len-add-less, len-one, len-con, con-mul, con-of-len, coeff-one, is-nought}
 use Rattle.char2_algebra.proofs.Product.{len-mul, coeff-mul-top, len-con-mul}
 use Rattle.char2_algebra.proofs.Divides.{divides-eq, divides-nought}
-use Rattle.char2_algebra.proofs.Division.{divides-len, quot-exact, rem-associate}
+use Rattle.char2_algebra.proofs.Division.{divides-len, quot-exact}
 
 module _ {K P : Type 0} {F : Field2 K} (A : Polynomials F P) where
   open Polynomials A using (ring as R, coeff, con, x, len, quot, rem)
@@ -71,9 +71,6 @@ module _ {K P : Type 0} {F : Field2 K} (A : Polynomials F P) where
   pub monic-one : Monic A 𝟙
   monic-one = lead-is 𝟙 0 (len-one A) ∙ coeff-one A
 
-  pub monic-x : Monic A x
-  monic-x = lead-is x 1 (len-x A) ∙ coeff-x-suc A 0 ∙ coeff-one A
-
   pub monic-nonzero : (p : P) → Monic A p → ¬ (p ≡ 𝟘)
   monic-nonzero p m e = F .one≢nought (sym m ∙ ap (lead A) e ∙ lead-nought)
 
@@ -82,9 +79,6 @@ module _ {K P : Type 0} {F : Field2 K} (A : Polynomials F P) where
 
   pub monic-cofactor : (p q : P) → Monic A (p · q) → Monic A q → Monic A p
   monic-cofactor p q m n = sym (·-𝟙 (F .ring) (lead A p)) ∙ ap (λ z. lead A p ⊙ z) (sym n) ∙ sym (lead-mul p q) ∙ m
-
-  pub monic-add-less : (p q : P) → len p < len q → Monic A q → Monic A (p + q)
-  monic-add-less p q h m = lead-add-less p q h ∙ m
 
   -- the highest coefficient of a monic polynomial is one
   pub monic-top : (p : P) (n : ℕ) → Monic A p → len p ≡ suc n → coeff p n ≡ 𝟏
@@ -133,9 +127,6 @@ module _ {K P : Type 0} {F : Field2 K} (A : Polynomials F P) where
   pub monic-of-nonzero : (p : P) → ¬ (p ≡ 𝟘) → ¬ (monic-of A p ≡ 𝟘)
   monic-of-nonzero p h = monic-nonzero (monic-of A p) (monic-of-monic p h)
 
-  pub monic-of-nought : (p : P) → p ≡ 𝟘 → monic-of A p ≡ 𝟘
-  monic-of-nought p e = len-zero A (monic-of A p) (len-monic-of p ∙ ap len e ∙ len-nought A)
-
   pub monic-of-divides : (p : P) → Divides R (monic-of A p) p
   monic-of-divides p = go (is-nought A p)
     where
@@ -162,9 +153,6 @@ module _ {K P : Type 0} {F : Field2 K} (A : Polynomials F P) where
   -- exact quotients of monic polynomials, and remainders by a polynomial made monic
   pub quot-monic : (a b : P) → Monic A a → Monic A b → Divides R b a → Monic A (quot a b)
   quot-monic a b m n d = monic-cofactor (quot a b) b (ap (lead A) (sym (quot-exact A b (monic-nonzero b n) a d)) ∙ m) n
-
-  pub rem-monic-of : (b a : P) → ¬ (b ≡ 𝟘) → rem a (monic-of A b) ≡ rem a b
-  rem-monic-of b a h = rem-associate A b h (monic-of A b) a (divides-monic-of b) (monic-of-divides b)
 
   pub monic-of-fixed : (p : P) → Monic A p → monic-of A p ≡ p
   monic-of-fixed p m =

@@ -1,6 +1,5 @@
 -- Algebra in characteristic 2.
 pub mod Ring
-pub mod Solver
 pub mod Degree
 pub mod Product
 pub mod Divides
@@ -8,13 +7,9 @@ pub mod Division
 pub mod Lead
 pub mod Euclid
 pub mod Square
-pub mod Coefficients
-pub mod Expand
 pub mod Convolution
 pub mod ListCoefficients
 pub mod PolynomialRing
 pub mod ListDivision
 pub mod Polynomial
 pub mod OfList
-pub mod Compare
-pub mod Example

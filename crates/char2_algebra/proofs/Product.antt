@@ -128,12 +128,3 @@ module _ {K P : Type 0} {F : Field2 K} (A : Polynomials F P) where
           let l : suc (len (p · q)) ≡ len p +ℕ len q = len-mul p q h k in
           let c : 0 < len q = len-nonzero A q k in
           omega arith
-
-  -- a factor of a polynomial of length 1 has length 1
-  pub len-factor-of-unit : (p q : P) → len (p · q) ≡ 1 → len p ≡ 1
-  len-factor-of-unit p q e =
-      let h : ¬ (p · q ≡ 𝟘) = nonzero-of-len A (p · q) (omega arith) in
-      let l : suc (len (p · q)) ≡ len p +ℕ len q = len-mul p q (left-nonzero p q h) (right-nonzero p q h) in
-      let a : 0 < len p = len-nonzero A p (left-nonzero p q h) in
-      let b : 0 < len q = len-nonzero A q (right-nonzero p q h) in
-      omega arith

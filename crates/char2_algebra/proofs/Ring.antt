@@ -1,6 +1,6 @@
 -- Commutative rings of characteristic 2: the laws as lemmas with bare names, and `ring2`, the set by which `simp (ring2, R)`
--- proves an identity of a few terms. `by-combination` concludes an equation from hypotheses times coefficients.
-use mathlib.Core.Path.{_≡_, refl, sym, _∙_, ap, ap₂}
+-- proves an identity of a few terms. `by`, `both` and `combine` conclude an equation from hypotheses times coefficients.
+use mathlib.Core.Path.{_≡_, sym, _∙_, ap, ap₂}
 use Rattle.field_laws.specs.Ring.{Ring2}
 
 module _ {A : Type 0} (R : Ring2 A) where

@@ -1,5 +1,5 @@
 -- Squares of polynomials: their even coefficients are the squares of the coefficients, the odd ones are nought; a polynomial without odd
--- powers is the square of `sqrt` of it, of half the degree, monic if it is; a square has one square root.
+-- powers is the square of `sqrt` of it, of half the degree, monic if it is.
 use Prim.Native.Nat.{ℕ, zero, suc, _+_ as _+ℕ_, _≤_}
 use mathlib.Core.Path.{_≡_, sym, _∙_, ap, ap₂, fun-ext}
 use native.Mathlib.Omega.{arith}
@@ -10,7 +10,7 @@ use Rattle.char2_algebra.specs.Lead.{lead, Monic}
 use Rattle.char2_algebra.specs.Square.{tail, sqrt-to, sqrt}
 use Rattle.char2_algebra.proofs.Ring.{ring2, 𝟘-+, ·-𝟙, ·-𝟘, square-+, eq-of-sum, sum-of-eq}
 use Rattle.char2_algebra.proofs.Degree.{split, coeff-tail, len-tail, len-zero, con-mul, con-nought, coeff-con-add-x-mul, coeff-con-add-x-mul-suc, nonzero-of-len}
-use Rattle.char2_algebra.proofs.Product.{field-integral, square-nought, left-nonzero, len-square}
+use Rattle.char2_algebra.proofs.Product.{field-integral, left-nonzero, len-square}
 use Rattle.char2_algebra.proofs.Lead.{lead-mul}
 
 square-of-split : {A : Type 0} (R : Ring2 A) (c x p : A) → R .mul (R .add c (R .mul x p)) (R .add c (R .mul x p)) ≡ R .add (R .mul c c) (R .mul x (R .mul x (R .mul p p)))
@@ -76,10 +76,6 @@ module _ {K P : Type 0} {F : Field2 K} (A : Polynomials F P) where
       ∙ at-square i (tail A p)
       ∙ ap (λ c. squares F c i) (fun-ext (coeff-tail A p))
 
-  -- a square has one square root
-  pub square-injective : (p q : P) → p · p ≡ q · q → p ≡ q
-  square-injective p q e = eq-of-sum R p q (square-nought A (p + q) (square-+ R p q ∙ sum-of-eq R (p · p) (q · q) e))
-
   even-tails : (p : P) → coeff p 1 ≡ 𝟎 → p ≡ con (coeff p 0) + x · (x · tail A (tail A p))
   even-tails p e =
       split A p
@@ -106,9 +102,6 @@ module _ {K P : Type 0} {F : Field2 K} (A : Polynomials F P) where
     unfolding sqrt
     sqrt-square = sqrt-to-square (len p) p (omega arith) odd
 
-    pub coeff-sqrt : (i : ℕ) → coeff (sqrt A p) i ⊙ coeff (sqrt A p) i ≡ coeff p (i +ℕ i)
-    coeff-sqrt i = sym (coeff-square-even i (sqrt A p)) ∙ ap (λ z. coeff z (i +ℕ i)) sqrt-square
-
     pub sqrt-nonzero : ¬ (p ≡ 𝟘) → ¬ (sqrt A p ≡ 𝟘)
     sqrt-nonzero h = left-nonzero A (sqrt A p) (sqrt A p) (λ e. h (sym sqrt-square ∙ e))
 
@@ -120,9 +113,3 @@ module _ {K P : Type 0} {F : Field2 K} (A : Polynomials F P) where
 
     pub sqrt-monic : Monic A p → Monic A (sqrt A p)
     sqrt-monic m = field-square-injective F (lead A (sqrt A p)) 𝟏 (sym (lead-mul A (sqrt A p) (sqrt A p)) ∙ ap (lead A) sqrt-square ∙ m ∙ sym (·-𝟙 (F .ring) 𝟏))
-
-  pub sqrt-of-square : (p : P) → sqrt A (p · p) ≡ p
-  sqrt-of-square p = square-injective (sqrt A (p · p)) p (sqrt-square (p · p) (λ i. coeff-square-odd i p))
-
-  pub sqrt-unique : (p q : P) → q · q ≡ p → sqrt A p ≡ q
-  sqrt-unique p q e = ap (sqrt A) (sym e) ∙ sqrt-of-square q

@@ -1,5 +1,5 @@
--- An operation on reduced classes that multiplies their ideals up to equivalence, however it computes (`Adds`): there is only one
--- (`adds-unique`), and it makes the reduced classes a commutative group with [1, 0] and [u, v + 1] (`adds-group`).
+-- An operation on reduced classes that multiplies their ideals up to equivalence, however it computes (`Adds`), makes
+-- the reduced classes a commutative group with [1, 0] and [u, v + 1] (`adds-group`).
 use Prim.Native.Nat.{_≤_, _<_}
 use mathlib.Core.Path.{_≡_, sym, _∙_, ap}
 use native.Mathlib.{Omega.arith, Decide.decLe}
@@ -113,11 +113,6 @@ module _ {K P : Type 0} {F : Field2 K} {A : Polynomials F P} (C : Curve A) where
       → Reduced C D → Reduced C E → Reduced C D′ → Reduced C E′ → ideal C D ⊗ ideal C E ~ ideal C D′ ⊗ ideal C E′ → _⊕_ D E ≡ _⊞_ D′ E′
   sums-equal a b r s r′ s′ h =
       reduced-unique C (a .closed r s) (b .closed r′ s′) (transitive C (~-sym (functions C) (a .class r s)) (transitive C h (b .class r′ s′)))
-
-  -- there is only one such operation
-  pub adds-unique : {_⊕_ _⊞_ : Pair P → Pair P → Pair P} → Adds _⊕_ → Adds _⊞_ → {D E : Pair P}
-      → Reduced C D → Reduced C E → _⊕_ D E ≡ _⊞_ D E
-  adds-unique a b r s = sums-equal a b r s r s (equal-class C (λ x h. h) (λ x h. h))
 
   pub adds-group : {_⊕_ : Pair P → Pair P → Pair P} → Adds _⊕_ → CommutativeGroup (Reduced C) _⊕_ (neutral C) (opposite C)
   adds-group a = record {

@@ -215,8 +215,5 @@ module _ {P : Type 0} (R : Ring2 P) (f : P) where
   }
 
   module _ (cancel : (c p q : P) → ¬ (c ≡ 𝟘) → c · p ≡ c · q → p ≡ q) (u v : P) (u≢𝟘 : ¬ (u ≡ 𝟘)) (d : Divides R u (v · v + v + f)) where
-    pub double-divides : Divides R (u · u) ((v · v + f) · (v · v + f) + (v · v + f) + f)
-    double-divides = composed-divides cancel (composed-double u v (d .0) u≢𝟘 (d .1))
-
     pub ~-double : ¬ (𝟙 ≡ 𝟘) → Equivalent S (Product S (pair-ideal R u v) (pair-ideal R u v)) (pair-ideal R (u · u) (v · v + f))
     ~-double one = ~-composed cancel (composed-double u v (d .0) u≢𝟘 (d .1)) one

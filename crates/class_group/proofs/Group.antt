@@ -5,15 +5,15 @@
 use mathlib.Core.Path.{_≡_, sym, _∙_, ap}
 use native.Mathlib.{Omega.arith, Decide.decLe}
 use Rattle.field_laws.specs.{Ring.Ring2, Field.Field2}
-use Rattle.char2_algebra.specs.{Polynomials.Polynomials, Lead.Monic, Euclid.Bezout3, Euclid.bezout3}
+use Rattle.char2_algebra.specs.{Polynomials.Polynomials, Euclid.Bezout3, Euclid.bezout3}
 use Rattle.char2_algebra.proofs.{Ring.ring2, Ring.by, Ring.combine, Degree.one-nonzero}
-use Rattle.class_group.specs.{Curve.Curve, Composition.composed, Reduction.reduce, Group.CommutativeGroup}
+use Rattle.class_group.specs.{Curve.Curve, Reduction.reduce, Group.CommutativeGroup}
 use Rattle.class_group.specs.Mumford.{Pair, Reduced, neutral, opposite}
 use Rattle.class_group.specs.Operations.{counted-sum, counted-double, sum, double}
 use Rattle.class_group.proofs.{Ideal.Product, Ideal.Equivalent, Ideal.~-sym, Uniqueness.reduced-unique, SemiReduced.semi-of-reduced}
 use Rattle.class_group.proofs.{Closed.opposite-long, Closed.sum-reduced, Adds.Adds, Adds.adds-group, Adds.short-is-neutral}
 use Rattle.class_group.proofs.GroupLaws.{opposite-unique, opposite-opposite as group-opposite-opposite, doubling-injective}
-use Rattle.class_group.proofs.Composed.{Combines, composed-monic, composed-semi, composed-monic-is, composed-reduces, compose-is, compose-double-is, bezout3-combines, unit-combines}
+use Rattle.class_group.proofs.Composed.{Combines, composed-monic, composed-semi, composed-reduces, compose-is, compose-double-is, bezout3-combines, unit-combines}
 use Rattle.class_group.proofs.Classes.{functions, ideal, transitive, composed-class, reduce-class}
 
 module _ {K P : Type 0} {F : Field2 K} {A : Polynomials F P} (C : Curve A) where
@@ -65,11 +65,6 @@ module _ {K P : Type 0} {F : Field2 K} {A : Polynomials F P} (C : Curve A) where
   sum-independent r s B =
       reduced-unique C (composed-reduces C r s B .reduced) (sum-reduced C r s)
       (transitive C (~-sym (functions C) (reduced-class r s B)) (sum-adds .class r s))
-
-  pub sum-independent-monic : {D E : Pair P} {b : Bezout3 P} → Reduced C D → Reduced C E → Combines C D E b → Monic A (b .e)
-      → reduce C (composed C b D E) .class ≡ sum C D E
-  sum-independent-monic r s B m =
-      ap (λ z. reduce C z .class) (sym (composed-monic-is C (semi-of-reduced C r) (semi-of-reduced C s) B m)) ∙ sum-independent r s B
 
   -- demand 2: the double is the sum with itself
   pub double-sum : {D : Pair P} → Reduced C D → double C D ≡ sum C D D

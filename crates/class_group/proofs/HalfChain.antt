@@ -7,14 +7,13 @@ use Rattle.field_laws.specs.Ring.{Ring2}
 use Rattle.field_laws.specs.Field.{Field2}
 use Rattle.char2_algebra.specs.Polynomials.{Polynomials}
 use Rattle.char2_algebra.specs.Lead.{Monic}
-use Rattle.char2_algebra.specs.Square.{sqrt}
-use Rattle.char2_algebra.proofs.Degree.{len-add, len-add-less, coeff-nought, len-nonzero}
-use Rattle.char2_algebra.proofs.Product.{len-mul, len-mul-le, left-nonzero}
+use Rattle.char2_algebra.proofs.Degree.{len-add, len-add-less}
+use Rattle.char2_algebra.proofs.Product.{len-mul, len-mul-le}
 use Rattle.char2_algebra.proofs.Division.{quot-exact}
 use Rattle.char2_algebra.proofs.Lead.{lead-add-less, monic-nonzero, monic-cofactor, monic-top}
 use Rattle.class_group.specs.Curve.{Curve}
 use Rattle.class_group.specs.Mumford.{Pair, Reduced, value}
-use Rattle.class_group.specs.Half.{Triple, triple, lift, step, halved, quadratic, half, half-by, half-of-degree-1, half-of-degree-2, half-of-degree-3, stepped-of-degree-3, lifted-half-of-degree-2, lifted-half-of-degree-3}
+use Rattle.class_group.specs.Half.{Triple, triple, lift, step, halved, half, half-by, half-of-degree-1, half-of-degree-2, half-of-degree-3, stepped-of-degree-3, lifted-half-of-degree-2, lifted-half-of-degree-3}
 use Rattle.class_group.proofs.Triple.{Meets, Chain, start, lifted, stepped}
 use Rattle.class_group.proofs.Rows.{Even, row-1, row-2, row-2-square, row-3, row-3-square, first-lift, second-lift, first-lift-nonzero}
 use Rattle.class_group.proofs.EvenRoot.{MonicRoot, even-root, even-nonzero}

@@ -9,7 +9,7 @@ use Rattle.char2_algebra.proofs.{Ring.ring2, Ring.+-cancel, Ring.by, Ring.both,
 use Rattle.char2_algebra.proofs.{Divides.divides-refl, Divides.divides-eq, Divides.divides-trans, Divides.divides-right, Divides.divides-product, Divides.divides-add, Division.rem-divides, Lead.monic-nonzero}
 use Rattle.class_group.specs.{Curve.Curve, Mumford.Pair, Mumford.Reduced, Mumford.value, Mumford.neutral, Operations.double}
 use Rattle.class_group.specs.Half.{Triple, triple, lift, step, half, half-by}
-use Rattle.class_group.proofs.{PairIdeal.pair-ideal, Reduction.~-step, Composition.~-double, Ideal.Product, Ideal.Equivalent, Ideal.~-sym}
+use Rattle.class_group.proofs.{Reduction.~-step, Composition.~-double, Ideal.Equivalent, Ideal.~-sym}
 use Rattle.class_group.proofs.{Triple.Meets, Triple.Chain, Triple.start, Triple.lifted, Triple.stepped, Triple.chain-meets}
 use Rattle.class_group.proofs.{HalfChain.HalfChain, HalfChain.half-chain, HalfChain.triple-meets}
 use Rattle.class_group.proofs.{SemiReduced.value-congruent, SemiReduced.semi-of-reduced, Classes.functions, Classes.ideal, Classes.same-class, Classes.transitive, Classes.equal-class}

@@ -75,19 +75,6 @@ module _ {B : Type 0} (S : Ring2 B) where
   pub product-whole⁻¹ : {I : B → Type 0} → Within I (Product Whole I)
   product-whole⁻¹ {I} z h = subst (Product Whole I) (𝟙-· S z) (product-of 𝟙 z tt h)
 
-  pub product-ideal : {I J : B → Type 0} → Ideal I → Ideal (Product I J)
-  product-ideal {I} {J} h = record {
-    nought = none refl;
-    sum = λ {a} {b} s t. product-sum a b s t;
-    multiple = λ c {a} s. times c a s;
-  }
-    where
-      times : (c z : B) → Product I J z → Product I J (c · z)
-      times c z (none e) = none (ap (λ t. c · t) e ∙ ·-𝟘 S c)
-      times c z (more x y r i j s e) =
-          more (c · x) y (c · r) (h .multiple c i) j (times c r s)
-          (ap (λ t. c · t) e ∙ S .mul-add c (x · y) r ∙ ap (λ t. t + c · r) (sym (S .mul-assoc c x y)))
-
   -- α I is within β J
   abbrev pub Carries : (α β : B) (I J : B → Type 0) → Type 0
   Carries α β I J = (a : B) → I a → (b : B) × J b × (α · a ≡ β · b)
@@ -181,6 +168,3 @@ module _ {B : Type 0} (S : Ring2 B) where
     forth = λ z i. let r = h z i in (r .0, r .1, 𝟙-· S z ∙ r .2);
     back = λ a j. (α · a, k (α · a) (a, j, refl), sym (𝟙-· S (α · a)));
   }
-
-  pub ~-scaled : {I : B → Type 0} (α : B) → ¬ (𝟙 ≡ 𝟘) → ¬ (α ≡ 𝟘) → Equivalent (Scaled α I) I
-  ~-scaled α one α≢𝟘 = ~-of-scaled α one α≢𝟘 (λ z i. i) (λ z i. i)

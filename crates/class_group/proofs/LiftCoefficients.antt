@@ -1,6 +1,6 @@
 -- The coefficients of w + k + k² u, the third polynomial of a lift by k = k2 x² + k1 x + k0.
-use Prim.Native.Nat.{ℕ, zero, suc, _+_}
-use mathlib.Core.Path.{_≡_, refl, sym, _∙_, ap, ap₂}
+use Prim.Native.Nat.{ℕ, suc}
+use mathlib.Core.Path.{_≡_, sym, _∙_, ap, ap₂}
 use Rattle.field_laws.specs.Ring.{Ring2}
 use Rattle.field_laws.specs.Field.{Field2}
 use Rattle.char2_algebra.specs.Polynomials.{Polynomials}

@@ -1,7 +1,7 @@
 -- The rows of the halving rule: after the lift that `half` chooses, no odd power is left in the third polynomial, and a constant
 -- times its highest coefficient is one.
 use Prim.Native.Nat.{ℕ, zero, suc, _≤_, _<_, _+_}
-use mathlib.Core.Path.{_≡_, refl, sym, _∙_, ap, ap₂}
+use mathlib.Core.Path.{_≡_, refl, sym, _∙_, ap}
 use native.Mathlib.Omega.{arith}
 use Rattle.field_laws.specs.Ring.{Ring2}
 use Rattle.field_laws.specs.Field.{Field2}

@@ -1,9 +1,8 @@
 -- The curve whose f has given coefficients below x^7.
 use Prim.Native.Nat.{ℕ, _<_}
 use mathlib.Core.Path.{_≡_, _∙_}
-use mathlib.Core.List.{List, [], _∷_}
+use mathlib.Core.List.{[], _∷_}
 use lib.ListN.{List·getD-eq-default}
-use native.Mathlib.Omega.{arith}
 use Rattle.field_laws.specs.Field.{Field2}
 use Rattle.char2_algebra.specs.Polynomial.{Polynomial, of-list}
 use Rattle.char2_algebra.proofs.Polynomial.{polynomials}

@@ -1,5 +1,4 @@
 -- A curve y² + y = f(x): any monic f of degree 7. Document 01's f = x^7 + f3 x^3 + f1 x + f0 is a case of it.
-use Prim.Native.Nat.{ℕ}
 use mathlib.Core.Path.{_≡_}
 use Rattle.field_laws.specs.Field.{Field2}
 use Rattle.char2_algebra.specs.Polynomials.{Polynomials}

@@ -1,8 +1,7 @@
 -- A class as a Mumford pair [u, v], and which pairs are reduced classes (document 01, 'Curves and classes': u monic of degree
 -- at most 3, v of smaller degree than u, u a divisor of v² + v + f). `len` is the degree plus one.
-use Prim.Native.Nat.{ℕ, _≤_, _<_}
-use mathlib.Core.Path.{_≡_}
-use mathlib.Core.Bool.{Bool, true, false}
+use Prim.Native.Nat.{_≤_, _<_}
+use mathlib.Core.Bool.{true, false}
 use lib.Dec.{ltb}
 use Rattle.field_laws.specs.Ring.{Ring2}
 use Rattle.field_laws.specs.Field.{Field2}
