@@ -1,13 +1,13 @@
 -- The reduced classes are a commutative group under Cantor's sum (`classes`): `sum-comm`, `sum-assoc`, `sum-neutral`, `sum-opposite`,
 -- `opposite-opposite`. The sum does not depend on the coefficients by which e is combined, nor on e being monic (`sum-independent`).
 -- The double is the sum with itself (`double-sum`), only the neutral class doubles to it (`no-torsion`), and doubling is injective
--- (`double-injective`). A reduced class whose ideal is equivalent to the product is the sum (`sum-from-class`, `double-from-class`).
+-- (`double-injective`); `class-doubling` says both. A reduced class whose ideal is equivalent to the product is the sum (`sum-from-class`, `double-from-class`).
 use mathlib.Core.Path.{_≡_, sym, _∙_, ap}
 use native.Mathlib.{Omega.arith, Decide.decLe}
 use Rattle.field_laws.specs.{Ring.Ring2, Field.Field2}
 use Rattle.char2_algebra.specs.{Polynomials.Polynomials, Euclid.Bezout3, Euclid.bezout3}
 use Rattle.char2_algebra.proofs.{Ring.ring2, Ring.by, Ring.combine, Degree.one-nonzero}
-use Rattle.class_group.specs.{Curve.Curve, Reduction.reduce, Group.CommutativeGroup}
+use Rattle.class_group.specs.{Curve.Curve, Reduction.reduce, Group.CommutativeGroup, Group.Doubling}
 use Rattle.class_group.specs.Mumford.{Pair, Reduced, neutral, opposite}
 use Rattle.class_group.specs.Operations.{counted-sum, counted-double, sum, double}
 use Rattle.class_group.proofs.{Ideal.Product, Ideal.Equivalent, Ideal.~-sym, Uniqueness.reduced-unique, SemiReduced.semi-of-reduced}
@@ -94,3 +94,7 @@ module _ {K P : Type 0} {F : Field2 K} {A : Polynomials F P} (C : Curve A) where
   pub double-injective : {D E : Pair P} → Reduced C D → Reduced C E → double C D ≡ double C E → D ≡ E
   double-injective r s e =
       doubling-injective classes (λ a m h. no-torsion m h) r s (sym (double-sum r) ∙ e ∙ double-sum s)
+
+  -- the reduced classes are a group in which doubling is one to one
+  pub class-doubling : Doubling (Reduced C) (sum C) (neutral C) (opposite C) (double C)
+  class-doubling = record { group = classes; double-sum = λ r. double-sum r; double-injective = λ r s e. double-injective r s e }

@@ -1,5 +1,5 @@
 -- Halving: the half of a reduced class is a reduced class (`half-reduced`) whose double is the class (`double-half`); it is the only one
--- (`half-unique`), and halving takes doubling back (`half-double`). Demands 2 and 3.
+-- (`half-unique`), and halving takes doubling back (`half-double`). `class-halving`: the classes are a group with halves. Demands 2 and 3.
 use Prim.Native.Nat.{ℕ, zero, suc, _≤_, _<_}
 use mathlib.Core.Path.{_≡_, refl, sym, _∙_, ap, subst}
 use native.Mathlib.{Omega.arith, Decide.decLe}
@@ -7,13 +7,13 @@ use Rattle.field_laws.specs.{Ring.Ring2, Field.Field2}
 use Rattle.char2_algebra.specs.{Polynomials.Polynomials, Divides.Divides}
 use Rattle.char2_algebra.proofs.{Ring.ring2, Ring.+-cancel, Ring.by, Ring.both, Ring.combine, Degree.con-mul, Degree.con-one, Degree.one-nonzero, Product.cancel-left}
 use Rattle.char2_algebra.proofs.{Divides.divides-refl, Divides.divides-eq, Divides.divides-trans, Divides.divides-right, Divides.divides-product, Divides.divides-add, Division.rem-divides, Lead.monic-nonzero}
-use Rattle.class_group.specs.{Curve.Curve, Mumford.Pair, Mumford.Reduced, Mumford.value, Mumford.neutral, Operations.double}
+use Rattle.class_group.specs.{Curve.Curve, Mumford.Pair, Mumford.Reduced, Mumford.value, Mumford.neutral, Mumford.opposite, Operations.sum, Operations.double, Group.Halving}
 use Rattle.class_group.specs.Half.{Triple, triple, lift, step, half, half-by}
 use Rattle.class_group.proofs.{Reduction.~-step, Composition.~-double, Ideal.Equivalent, Ideal.~-sym}
 use Rattle.class_group.proofs.{Triple.Meets, Triple.Chain, Triple.start, Triple.lifted, Triple.stepped, Triple.chain-meets}
 use Rattle.class_group.proofs.{HalfChain.HalfChain, HalfChain.half-chain, HalfChain.triple-meets}
 use Rattle.class_group.proofs.{SemiReduced.value-congruent, SemiReduced.semi-of-reduced, Classes.functions, Classes.ideal, Classes.same-class, Classes.transitive, Classes.equal-class}
-use Rattle.class_group.proofs.{Adds.short-is-neutral, Closed.neutral-reduced, Closed.double-reduced, Group.double-from-class, Group.double-sum, Group.sum-neutral, Group.double-injective}
+use Rattle.class_group.proofs.{Adds.short-is-neutral, Closed.neutral-reduced, Closed.double-reduced, Group.double-from-class, Group.double-sum, Group.sum-neutral, Group.double-injective, Group.class-doubling, Doublings.half-double as group-half-double}
 
 module _ {B : Type 0} (R : Ring2 B) where
   open Ring2 R using (add as _+_, mul as _·_, one as 𝟙)
@@ -144,6 +144,10 @@ module _ {K P : Type 0} {F : Field2 K} {A : Polynomials F P} (C : Curve A) where
   pub half-unique : {D E : Pair P} → Reduced C D → Reduced C E → double C E ≡ D → E ≡ half C D
   half-unique r s e = double-injective C s (half-reduced r) (e ∙ sym (double-half r))
 
+  -- the reduced classes are a group in which each has one half
+  pub class-halving : Halving (Reduced C) (sum C) (neutral C) (opposite C) (double C) (half C)
+  class-halving = record { doubling = class-doubling C; half-closed = λ r. half-reduced r; double-half = λ r. double-half r }
+
   -- demand 3: doubling and halving undo each other
   pub half-double : {D : Pair P} → Reduced C D → half C (double C D) ≡ D
-  half-double r = sym (half-unique (double-reduced C r) r refl)
+  half-double r = group-half-double class-halving r

@@ -4,8 +4,8 @@ use mathlib.Core.{Path._≡_, Path.sym, Path._∙_, List.List}
 use Rattle.field_laws.specs.{Ring.Ring2, Field.Field2}
 use Rattle.char2_algebra.specs.Polynomials.{Polynomials}
 use Rattle.char2_algebra.proofs.Ring.{ring2}
-use Rattle.class_group.specs.Curve.{Curve}
-use Rattle.class_group.specs.NonSingular.{Over, weighted, derivative, evaluate, multiple, evaluate-at, derivative-by-y, equation, equation-over, Singular}
+use Rattle.class_group.specs.{Curve.Curve, Multiples.multiple}
+use Rattle.class_group.specs.NonSingular.{Over, weighted, derivative, evaluate, evaluate-at, derivative-by-y, equation, equation-over, Singular}
 
 module _ {L : Type 0} (R : Ring2 L) where
   open Ring2 R using (add as _+_, mul as _·_, nought as 𝟘, one as 𝟙)

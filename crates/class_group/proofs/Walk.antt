@@ -1,14 +1,18 @@
--- Walks by a rule and back by a rule that takes it back, wherever the rule was accepted (`Along`).
--- `after-reverse`: the way back over the reversed list ends at the start. `after-newest`: over the newest part of the list, reversed, it
--- ends where that part began. `walk-reverse`: it meets the same states in reverse order. `walk-members`: all states are members.
-use mathlib.Core.Path.{_≡_, refl, sym, _∙_, ap}
-use mathlib.Core.List.{List, [], _∷_, _++_, reverse, reverse-cons}
-use Rattle.class_group.specs.Walk.{All, none, more, after, walk}
+-- Walks by a rule over a list, and back by a rule that takes it back (`Reversible`).
+-- `after-reverse`: the way back over the reversed list ends at the start. `walk-reverse`: it meets the same states in reverse order. `only-start`: where it
+-- ends is the only start from which the rule leads there, and `after-back`: it is one. `after-injective`: different starts have different ends. `after-member`,
+-- `walk-members`: all that is met are states.
+use mathlib.Core.Path.{_≡_, refl, sym, _∙_, ap, subst}
+use mathlib.Core.List.{List, [], _∷_, _++_, reverse, reverse-cons, reverse-reverse}
+use Rattle.class_group.specs.Walk.{All, none, more, after, walk, Reversible}
 
--- the rule is accepted at every step of a walk
-pub data Along {X Y : Type 0} (rule : X → Y → X) (Accepts : X → Y → Type 0) : X → List Y → Type 0 where
-  stay : {s : X} → Along rule Accepts s []
-  go : {s : X} {c : Y} {l : List Y} → Accepts s c → Along rule Accepts (rule s c) l → Along rule Accepts s (c ∷ l)
+pub all-append : {X : Type 0} {Member : X → Type 0} {l m : List X} → All Member l → All Member m → All Member (l ++ m)
+all-append none k = k
+all-append (more h r) k = more h (all-append r k)
+
+pub all-reverse : {X : Type 0} {Member : X → Type 0} {l : List X} → All Member l → All Member (reverse l)
+all-reverse none = none
+all-reverse (more {a = a} {l = l} h r) = rw (reverse-cons a l) (all-append (all-reverse r) (more h none))
 
 module _ {X Y : Type 0} (rule : X → Y → X) where
   pub after-append : (s : X) (l m : List Y) → after rule s (l ++ m) ≡ after rule (after rule s l) m
@@ -16,17 +20,16 @@ module _ {X Y : Type 0} (rule : X → Y → X) where
   after-append s [] m = refl
   after-append s (c ∷ l) m = after-append (rule s c) l m
 
+  pub after-reverse-cons : (s : X) (c : Y) (l : List Y) → after rule s (reverse (c ∷ l)) ≡ rule (after rule s (reverse l)) c
+  unfolding after
+  after-reverse-cons s c l = ap (after rule s) (reverse-cons c l) ∙ after-append s (reverse l) (c ∷ [])
+
   walk-append : (s : X) (l : List Y) (c : Y) → walk rule s (l ++ (c ∷ [])) ≡ walk rule s l ++ (rule (after rule s l) c ∷ [])
   unfolding after walk
   walk-append s [] c = refl
   walk-append s (b ∷ l) c = ap (λ m. s ∷ m) (walk-append (rule s b) l c)
 
-  pub along-newest : {Accepts : X → Y → Type 0} {s : X} (l : List Y) {m : List Y} → Along rule Accepts s (l ++ m) → Along rule Accepts (after rule s l) m
-  unfolding after
-  along-newest [] h = h
-  along-newest (c ∷ l) (go k h) = along-newest l h
-
-  -- a rule that keeps the members, at steps that are allowed
+  -- a rule that keeps the states
   module _ {State : X → Type 0} {Step : Y → Type 0} (closed : (s : X) (c : Y) → State s → Step c → State (rule s c)) where
     pub after-member : {s : X} {l : List Y} → State s → All Step l → State (after rule s l)
     unfolding after
@@ -38,31 +41,45 @@ module _ {X Y : Type 0} (rule : X → Y → X) where
     walk-members h none = more h none
     walk-members {s} h (more {a = c} k r) = more h (walk-members (closed s c h k) r)
 
-    pub along-members : {s : X} {l : List Y} → State s → All Step l → Along rule (λ t c. State t × Step c) s l
-    along-members h none = stay
-    along-members {s} h (more {a = c} k r) = go (h, k) (along-members (closed s c h k) r)
+    -- one to one from step to step, so from end to end
+    pub after-injective : ((s t : X) (c : Y) → State s → State t → Step c → rule s c ≡ rule t c → s ≡ t)
+        → {s t : X} {l : List Y} → State s → State t → All Step l → after rule s l ≡ after rule t l → s ≡ t
+    unfolding after
+    after-injective one h k none e = e
+    after-injective one {s} {t} h k (more {a = c} m r) e = one s t c h k m (after-injective one (closed s c h m) (closed t c k m) r e)
 
--- a second rule that takes the first back where it was accepted
-module _ {X Y : Type 0} (rule back : X → Y → X) {Accepts : X → Y → Type 0} (inverse : (s : X) (c : Y) → Accepts s c → back (rule s c) c ≡ s) where
-  pub after-reverse : {s : X} {l : List Y} → Along rule Accepts s l → after back (after rule s l) (reverse l) ≡ s
+module _ {X Y : Type 0} {State : X → Type 0} {Step : Y → Type 0} {rule back : X → Y → X} (R : Reversible State Step rule back) where
+  pub after-state : {s : X} {l : List Y} → State s → All Step l → State (after rule s l)
+  after-state = after-member rule {State = State} {Step = Step} (λ s c h k. R .rule-closed h k)
+
+  pub walk-states : {s : X} {l : List Y} → State s → All Step l → All State (walk rule s l)
+  walk-states = walk-members rule {State = State} {Step = Step} (λ s c h k. R .rule-closed h k)
+
+  pub after-reverse : {s : X} {l : List Y} → State s → All Step l → after back (after rule s l) (reverse l) ≡ s
   unfolding after
-  after-reverse stay = refl
-  after-reverse (go {s = s} {c = c} {l = l} k r) =
-      ap (after back (after rule (rule s c) l)) (reverse-cons c l)
-      ∙ after-append back (after rule (rule s c) l) (reverse l) (c ∷ [])
-      ∙ ap (λ z. back z c) (after-reverse r)
-      ∙ inverse s c k
+  after-reverse h none = refl
+  after-reverse {s} h (more {a = c} {l = l} k r) =
+      after-reverse-cons back (after rule (rule s c) l) c l ∙ ap (λ z. back z c) (after-reverse (R .rule-closed h k) r) ∙ R .back-rule h k
 
-  pub after-newest : {s : X} (l m : List Y) → Along rule Accepts s (l ++ m)
-      → after back (after rule s (l ++ m)) (reverse m) ≡ after rule s l
-  after-newest {s} l m h = ap (λ z. after back z (reverse m)) (after-append rule s l m) ∙ after-reverse (along-newest rule l h)
-
-  pub walk-reverse : {s : X} {l : List Y} → Along rule Accepts s l → walk back (after rule s l) (reverse l) ≡ reverse (walk rule s l)
+  pub walk-reverse : {s : X} {l : List Y} → State s → All Step l → walk back (after rule s l) (reverse l) ≡ reverse (walk rule s l)
   unfolding after walk
-  walk-reverse stay = refl
-  walk-reverse (go {s = s} {c = c} {l = l} k r) =
+  walk-reverse h none = refl
+  walk-reverse {s} h (more {a = c} {l = l} k r) =
       ap (walk back (after rule (rule s c) l)) (reverse-cons c l)
       ∙ walk-append back (after rule (rule s c) l) (reverse l) c
-      ∙ ap (λ m. m ++ (back (after back (after rule (rule s c) l) (reverse l)) c ∷ [])) (walk-reverse r)
-      ∙ ap (λ z. reverse (walk rule (rule s c) l) ++ (z ∷ [])) (ap (λ z. back z c) (after-reverse r) ∙ inverse s c k)
+      ∙ ap (λ m. m ++ (back (after back (after rule (rule s c) l) (reverse l)) c ∷ [])) (walk-reverse (R .rule-closed h k) r)
+      ∙ ap (λ z. reverse (walk rule (rule s c) l) ++ (z ∷ [])) (ap (λ z. back z c) (after-reverse (R .rule-closed h k) r) ∙ R .back-rule h k)
       ∙ sym (reverse-cons s (walk rule (rule s c) l))
+
+  -- no other start leads there than the one that the way back finds,
+  pub only-start : {s t : X} {l : List Y} → State s → All Step l → after rule s l ≡ t → s ≡ after back t (reverse l)
+  only-start {l = l} h k e = sym (after-reverse h k) ∙ ap (λ z. after back z (reverse l)) e
+
+  -- the rules change places
+  pub turned : Reversible State Step back rule
+  turned = record { rule-closed = λ h k. R .back-closed h k; back-closed = λ h k. R .rule-closed h k; back-rule = λ h k. R .rule-back h k; rule-back = λ h k. R .back-rule h k }
+
+module _ {X Y : Type 0} {State : X → Type 0} {Step : Y → Type 0} {rule back : X → Y → X} (R : Reversible State Step rule back) where
+  -- and that one does
+  pub after-back : {t : X} {l : List Y} → State t → All Step l → after rule (after back t (reverse l)) l ≡ t
+  after-back {t} {l} h k = ap (after rule (after back t (reverse l))) (sym (reverse-reverse l)) ∙ after-reverse (turned R) h (all-reverse k)

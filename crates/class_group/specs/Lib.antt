@@ -7,6 +7,7 @@ pub mod Operations
 pub mod Half
 pub mod Coefficients
 pub mod Group
+pub mod Multiples
 pub mod Moves
 pub mod Walk
 pub mod NonSingular

@@ -8,7 +8,7 @@ use mathlib.Core.List.{List, [], _∷_, map}
 use Rattle.field_laws.specs.Ring.{Ring2}
 use Rattle.field_laws.specs.Field.{Field2}
 use Rattle.char2_algebra.specs.Polynomials.{Polynomials}
-use Rattle.class_group.specs.Curve.{Curve}
+use Rattle.class_group.specs.{Curve.Curve, Multiples.multiple}
 
 -- a ring of characteristic 2 with 1 ≠ 0, and the homomorphism by which it lies over the ring R
 pub record Over {K : Type 0} (R : Ring2 K) (L : Type 0) : Type 0 where
@@ -44,21 +44,16 @@ module _ {L : Type 0} (R : Ring2 L) where
   evaluate [] t = 𝟘
   evaluate (a ∷ p) t = a + t · evaluate p t
 
-  -- n a, the sum of n terms a
-  unfoldable pub multiple : ℕ → L → L
-  multiple zero a = 𝟘
-  multiple (suc n) a = a + multiple n a
-
   -- a polynomial in x and y is the list of the coefficients of 1, y, y², ..; its value at x, y
   unfoldable pub evaluate-at : List (List L) → L → L → L
   evaluate-at p x y = evaluate (map (λ a. evaluate a x) p) y
 
   -- its partial derivatives
   unfoldable pub derivative-by-x : List (List L) → List (List L)
-  derivative-by-x p = map (derivative multiple) p
+  derivative-by-x p = map (derivative (multiple _+_ 𝟘)) p
 
   unfoldable pub derivative-by-y : List (List L) → List (List L)
-  derivative-by-y p = derivative (λ n. map (multiple n)) p
+  derivative-by-y p = derivative (λ n. map (multiple _+_ 𝟘 n)) p
 
   -- y² + y + f, for f given by its coefficients
   unfoldable pub equation : List L → List (List L)

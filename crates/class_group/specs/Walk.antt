@@ -1,4 +1,5 @@
 -- What a rule leads to over a list, and what it meets on the way (document 01, 'The register').
+use mathlib.Core.Path.{_≡_}
 use mathlib.Core.List.{List, [], _∷_}
 
 -- each element of a list is a member
@@ -16,3 +17,10 @@ module _ {X Y : Type 0} (rule : X → Y → X) where
   unfoldable pub walk : X → List Y → List X
   walk s [] = s ∷ []
   walk s (c ∷ l) = s ∷ walk (rule s c) l
+
+-- two rules that keep the states, each of which takes the other back
+pub record Reversible {X Y : Type 0} (State : X → Type 0) (Step : Y → Type 0) (rule back : X → Y → X) : Type 0 where
+  pub rule-closed : {s : X} {c : Y} → State s → Step c → State (rule s c)
+  pub back-closed : {s : X} {c : Y} → State s → Step c → State (back s c)
+  pub back-rule : {s : X} {c : Y} → State s → Step c → back (rule s c) c ≡ s
+  pub rule-back : {s : X} {c : Y} → State s → Step c → rule (back s c) c ≡ s

@@ -1,0 +1,114 @@
+-- Walks in a commutative group by double and add, s ↦ 2 s + d, and back by subtract and halve, s ↦ half of (s - d).
+-- `forward-end`: over d1, .., dn from s it ends in 2^n s + 2^(n-1) d1 + .. + dn. `displacement`: where two lists differ at one place alone, the ends are
+-- as many doublings of the difference apart as there are places after it; `changed-end`: so they differ where the elements do; `suppression`: with the neutral
+-- element in its place. `forward-injective`: different starts have different ends. `reversible`: the two rules take each other back, so that all of proofs/Walk.antt holds of them.
+use Prim.Native.Nat.{ℕ}
+use mathlib.Core.Path.{_≡_, refl, sym, _∙_, ap}
+use mathlib.Core.List.{List, [], _∷_, _++_}
+use lib.ListN.{length}
+use Rattle.class_group.specs.Group.{CommutativeGroup, Doubling, Halving}
+use Rattle.class_group.specs.{Multiples.repeat, Multiples.weighted-sum}
+use Rattle.class_group.specs.Walk.{All, none, more, after, Reversible}
+use Rattle.class_group.proofs.GroupLaws.{sums, add-subtract, subtract-add, neutral-sum, cancel-left, cancel-right, interchange}
+use Rattle.class_group.proofs.Doublings.{double-member, half-double, repeat-inner, doublings-member, doublings-sum, doublings-opposite}
+use Rattle.class_group.proofs.Walk.{after-append, after-member, after-injective}
+
+module _ {X : Type 0} {Member : X → Type 0} {_+_ : X → X → X} {nought : X} {minus double : X → X} (D : Doubling Member _+_ nought minus double) where
+  infixl 60 _+_
+  abbrev G : CommutativeGroup Member _+_ nought minus
+  G = D .group
+
+  abbrev forward : X → List X → X
+  forward s l = after (λ s d. double s + d) s l
+
+  forward-closed : (s d : X) → Member s → Member d → Member (double s + d)
+  forward-closed s d h k = G .sum-closed (double-member D h) k
+
+  pub forward-member : {s : X} {l : List X} → Member s → All Member l → Member (forward s l)
+  forward-member = after-member (λ s d. double s + d) forward-closed
+
+  -- a start moved by t moves the end by 2^n t
+  moved : {s t d : X} → Member s → Member t → Member d → double (s + t) + d ≡ double s + d + double t
+  moved {s} {t} {d} h k m = rw (D .double-sum (G .sum-closed h k), D .double-sum h, D .double-sum k) (simp (sums, G))
+
+  pub start-displacement : {s t : X} {l : List X} → Member s → Member t → All Member l
+      → forward (s + t) l ≡ forward s l + repeat double (length l) t
+  unfolding after repeat
+  start-displacement h k none = refl
+  start-displacement {s} {t} h k (more {a = d} {l = l} m r) =
+      ap (λ z. forward z l) (moved h k m)
+      ∙ start-displacement (forward-closed s d h m) (double-member D k) r
+      ∙ ap (λ z. forward (double s + d) l + z) (repeat-inner double (length l) t)
+
+  pub forward-injective : {s t : X} {l : List X} → Member s → Member t → All Member l → forward s l ≡ forward t l → s ≡ t
+  forward-injective =
+      after-injective (λ s d. double s + d) forward-closed
+      (λ s t d h k m e. D .double-injective h k (cancel-right G (double-member D h) (double-member D k) m e))
+
+  -- the closed form of the end
+  weighted-member : {l : List X} → All Member l → Member (weighted-sum _+_ nought double l)
+  unfolding weighted-sum
+  weighted-member none = G .neutral-closed
+  weighted-member (more {l = l} h r) = G .sum-closed (doublings-member D (length l) h) (weighted-member r)
+
+  pub forward-end : {s : X} {l : List X} → Member s → All Member l → forward s l ≡ repeat double (length l) s + weighted-sum _+_ nought double l
+  unfolding after repeat weighted-sum
+  forward-end h none = sym (G .sum-neutral h)
+  forward-end {s} h (more {a = d} {l = l} k r) =
+      let n = length l in
+      let w = weighted-sum _+_ nought double l in
+      forward-end (forward-closed s d h k) r
+      ∙ ap (λ z. z + w) (doublings-sum D n (double-member D h) k ∙ ap (λ z. z + repeat double n d) (repeat-inner double n s))
+      ∙ G .assoc (double-member D (doublings-member D n h)) (doublings-member D n k) (weighted-member r)
+
+  -- d at one place of the list, or e
+  module _ {s d e : X} {l m : List X} (hs : Member s) (hl : All Member l) (hd : Member d) (he : Member e) (hm : All Member m) where
+    before : Member (double (forward s l))
+    before = double-member D (forward-member hs hl)
+
+    split : (c : X) → forward s (l ++ (c ∷ m)) ≡ forward (double (forward s l) + c) m
+    unfolding after
+    split c = after-append (λ s d. double s + d) s l (c ∷ m)
+
+    -- d and the difference make e
+    replaced : double (forward s l) + e ≡ double (forward s l) + d + (e + minus d)
+    replaced =
+        sym
+        (interchange G before hd he (G .opposite-closed hd)
+        ∙ ap (λ z. double (forward s l) + e + z) (G .sum-opposite hd)
+        ∙ G .sum-neutral (G .sum-closed before he))
+
+    pub displacement : forward s (l ++ (e ∷ m)) ≡ forward s (l ++ (d ∷ m)) + repeat double (length m) (e + minus d)
+    displacement =
+        split e
+        ∙ ap (λ z. forward z m) replaced
+        ∙ start-displacement (G .sum-closed before hd) (G .sum-closed he (G .opposite-closed hd)) hm
+        ∙ ap (λ z. z + repeat double (length m) (e + minus d)) (sym (split d))
+
+    pub same-end : forward s (l ++ (d ∷ m)) ≡ forward s (l ++ (e ∷ m)) → d ≡ e
+    same-end h =
+        cancel-left G hd he before
+        (forward-injective (G .sum-closed before hd) (G .sum-closed before he) hm (sym (split d) ∙ h ∙ split e))
+
+    pub changed-end : ¬ (d ≡ e) → ¬ (forward s (l ++ (d ∷ m)) ≡ forward s (l ++ (e ∷ m)))
+    changed-end n h = n (same-end h)
+
+  -- the neutral element in place of d
+  pub suppression : {s d : X} {l m : List X} → Member s → All Member l → Member d → All Member m
+      → forward s (l ++ (nought ∷ m)) ≡ forward s (l ++ (d ∷ m)) + minus (repeat double (length m) d)
+  suppression {s} {d} {l} {m} hs hl hd hm =
+      displacement hs hl hd (G .neutral-closed) hm
+      ∙ ap (λ z. forward s (l ++ (d ∷ m)) + z) (ap (repeat double (length m)) (neutral-sum G (G .opposite-closed hd)) ∙ doublings-opposite D (length m) hd)
+
+module _ {X : Type 0} {Member : X → Type 0} {_+_ : X → X → X} {nought : X} {minus double half : X → X} (H : Halving Member _+_ nought minus double half) where
+  infixl 60 _+_
+  pub reversible : Reversible Member Member (λ s d. double s + d) (λ s d. half (s + minus d))
+  reversible =
+      let D = H .doubling in
+      let G = D .group in
+      record {
+        rule-closed = λ h k. G .sum-closed (double-member D h) k;
+        back-closed = λ h k. H .half-closed (G .sum-closed h (G .opposite-closed k));
+        back-rule = λ h k. ap half (add-subtract G (double-member D h) k) ∙ half-double H h;
+        rule-back = λ {s} {c} h k. ap (λ z. z + c) (H .double-half (G .sum-closed h (G .opposite-closed k))) ∙ subtract-add G h k;
+      }
