@@ -1,4 +1,4 @@
--- Algebra in characteristic 2.
+-- Algebra in characteristic 2. Rings, and polynomials by the record of what they need:
 pub mod Ring
 pub mod Degree
 pub mod Product
@@ -7,6 +7,7 @@ pub mod Division
 pub mod Lead
 pub mod Euclid
 pub mod Square
+-- trimmed lists of coefficients are such polynomials, `Polynomial`
 pub mod Convolution
 pub mod ListCoefficients
 pub mod PolynomialRing

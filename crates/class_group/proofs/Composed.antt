@@ -12,7 +12,7 @@ use Rattle.char2_algebra.proofs.Ring.{ring2, ·-comm, ·-𝟘, ·-𝟙}
 use Rattle.char2_algebra.proofs.Division.{quot-exact, quot-mul, rem-divides, divides-len}
 use Rattle.char2_algebra.proofs.Lead.{monic-nonzero, monic-mul, monic-cofactor, monic-of-monic, monic-of-divides, divides-monic-of, monic-antisym, monic-one, len-monic-of}
 use Rattle.class_group.specs.{Curve.Curve, Mumford.Pair, Mumford.Reduced, Mumford.value, Composition.composed, Composition.compose, Composition.compose-double, Reduction.reduce}
-use Rattle.class_group.proofs.Composition.{Composed, numerator-divides, composed-divides, composed-nonzero as parts-nonzero}
+use Rattle.class_group.proofs.Composition.{Composed, numerator-divides, composed-divides, composed-nonzero as parts-nonzero, Identities.double-bezout}
 use Rattle.class_group.proofs.SemiReduced.{SemiReduced, semi-of-reduced, value-congruent, Ended, reduce-ended}
 
 module _ {K P : Type 0} {F : Field2 K} {A : Polynomials F P} (C : Curve A) where
@@ -181,14 +181,11 @@ module _ {K P : Type 0} {F : Field2 K} {A : Polynomials F P} (C : Curve A) where
   pub unit-combines : (D : Pair P) → Combines D D unit-bezout
   unfolding unit-bezout
   unit-combines D = record {
-    combination = one-is (D .u) (D .v);
+    combination = double-bezout R (D .u) (D .v);
     divides-first = one-divides R (D .u);
     divides-second = one-divides R (D .u);
     divides-third = one-divides R (D .v + D .v + 𝟙);
   }
-    where
-      one-is : (u v : P) → 𝟙 ≡ 𝟘 · u + 𝟘 · u + 𝟙 · (v + v + 𝟙)
-      one-is u v = simp (ring2, R)
 
   quot-one : (a : P) → quot a 𝟙 ≡ a
   quot-one a = ap (λ z. quot z 𝟙) (sym (·-𝟙 R a)) ∙ quot-mul A 𝟙 (one-nonzero A) a

@@ -2,7 +2,7 @@
 -- (`lowest-first-multiple`); `highest-turn`, `lowest-turn`: one turn of each loop.
 use Prim.Native.Nat.{ℕ, zero, suc, _+_ as _+ℕ_, _*_, _^_, _/_, _%_, _<_}
 use mathlib.Core.Path.{_≡_, sym, _∙_, ap, ap₂}
-use native.Mathlib.{Omega.arith, Nat.pow-zero, Nat.pow-suc}
+use native.Mathlib.{Omega.arith, Nat.pow-suc}
 use Rattle.class_group.specs.Group.{CommutativeGroup, Doubling}
 use Rattle.class_group.specs.Multiples.{multiple, add-digit, highest-first, lowest-first}
 use Rattle.class_group.proofs.Multiples.{multiple-member, multiple-add, multiple-zero}

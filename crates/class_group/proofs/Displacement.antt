@@ -2,7 +2,6 @@
 -- `forward-end`: over d1, .., dn from s it ends in 2^n s + 2^(n-1) d1 + .. + dn. `displacement`: where two lists differ at one place alone, the ends are
 -- as many doublings of the difference apart as there are places after it; `changed-end`: so they differ where the elements do; `suppression`: with the neutral
 -- element in its place. `forward-injective`: different starts have different ends. `reversible`: the two rules take each other back, so that all of proofs/Walk.antt holds of them.
-use Prim.Native.Nat.{ℕ}
 use mathlib.Core.Path.{_≡_, refl, sym, _∙_, ap}
 use mathlib.Core.List.{List, [], _∷_, _++_}
 use lib.ListN.{length}

@@ -3,7 +3,7 @@
 -- they are one to one where doubling is. `halvings-doublings`, `doublings-halvings`: k halvings and k doublings undo each other.
 use Prim.Native.Nat.{ℕ, zero, suc, _+_ as _+ℕ_, _*_, _^_}
 use mathlib.Core.Path.{_≡_, refl, sym, _∙_, ap, ap₂}
-use native.Mathlib.{Omega.arith, Nat.pow-zero, Nat.pow-suc}
+use native.Mathlib.{Omega.arith, Nat.pow-suc}
 use Rattle.class_group.specs.Group.{CommutativeGroup, Doubling, Halving}
 use Rattle.class_group.specs.Multiples.{repeat, multiple}
 use Rattle.class_group.proofs.Multiples.{multiple-member, multiple-one, multiple-add, multiple-sum, multiple-opposite, multiple-neutral}

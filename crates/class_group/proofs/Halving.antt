@@ -13,7 +13,7 @@ use Rattle.class_group.proofs.{Reduction.~-step, Composition.~-double, 
 use Rattle.class_group.proofs.{Triple.Meets, Triple.Chain, Triple.start, Triple.lifted, Triple.stepped, Triple.chain-meets}
 use Rattle.class_group.proofs.{HalfChain.HalfChain, HalfChain.half-chain, HalfChain.triple-meets}
 use Rattle.class_group.proofs.{SemiReduced.value-congruent, SemiReduced.semi-of-reduced, Classes.functions, Classes.ideal, Classes.same-class, Classes.transitive, Classes.equal-class}
-use Rattle.class_group.proofs.{Adds.short-is-neutral, Closed.neutral-reduced, Closed.double-reduced, Group.double-from-class, Group.double-sum, Group.sum-neutral, Group.double-injective, Group.class-doubling, Doublings.half-double as group-half-double}
+use Rattle.class_group.proofs.{Adds.short-is-neutral, Closed.neutral-reduced, Group.double-from-class, Group.double-sum, Group.sum-neutral, Group.double-injective, Group.class-doubling, Doublings.half-double as group-half-double}
 
 module _ {B : Type 0} (R : Ring2 B) where
   open Ring2 R using (add as _+_, mul as _·_, one as 𝟙)

@@ -1,5 +1,13 @@
--- The theory of classes: the coordinate ring and its ideals; composition, reduction, uniqueness; closure and the group; walks; halving.
+-- The theory of classes. The curve has no singular point;
 pub mod NonSingular
+-- commutative groups: multiples, doublings, halvings, and walks by a rule and back;
+pub mod GroupLaws
+pub mod Multiples
+pub mod Doublings
+pub mod Digits
+pub mod Walk
+pub mod Displacement
+-- the coordinate ring and its ideals, and what composition, reduction and uniqueness mean there;
 pub mod Coordinate
 pub mod Ideal
 pub mod PairIdeal
@@ -7,19 +15,15 @@ pub mod Norm
 pub mod Reduction
 pub mod Composition
 pub mod Uniqueness
+-- pairs: composed, reduced, and the group of their classes;
 pub mod SemiReduced
 pub mod Composed
 pub mod Joined
 pub mod Closed
 pub mod Classes
-pub mod GroupLaws
-pub mod Multiples
-pub mod Doublings
-pub mod Digits
 pub mod Adds
 pub mod Group
-pub mod Walk
-pub mod Displacement
+-- the half by rules on coefficients, and the two rules that move a seal
 pub mod Triple
 pub mod LiftCoefficients
 pub mod Rows

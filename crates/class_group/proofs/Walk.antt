@@ -2,7 +2,7 @@
 -- `after-reverse`: the way back over the reversed list ends at the start. `walk-reverse`: it meets the same states in reverse order. `only-start`: where it
 -- ends is the only start from which the rule leads there, and `after-back`: it is one. `after-injective`: different starts have different ends. `after-member`,
 -- `walk-members`: all that is met are states.
-use mathlib.Core.Path.{_≡_, refl, sym, _∙_, ap, subst}
+use mathlib.Core.Path.{_≡_, refl, sym, _∙_, ap}
 use mathlib.Core.List.{List, [], _∷_, _++_, reverse, reverse-cons, reverse-reverse}
 use Rattle.class_group.specs.Walk.{All, none, more, after, walk, Reversible}
 
@@ -29,17 +29,12 @@ module _ {X Y : Type 0} (rule : X → Y → X) where
   walk-append s [] c = refl
   walk-append s (b ∷ l) c = ap (λ m. s ∷ m) (walk-append (rule s b) l c)
 
-  -- a rule that keeps the states
+  -- a rule that keeps the states: where it ends
   module _ {State : X → Type 0} {Step : Y → Type 0} (closed : (s : X) (c : Y) → State s → Step c → State (rule s c)) where
     pub after-member : {s : X} {l : List Y} → State s → All Step l → State (after rule s l)
     unfolding after
     after-member h none = h
     after-member {s} h (more {a = c} k r) = after-member (closed s c h k) r
-
-    pub walk-members : {s : X} {l : List Y} → State s → All Step l → All State (walk rule s l)
-    unfolding walk
-    walk-members h none = more h none
-    walk-members {s} h (more {a = c} k r) = more h (walk-members (closed s c h k) r)
 
     -- one to one from step to step, so from end to end
     pub after-injective : ((s t : X) (c : Y) → State s → State t → Step c → rule s c ≡ rule t c → s ≡ t)
@@ -53,7 +48,9 @@ module _ {X Y : Type 0} {State : X → Type 0} {Step : Y → Type 0} {rule back 
   after-state = after-member rule {State = State} {Step = Step} (λ s c h k. R .rule-closed h k)
 
   pub walk-states : {s : X} {l : List Y} → State s → All Step l → All State (walk rule s l)
-  walk-states = walk-members rule {State = State} {Step = Step} (λ s c h k. R .rule-closed h k)
+  unfolding walk
+  walk-states h none = more h none
+  walk-states h (more k r) = more h (walk-states (R .rule-closed h k) r)
 
   pub after-reverse : {s : X} {l : List Y} → State s → All Step l → after back (after rule s l) (reverse l) ≡ s
   unfolding after
