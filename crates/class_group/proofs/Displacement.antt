@@ -1,15 +1,17 @@
 -- Walks in a commutative group by double and add, s ↦ 2 s + d, and back by subtract and halve, s ↦ half of (s - d).
--- `forward-end`: over d1, .., dn from s it ends in 2^n s + 2^(n-1) d1 + .. + dn. `displacement`: where two lists differ at one place alone, the ends are
--- as many doublings of the difference apart as there are places after it; `changed-end`: so they differ where the elements do; `suppression`: with the neutral
--- element in its place. `forward-injective`: different starts have different ends. `reversible`: the two rules take each other back, so that all of proofs/Walk.antt holds of them.
-use mathlib.Core.Path.{_≡_, refl, sym, _∙_, ap}
+-- `forward-end`: over d1, .., dn from s it ends in 2^n s + 2^(n-1) d1 + .. + dn. `displacement`, `displacement-at`: where two lists differ at one place alone, the
+-- ends are as many doublings of the difference apart as there are places after it; `suppression`: with the neutral element there; `changed-end`: the ends differ where
+-- the elements do. `forward-injective`: different starts have different ends. `reversible`: the two rules take each other back, so that all of proofs/Walk.antt holds of them.
+use Prim.Native.Nat.{ℕ, suc, _-_, _<_}
+use mathlib.Core.Path.{_≡_, refl, sym, _∙_, ap, ap₂}
 use mathlib.Core.List.{List, [], _∷_, _++_}
-use lib.ListN.{length}
+use lib.{ListN.length, ListN.getD, ListN.set, ListN.length-drop, Seq.set-split, Seq.split-at}
 use Rattle.class_group.specs.Group.{CommutativeGroup, Doubling, Halving}
 use Rattle.class_group.specs.{Multiples.repeat, Multiples.weighted-sum}
 use Rattle.class_group.specs.Walk.{All, none, more, after, Reversible}
 use Rattle.class_group.proofs.GroupLaws.{sums, add-subtract, subtract-add, neutral-sum, cancel-left, cancel-right, interchange}
 use Rattle.class_group.proofs.Doublings.{double-member, half-double, repeat-inner, doublings-member, doublings-sum, doublings-opposite}
+use Rattle.class_group.proofs.All.{all-take, all-drop, all-at}
 use Rattle.class_group.proofs.Walk.{after-append, after-member, after-injective}
 
 module _ {X : Type 0} {Member : X → Type 0} {_+_ : X → X → X} {nought : X} {minus double : X → X} (D : Doubling Member _+_ nought minus double) where
@@ -92,12 +94,23 @@ module _ {X : Type 0} {Member : X → Type 0} {_+_ : X → X → X} {nought : X}
     pub changed-end : ¬ (d ≡ e) → ¬ (forward s (l ++ (d ∷ m)) ≡ forward s (l ++ (e ∷ m)))
     changed-end n h = n (same-end h)
 
-  -- the neutral element in place of d
-  pub suppression : {s d : X} {l m : List X} → Member s → All Member l → Member d → All Member m
-      → forward s (l ++ (nought ∷ m)) ≡ forward s (l ++ (d ∷ m)) + minus (repeat double (length m) d)
-  suppression {s} {d} {l} {m} hs hl hd hm =
-      displacement hs hl hd (G .neutral-closed) hm
-      ∙ ap (λ z. forward s (l ++ (d ∷ m)) + z) (ap (repeat double (length m)) (neutral-sum G (G .opposite-closed hd)) ∙ doublings-opposite D (length m) hd)
+  -- e at place k, counted from 0: as many doublings as there are places after it
+  pub displacement-at : {s e : X} {l : List X} (k : ℕ) → k < length l → Member s → Member e → All Member l
+      → forward s (set l k e) ≡ forward s l + repeat double (length l - suc k) (e + minus (getD l k nought))
+  displacement-at {s} {e} {l} k b hs he hl =
+      let d = getD l k nought in
+      ap (forward s) (set-split l k e b)
+      ∙ displacement hs (all-take k hl) (all-at k nought b hl) he (all-drop (suc k) hl)
+      ∙ ap₂ (λ m n. forward s m + repeat double n (e + minus d)) (sym (split-at l k nought b)) (length-drop (suc k) l)
+
+  -- the neutral element there
+  pub suppression : {s : X} {l : List X} (k : ℕ) → k < length l → Member s → All Member l
+      → forward s (set l k nought) ≡ forward s l + minus (repeat double (length l - suc k) (getD l k nought))
+  suppression {s} {l} k b hs hl =
+      let n = length l - suc k in
+      let d = all-at k nought b hl in
+      displacement-at k b hs (G .neutral-closed) hl
+      ∙ ap (λ z. forward s l + z) (ap (repeat double n) (neutral-sum G (G .opposite-closed d)) ∙ doublings-opposite D n d)
 
 module _ {X : Type 0} {Member : X → Type 0} {_+_ : X → X → X} {nought : X} {minus double half : X → X} (H : Halving Member _+_ nought minus double half) where
   infixl 60 _+_

@@ -1,5 +1,5 @@
--- The reduced classes are a commutative group under Cantor's sum (`classes`): `sum-comm`, `sum-assoc`, `sum-neutral`, `sum-opposite`,
--- `opposite-opposite`. The sum does not depend on the coefficients by which e is combined, nor on e being monic (`sum-independent`).
+-- The reduced classes are a commutative group under Cantor's sum (`classes`): `sum-comm`, `sum-assoc`, `sum-neutral`, `sum-opposite`.
+-- The sum does not depend on the coefficients by which e is combined, nor on e being monic (`sum-independent`).
 -- The double is the sum with itself (`double-sum`), only the neutral class doubles to it (`no-torsion`), and doubling is injective
 -- (`double-injective`); `class-doubling` says both. A reduced class whose ideal is equivalent to the product is the sum (`sum-from-class`, `double-from-class`).
 use mathlib.Core.Path.{_≡_, sym, _∙_, ap}
@@ -12,7 +12,7 @@ use Rattle.class_group.specs.Mumford.{Pair, Reduced, neutral, opposite}
 use Rattle.class_group.specs.Operations.{counted-sum, counted-double, sum, double}
 use Rattle.class_group.proofs.{Ideal.Product, Ideal.Equivalent, Ideal.~-sym, Uniqueness.reduced-unique, SemiReduced.semi-of-reduced}
 use Rattle.class_group.proofs.{Closed.opposite-long, Closed.sum-reduced, Adds.Adds, Adds.adds-group, Adds.short-is-neutral}
-use Rattle.class_group.proofs.GroupLaws.{opposite-unique, opposite-opposite as group-opposite-opposite, doubling-injective}
+use Rattle.class_group.proofs.GroupLaws.{opposite-unique, doubling-injective}
 use Rattle.class_group.proofs.Composed.{Combines, composed-monic, composed-semi, composed-reduces, compose-is, compose-double-is, bezout3-combines, unit-combines}
 use Rattle.class_group.proofs.Classes.{functions, ideal, transitive, composed-class, reduce-class}
 
@@ -55,9 +55,6 @@ module _ {K P : Type 0} {F : Field2 K} {A : Polynomials F P} (C : Curve A) where
 
   pub sum-opposite : {D : Pair P} → Reduced C D → sum C D (opposite C D) ≡ neutral C
   sum-opposite r = classes .sum-opposite r
-
-  pub opposite-opposite : {D : Pair P} → Reduced C D → opposite C (opposite C D) ≡ D
-  opposite-opposite r = group-opposite-opposite classes r
 
   -- demand 2: any combination e of u1, u2 and v1 + v2 + 1 that divides them gives the sum; if e is not monic, u is made monic
   pub sum-independent : {D E : Pair P} {b : Bezout3 P} → Reduced C D → Reduced C E → Combines C D E b

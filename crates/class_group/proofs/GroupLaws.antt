@@ -1,4 +1,4 @@
--- What follows from the laws of a commutative group: adding and taking away undo each other, opposites are unique, the opposite of an opposite, of a
+-- What follows from the laws of a commutative group: adding and taking away undo each other, opposites are unique, the opposite of a
 -- sum and of the neutral element, and doubling is one to one where no element but the neutral one doubles to it. `simp (sums, G)` sorts sums of members.
 use mathlib.Core.Path.{_≡_, sym, _∙_, ap, ap₂}
 use Rattle.class_group.specs.Group.{CommutativeGroup}
@@ -43,9 +43,6 @@ module _ {X : Type 0} {Member : X → Type 0} {_+_ : X → X → X} {nought : X}
 
   pub opposite-unique : {a b : X} → Member a → Member b → a + b ≡ nought → a ≡ minus b
   opposite-unique {a} {b} h k e = cancel-right h (G .opposite-closed k) k (e ∙ sym (G .sum-opposite k) ∙ G .comm k (G .opposite-closed k))
-
-  pub opposite-opposite : {a : X} → Member a → minus (minus a) ≡ a
-  opposite-opposite h = sym (opposite-unique h (G .opposite-closed h) (G .sum-opposite h))
 
   pub opposite-neutral : minus nought ≡ nought
   opposite-neutral = sym (opposite-unique (G .neutral-closed) (G .neutral-closed) (G .sum-neutral (G .neutral-closed)))

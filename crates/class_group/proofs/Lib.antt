@@ -5,6 +5,7 @@ pub mod GroupLaws
 pub mod Multiples
 pub mod Doublings
 pub mod Digits
+pub mod All
 pub mod Walk
 pub mod Displacement
 -- the coordinate ring and its ideals, and what composition, reduction and uniqueness mean there;

@@ -1,11 +1,11 @@
 -- The two rules that move a seal, double and add, and subtract and halve, on reduced classes.
--- `moves`: they take each other back, so that all of proofs/Walk.antt holds of them; `double-and-add-reduced`, `subtract-and-halve-reduced`,
--- `subtract-double-and-add`, `double-subtract-and-halve` are its parts. `last-seal`, `displacement`, `changed-seal`, `suppression`, `first-seal`: where a walk by double and add
--- ends, how far one changed class moves the end, and that the start is fixed by it. `counted-..`: the rules with counted steps.
-use Prim.Native.Nat.{_≤_}
+-- `moves`: they take each other back, so that all of proofs/Walk.antt holds of them; its parts are `double-and-add-reduced`, `subtract-and-halve-reduced`,
+-- `subtract-double-and-add`, `double-subtract-and-halve`. `last-seal`: where a walk by double and add ends, and `first-seal`: that it fixes the start. `displacement`,
+-- `displacement-at`, `suppression`, `changed-seal`: how far one changed class moves the end. `counted-..-class`, `..-steps`: the rules with counted reduction steps.
+use Prim.Native.Nat.{ℕ, suc, _-_, _≤_, _<_}
 use mathlib.Core.Path.{_≡_, refl}
 use mathlib.Core.List.{List, _∷_, _++_}
-use lib.ListN.{length}
+use lib.ListN.{length, getD, set}
 use native.Mathlib.Omega.{arith}
 use Rattle.field_laws.specs.Field.{Field2}
 use Rattle.char2_algebra.specs.Polynomials.{Polynomials}
@@ -57,12 +57,19 @@ module _ {K P : Type 0} {F : Field2 K} {A : Polynomials F P} (C : Curve A) where
     unfolding double-and-add
     changed-seal = Generic.changed-end (class-doubling C) s ds d e es
 
-  -- the k-th class made neutral: the last seal less n - k doublings of it
-  pub suppression : {S D : Pair P} {Ds Es : List (Pair P)} → Reduced C S → All (Reduced C) Ds → Reduced C D → All (Reduced C) Es
-      → after (double-and-add C) S (Ds ++ (neutral C ∷ Es))
-      ≡ sum C (after (double-and-add C) S (Ds ++ (D ∷ Es))) (opposite C (repeat (double C) (length Es) D))
+  -- the same by the place k, counted from 0,
+  pub displacement-at : {S E : Pair P} {Ds : List (Pair P)} (k : ℕ) → k < length Ds → Reduced C S → Reduced C E → All (Reduced C) Ds
+      → after (double-and-add C) S (set Ds k E)
+      ≡ sum C (after (double-and-add C) S Ds) (repeat (double C) (length Ds - suc k) (sum C E (opposite C (getD Ds k (neutral C)))))
   unfolding double-and-add
-  suppression s ds d es = Generic.suppression (class-doubling C) s ds d es
+  displacement-at k b s e ds = Generic.displacement-at (class-doubling C) k b s e ds
+
+  -- and with the neutral class there
+  pub suppression : {S : Pair P} {Ds : List (Pair P)} (k : ℕ) → k < length Ds → Reduced C S → All (Reduced C) Ds
+      → after (double-and-add C) S (set Ds k (neutral C))
+      ≡ sum C (after (double-and-add C) S Ds) (opposite C (repeat (double C) (length Ds - suc k) (getD Ds k (neutral C))))
+  unfolding double-and-add
+  suppression k b s ds = Generic.suppression (class-doubling C) k b s ds
 
   -- with counted steps each rule gives the same class,
   pub counted-double-and-add-class : (S D : Pair P) → counted-double-and-add C S D .class ≡ double-and-add C S D

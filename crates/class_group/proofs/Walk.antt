@@ -1,18 +1,11 @@
 -- Walks by a rule over a list, and back by a rule that takes it back (`Reversible`).
 -- `after-reverse`: the way back over the reversed list ends at the start. `walk-reverse`: it meets the same states in reverse order. `only-start`: where it
--- ends is the only start from which the rule leads there, and `after-back`: it is one. `after-injective`: different starts have different ends. `after-member`,
--- `walk-members`: all that is met are states.
+-- ends is the only start from which the rule leads there, and `after-back`: it is one. `after-injective`: different starts have different ends. `after-state`,
+-- `walk-states`: all that is met are states.
 use mathlib.Core.Path.{_≡_, refl, sym, _∙_, ap}
 use mathlib.Core.List.{List, [], _∷_, _++_, reverse, reverse-cons, reverse-reverse}
+use Rattle.class_group.proofs.All.{all-reverse}
 use Rattle.class_group.specs.Walk.{All, none, more, after, walk, Reversible}
-
-pub all-append : {X : Type 0} {Member : X → Type 0} {l m : List X} → All Member l → All Member m → All Member (l ++ m)
-all-append none k = k
-all-append (more h r) k = more h (all-append r k)
-
-pub all-reverse : {X : Type 0} {Member : X → Type 0} {l : List X} → All Member l → All Member (reverse l)
-all-reverse none = none
-all-reverse (more {a = a} {l = l} h r) = rw (reverse-cons a l) (all-append (all-reverse r) (more h none))
 
 module _ {X Y : Type 0} (rule : X → Y → X) where
   pub after-append : (s : X) (l m : List Y) → after rule s (l ++ m) ≡ after rule (after rule s l) m
@@ -20,7 +13,7 @@ module _ {X Y : Type 0} (rule : X → Y → X) where
   after-append s [] m = refl
   after-append s (c ∷ l) m = after-append (rule s c) l m
 
-  pub after-reverse-cons : (s : X) (c : Y) (l : List Y) → after rule s (reverse (c ∷ l)) ≡ rule (after rule s (reverse l)) c
+  after-reverse-cons : (s : X) (c : Y) (l : List Y) → after rule s (reverse (c ∷ l)) ≡ rule (after rule s (reverse l)) c
   unfolding after
   after-reverse-cons s c l = ap (after rule s) (reverse-cons c l) ∙ after-append s (reverse l) (c ∷ [])
 

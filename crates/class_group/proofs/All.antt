@@ -1,0 +1,29 @@
+-- Lists whose elements are all members: reversed, a part of one, and the element at a place.
+use Prim.Native.Nat.{ℕ, zero, suc, _<_}
+use mathlib.Core.List.{List, [], _∷_, reverse, reverseAux}
+use lib.ListN.{length, take, drop, getD}
+use native.Mathlib.Omega.{arith}
+use Rattle.class_group.specs.Walk.{All, none, more}
+
+module _ {X : Type 0} {Member : X → Type 0} where
+  all-onto : {l m : List X} → All Member l → All Member m → All Member (reverseAux l m)
+  all-onto none k = k
+  all-onto (more h r) k = all-onto r (more h k)
+
+  pub all-reverse : {l : List X} → All Member l → All Member (reverse l)
+  all-reverse h = all-onto h none
+
+  pub all-take : (k : ℕ) {l : List X} → All Member l → All Member (take k l)
+  all-take zero h = none
+  all-take (suc k) none = none
+  all-take (suc k) (more h r) = more h (all-take k r)
+
+  pub all-drop : (k : ℕ) {l : List X} → All Member l → All Member (drop k l)
+  all-drop zero h = h
+  all-drop (suc k) none = none
+  all-drop (suc k) (more h r) = all-drop k r
+
+  pub all-at : (k : ℕ) {l : List X} (x : X) → k < length l → All Member l → Member (getD l k x)
+  all-at k x l none = absurd (omega arith)
+  all-at zero x l (more h r) = h
+  all-at (suc k) x l (more h r) = all-at k x (omega arith) r
