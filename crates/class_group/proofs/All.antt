@@ -1,6 +1,6 @@
 -- Lists whose elements are all members: reversed, a part of one, and the element at a place.
 use Prim.Native.Nat.{ℕ, zero, suc, _<_}
-use mathlib.Core.List.{List, [], _∷_, reverse, reverseAux}
+use mathlib.Core.List.{List, [], reverse, reverseAux}
 use lib.ListN.{length, take, drop, getD}
 use native.Mathlib.Omega.{arith}
 use Rattle.class_group.specs.Walk.{All, none, more}
