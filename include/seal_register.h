@@ -1,19 +1,19 @@
-/* A register kept for a session and changed in place, and a walk over a lent row of classes: the three calls of the proved
- * library seal_register.
+/* A register kept for a session and changed in place, and a walk over a lent row of classes: the three calls of the
+ * proved library seal_register.
  *
  * To build and link (x86-64 Linux, nothing else is linked):
  *
  *     rt staticlib seal_register
  *     cc -Iinclude model.c target/staticlib/libseal_register.a
  *
- * A commit or an undo answers 0 where it is accepted, and the register is then the one that follows. Else it answers the refusal's
- * number, and has changed no byte of the register. The numbers are those of seal.h; 101 to 103, 105, 108 and 112 are of
- * byte areas alone. They are checked in this order: 106 and 107 of the curve, 109 of the count, then 104, 110 and 111 of
- * the seal and of the class, then 113 or 114.
+ * A commit or an undo answers 0 where it is accepted, and the register is then the one that follows. Else it answers
+ * the refusal's number, and has changed no byte of the register. The numbers are those of seal.h; 101 to 103, 105,
+ * 108 and 112 are of byte areas alone. They are checked in this order: 106 and 107 of the curve, 109 of the count,
+ * then 104, 110 and 111 of the seal and of the class, then 113 or 114.
  *
- * Register, curve and classes may hold any numbers: nothing has to be checked before a call. The one duty of the caller
- * is to lend a register that is his and that nobody else uses during the call, and a row that is his and as long as
- * said. The calls keep nothing from one to the next.
+ * Register, curve and classes may hold any numbers: nothing has to be checked before a call. The one duty of the
+ * caller is to lend a register that is his and that nobody else uses during the call, and a row that is his and as
+ * long as said. The calls keep nothing from one to the next.
  */
 #ifndef SEAL_REGISTER_H
 #define SEAL_REGISTER_H
@@ -31,8 +31,8 @@ struct seal_curve {
     uint64_t f3, f1, f0;
 };
 
-/* The class [u, v]: u is monic of this degree, 0 to 3. The coefficient of x^i is in place i, the leading 1 of u is left
- * out, and the places from the degree on are 0. */
+/* The class [u, v]: u is monic of this degree, 0 to 3. The coefficient of x^i is in place i, the leading 1 of u is
+ * left out, and the places from the degree on are 0. */
 struct seal_class {
     uint64_t degree;
     uint64_t u[3], v[3];
@@ -59,10 +59,10 @@ struct seal_row_walk {
     struct seal_class seal;
 };
 
-/* A walk: from the last seal on, the class is subtracted and the difference halved, once for each class of the row, which
- * is newest first and only read. The answer is the earliest seal; for an empty row, which may be NULL, the last seal
- * itself. Checked in this order: 106 and 107 of the curve, 109 for more than 1,024 classes, then 104, 110 and 111 of the
- * last seal, then of the classes, newest first.
+/* A walk: from the last seal on, the class is subtracted and the difference halved, once for each class of the row,
+ * which is newest first and only read. The answer is the earliest seal; for an empty row, which may be NULL, the last
+ * seal itself. Checked in this order: 106 and 107 of the curve, 109 for more than 1,024 classes, then 104, 110 and 111
+ * of the last seal, then of the classes, newest first.
  * Refusals: 104, 106, 107, 109 to 111. */
 struct seal_row_walk seal_walk_row(struct seal_curve curve, struct seal_class last, const struct seal_class *row,
                                    size_t classes);

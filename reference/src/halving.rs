@@ -107,7 +107,7 @@ impl HalfByOrder<'_> {
     pub fn new(curve: &Curve) -> HalfByOrder<'_> {
         let order = all_classes(curve).len() as u128;
         assert!(order % 2 == 1, "there is no class of order 2");
-        HalfByOrder { curve, factor: (order + 1) / 2 }
+        HalfByOrder { curve, factor: order / 2 + 1 }
     }
 
     pub fn half(&self, class: &Class) -> Class {

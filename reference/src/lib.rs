@@ -33,3 +33,10 @@ pub mod polynomial;
 pub mod random;
 pub mod samples;
 pub mod stored;
+
+/// Writes what a program is given to the file stdin of a folder, and what it owes for that to the file stdout.
+pub fn write_case(folder: &str, input: Vec<u8>, output: String) {
+    for (name, bytes) in [("stdin", input), ("stdout", output.into_bytes())] {
+        std::fs::write(std::path::Path::new(folder).join(name), bytes).expect("the folder takes the file");
+    }
+}

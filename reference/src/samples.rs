@@ -87,7 +87,8 @@ fn low_degrees() -> (Class, Archive) {
     let mut random = Random::new(84);
     let curve = Curve::drawn(&mut random, WIDE);
     let [point, pair, other, last] = [1, 2, 3, 3].map(|number| of_points(&mut random, &curve, number));
-    let seals = [Class::neutral(), point.clone(), pair.clone(), half(&curve, &point), half(&curve, &pair), other, last];
+    let seals =
+        [Class::neutral(), point.clone(), pair.clone(), half(&curve, &point), half(&curve, &pair), other, last];
     let operations: Vec<Class> =
         seals.windows(2).map(|next| curve.difference(&next[1], &curve.double(&next[0]))).collect();
     (Class::neutral(), committed(curve, "HINGE 7", &Class::neutral(), &operations))

@@ -1,38 +1,14 @@
 /* The edges of the calls on a lent register, written out from document 01. */
-#include "edges.h"
+#include "classes.h"
+#include "count.h"
 #include "lent.h"
-
-#include <stdio.h>
-#include <string.h>
-
-#define LIMIT 1024
-
-static const int degrees[2] = {5, 61};
-
-/* [1, 0], [x, 0], [x^2, 0], all on f = x^7; [x, 3], which is not. */
-static const struct seal_class neutral = {0, {0, 0, 0}, {0, 0, 0}};
-static const struct seal_class x_0 = {1, {0, 0, 0}, {0, 0, 0}};
-static const struct seal_class xx_0 = {2, {0, 0, 0}, {0, 0, 0}};
-static const struct seal_class off = {1, {0, 0, 0}, {3, 0, 0}};
-
-static unsigned long passed, failed, faults_before;
-
-static void end_test(const char *name) {
-    int ok = faults() == faults_before;
-    faults_before = faults();
-    passed += ok;
-    failed += !ok;
-    printf("%s: %s\n", ok ? "ok" : "FAILED", name);
-}
 
 static struct seal_register of(int degree, uint64_t count, struct seal_class seal) {
     struct seal_register r = {{(uint8_t)degree, 0, 0, 0}, count, seal};
     return r;
 }
 
-static int same_class(struct seal_class a, struct seal_class b) {
-    return a.degree == b.degree && memcmp(a.u, b.u, sizeof a.u) == 0 && memcmp(a.v, b.v, sizeof a.v) == 0;
-}
+static const char *const names[2] = {"commit", "undo"};
 
 /* The call refuses with this number, at both ends of the area. */
 static void refuses(enum call call, struct seal_register r, struct seal_class a, uint32_t number) {
@@ -40,21 +16,20 @@ static void refuses(enum call call, struct seal_register r, struct seal_class a,
         struct seal_register lent = r;
         uint32_t got = lend(call, &lent, a, end);
         if (got != number)
-            fault(call == COMMIT ? "commit" : "undo", number, got);
+            fault("%s: owed %u, got %u", names[call], number, got);
     }
 }
 
 /* The call is accepted and leaves this count and this seal. */
-static void leaves(enum call call, struct seal_register r, struct seal_class a, uint64_t count, struct seal_class seal) {
+static void leaves(enum call call, struct seal_register r, struct seal_class a, uint64_t count,
+                   struct seal_class seal) {
     for (int end = 0; end < 2; end++) {
         struct seal_register lent = r;
         uint32_t got = lend(call, &lent, a, end);
         if (got != 0)
-            fault(call == COMMIT ? "commit" : "undo", 0, got);
-        else if (lent.count != count)
-            fault("count", (uint32_t)count, (uint32_t)lent.count);
-        else if (!same_class(lent.seal, seal))
-            fault("seal", 0, 1);
+            fault("%s: owed 0, got %u", names[call], got);
+        else if (lent.count != count || !same_class(lent.seal, seal))
+            fault("%s: another count or seal than owed", names[call]);
     }
 }
 
@@ -104,24 +79,14 @@ static void degrees_and_curves(void) {
     end_test("106 for every other degree; 107 at 2^d in each coefficient, and not at 2^d - 1; both before 109");
 }
 
-/* A class with a number past its degree, one with a number of 2^d, and one that is not on the curve. */
-static struct seal_class wrong(int kind, int degree) {
-    struct seal_class a = kind == 2 ? off : x_0;
-    if (kind == 0)
-        a.u[1] = 1;
-    if (kind == 1)
-        a.v[0] = (uint64_t)1 << degree;
-    return a;
-}
-
 static void classes(void) {
-    static const uint32_t numbers[3] = {104, 110, 111};
     for (int call = COMMIT; call <= UNDO; call++)
         for (int d = 0; d < 2; d++) {
             uint64_t edge = call == COMMIT ? LIMIT : 0;
             for (int seal = 0; seal < 3; seal++) {
-                refuses(call, of(degrees[d], edge, wrong(seal, degrees[d])), wrong(2 - seal, degrees[d]), numbers[seal]);
-                refuses(call, of(degrees[d], edge, x_0), wrong(seal, degrees[d]), numbers[seal]);
+                struct seal_class other = wrong(2 - seal, degrees[d]);
+                refuses(call, of(degrees[d], edge, wrong(seal, degrees[d])), other, wrong_numbers[seal]);
+                refuses(call, of(degrees[d], edge, x_0), wrong(seal, degrees[d]), wrong_numbers[seal]);
             }
             struct seal_class high = neutral;
             for (high.degree = 4; high.degree < 70; high.degree++) {
@@ -141,13 +106,13 @@ static void there_and_back(void) {
             seals[i] = kept.seal;
             uint32_t got = seal_register_commit(&kept, i % 3 == 0 ? neutral : x_0);
             if (got != 0 || kept.count != (uint64_t)i + 1)
-                fault("commit on the way", 0, got);
+                fault("commit %d on the way: got %u", i, got);
         }
         refuses(COMMIT, kept, x_0, 114);
         for (int i = LIMIT - 1; i >= 0; i--) {
             uint32_t got = seal_register_undo(&kept, i % 3 == 0 ? neutral : x_0);
             if (got != 0 || kept.count != (uint64_t)i || !same_class(kept.seal, seals[i]))
-                fault("undo on the way back", 0, got);
+                fault("undo %d on the way back: got %u", i, got);
         }
         refuses(UNDO, kept, x_0, 113);
     }
@@ -159,6 +124,5 @@ int test_edges(void) {
     degrees_and_curves();
     classes();
     there_and_back();
-    printf("%lu passed, %lu failed\n", passed, failed);
-    return failed == 0;
+    return end_tests();
 }

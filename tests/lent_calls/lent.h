@@ -7,15 +7,15 @@
 enum call { COMMIT, UNDO };
 
 /* Makes the area that the register is lent in; once, before any call. */
-void make_area(void);
+void make_room(void);
 
-/* Lends a register to the call: 8 bytes from the start of the area, or at its end where that is asked for. The register
- * is overwritten by what the call left. A refusal that changed a byte of the area, an acceptance that changed one beside
- * the register, and one that changed degree or curve are noted. */
+/* Lends a register to the call: 8 bytes from the start of the area, or at its end where that is asked for. The
+ * register is overwritten by what the call left. A refusal that changed a byte of the area, an acceptance that
+ * changed one beside the register, and one that changed degree or curve are faults. */
 uint32_t lend(enum call call, struct seal_register *given, struct seal_class operation, int at_end);
 
-/* How many faults were noted; each was said on standard error. */
-unsigned long faults(void);
-void fault(const char *what, uint32_t owed, uint32_t got);
+/* Makes the tests of the edges and prints a line for each, then 'N passed, M failed'; answers whether nothing
+ * failed. */
+int test_edges(void);
 
 #endif

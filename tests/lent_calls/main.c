@@ -1,48 +1,19 @@
-/* Tests the two calls of include/seal_register.h.
+/* Tests the calls on a register of include/seal_register.h.
  *
  *     lent_calls            the edges, a line for each test
  *     lent_calls trial      answers calls that it reads from standard input, one line for each, on one register
  *
- * The records and the lines of a trial are those of the program history_trial (crates/history_trial/src/main.rt), where
- * the register goes by value; so what it writes is held to what the second implementation owes (reference/,
- * `history_vectors`). The status is 0 where no fault was noted.
+ * The records and the lines of a trial are those of the program history_trial (crates/history_trial/src/main.rt),
+ * where the register goes by value; so what it writes is held to what the second implementation owes (reference/,
+ * `history_vectors`). The status is 0 where there was no fault.
  */
-#include "edges.h"
+#include "count.h"
 #include "lent.h"
+#include "trial.h"
 
 #include <inttypes.h>
 #include <stdio.h>
 #include <string.h>
-
-#define RECORD 146
-
-static uint64_t number(const unsigned char *at) {
-    uint64_t n = 0;
-    for (int i = 0; i < 8; i++)
-        n = n << 8 | at[i];
-    return n;
-}
-
-static struct seal_class class_at(const unsigned char *at) {
-    struct seal_class a;
-    a.degree = number(at);
-    for (int i = 0; i < 3; i++) {
-        a.u[i] = number(at + 8 + 8 * i);
-        a.v[i] = number(at + 32 + 8 * i);
-    }
-    return a;
-}
-
-static struct seal_register started(const unsigned char *record) {
-    struct seal_register r;
-    r.curve.degree = record[1];
-    r.curve.f3 = number(record + 2);
-    r.curve.f1 = number(record + 10);
-    r.curve.f0 = number(record + 18);
-    r.count = number(record + 26);
-    r.seal = class_at(record + 34);
-    return r;
-}
 
 /* The coefficients below x^n, from the highest power down. */
 static void print_row(uint64_t n, const uint64_t row[3]) {
@@ -77,15 +48,15 @@ static void show(const struct seal_register *r) {
 }
 
 static void trial(void) {
-    unsigned char record[RECORD];
+    uint8_t record[RECORD];
     struct seal_register r;
     size_t read;
     memset(&r, 0, sizeof r);
     for (unsigned long i = 0; (read = fread(record, 1, RECORD, stdin)) == RECORD; i++) {
         switch (record[0]) {
-        case 0: r = started(record); break;
-        case 1: answer(COMMIT, &r, class_at(record + 90), i % 2); break;
-        case 2: answer(UNDO, &r, class_at(record + 90), i % 2); break;
+        case 0: r = register_in(record); break;
+        case 1: answer(COMMIT, &r, operation_in(record), i % 2); break;
+        case 2: answer(UNDO, &r, operation_in(record), i % 2); break;
         case 3: show(&r); break;
         default: puts("no such call");
         }
@@ -95,7 +66,7 @@ static void trial(void) {
 }
 
 int main(int words, char **word) {
-    make_area();
+    make_room();
     if (words == 1)
         return test_edges() ? 0 : 1;
     if (words != 2 || strcmp(word[1], "trial") != 0)

@@ -1,51 +1,12 @@
 /* The edges of a walk over a lent row, written out from document 01. */
-#include "edges.h"
+#include "count.h"
 #include "walk.h"
-
-#include <stdio.h>
-
-#define LIMIT 1024
-
-static const int degrees[2] = {5, 61};
-
-/* Classes on f = x^7: [1, 0], [x, 0], [x, 1], [x^2, 1], [x^3, 0]. */
-static const struct seal_class neutral = {0, {0, 0, 0}, {0, 0, 0}};
-static const struct seal_class x_0 = {1, {0, 0, 0}, {0, 0, 0}};
-static const struct seal_class x_1 = {1, {0, 0, 0}, {1, 0, 0}};
-static const struct seal_class xx_1 = {2, {0, 0, 0}, {1, 0, 0}};
-static const struct seal_class xxx_0 = {3, {0, 0, 0}, {0, 0, 0}};
-
-static unsigned long passed, failed, faults_before, walks_before;
-
-/* A test passes where it walked and noted no fault. */
-static void end_test(const char *name) {
-    int ok = faults() == faults_before && walks() > walks_before;
-    faults_before = faults();
-    walks_before = walks();
-    passed += ok;
-    failed += !ok;
-    printf("%s: %s\n", ok ? "ok" : "FAILED", name);
-}
 
 /* f = x^7 */
 static struct seal_curve curve(int degree) {
     struct seal_curve c = {(uint8_t)degree, 0, 0, 0};
     return c;
 }
-
-/* A class with a number past its degree, one with a number of 2^d, and one that is not on the curve. */
-static struct seal_class wrong(int kind, int degree) {
-    struct seal_class a = x_0;
-    if (kind == 0)
-        a.u[1] = 1;
-    if (kind == 1)
-        a.v[0] = (uint64_t)1 << degree;
-    if (kind == 2)
-        a.v[0] = 3;
-    return a;
-}
-
-static const uint32_t numbers[3] = {104, 110, 111};
 
 /* A row of as many classes as asked for, all [x, 0]. */
 static struct seal_class *row_of(size_t classes) {
@@ -62,10 +23,10 @@ static void empty(void) {
             answers(curve(degrees[d]), seals[i], NULL, 0, seals[i]);
             struct seal_row_walk got = seal_walk_row(curve(degrees[d]), seals[i], NULL, 0);
             if (got.refusal != 0 || !same_class(got.seal, seals[i]))
-                fault("a row that is NULL", 0, 0, got.refusal);
+                fault("a row that is NULL: got %u, or another seal", got.refusal);
         }
         for (int kind = 0; kind < 3; kind++)
-            refuses(curve(degrees[d]), wrong(kind, degrees[d]), NULL, 0, numbers[kind]);
+            refuses(curve(degrees[d]), wrong(kind, degrees[d]), NULL, 0, wrong_numbers[kind]);
     }
     end_test("an empty row answers the last seal, where no check refuses it");
 }
@@ -76,10 +37,7 @@ static void document(void) {
     for (int d = 0; d < 2; d++) {
         answers(curve(degrees[d]), xx_1, row, 1, xxx_0);
         answers(curve(degrees[d]), xx_1, row, 2, x_0);
-        /* half of [x, 0] is [x^3, 1], example 3 */
-        struct seal_class xxx_1 = xxx_0;
-        xxx_1.v[0] = 1;
-        answers(curve(degrees[d]), xx_1, row, 3, xxx_1);
+        answers(curve(degrees[d]), xx_1, row, 3, xxx_1); /* half of [x, 0] is [x^3, 1], example 3 */
     }
     end_test("document 01's walk, over one, two and three classes");
 }
@@ -128,17 +86,17 @@ static void classes(void) {
             struct seal_class other = wrong((kind + 1) % 3, degrees[d]);
             struct seal_class *row = row_of(4);
             row[0] = other;
-            refuses(curve(degrees[d]), wrong(kind, degrees[d]), row, 4, numbers[kind]);
+            refuses(curve(degrees[d]), wrong(kind, degrees[d]), row, 4, wrong_numbers[kind]);
             for (size_t place = 0; place < 4; place++) {
                 row = row_of(4);
                 row[place] = wrong(kind, degrees[d]);
                 for (size_t older = place + 1; older < 4; older++)
                     row[older] = other;
-                refuses(curve(degrees[d]), xx_1, row, 4, numbers[kind]);
+                refuses(curve(degrees[d]), xx_1, row, 4, wrong_numbers[kind]);
             }
             row = row_of(LIMIT);
             row[LIMIT - 1] = wrong(kind, degrees[d]);
-            refuses(curve(degrees[d]), xx_1, row, LIMIT, numbers[kind]);
+            refuses(curve(degrees[d]), xx_1, row, LIMIT, wrong_numbers[kind]);
         }
     struct seal_class high = neutral;
     for (high.degree = 4; high.degree < 70; high.degree++)
@@ -158,7 +116,7 @@ static void there_and_back(void) {
             row[LIMIT - 1 - i] = operation;
             uint32_t got = seal_register_commit(&kept, operation);
             if (got != 0)
-                fault("commit on the way", i, 0, got);
+                fault("commit %zu on the way: got %u", i, got);
         }
         seals[0] = kept.seal;
         for (size_t i = 0; i < sizeof parts / sizeof *parts; i++)
@@ -174,6 +132,5 @@ int test_edges(void) {
     curves();
     classes();
     there_and_back();
-    printf("%lu passed, %lu failed\n", passed, failed);
-    return failed == 0;
+    return end_tests();
 }

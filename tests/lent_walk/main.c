@@ -1,40 +1,20 @@
-/* Tests the call of include/seal_register.h.
+/* Tests the walk of include/seal_register.h.
  *
  *     lent_walk                             the edges, a line for each test
  *     lent_walk trial LINES MET <RECORDS    walks back over lists of commits
  *
  * RECORDS are the calls that the program history_trial is run on, and LINES what the second implementation answers to
- * them (reference/, `history_vectors`). After each accepted call, walks over the newest of the commits that stand are held
- * to the seals that LINES has just before these. MET is the number of walks that this has to make. The status is 0 where
- * no fault was noted.
+ * them (reference/, `history_vectors`). After each accepted call, walks over the newest of the commits that stand are
+ * held to the seals that LINES has just before these. MET is the number of walks that this has to make. The status is
+ * 0 where there was no fault.
  */
-#include "edges.h"
+#include "count.h"
+#include "trial.h"
 #include "walk.h"
 
-#include <inttypes.h>
 #include <stdio.h>
 #include <stdlib.h>
 #include <string.h>
-
-#define RECORD 146
-#define LIMIT 1024
-
-static uint64_t number(const unsigned char *at) {
-    uint64_t n = 0;
-    for (int i = 0; i < 8; i++)
-        n = n << 8 | at[i];
-    return n;
-}
-
-static struct seal_class class_at(const unsigned char *at) {
-    struct seal_class a;
-    a.degree = number(at);
-    for (int i = 0; i < 3; i++) {
-        a.u[i] = number(at + 8 + 8 * i);
-        a.v[i] = number(at + 32 + 8 * i);
-    }
-    return a;
-}
 
 /* A row of a line: as many numbers as the degree says, from the highest power down, with a comma between. */
 static char *read_row(char *at, uint64_t degree, uint64_t row[3]) {
@@ -47,7 +27,7 @@ static char *read_row(char *at, uint64_t degree, uint64_t row[3]) {
 
 /* The seal of a line: after the count the degree, u and v with a colon between. */
 static struct seal_class seal_in(char *at) {
-    struct seal_class a = {0, {0, 0, 0}, {0, 0, 0}};
+    struct seal_class a = neutral;
     at = strchr(at, ' ');
     if (at == NULL)
         return a;
@@ -91,33 +71,28 @@ static void stands(int commit, struct seal_class operation, struct seal_class be
 }
 
 static int trial(FILE *lines) {
-    unsigned char record[RECORD];
+    uint8_t record[RECORD];
     char line[400];
-    struct seal_curve curve = {0, 0, 0, 0};
-    struct seal_class seal = {0, {0, 0, 0}, {0, 0, 0}};
+    struct seal_register r = {{0, 0, 0, 0}, 0, neutral};
     while (fread(record, 1, RECORD, stdin) == RECORD) {
         if (record[0] == 0) {
-            curve.degree = record[1];
-            curve.f3 = number(record + 2);
-            curve.f1 = number(record + 10);
-            curve.f0 = number(record + 18);
-            seal = class_at(record + 34);
+            r = register_in(record);
             standing = 0;
             continue;
         }
         if (fgets(line, sizeof line, lines) == NULL)
             return 0;
         if ((record[0] == 1 || record[0] == 2) && strncmp(line, "refused", 7) != 0) {
-            stands(record[0] == 1, class_at(record + 90), seal);
-            seal = seal_in(line);
-            walk_all(curve, seal);
+            stands(record[0] == 1, operation_in(record), r.seal);
+            r.seal = seal_in(line);
+            walk_all(r.curve, r.seal);
         }
     }
     return fgets(line, sizeof line, lines) == NULL;
 }
 
 int main(int words, char **word) {
-    make_area();
+    make_room();
     if (words == 1)
         return test_edges() ? 0 : 1;
     FILE *lines = words == 4 && strcmp(word[1], "trial") == 0 ? fopen(word[2], "r") : NULL;
@@ -125,8 +100,8 @@ int main(int words, char **word) {
         return 2;
     int whole = trial(lines);
     fclose(lines);
-    if (!whole || walks() != strtoul(word[3], NULL, 10)) {
-        fprintf(stderr, "%lu walks and not %s%s\n", walks(), word[3], whole ? "" : ", and other lines than calls");
+    if (!whole || calls() != strtoul(word[3], NULL, 10)) {
+        fprintf(stderr, "%lu walks and not %s%s\n", calls(), word[3], whole ? "" : ", and other lines than calls");
         return 1;
     }
     return faults() == 0 ? 0 : 1;

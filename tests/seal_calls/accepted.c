@@ -1,5 +1,4 @@
 /* Calls that are accepted, and the one refusal, 101, that hangs on the output alone. */
-#include "classes.h"
 #include "edges.h"
 #include "records.h"
 #include "seal.h"
@@ -8,7 +7,7 @@ static void examples(void) {
     struct {
         enum call call;
         int f0;
-        struct class first, second, owed;
+        struct seal_class first, second, owed;
     } cases[] = {
         {DOUBLE, 0, x_0, neutral, xx_0}, /* 1 */
         {DOUBLE, 0, xx_0, neutral, xxx_1},

@@ -21,6 +21,17 @@ static void degrees_refused(void) {
     end_test("106: every degree but 5 and 61, before the next field");
 }
 
+/* A field with another row is refused, whether or not the fields after it follow, and a byte more. */
+static void row_refused(enum call call, const struct record *r, int f, const uint64_t *row, int numbers,
+                        uint32_t refusal) {
+    struct bytes b = with_row(r, f, row, numbers);
+    refused(call, &b, refusal);
+    append_fields(&b, r, f + 1, r->fields);
+    refused(call, &b, refusal);
+    put(&b, SEAL_TAG_CLASS);
+    refused(call, &b, refusal);
+}
+
 static void curve_coefficients(void) {
     for (int call = 0; call < CALLS; call++)
         for (int d = 0; d < 2; d++)
@@ -30,10 +41,7 @@ static void curve_coefficients(void) {
                 uint64_t row[3] = {0}, numbers[5] = {least, least + 1, least | 1u << 4, (uint64_t)1 << 63, UINT64_MAX};
                 for (int i = 0; i < 5; i++) {
                     row[place] = numbers[i];
-                    struct bytes b = with_row(&r, 1, row, 3);
-                    refused(call, &b, 107);
-                    append_fields(&b, &r, 2, r.fields);
-                    refused(call, &b, 107);
+                    row_refused(call, &r, 1, row, 3, 107);
                 }
                 row[place] = least - 1; /* d = 5: 31 passes, 32 is 107 */
                 struct bytes b = with_row(&r, 1, row, 3);
@@ -72,12 +80,7 @@ static void class_coefficients(void) {
                                 /* u = x^n + 1 .. with v = 1 .. is on no curve here: 110 comes before 111 */
                                 uint64_t row[6] = {others, others, others, others, others, others};
                                 row[place] = numbers[i];
-                                struct bytes b = with_row(&r, f, row, 2 * degree);
-                                refused(call, &b, 110);
-                                append_fields(&b, &r, f + 1, r.fields);
-                                refused(call, &b, 110);
-                                put(&b, 0);
-                                refused(call, &b, 110);
+                                row_refused(call, &r, f, row, 2 * degree, 110);
                             }
                     }
         }
@@ -95,14 +98,8 @@ static void no_classes(void) {
                     {2, ((uint64_t)1 << degrees[d]) - 1, 0},               /* the largest element passes 110 */
                     {4, 0, 0, 0, 2}, {4, 0, 1, 0, 0}, {6, 0, 0, 0, 0, 0, 2},
                 };
-                for (int i = 0; i < 6; i++) {
-                    struct bytes b = with_row(&r, f, rows[i] + 1, (int)rows[i][0]);
-                    refused(call, &b, 111);
-                    append_fields(&b, &r, f + 1, r.fields);
-                    refused(call, &b, 111);
-                    put(&b, 0x43);
-                    refused(call, &b, 111);
-                }
+                for (int i = 0; i < 6; i++)
+                    row_refused(call, &r, f, rows[i] + 1, (int)rows[i][0], 111);
             }
         }
     end_test("111: pairs that are no class, before the next field and before 112");

@@ -1,10 +1,9 @@
-/* The areas, the calls and the counts of check.h.
+/* The areas and the calls of check.h.
  *
  * Every call is made on areas of exactly the length said, each next to a page that cannot be touched, the input in
- * memory that cannot be written. After a call the whole output area is compared: the bytes owed, then the bytes as they
- * were before.
+ * memory that cannot be written. After a call the whole output area is compared: the bytes owed, then the bytes as
+ * they were before.
  */
-#define _GNU_SOURCE
 #include "check.h"
 #include "seal.h"
 
@@ -12,41 +11,12 @@
 #include <stdlib.h>
 #include <string.h>
 #include <sys/mman.h>
-#include <unistd.h>
-
-/* Memory of AREA bytes between two pages that cannot be touched. */
-struct area {
-    uint8_t *seen;  /* as the library gets it */
-    uint8_t *write; /* as this test writes it */
-};
 
 static struct area input_area, output_area;
 
-static void *must(void *p) {
-    if (p == MAP_FAILED) {
-        perror("mmap");
-        exit(2);
-    }
-    return p;
-}
-
-static struct area make_area(int protection) {
-    int file = memfd_create("area", 0);
-    if (file < 0 || ftruncate(file, AREA) != 0) {
-        perror("memfd_create");
-        exit(2);
-    }
-    struct area area;
-    uint8_t *around = must(mmap(NULL, 3 * AREA, PROT_NONE, MAP_PRIVATE | MAP_ANONYMOUS, -1, 0));
-    area.seen = must(mmap(around + AREA, AREA, protection, MAP_SHARED | MAP_FIXED, file, 0));
-    area.write = must(mmap(NULL, AREA, PROT_READ | PROT_WRITE, MAP_SHARED, file, 0));
-    close(file);
-    return area;
-}
-
 void make_areas(void) {
-    input_area = make_area(PROT_READ);
-    output_area = make_area(PROT_READ | PROT_WRITE);
+    input_area = make_area(AREA, PROT_READ);
+    output_area = make_area(AREA, PROT_READ | PROT_WRITE);
 }
 
 static const char *const call_names[CALLS] = {"membership", "opposite", "sum", "double", "half", "commit", "undo"};
@@ -68,44 +38,26 @@ size_t output_bound(enum call call) {
     return call == MEMBERSHIP ? 0 : call == COMMIT || call == UNDO ? 56 : 51;
 }
 
-static unsigned long passed, failed;       /* tests */
-static unsigned long calls_made, in_test;  /* calls, in all and in this test */
-static unsigned long wrong;                /* calls of this test with another answer or output than owed */
-static unsigned long met[CALLS][16];       /* how often each call gave 101 to 114; place 0: an accepted call */
-
-void count_call(void) {
-    calls_made++;
-    in_test++;
-}
+static unsigned long met[CALLS][16]; /* how often each call gave 101 to 114; place 0: an accepted call */
 
 void complain(enum call call, const uint8_t *in, size_t in_len, size_t out_len, const char *what, uint32_t owed,
-                     uint32_t got) {
-    if (++wrong > 3)
+              uint32_t got) {
+    if (!fault("%s, output of %zu bytes: %s: owed %u, got %u; input of %zu bytes:", call_names[call], out_len, what,
+               owed, got, in_len))
         return;
-    fprintf(stderr, "%s, output of %zu bytes: %s: owed %u, got %u; input of %zu bytes:", call_names[call], out_len,
-            what, owed, got, in_len);
     for (size_t i = 0; i < in_len && i < 200; i++)
         fprintf(stderr, " %02x", in[i]);
     fputc('\n', stderr);
 }
 
-/* What an output area holds before a call: AREA bytes of a fixed row, from another place each time. */
-static const uint8_t *filling(void) {
-    static uint8_t row[AREA + 251];
-    if (row[0] == 0)
-        for (size_t i = 0; i < sizeof row; i++)
-            row[i] = (uint8_t)((i * 167 + 13) ^ (i >> 3));
-    return row + calls_made % 251;
-}
-
-void expect_at(enum call call, const uint8_t *in, size_t in_len, size_t out_len, uint32_t owed,
-                        const uint8_t *written, int at_end) {
+void expect_at(enum call call, const uint8_t *in, size_t in_len, size_t out_len, uint32_t owed, const uint8_t *written,
+               int at_end) {
     static uint8_t before[AREA];
     size_t in_at = at_end ? AREA - in_len : 0, out_at = at_end ? AREA - out_len : 0;
     memset(input_area.write, at_end ? 0x00 : 0xff, AREA);
     if (in_len > 0)
         memcpy(input_area.write + in_at, in, in_len);
-    memcpy(before, filling(), AREA);
+    memcpy(before, filling(calls()), AREA);
     memcpy(output_area.write, before, AREA);
 
     /* an empty area is NULL every second time */
@@ -134,23 +86,12 @@ void expect_at(enum call call, const uint8_t *in, size_t in_len, size_t out_len,
     complain(call, in, in_len, out_len, what, before[i], output_area.write[i]);
 }
 
-void expect(enum call call, const uint8_t *in, size_t in_len, size_t out_len, uint32_t owed,
-                   const uint8_t *written) {
+void expect(enum call call, const uint8_t *in, size_t in_len, size_t out_len, uint32_t owed, const uint8_t *written) {
     expect_at(call, in, in_len, out_len, owed, written, 1);
     expect_at(call, in, in_len, out_len, owed, written, 0);
 }
 
-void end_test(const char *name) {
-    if (wrong == 0 && in_test > 0)
-        passed++;
-    else
-        failed++;
-    printf("%s: %s (%lu calls)\n", wrong == 0 && in_test > 0 ? "ok" : "FAILED", name, in_test);
-    fflush(stdout);
-    wrong = in_test = 0;
-}
-
-int end_tests(void) {
+void print_met(void) {
     printf("answers met:");
     for (int number = 101; number <= 114; number++)
         printf("%7d", number);
@@ -161,6 +102,4 @@ int end_tests(void) {
             printf("%7lu", met[call][number - 100]);
         printf("%10lu\n", met[call][0]);
     }
-    printf("%lu passed, %lu failed\n", passed, failed);
-    return failed == 0;
 }

@@ -1,12 +1,12 @@
-/* One call of the library made and held to what it owes, and the tests counted. */
+/* One call of the library made and held to what it owes. */
 #ifndef CHECK_H
 #define CHECK_H
 
-#include <stddef.h>
-#include <stdint.h>
+#include "area.h"
+#include "count.h"
 
 /* The longest input or output that is tried: one page. */
-#define AREA 4096
+#define AREA PAGE
 
 enum call { MEMBERSHIP, OPPOSITE, SUM, DOUBLE, HALF, COMMIT, UNDO, CALLS };
 
@@ -26,17 +26,11 @@ void expect_at(enum call call, const uint8_t *in, size_t in_len, size_t out_len,
 /* The same at both ends. */
 void expect(enum call call, const uint8_t *in, size_t in_len, size_t out_len, uint32_t owed, const uint8_t *written);
 
-/* Counts a call that is made without expect. */
-void count_call(void);
-
-/* Notes that a call of this test, or the test itself, was wrong. */
+/* A fault of a call. */
 void complain(enum call call, const uint8_t *in, size_t in_len, size_t out_len, const char *what, uint32_t owed,
               uint32_t got);
 
-/* Ends a test, which passes where it made a call and none was wrong, and prints its line. */
-void end_test(const char *name);
-
-/* Prints how often each call gave each answer, then 'N passed, M failed'; answers whether nothing failed. */
-int end_tests(void);
+/* Prints how often each call gave each answer. */
+void print_met(void);
 
 #endif

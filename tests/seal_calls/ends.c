@@ -1,6 +1,5 @@
 /* What is refused after all fields are read: 112, 113, 114; and areas of more than 4 GB. */
 #define _GNU_SOURCE
-#include "classes.h"
 #include "edges.h"
 #include "records.h"
 #include "seal.h"

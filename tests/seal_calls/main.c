@@ -16,8 +16,9 @@ static uint32_t number_of(const uint8_t *b) {
     return (uint32_t)b[0] << 24 | (uint32_t)b[1] << 16 | (uint32_t)b[2] << 8 | b[3];
 }
 
-/* The cases on standard input, which have to be as many as said: the call in one byte; the lengths of output and input,
- * and the answer owed, in four each, high byte first; the input; the bytes owed where the answer is no refusal. */
+/* The cases on standard input, which have to be as many as said: the call in one byte; the lengths of output and
+ * input, and the answer owed, in four each, high byte first; the input; the bytes owed where the answer is no
+ * refusal. */
 static void test_file(unsigned long number) {
     static uint8_t in[AREA];
     uint8_t head[13], owed[100];
@@ -44,5 +45,6 @@ int main(int words, char **word) {
     test_ends();
     if (words > 1)
         test_file(strtoul(word[1], NULL, 10));
+    print_met();
     return end_tests() ? 0 : 1;
 }

@@ -1,6 +1,5 @@
 /* The records of records.h. */
 #include "records.h"
-#include "classes.h"
 #include "seal.h"
 
 #include <stdlib.h>
@@ -40,10 +39,13 @@ void put_count(struct bytes *b, int count) {
     put(b, count & 0xff);
 }
 
-void put_class(struct bytes *b, int tag, struct class class) {
+/* u below its leading term from the highest power down, then v likewise */
+void put_class(struct bytes *b, int tag, struct seal_class class) {
     put_head(b, tag, (size_t)(16 * class.degree));
-    for (int i = 0; i < 2 * class.degree; i++)
-        put_number(b, class.row[i]);
+    for (size_t i = class.degree; i-- > 0;)
+        put_number(b, class.u[i]);
+    for (size_t i = class.degree; i-- > 0;)
+        put_number(b, class.v[i]);
 }
 
 struct record accepted(enum call call, int d) {
@@ -97,8 +99,6 @@ void refused(enum call call, const struct bytes *in, uint32_t number) {
     expect(call, in->at, in->length, output_bound(call), number, NULL);
 }
 
-const int degrees[2] = {5, 61};
-
 struct bytes with_row(const struct record *r, int f, const uint64_t *row, int numbers) {
     struct bytes b = {0};
     append_fields(&b, r, 0, f);
@@ -108,7 +108,7 @@ struct bytes with_row(const struct record *r, int f, const uint64_t *row, int nu
     return b;
 }
 
-struct bytes register_record(int d, int count, struct class seal, struct class operation) {
+struct bytes register_record(int d, int count, struct seal_class seal, struct seal_class operation) {
     struct bytes b = {0};
     put_degree(&b, d);
     put_curve(&b, 0, 0, 0);

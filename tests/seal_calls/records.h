@@ -3,6 +3,7 @@
 #define RECORDS_H
 
 #include "check.h"
+#include "classes.h"
 
 /* Bytes that are put together; a field's head is three bytes. */
 struct bytes {
@@ -18,13 +19,7 @@ void put_curve(struct bytes *b, uint64_t f3, uint64_t f1, uint64_t f0);
 void put_count(struct bytes *b, int count);
 void append(struct bytes *b, const struct bytes *more);
 
-/* A class in stored order: u below its leading term from the highest power down, then v likewise. */
-struct class {
-    int degree;
-    uint64_t row[6];
-};
-
-void put_class(struct bytes *b, int tag, struct class class);
+void put_class(struct bytes *b, int tag, struct seal_class class);
 
 /* The fields of an accepted record on f = x^7, one by one: classes [x, 0], count 7. */
 struct record {
@@ -44,12 +39,9 @@ struct bytes owed_of_accepted(enum call call);
 struct bytes with_row(const struct record *r, int f, const uint64_t *row, int numbers);
 
 /* A record of a register on f = x^7. */
-struct bytes register_record(int d, int count, struct class seal, struct class operation);
+struct bytes register_record(int d, int count, struct seal_class seal, struct seal_class operation);
 
 /* Holds a call to a refusal, with an output that is just long enough. */
 void refused(enum call call, const struct bytes *in, uint32_t number);
-
-/* The degrees of the two fields. */
-extern const int degrees[2];
 
 #endif

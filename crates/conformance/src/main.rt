@@ -21,50 +21,15 @@ use jacobian::ClassAnswer;
 use jacobian::CountedAnswer;
 use jacobian::Curve;
 use jacobian::Outcome;
-use libc::STDIN_FILENO;
-use libc::STDOUT_FILENO;
 
-fn wide(byte: u8) -> u64 {
-    byte as u64
-}
-
-// The number in the eight bytes of the case that start at `at`, high byte first.
-fn number(case: &[u8; 138], at: usize) -> u64
-    requires { ⌜ at ≤ 130 ⌝ }
+// The class whose seven numbers start at a place of the case.
+fn class(case: &[u8; 138], place: u8) -> Class
+    requires { ⌜ place ≤ 10 ⌝ }
 {
-    let high = wide(case[at]) << 56
-        | wide(case[at + 1]) << 48
-        | wide(case[at + 2]) << 40
-        | wide(case[at + 3]) << 32;
-    high
-        | wide(case[at + 4]) << 24
-        | wide(case[at + 5]) << 16
-        | wide(case[at + 6]) << 8
-        | wide(case[at + 7])
-}
-
-// The three numbers that start at `at`.
-fn row(case: &[u8; 138], at: usize) -> [u64; 3]
-    requires { ⌜ at ≤ 114 ⌝ }
-{
-    [
-        number(case, at),
-        number(case, at + 8),
-        number(case, at + 16),
-    ]
-}
-
-// The class whose seven numbers start at `at`.
-fn class(case: &[u8; 138], at: usize) -> Class
-    requires { ⌜ at ≤ 82 ⌝ }
-{
-    let degree = number(case, at);
-    let u = row(case, at + 8);
-    let v = row(case, at + 32);
     Class {
-        degree: degree,
-        u: u,
-        v: v,
+        degree: trial_text::number(case, place),
+        u: trial_text::row(case, place + 1),
+        v: trial_text::row(case, place + 4),
     }
 }
 
@@ -72,24 +37,9 @@ fn class(case: &[u8; 138], at: usize) -> Class
 fn curve(case: &[u8; 138]) -> Curve {
     Curve {
         degree: case[1],
-        f3: number(case, 2),
-        f1: number(case, 10),
-        f0: number(case, 18),
-    }
-}
-
-// Writes the coefficients below x^n, from the highest power down.
-fn write_row(n: u64, row: [u64; 3]) {
-    if n > 2 {
-        io::print_hex(STDOUT_FILENO, row[2], 1);
-        io::write_all(STDOUT_FILENO, b",");
-    }
-    if n > 1 {
-        io::print_hex(STDOUT_FILENO, row[1], 1);
-        io::write_all(STDOUT_FILENO, b",");
-    }
-    if n > 0 {
-        io::print_hex(STDOUT_FILENO, row[0], 1);
+        f3: trial_text::number(case, 0),
+        f1: trial_text::number(case, 1),
+        f0: trial_text::number(case, 2),
     }
 }
 
@@ -97,26 +47,14 @@ fn write_row(n: u64, row: [u64; 3]) {
 fn write_class(class: Class) {
     let u = class.u;
     let v = class.v;
-    io::print_decimal(STDOUT_FILENO, class.degree);
-    io::write_all(STDOUT_FILENO, b":");
-    write_row(class.degree, u);
-    io::write_all(STDOUT_FILENO, b":");
-    write_row(class.degree, v);
-}
-
-// Writes a refusal.
-fn write_refusal(number: u32) {
-    io::write_all(STDOUT_FILENO, b"refused ");
-    io::print_decimal(STDOUT_FILENO, number as u64);
+    trial_text::write_class(class.degree, u, v, class.degree);
 }
 
 // Writes what a call that gives no class answers.
 fn write_outcome(outcome: Outcome) {
     match outcome {
-        Outcome::Accepted => {
-            io::write_all(STDOUT_FILENO, b"accepted");
-        }
-        Outcome::Refused(number) => write_refusal(number),
+        Outcome::Accepted => trial_text::write_text(b"accepted"),
+        Outcome::Refused(number) => trial_text::write_refusal(number),
     }
 }
 
@@ -126,7 +64,7 @@ fn write_answer(answer: ClassAnswer) {
     let class = answer.class;
     match outcome {
         Outcome::Accepted => write_class(class),
-        Outcome::Refused(number) => write_refusal(number),
+        Outcome::Refused(number) => trial_text::write_refusal(number),
     }
 }
 
@@ -137,10 +75,10 @@ fn write_counted(answer: CountedAnswer) {
     match outcome {
         Outcome::Accepted => {
             write_class(class);
-            io::write_all(STDOUT_FILENO, b" ");
-            io::print_decimal(STDOUT_FILENO, answer.steps as u64);
+            trial_text::write_text(b" ");
+            trial_text::write_decimal(answer.steps as u64);
         }
-        Outcome::Refused(number) => write_refusal(number),
+        Outcome::Refused(number) => trial_text::write_refusal(number),
     }
 }
 
@@ -181,25 +119,18 @@ fn answer_call(call: u8, curve: Curve, a: Class, b: Class) {
         10 => write_answer(jacobian::double_and_add(curve, a, b)),
         11 => write_answer(jacobian::subtract_and_halve(curve, a, b)),
         12 => write_outcome(jacobian::accepts_curve(curve)),
-        _ => {
-            io::write_all(STDOUT_FILENO, b"no such call");
-        }
+        _ => trial_text::write_text(b"no such call"),
     }
-    io::write_all(STDOUT_FILENO, b"\n");
+    trial_text::write_text(b"\n");
 }
 
 // Reads one case, writes its line, and answers whether to go on.
 fn answer_case() -> bool {
     let mut case = [0u8; 138];
-    let n = io::read_full(STDIN_FILENO, &mut case);
-    if n == 0 {
+    if trial_text::read_case(&mut case) < 138 {
         return false;
     }
-    if n < 138 {
-        io::write_all(STDOUT_FILENO, b"cut short\n");
-        return false;
-    }
-    answer_call(case[0], curve(&case), class(&case, 26), class(&case, 82));
+    answer_call(case[0], curve(&case), class(&case, 3), class(&case, 10));
     true
 }
 

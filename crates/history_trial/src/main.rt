@@ -17,8 +17,6 @@ use history::RegisterAnswer;
 use jacobian::Class;
 use jacobian::Curve;
 use jacobian::Outcome;
-use libc::STDIN_FILENO;
-use libc::STDOUT_FILENO;
 
 // Whether to go on, and the register to go on with.
 struct Turn {
@@ -26,47 +24,14 @@ struct Turn {
     register: Register,
 }
 
-fn wide(byte: u8) -> u64 {
-    byte as u64
-}
-
-// The number in the eight bytes of the record that start at `at`, high byte first.
-fn number(record: &[u8; 146], at: usize) -> u64
-    requires { ⌜ at ≤ 138 ⌝ }
+// The class whose seven numbers start at a place of the record.
+fn class(record: &[u8; 146], place: u8) -> Class
+    requires { ⌜ place ≤ 11 ⌝ }
 {
-    let high = wide(record[at]) << 56
-        | wide(record[at + 1]) << 48
-        | wide(record[at + 2]) << 40
-        | wide(record[at + 3]) << 32;
-    high
-        | wide(record[at + 4]) << 24
-        | wide(record[at + 5]) << 16
-        | wide(record[at + 6]) << 8
-        | wide(record[at + 7])
-}
-
-// The three numbers that start at `at`.
-fn row(record: &[u8; 146], at: usize) -> [u64; 3]
-    requires { ⌜ at ≤ 122 ⌝ }
-{
-    [
-        number(record, at),
-        number(record, at + 8),
-        number(record, at + 16),
-    ]
-}
-
-// The class whose seven numbers start at `at`.
-fn class(record: &[u8; 146], at: usize) -> Class
-    requires { ⌜ at ≤ 90 ⌝ }
-{
-    let degree = number(record, at);
-    let u = row(record, at + 8);
-    let v = row(record, at + 32);
     Class {
-        degree: degree,
-        u: u,
-        v: v,
+        degree: trial_text::number(record, place),
+        u: trial_text::row(record, place + 1),
+        v: trial_text::row(record, place + 4),
     }
 }
 
@@ -74,29 +39,14 @@ fn class(record: &[u8; 146], at: usize) -> Class
 fn started(record: &[u8; 146]) -> Register {
     let curve = Curve {
         degree: record[1],
-        f3: number(record, 2),
-        f1: number(record, 10),
-        f0: number(record, 18),
+        f3: trial_text::number(record, 0),
+        f1: trial_text::number(record, 1),
+        f0: trial_text::number(record, 2),
     };
     Register {
-        curve: curve,
-        count: number(record, 26),
-        seal: class(record, 34),
-    }
-}
-
-// Writes the coefficients below x^n, from the highest power down.
-fn write_row(n: u64, row: [u64; 3]) {
-    if n > 2 {
-        io::print_hex(STDOUT_FILENO, row[2], 1);
-        io::write_all(STDOUT_FILENO, b",");
-    }
-    if n > 1 {
-        io::print_hex(STDOUT_FILENO, row[1], 1);
-        io::write_all(STDOUT_FILENO, b",");
-    }
-    if n > 0 {
-        io::print_hex(STDOUT_FILENO, row[0], 1);
+        curve,
+        count: trial_text::number(record, 3),
+        seal: class(record, 4),
     }
 }
 
@@ -104,11 +54,7 @@ fn write_row(n: u64, row: [u64; 3]) {
 fn write_class(class: Class, n: u64) {
     let u = class.u;
     let v = class.v;
-    io::print_decimal(STDOUT_FILENO, class.degree);
-    io::write_all(STDOUT_FILENO, b":");
-    write_row(n, u);
-    io::write_all(STDOUT_FILENO, b":");
-    write_row(n, v);
+    trial_text::write_class(class.degree, u, v, n);
 }
 
 // Writes what a call on the register answers, and hands back the register of the answer.
@@ -118,16 +64,13 @@ fn write_answer(answer: RegisterAnswer) -> Register {
     let seal = register.seal;
     match outcome {
         Outcome::Accepted => {
-            io::print_decimal(STDOUT_FILENO, register.count);
-            io::write_all(STDOUT_FILENO, b" ");
+            trial_text::write_decimal(register.count);
+            trial_text::write_text(b" ");
             write_class(seal, seal.degree);
         }
-        Outcome::Refused(number) => {
-            io::write_all(STDOUT_FILENO, b"refused ");
-            io::print_decimal(STDOUT_FILENO, number as u64);
-        }
+        Outcome::Refused(number) => trial_text::write_refusal(number),
     }
-    io::write_all(STDOUT_FILENO, b"\n");
+    trial_text::write_text(b"\n");
     register
 }
 
@@ -135,14 +78,14 @@ fn write_answer(answer: RegisterAnswer) -> Register {
 fn write_register(register: Register) -> Register {
     let curve = register.curve;
     let seal = register.seal;
-    io::print_decimal(STDOUT_FILENO, curve.degree as u64);
-    io::write_all(STDOUT_FILENO, b" ");
-    write_row(3, [curve.f0, curve.f1, curve.f3]);
-    io::write_all(STDOUT_FILENO, b" ");
-    io::print_decimal(STDOUT_FILENO, register.count);
-    io::write_all(STDOUT_FILENO, b" ");
+    trial_text::write_decimal(curve.degree as u64);
+    trial_text::write_text(b" ");
+    trial_text::write_row(3, [curve.f0, curve.f1, curve.f3]);
+    trial_text::write_text(b" ");
+    trial_text::write_decimal(register.count);
+    trial_text::write_text(b" ");
     write_class(seal, 3);
-    io::write_all(STDOUT_FILENO, b"\n");
+    trial_text::write_text(b"\n");
     register
 }
 
@@ -150,11 +93,11 @@ fn write_register(register: Register) -> Register {
 fn answer_record(record: &[u8; 146], register: Register) -> Register {
     match record[0] {
         0 => started(record),
-        1 => write_answer(register.commit(class(record, 90))),
-        2 => write_answer(register.undo(class(record, 90))),
+        1 => write_answer(register.commit(class(record, 11))),
+        2 => write_answer(register.undo(class(record, 11))),
         3 => write_register(register),
         _ => {
-            io::write_all(STDOUT_FILENO, b"no such call\n");
+            trial_text::write_text(b"no such call\n");
             register
         }
     }
@@ -163,20 +106,15 @@ fn answer_record(record: &[u8; 146], register: Register) -> Register {
 // Reads one record and answers it.
 fn next_record(register: Register) -> Turn {
     let mut record = [0u8; 146];
-    let n = io::read_full(STDIN_FILENO, &mut record);
-    if n < 146 {
-        if n > 0 {
-            io::write_all(STDOUT_FILENO, b"cut short\n");
-        }
+    if trial_text::read_case(&mut record) < 146 {
         return Turn {
             more: false,
-            register: register,
+            register,
         };
     }
-    let next = answer_record(&record, register);
     Turn {
         more: true,
-        register: next,
+        register: answer_record(&record, register),
     }
 }
 
@@ -188,15 +126,10 @@ fn unset() -> Register {
         f1: 0,
         f0: 0,
     };
-    let seal = Class {
-        degree: 0,
-        u: [0u64; 3],
-        v: [0u64; 3],
-    };
     Register {
-        curve: curve,
+        curve,
         count: 0,
-        seal: seal,
+        seal: jacobian::neutral(),
     }
 }
 

@@ -8,8 +8,7 @@
 
 use reference::class_cases::{drawn, stored, sweep, Case, CurveValues};
 use reference::field::BENCH;
-use std::fs::write;
-use std::path::Path;
+use reference::write_case;
 
 /// What the program is given, and what it owes for that.
 fn made(kind: &str, coefficients: &[u64]) -> Option<(Vec<u8>, String)> {
@@ -29,9 +28,7 @@ fn run(words: &[String]) -> Option<()> {
     let [kind, folder, coefficients @ ..] = words else { return None };
     let numbers: Vec<u64> = coefficients.iter().map(|word| word.parse().ok()).collect::<Option<_>>()?;
     let (input, output) = made(kind, &numbers)?;
-    for (name, bytes) in [("stdin", input), ("stdout", output.into_bytes())] {
-        write(Path::new(folder).join(name), bytes).expect("the folder takes the file");
-    }
+    write_case(folder, input, output);
     Some(())
 }
 

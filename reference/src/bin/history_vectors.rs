@@ -8,8 +8,7 @@
 //! - `every-class`, an undo with every class of f = x^7 over the bench field.
 
 use reference::history_cases::{lists, stored, Trial};
-use std::fs::write;
-use std::path::Path;
+use reference::write_case;
 
 fn made(kind: &str) -> Option<Trial> {
     let run = match kind {
@@ -29,7 +28,7 @@ fn made(kind: &str) -> Option<Trial> {
 fn main() {
     let words: Vec<String> = std::env::args().skip(1).collect();
     let wanted = match &words[..] {
-        [kind, folder] => made(kind).map(|trial| (trial, Path::new(folder))),
+        [kind, folder] => made(kind).map(|trial| (trial, folder)),
         _ => None,
     };
     let Some((trial, folder)) = wanted else {
@@ -38,7 +37,5 @@ fn main() {
         );
         std::process::exit(2);
     };
-    for (name, bytes) in [("stdin", trial.input), ("stdout", trial.output.into_bytes())] {
-        write(folder.join(name), bytes).expect("the folder takes the file");
-    }
+    write_case(folder, trial.input, trial.output);
 }

@@ -59,6 +59,14 @@ fn coefficients(field: Field) -> Vec<Case> {
     cases
 }
 
+/// Every call on a class with another number in place i of u, and of v.
+fn with_number(curve: CurveValues, class: ClassValues, i: usize, n: u64) -> Vec<Case> {
+    let (mut in_u, mut in_v) = (class, class);
+    in_u.u[i] = n;
+    in_v.v[i] = n;
+    [every_call(curve, in_u), every_call(curve, in_v)].concat()
+}
+
 /// 104 for a degree above 3, and for a number other than 0 beyond the degree, an element or not.
 fn shapes(field: Field) -> Vec<Case> {
     let curve = CurveValues::new(field, 0, 0, 0);
@@ -71,11 +79,7 @@ fn shapes(field: Field) -> Vec<Case> {
         let class = ClassValues { degree: degree as u64, ..NEUTRAL };
         for i in degree..3 {
             for n in [1, around(field)[1]] {
-                let (mut in_u, mut in_v) = (class, class);
-                in_u.u[i] = n;
-                in_v.v[i] = n;
-                cases.extend(every_call(curve, in_u));
-                cases.extend(every_call(curve, in_v));
+                cases.extend(with_number(curve, class, i, n));
             }
         }
     }
@@ -92,11 +96,7 @@ fn numbers(field: Field) -> Vec<Case> {
         cases.extend(every_call(curve, class));
         for i in 0..degree {
             for n in [1].into_iter().chain(around(field)) {
-                let (mut in_u, mut in_v) = (class, class);
-                in_u.u[i] = n;
-                in_v.v[i] = n;
-                cases.extend(every_call(curve, in_u));
-                cases.extend(every_call(curve, in_v));
+                cases.extend(with_number(curve, class, i, n));
             }
         }
     }

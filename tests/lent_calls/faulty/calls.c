@@ -1,25 +1,18 @@
-/* The calls of a library made wrong in one way, the variable LENT_FAULT, so that tests/lent_calls is tested itself: it has
- * to fail on each. Linked with --wrap=seal_register_commit and --wrap=seal_register_undo.
+/* Faulty calls on a register, for tests/lent_calls. Linked with --wrap=seal_register_commit and
+ * --wrap=seal_register_undo.
  * - only-count: an acceptance leaves the seal as it was.
  * - count-kept: an acceptance leaves the count as it was.
  * - refusal-writes: a refusal leaves another count.
  * - scratch: a refusal leaves one byte of padding changed.
  * - undo-commits: an undo is a commit.
  */
+#include "faulty.h"
 #include "seal_register.h"
-
-#include <stdlib.h>
-#include <string.h>
 
 uint32_t __real_seal_register_commit(struct seal_register *lent, struct seal_class operation);
 uint32_t __real_seal_register_undo(struct seal_register *lent, struct seal_class operation);
 uint32_t __wrap_seal_register_commit(struct seal_register *lent, struct seal_class operation);
 uint32_t __wrap_seal_register_undo(struct seal_register *lent, struct seal_class operation);
-
-static int has(const char *fault) {
-    const char *asked = getenv("LENT_FAULT");
-    return asked != NULL && strcmp(asked, fault) == 0;
-}
 
 static uint32_t faulty(uint32_t answer, struct seal_register *lent, const struct seal_register *before) {
     if (answer == 0 && has("only-count"))

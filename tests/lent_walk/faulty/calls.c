@@ -1,5 +1,4 @@
-/* The walk made wrong in one way, the variable LENT_FAULT, so that tests/lent_walk is tested itself: it has to fail on
- * each. Linked with --wrap=seal_walk_row.
+/* A faulty walk, for tests/lent_walk. Linked with --wrap=seal_walk_row.
  * - oldest-first: the row is walked from its other end.
  * - one-early: the walk stops one class early.
  * - one-step: the walk makes one step and stays at its seal.
@@ -9,31 +8,21 @@
  * - unchecked: for an empty row the last seal is not checked.
  * - seal-kept: a refusal hands back the last seal.
  */
-#include "seal_register.h"
+#include "../walk.h"
+#include "faulty.h"
 
-#include <stdlib.h>
-#include <string.h>
-
-#define LIMIT 1024
-#define ROOM 1025 /* no longer row is tried */
-
-struct seal_row_walk __real_seal_walk_row(struct seal_curve curve, struct seal_class last, const struct seal_class *row,
-                                          size_t classes);
-struct seal_row_walk __wrap_seal_walk_row(struct seal_curve curve, struct seal_class last, const struct seal_class *row,
-                                          size_t classes);
-
-static int has(const char *fault) {
-    const char *asked = getenv("LENT_FAULT");
-    return asked != NULL && strcmp(asked, fault) == 0;
-}
+struct seal_row_walk __real_seal_walk_row(struct seal_curve curve, struct seal_class last,
+                                          const struct seal_class *row, size_t classes);
+struct seal_row_walk __wrap_seal_walk_row(struct seal_curve curve, struct seal_class last,
+                                          const struct seal_class *row, size_t classes);
 
 static struct seal_row_walk too_long(void) {
-    struct seal_row_walk answer = {109, {0, {0, 0, 0}, {0, 0, 0}}};
+    struct seal_row_walk answer = {109, neutral};
     return answer;
 }
 
-struct seal_row_walk __wrap_seal_walk_row(struct seal_curve curve, struct seal_class last, const struct seal_class *row,
-                                          size_t classes) {
+struct seal_row_walk __wrap_seal_walk_row(struct seal_curve curve, struct seal_class last,
+                                          const struct seal_class *row, size_t classes) {
     static struct seal_class other_end[ROOM];
     struct seal_row_walk answer = {0, last};
     if (has("oldest-first") && classes <= ROOM) {

@@ -1,0 +1,2 @@
+-- The cases that the trial programs read.
+pub mod Cases

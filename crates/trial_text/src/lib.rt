@@ -1,0 +1,121 @@
+// The cases that the trial programs read from standard input, and the parts of the lines that they write.
+// A case is a byte for the call, a byte for the degree, and numbers of eight bytes each, high byte first.
+ghost use Prim.Native.Nat.{_≤_, _<_};
+ghost use mathlib.Core.Path.{_≡_};
+ghost use lib.ListN.{getD};
+ghost use Rattle.io.specs.Counts.{Counts};
+ghost use Rattle.trial_text.specs.Cases.{four-bytes, eight-bytes, number-at, row-at};
+use libc::STDIN_FILENO;
+use libc::STDOUT_FILENO;
+
+// Reads a case, and answers how many of its bytes the input had. Where these are some and not all, it writes `cut short`.
+pub fn read_case(case: &mut [u8]) -> usize
+    ensures { λ r. ⌜ Counts r (now (case .exit)) ⌝ }
+{
+    let n = io::read_full(STDIN_FILENO, case);
+    if n > 0 && n < case.len() {
+        write_text(b"cut short\n");
+    }
+    n
+}
+
+// A byte of the case, and 0 after its end.
+fn byte(case: &[u8], at: usize) -> u8
+    ensures { λ r. ⌜ r ≡ getD (now (case .entry)) at 0 ⌝ }
+{
+    if at < case.len() {
+        return case[at];
+    }
+    0
+}
+
+fn wide(byte: u8) -> u64
+    ensures { λ r. ⌜ (r ≡ byte) × (r < 256) ⌝ }
+{
+    byte as u64
+}
+
+// The number in four bytes.
+fn four_bytes(case: &[u8], at: usize) -> u64
+    requires { ⌜ at ≤ 4096 ⌝ }
+    ensures { λ r. ⌜ r ≡ four-bytes (now (case .entry)) at ⌝ }
+    ensures { λ r. ⌜ r < 0x1_0000_0000 ⌝ }
+{
+    let a = wide(byte(case, at));
+    let b = wide(byte(case, at + 1));
+    let c = wide(byte(case, at + 2));
+    let d = wide(byte(case, at + 3));
+    ((a * 256 + b) * 256 + c) * 256 + d
+}
+
+// The number in eight bytes.
+fn eight_bytes(case: &[u8], at: usize) -> u64
+    requires { ⌜ at ≤ 4092 ⌝ }
+    ensures { λ r. ⌜ r ≡ eight-bytes (now (case .entry)) at ⌝ }
+{
+    four_bytes(case, at) * 0x1_0000_0000 + four_bytes(case, at + 4)
+}
+
+// The number at a place, which is counted from 0.
+pub fn number(case: &[u8], place: u8) -> u64
+    ensures { λ r. ⌜ r ≡ number-at (now (case .entry)) place ⌝ }
+{
+    eight_bytes(case, 2 + 8 * (place as usize))
+}
+
+// The three numbers from a place on.
+pub fn row(case: &[u8], place: u8) -> [u64; 3]
+    ensures { λ r. ⌜ r ≡ row-at (now (case .entry)) place ⌝ }
+{
+    let at = 2 + 8 * (place as usize);
+    [
+        eight_bytes(case, at),
+        eight_bytes(case, at + 8),
+        eight_bytes(case, at + 16),
+    ]
+}
+
+// Writes bytes as they are.
+pub fn write_text(text: &[u8]) {
+    io::write_all(STDOUT_FILENO, text);
+}
+
+// Writes a number in decimal.
+pub fn write_decimal(n: u64) {
+    io::print_decimal(STDOUT_FILENO, n);
+}
+
+// Writes an element in hexadecimal.
+pub fn write_element(n: u64) {
+    io::print_hex(STDOUT_FILENO, n, 1);
+}
+
+// Writes a refusal.
+pub fn write_refusal(number: u32) {
+    write_text(b"refused ");
+    write_decimal(number as u64);
+}
+
+// Writes the coefficients below x^n, from the highest power down, with commas between.
+pub fn write_row(n: u64, row: [u64; 3]) {
+    if n > 2 {
+        write_element(row[2]);
+        write_text(b",");
+    }
+    if n > 1 {
+        write_element(row[1]);
+        write_text(b",");
+    }
+    if n > 0 {
+        write_element(row[0]);
+    }
+}
+
+// Writes a class as degree, u and v with a colon between, and of u and v the coefficients below x^n.
+pub fn write_class(degree: u64, u: [u64; 3], v: [u64; 3], n: u64) {
+    write_decimal(degree);
+    write_text(b":");
+    write_row(n, u);
+    write_text(b":");
+    write_row(n, v);
+}
