@@ -9,8 +9,8 @@ use lib.Dec.{T, eqb, ltb}
 use borrow.Author.Tests.{lt-ltb, ltb-true}
 use Rattle.binary_field.specs.declared.Answer.{Answer}
 use Rattle.binary_field.specs.declared.Answer.the-variants.{Element, Refused}
-use Rattle.binary_field.specs.Carryless.{_⊕_}
-use Rattle.binary_field.specs.Element.{Accepted, product, square, root, inverse}
+use Rattle.binary_field_theory.specs.Carryless.{_⊕_}
+use Rattle.binary_field_theory.specs.Element.{Accepted, product, square, root, inverse}
 use Rattle.binary_field.specs.Answer.{element, refusal, reply, below, due, answered, sum-reply, product-reply, square-reply, root-reply, inverse-reply}
 
 refusal-of : (k v : ℕ) → (k ≡ 0 → ⊥) → refusal k ≡ answered k v

@@ -5,8 +5,8 @@ use mathlib.Core.List.{List, [], _∷_}
 use lib.Dec.{eqb, ltb}
 use Rattle.binary_field.specs.declared.Answer.{Answer}
 use Rattle.binary_field.specs.declared.Answer.the-variants.{Element, Refused}
-use Rattle.binary_field.specs.Carryless.{_⊕_}
-use Rattle.binary_field.specs.Element.{product, square, root, inverse}
+use Rattle.binary_field_theory.specs.Carryless.{_⊕_}
+use Rattle.binary_field_theory.specs.Element.{product, square, root, inverse}
 
 -- an answer is an element or a refusal with its number
 pub data Reply : Type 0 where

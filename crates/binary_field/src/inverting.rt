@@ -2,9 +2,9 @@
 // 2^k - 1 of a, k squarings and one product make the power 2^(j+k) - 1.
 ghost use mathlib.Core.Path.{_≡_};
 ghost use Prim.Native.Nat.{_*_, _<_, _^_};
-ghost use Rattle.binary_field.specs.Element.{Accepted, product, squarings, inverse};
-ghost use Rattle.binary_field.specs.Spreading.{Spreads};
-ghost use Rattle.binary_field.specs.Multisquaring.{Multisquares};
+ghost use Rattle.binary_field_theory.specs.Element.{Accepted, product, squarings, inverse};
+ghost use Rattle.binary_field_theory.specs.Spreading.{Spreads};
+ghost use Rattle.binary_field_theory.specs.Multisquaring.{Multisquares};
 use crate::carryless;
 use crate::multisquaring;
 use crate::squaring;

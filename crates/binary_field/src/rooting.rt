@@ -2,9 +2,9 @@
 // the root of t.
 ghost use mathlib.Core.Path.{_≡_};
 ghost use Prim.Native.Nat.{_+_, _*_, _<_, _^_};
-ghost use Rattle.binary_field.specs.Carryless.{clmul};
-ghost use Rattle.binary_field.specs.Element.{Accepted, product, square, root};
-ghost use Rattle.binary_field.specs.Spreading.{evens};
+ghost use Rattle.binary_field_theory.specs.Carryless.{clmul};
+ghost use Rattle.binary_field_theory.specs.Element.{Accepted, product, square, root};
+ghost use Rattle.binary_field_theory.specs.Spreading.{evens};
 use crate::carryless;
 use crate::carryless::Words;
 

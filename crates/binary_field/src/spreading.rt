@@ -1,8 +1,8 @@
 // Spreading the digits of a number, bit i to bit 2i, by a table of 256 entries that spreads a byte to sixteen bits.
 ghost use mathlib.Core.Path.{_≡_};
 ghost use Prim.Native.Nat.{_<_, _^_};
-ghost use Rattle.binary_field.specs.Carryless.{spread};
-ghost use Rattle.binary_field.specs.Spreading.{Spreads};
+ghost use Rattle.binary_field_theory.specs.Carryless.{spread};
+ghost use Rattle.binary_field_theory.specs.Spreading.{Spreads};
 
 // Bit i of a byte goes to bit 2i.
 const SPREAD: [u16; 256] = [

@@ -1,6 +1,6 @@
 -- `sum` meets its contract.
 use borrow.Author.Needs.{needs}
-use Rattle.binary_field.specs.Carryless.{_⊕_}
+use Rattle.binary_field_theory.specs.Carryless.{_⊕_}
 use Rattle.binary_field.specs.Answer.{sum-reply}
 use Rattle.binary_field.proofs.Replies.{refuses, replies}
 use Rattle.binary_field.proofs.sum.Statement.{statement}

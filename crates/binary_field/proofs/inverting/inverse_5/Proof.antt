@@ -1,6 +1,6 @@
 -- `inverse_5` meets its contract: each product makes the next power 2^k - 1 of the chain, and the last is squared.
 use borrow.Author.Needs.{needs}
-use Rattle.binary_field.proofs.ChainSteps.{first, joins, last}
+use Rattle.binary_field_theory.proofs.Words.ChainSteps.{first, joins, last}
 use Rattle.binary_field.proofs.inverting.inverse_5.Statement.{statement}
 use Rattle.binary_field.proofs.inverting.inverse_5.Tie as tie
 

@@ -1,6 +1,6 @@
 -- `inverse_of` meets its contract, degree by degree.
 use borrow.Author.Needs.{needs}
-use Rattle.binary_field.proofs.Degrees.{other-degree}
+use Rattle.binary_field_theory.proofs.Degrees.{other-degree}
 use Rattle.binary_field.proofs.inverting.inverse_of.Statement.{statement}
 use Rattle.binary_field.proofs.inverting.inverse_of.Tie as tie
 

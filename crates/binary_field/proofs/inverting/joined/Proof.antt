@@ -2,8 +2,8 @@
 use mathlib.Core.Path.{_≡_}
 use Prim.Native.Nat.{_≤_, _<_, _-_, _^_}
 use native.Mathlib.Omega.{arith}
-use Rattle.binary_field.specs.Element.{squarings}
-use Rattle.binary_field.proofs.ChainSteps.{none-squared, once-more, all-squared, multiplied}
+use Rattle.binary_field_theory.specs.Element.{squarings}
+use Rattle.binary_field_theory.proofs.Words.ChainSteps.{none-squared, once-more, all-squared, multiplied}
 use Rattle.binary_field.proofs.inverting.joined.Statement.{statement}
 use Rattle.binary_field.proofs.inverting.joined.Tie as tie
 

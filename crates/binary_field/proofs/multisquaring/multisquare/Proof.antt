@@ -2,8 +2,8 @@
 use mathlib.Core.Path.{_≡_}
 use Prim.Native.Nat.{_≤_, _<_, _-_, _*_, _/_, _%_, _^_}
 use native.Mathlib.Omega.{arith}
-use Rattle.binary_field.specs.Element.{squarings}
-use Rattle.binary_field.proofs.Multisquares.{place-lt, no-digit, one-digit-more, all-digits}
+use Rattle.binary_field_theory.specs.Element.{squarings}
+use Rattle.binary_field_theory.proofs.Words.Multisquares.{place-lt, no-digit, one-digit-more, all-digits}
 use Rattle.binary_field.proofs.multisquaring.multisquare.Statement.{statement}
 use Rattle.binary_field.proofs.multisquaring.multisquare.Tie as tie
 

@@ -1,0 +1,61 @@
+-- Additive maps on polynomials over GF(2): two that agree on t^0 .. t^(d-1) agree below 2^d. The map given by the list of
+-- its values at t^0, t^1, .. is additive.
+use Prim.Native.Nat.{ℕ, zero, suc, _*_, _/_, _%_, _^_, _<_}
+use mathlib.Core.Path.{_≡_, refl, sym, ap, ap₂, _∙_, subst}
+use mathlib.Core.Bool.{Bool, true, false, _&&_}
+use mathlib.Core.List.{List, [], _∷_}
+use native.Mathlib.Nat.{zero-mul, one-mul, mod-lt, le-refl, div-lt-iff-lt-mul}
+use native.Mathlib.Decide.{decLt}
+use native.Mathlib.Omega.{arith}
+use lib.Arith.{lt-one}
+use lib.Dec.{T, eqb, eqb→eq}
+use lib.Pow.{pow-pos}
+use Rattle.binary_field_theory.specs.Carryless.{_⊕_}
+use Rattle.binary_field_theory.proofs.Sums.{bit-cases, bit-lt, sum-self, sum-zero, sum-half, sum-odd, sum-split, sum-middle, bit-sum-mul}
+
+abbrev pub Additive : (ℕ → ℕ) → Type 0
+Additive f = (a b : ℕ) → f (a ⊕ b) ≡ f a ⊕ f b
+
+pub additive-zero : (f : ℕ → ℕ) → Additive f → f 0 ≡ 0
+additive-zero f hf = ap f (sym (sum-self 0)) ∙ hf 0 0 ∙ sum-self (f 0)
+
+pub basis : (f g : ℕ → ℕ) → Additive f → Additive g → (d : ℕ) → ((i : ℕ) → i < d → f (2 ^ i) ≡ g (2 ^ i))
+    → (a : ℕ) → a < 2 ^ d → f a ≡ g a
+basis f g hf hg zero e a ha = rw (lt-one ha, additive-zero f hf, additive-zero g hg)
+basis f g hf hg (suc d) e a ha =
+    ap f (sum-split a d) ∙ hf (a / 2 ^ d * 2 ^ d) (a % 2 ^ d)
+    ∙ ap₂ _⊕_ (top (a / 2 ^ d) (div-lt-iff-lt-mul (pow-pos d) .1 (omega arith)))
+    (basis f g hf hg d (λ i hi. e i (omega arith)) (a % 2 ^ d) (mod-lt a (pow-pos d)))
+    ∙ sym (ap g (sum-split a d) ∙ hg (a / 2 ^ d * 2 ^ d) (a % 2 ^ d))
+  where
+    top : (x : ℕ) → x < 2 → f (x * 2 ^ d) ≡ g (x * 2 ^ d)
+    top = bit-cases (λ x. f (x * 2 ^ d) ≡ g (x * 2 ^ d))
+        (rw (zero-mul, additive-zero f hf, additive-zero g hg)) (rw one-mul (e d (le-refl (suc d))))
+
+-- a computed test that two maps agree on t^0 .. t^(d-1)
+unfoldable pub same : (ℕ → ℕ) → (ℕ → ℕ) → ℕ → Bool
+same f g zero = true
+same f g (suc k) = eqb (f (2 ^ k)) (g (2 ^ k)) && same f g k
+
+pub same-at : (f g : ℕ → ℕ) (k : ℕ) → T (same f g k) → (i : ℕ) → i < k → f (2 ^ i) ≡ g (2 ^ i)
+unfolding same
+same-at f g zero t i h = absurd (omega arith)
+same-at f g (suc k) t i h = at (eqb (f (2 ^ k)) (g (2 ^ k))) refl t (same-at f g k) (decLt i k)
+  where
+    at : (x : Bool) → eqb (f (2 ^ k)) (g (2 ^ k)) ≡ x → T (x && same f g k)
+        → (T (same f g k) → (j : ℕ) → j < k → f (2 ^ j) ≡ g (2 ^ j)) → Dec (i < k) → f (2 ^ i) ≡ g (2 ^ i)
+    at true e u rec (yes l) = rec u i l
+    at true e u rec (no l) = let z : k ≡ i = omega arith in subst (λ (j : ℕ). f (2 ^ j) ≡ g (2 ^ j)) z (eqb→eq _ _ (rw e tt))
+    at false e u rec dec = absurd u
+
+-- the sum of the values at the digits of n
+unfoldable pub combine : List ℕ → ℕ → ℕ
+combine [] n = 0
+combine (c ∷ cs) n = (n % 2) * c ⊕ combine cs (n / 2)
+
+pub combine-additive : (cs : List ℕ) → Additive (combine cs)
+unfolding combine
+combine-additive [] a b = sym (sum-zero 0)
+combine-additive (c ∷ cs) a b =
+    rw (sum-half, sum-odd, combine-additive cs (a / 2) (b / 2), bit-sum-mul (a % 2) (b % 2) c (bit-lt a) (bit-lt b))
+    (sum-middle _ _ _ _)

@@ -1,0 +1,88 @@
+-- The table of the elements squared six times. Squaring is additive, so the rule is tested by computing at the powers of t alone,
+-- which are the digits 1, 2, 4 and 8 at each place; every other entry is tested to be the sum of those.
+use mathlib.Core.Path.{_≡_, ap, sym, _∙_}
+use mathlib.Core.Bool.{Bool}
+use mathlib.Core.List.{List, [], _∷_}
+use Prim.Native.Nat.{ℕ, zero, suc, _+_, _*_, _/_, _%_, _^_, _<_, _≤_}
+use native.Mathlib.Nat.{mod-lt, mod-eq-of-lt, lt-of-lt-of-le}
+use native.Mathlib.Omega.{arith}
+use lib.Dec.{T}
+use lib.Bits.{bitXor, bitAnd, and-mask, mask-lt}
+use lib.Pow.{pow-pos, pow-mono, shl-lt, mod-pow-add}
+use lib.ListN.{length, getD, drop}
+use Rattle.binary_field_theory.specs.Carryless.{_⊕_}
+use Rattle.binary_field_theory.specs.Element.{squarings}
+use Rattle.binary_field_theory.specs.Multisquaring.{Multisquares}
+use Rattle.binary_field_theory.proofs.Sums.{sum-comm, sum-shifted}
+use Rattle.binary_field_theory.proofs.Linear.{additive-zero, basis, same, same-at, combine, combine-additive}
+use Rattle.binary_field_theory.proofs.FastInverse.{spreadings, spreadings-squarings}
+use Rattle.binary_field_theory.proofs.Products.{low-lt}
+use Rattle.binary_field_theory.proofs.Power.{squarings-sum}
+use Rattle.binary_field_theory.proofs.Words.Table.{every, each-entry}
+
+-- the entries of the digits 1, 2, 4 and 8 at k places
+unfoldable pub powers : ℕ → List ℕ → List ℕ
+powers zero xs = []
+powers (suc k) xs = getD xs 1 0 ∷ getD xs 2 0 ∷ getD xs 4 0 ∷ getD xs 8 0 ∷ powers k (drop 16 xs)
+
+-- the number of which an entry is the power: a digit at its place
+unfoldable pub digit : ℕ → ℕ
+digit n = n % 16 * 2 ^ (4 * (n / 16))
+
+digit-lt : (n : ℕ) → n < 256 → digit n < 2 ^ 64
+unfolding digit
+digit-lt n h =
+    lt-of-lt-of-le (shl-lt 4 (4 * (n / 16)) (omega arith)) (pow-mono {j = 64} (omega arith))
+
+-- the test at the powers of t, and the test of all entries
+unfoldable pub powers-test : List ℕ → Bool
+powers-test xs = same (spreadings 61 6) (combine (powers 16 xs)) 64
+
+unfoldable pub sums-test : List ℕ → Bool
+sums-test xs = let vs = powers 16 xs in every (λ n. combine vs (digit n)) 0 xs
+
+module _ (xs : List ℕ) (e : length xs ≡ 256) (t : T (powers-test xs)) (u : T (sums-test xs)) where
+  combined : (a : ℕ) → a < 2 ^ 64 → squarings 61 6 a ≡ combine (powers 16 xs) a
+  unfolding powers-test
+  combined =
+      basis (squarings 61 6) (combine (powers 16 xs)) (squarings-sum 61 (low-lt 61 tt) 6) (combine-additive (powers 16 xs)) 64
+      (λ i h. sym (spreadings-squarings 61 6 (2 ^ i)) ∙ same-at (spreadings 61 6) (combine (powers 16 xs)) 64 t i h)
+
+  pub by-tests : Multisquares xs
+  unfolding digit sums-test
+  by-tests =
+      record { entry = λ n h. each-entry (λ n. combine (powers 16 xs) (digit n)) xs 256 e u n h ∙ sym (combined (digit n) (digit-lt n h)) }
+
+-- ---- the loop over the digits, the lowest first
+pub no-digit : (a : ℕ) → 0 ≡ squarings 61 6 (a % 2 ^ (4 * 0))
+no-digit a =
+    let e : a % 2 ^ 0 ≡ 0 = omega arith in
+    rw e (sym (additive-zero (squarings 61 6) (squarings-sum 61 (low-lt 61 tt) 6)))
+
+digit-added : (a k : ℕ)
+    → squarings 61 6 (a % 2 ^ (4 + k)) ≡ squarings 61 6 (a % 2 ^ k) ⊕ squarings 61 6 (bitAnd (a / 2 ^ k) 15 * 2 ^ k)
+digit-added a k =
+    ap (squarings 61 6)
+    (mod-pow-add a 4 k ∙ sym (sum-shifted (a / 2 ^ k % 2 ^ 4) k (a % 2 ^ k) (mod-lt a (pow-pos k)))
+    ∙ ap (λ x. x * 2 ^ k ⊕ (a % 2 ^ k)) (sym (and-mask (a / 2 ^ k) 4)) ∙ sum-comm (bitAnd (a / 2 ^ k) 15 * 2 ^ k) (a % 2 ^ k))
+    ∙ squarings-sum 61 (low-lt 61 tt) 6 (a % 2 ^ k) (bitAnd (a / 2 ^ k) 15 * 2 ^ k)
+
+pub place-lt : (a i : ℕ) → i < 16 → 16 * i + bitAnd a 15 < 256
+place-lt a i h = omega (arith, mask-lt a 4)
+
+pub one-digit-more : (a i : ℕ) {xs : List ℕ} {r : ℕ} → Multisquares xs → i < 16 → r ≡ squarings 61 6 (a % 2 ^ (4 * i))
+    → bitXor r (getD xs (16 * i + bitAnd (a / 2 ^ (4 * i)) 15) 0) ≡ squarings 61 6 (a % 2 ^ (4 * (i + 1)))
+unfolding _⊕_
+one-digit-more a i {xs} {r} m h e =
+    let x = bitAnd (a / 2 ^ (4 * i)) 15 in
+    let b : x < 16 = mask-lt (a / 2 ^ (4 * i)) 4 in
+    let p : (16 * i + x) % 16 ≡ x = omega arith in
+    let q : (16 * i + x) / 16 ≡ i = omega arith in
+    let k : 4 * (i + 1) ≡ 4 + 4 * i = omega arith in
+    let g = rw (p, q) at (m .entry (16 * i + x) (place-lt (a / 2 ^ (4 * i)) i h)) in
+    rw (e, g, k) (sym (digit-added a (4 * i)))
+
+pub all-digits : (a i : ℕ) {r : ℕ} → a < 2 ^ 64 → i ≤ 16 → 16 ≤ i → r ≡ squarings 61 6 (a % 2 ^ (4 * i)) → r ≡ squarings 61 6 a
+all-digits a i ha p q e =
+    let k : i ≡ 16 = omega arith in
+    e ∙ ap (squarings 61 6) (rw k (mod-eq-of-lt ha))
