@@ -1,2 +1,3 @@
--- What the answers of the calls come to.
+-- The numbers of the field's operations, and what the calls answer.
+pub mod Field
 pub mod Replies

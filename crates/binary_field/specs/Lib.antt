@@ -1,2 +1,3 @@
--- What the calls on elements answer.
+-- The field of elements, and what the calls on elements answer.
+pub mod Field
 pub mod Answer

@@ -62,6 +62,7 @@ fn inverse_61(a: u64, table: &[u16; 256], sixfold: &[u64; 256]) -> u64
     squaring::square_of(61, a60, table)
 }
 
+// The inverse of an element, by the chain of its degree.
 pub(crate) fn inverse_of(d: u8, a: u64, table: &[u16; 256]) -> u64
     requires { ⌜ Accepted d × (a < 2 ^ d) × Spreads (now table) ⌝ }
     ensures { λ r. ⌜ r ≡ inverse d a ⌝ }

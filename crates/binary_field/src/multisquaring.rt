@@ -271,6 +271,7 @@ pub(crate) fn multisquares() -> [u64; 256]
     MULTISQUARES
 }
 
+// An element squared six times: the sum of the entries of its sixteen digits.
 pub(crate) fn multisquare(a: u64, table: &[u64; 256]) -> u64
     requires { ⌜ Multisquares (now table) ⌝ }
     ensures { λ r. ⌜ r ≡ squarings 61 6 a ⌝ }

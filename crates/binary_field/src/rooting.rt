@@ -49,6 +49,7 @@ fn times_root_of_t(d: u8, n: u64) -> u64
     carryless::fold(61, wide_times_root(n))
 }
 
+// The square root of an element, from its digits at even and at odd places.
 pub(crate) fn root_of(d: u8, a: u64) -> u64
     requires { ⌜ Accepted d × (a < 2 ^ d) ⌝ }
     ensures { λ r. ⌜ r ≡ root d a ⌝ }

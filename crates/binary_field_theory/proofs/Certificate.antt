@@ -1,19 +1,19 @@
 -- What is checked by computation of the degrees 5 and 61: squaring t d times gives t, and a list of d numbers undoes
 -- a² + a up to the last digit. The list holds, for each i below d, the value at t^i of an additive map L with
 -- L (t^2i + t^i) = t^i for i from 1 to d - 1, and L (1 + 1) = 0. So a² + a = 0 only for a = 0 and a = 1.
-use Prim.Native.Nat.{ℕ, zero, suc, _%_, _^_, _<_}
-use mathlib.Core.Path.{_≡_, refl, sym, ap, subst, _∙_}
-use mathlib.Core.Bool.{Bool, true, false, _&&_}
+use Prim.Native.Nat.{ℕ, _%_, _^_, _<_}
+use mathlib.Core.Path.{_≡_, refl, sym, ap, _∙_}
+use mathlib.Core.Bool.{Bool}
 use mathlib.Core.List.{List, [], _∷_}
-use native.Mathlib.Decide.{decLt}
 use native.Mathlib.Omega.{arith}
-use lib.Dec.{T, eqb, eqb→eq}
+use lib.Dec.{T}
 use Rattle.binary_field_theory.specs.Carryless.{_⊕_, digits-to, digits, clmul, spread, reduce, remainder}
 use Rattle.binary_field_theory.specs.Element.{Accepted, low, product, square, squarings}
+use Rattle.binary_field_theory.specs.Chain.{spreadings}
 use Rattle.binary_field_theory.proofs.Sums.{sum-self, sum-cancel, sum-odd, sum-middle}
-use Rattle.binary_field_theory.proofs.Linear.{Additive, additive-zero, basis, combine, combine-additive}
+use Rattle.binary_field_theory.proofs.Linear.{Additive, additive-zero, basis, same, same-at, combine, combine-additive}
 use Rattle.binary_field_theory.proofs.Products
-use Rattle.binary_field_theory.proofs.FastInverse.{spreadings, spreadings-squarings}
+use Rattle.binary_field_theory.proofs.Chain.{spreadings-squarings}
 
 -- what makes the elements of degree d a field
 pub record Certified (d : ℕ) : Type 0 where
@@ -22,33 +22,13 @@ pub record Certified (d : ℕ) : Type 0 where
   pub values : List ℕ
   pub undo : (i : ℕ) → i < d → combine values (square d (2 ^ i) ⊕ 2 ^ i) ≡ 2 ^ i ⊕ 2 ^ i % 2
 
--- the test at t^0 .. t^(k-1)
-undoes : ℕ → List ℕ → ℕ → Bool
-undoes d cs zero = true
-undoes d cs (suc k) = undoes d cs k && eqb (combine cs (square d (2 ^ k) ⊕ 2 ^ k)) (2 ^ k ⊕ 2 ^ k % 2)
-
-both : (a b : Bool) → T (a && b) → T a × T b
-both true b t = (tt, t)
-both false b t = absurd t
-
-undoes-at : (d : ℕ) (cs : List ℕ) (k : ℕ) → T (undoes d cs k)
-    → (i : ℕ) → i < k → combine cs (square d (2 ^ i) ⊕ 2 ^ i) ≡ 2 ^ i ⊕ 2 ^ i % 2
-unfolding undoes
-undoes-at d cs zero t i h = absurd (omega arith)
-undoes-at d cs (suc k) t i h =
-    at (both (undoes d cs k) _ t) (undoes-at d cs k) (decLt i k)
-  where
-    Good : ℕ → Type 0
-    Good i = combine cs (square d (2 ^ i) ⊕ 2 ^ i) ≡ 2 ^ i ⊕ 2 ^ i % 2
-
-    at : T (undoes d cs k) × T (eqb (combine cs (square d (2 ^ k) ⊕ 2 ^ k)) (2 ^ k ⊕ 2 ^ k % 2))
-        → (T (undoes d cs k) → (j : ℕ) → j < k → Good j) → Dec (i < k) → Good i
-    at p rec (yes g) = rec (p .0) i g
-    at p rec (no g) = let e : k ≡ i = omega arith in subst Good e (eqb→eq _ _ (p .1))
+-- the test at t^0 .. t^(d-1)
+undoes : ℕ → List ℕ → Bool
+undoes d cs = same (λ n. combine cs (square d n ⊕ n)) (λ n. n ⊕ n % 2) d
 
 -- what the tests call
 computing : Unit {0}
-unfolding _⊕_ digits-to digits clmul spread reduce remainder low product square undoes combine
+unfolding _⊕_ digits-to digits clmul spread reduce remainder low product square undoes same combine
 computing = tt
 
 values-5 : List ℕ
@@ -79,17 +59,18 @@ fixed-61 : spreadings 61 61 2 ≡ 2
 unfolding spreadings computing
 fixed-61 = refl
 
-undoes-5 : T (undoes 5 values-5 5)
+undoes-5 : T (undoes 5 values-5)
 unfolding computing values-5
 undoes-5 = tt
 
-undoes-61 : T (undoes 61 values-61 61)
+undoes-61 : T (undoes 61 values-61)
 unfolding computing values-61
 undoes-61 = tt
 
-certify : (d : ℕ) → low d < 2 ^ d → spreadings d d 2 ≡ 2 → (cs : List ℕ) → T (undoes d cs d) → Certified d
+certify : (d : ℕ) → low d < 2 ^ d → spreadings d d 2 ≡ 2 → (cs : List ℕ) → T (undoes d cs) → Certified d
+unfolding undoes
 certify d fits e cs t =
-    record { fits = fits; fixed = sym (spreadings-squarings d d 2) ∙ e; values = cs; undo = undoes-at d cs d t }
+    record { fits = fits; fixed = sym (spreadings-squarings d d 2) ∙ e; values = cs; undo = same-at _ _ d t }
 
 pub certified : (d : ℕ) → Accepted d → Certified d
 certified =

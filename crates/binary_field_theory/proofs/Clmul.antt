@@ -103,9 +103,6 @@ clmul-assoc a b c =
     bin-ind (λ n. clmul (clmul n b) c ≡ clmul n (clmul b c)) (simp zero-clmul)
     (λ n ih. rw (clmul-step n b, clmul-step n (clmul b c), sum-clmul, double-clmul, ih, bit-mul-clmul (n % 2) b c (bit-lt n))) a
 
-pub clmul-left-comm : (a b c : ℕ) → clmul a (clmul b c) ≡ clmul b (clmul a c)
-clmul-left-comm a b c = sym (clmul-assoc a b c) ∙ ap (λ x. clmul x c) (clmul-comm a b) ∙ clmul-assoc b a c
-
 -- a power of t shifts
 pub clmul-pow : (a k : ℕ) → clmul a (2 ^ k) ≡ a * 2 ^ k
 clmul-pow a zero = clmul-one a ∙ sym (mul-one a)

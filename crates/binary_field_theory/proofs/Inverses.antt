@@ -56,18 +56,6 @@ module _ (d : ℕ) (c : Certified d) where
       ∙ ap (λ x. product d x b) (Products.product-comm d a (inverse d a))
       ∙ Products.product-assoc d (c .fits) (inverse d a) a b ∙ ap (product d (inverse d a)) e ∙ Products.product-zero d (inverse d a)
 
-  -- the inverse is the only number that times a gives 1
-  pub inverse-unique : (a b : ℕ) → a < 2 ^ d → b < 2 ^ d → product d a b ≡ 1 → b ≡ inverse d a
-  inverse-unique a b ha hb e =
-      sym (Products.product-one d (c .fits) b hb)
-      ∙ ap (product d b) (sym (product-inverse d c a ha not-zero))
-      ∙ sym (Products.product-assoc d (c .fits) b a (inverse d a))
-      ∙ ap (λ x. product d x (inverse d a)) (Products.product-comm d b a ∙ e)
-      ∙ Products.one-product d (c .fits) (inverse d a) (inverse-lt d c a ha)
-    where
-      not-zero : ¬ (a ≡ 0)
-      not-zero z = let g : _≡_ {A = ℕ} 0 1 = sym (ap (λ x. product d x b) z ∙ Products.zero-product d b) ∙ e in omega arith
-
   -- the inverse of 0 is 0
   pub inverse-zero : inverse d 0 ≡ 0
   unfolding inverse

@@ -7,12 +7,12 @@ pub mod Remainder
 pub mod Products
 pub mod Degrees
 pub mod Power
-pub mod FastInverse
+pub mod Chain
 pub mod Linear
 pub mod Frobenius
 pub mod Certificate
 pub mod Inverses
 pub mod Irreducible
 pub mod Theorems
-pub mod Field
+pub mod Elements
 pub mod Words

@@ -1,7 +1,7 @@
 -- Additive maps on polynomials over GF(2): two that agree on t^0 .. t^(d-1) agree below 2^d. The map given by the list of
 -- its values at t^0, t^1, .. is additive.
 use Prim.Native.Nat.{ℕ, zero, suc, _*_, _/_, _%_, _^_, _<_}
-use mathlib.Core.Path.{_≡_, refl, sym, ap, ap₂, _∙_, subst}
+use mathlib.Core.Path.{_≡_, refl, sym, ap, ap₂, subst, _∙_}
 use mathlib.Core.Bool.{Bool, true, false, _&&_}
 use mathlib.Core.List.{List, [], _∷_}
 use native.Mathlib.Nat.{zero-mul, one-mul, mod-lt, le-refl, div-lt-iff-lt-mul}
@@ -9,9 +9,10 @@ use native.Mathlib.Decide.{decLt}
 use native.Mathlib.Omega.{arith}
 use lib.Arith.{lt-one}
 use lib.Dec.{T, eqb, eqb→eq}
+use lib.ListN.{getD}
 use lib.Pow.{pow-pos}
 use Rattle.binary_field_theory.specs.Carryless.{_⊕_}
-use Rattle.binary_field_theory.proofs.Sums.{bit-cases, bit-lt, sum-self, sum-zero, sum-half, sum-odd, sum-split, sum-middle, bit-sum-mul}
+use Rattle.binary_field_theory.proofs.Sums.{bit-cases, bit-lt, sum-self, sum-zero, zero-sum, sum-half, sum-odd, sum-split, sum-middle, bit-sum-mul}
 
 abbrev pub Additive : (ℕ → ℕ) → Type 0
 Additive f = (a b : ℕ) → f (a ⊕ b) ≡ f a ⊕ f b
@@ -32,6 +33,10 @@ basis f g hf hg (suc d) e a ha =
     top = bit-cases (λ x. f (x * 2 ^ d) ≡ g (x * 2 ^ d))
         (rw (zero-mul, additive-zero f hf, additive-zero g hg)) (rw one-mul (e d (le-refl (suc d))))
 
+pub both : (x y : Bool) → T (x && y) → T x × T y
+both true y t = (tt, t)
+both false y t = absurd t
+
 -- a computed test that two maps agree on t^0 .. t^(d-1)
 unfoldable pub same : (ℕ → ℕ) → (ℕ → ℕ) → ℕ → Bool
 same f g zero = true
@@ -40,13 +45,12 @@ same f g (suc k) = eqb (f (2 ^ k)) (g (2 ^ k)) && same f g k
 pub same-at : (f g : ℕ → ℕ) (k : ℕ) → T (same f g k) → (i : ℕ) → i < k → f (2 ^ i) ≡ g (2 ^ i)
 unfolding same
 same-at f g zero t i h = absurd (omega arith)
-same-at f g (suc k) t i h = at (eqb (f (2 ^ k)) (g (2 ^ k))) refl t (same-at f g k) (decLt i k)
+same-at f g (suc k) t i h = at (both (eqb (f (2 ^ k)) (g (2 ^ k))) (same f g k) t) (same-at f g k) (decLt i k)
   where
-    at : (x : Bool) → eqb (f (2 ^ k)) (g (2 ^ k)) ≡ x → T (x && same f g k)
+    at : T (eqb (f (2 ^ k)) (g (2 ^ k))) × T (same f g k)
         → (T (same f g k) → (j : ℕ) → j < k → f (2 ^ j) ≡ g (2 ^ j)) → Dec (i < k) → f (2 ^ i) ≡ g (2 ^ i)
-    at true e u rec (yes l) = rec u i l
-    at true e u rec (no l) = let z : k ≡ i = omega arith in subst (λ (j : ℕ). f (2 ^ j) ≡ g (2 ^ j)) z (eqb→eq _ _ (rw e tt))
-    at false e u rec dec = absurd u
+    at p rec (yes l) = rec (p .1) i l
+    at p rec (no l) = let e : k ≡ i = omega arith in subst (λ (j : ℕ). f (2 ^ j) ≡ g (2 ^ j)) e (eqb→eq _ _ (p .0))
 
 -- the sum of the values at the digits of n
 unfoldable pub combine : List ℕ → ℕ → ℕ
@@ -59,3 +63,14 @@ combine-additive [] a b = sym (sum-zero 0)
 combine-additive (c ∷ cs) a b =
     rw (sum-half, sum-odd, combine-additive cs (a / 2) (b / 2), bit-sum-mul (a % 2) (b % 2) c (bit-lt a) (bit-lt b))
     (sum-middle _ _ _ _)
+
+-- at a power of t it is the value there
+pub combine-at : (cs : List ℕ) (k : ℕ) → combine cs (2 ^ k) ≡ getD cs k 0
+unfolding combine
+combine-at [] k = refl
+combine-at (c ∷ cs) zero =
+    ap₂ _⊕_ (one-mul c) (additive-zero (combine cs) (combine-additive cs)) ∙ sum-zero c
+combine-at (c ∷ cs) (suc k) =
+    let e : 2 ^ suc k % 2 ≡ 0 = omega arith in
+    let h : 2 ^ suc k / 2 ≡ 2 ^ k = omega arith in
+    rw (e, h, zero-mul, zero-sum) (combine-at cs k)

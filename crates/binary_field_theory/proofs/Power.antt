@@ -8,7 +8,7 @@ use native.Mathlib.Omega.{arith}
 use lib.Dec.{eqb}
 use lib.Arith.{bin-ind}
 use lib.Pow.{ones-split}
-use Rattle.binary_field_theory.specs.Carryless.{_⊕_, digits-to, digits}
+use Rattle.binary_field_theory.specs.Carryless.{_⊕_, digits-to, digits, remainder}
 use Rattle.binary_field_theory.specs.Element.{low, product, square, squarings, power, inverse}
 use Rattle.binary_field_theory.proofs.Sums.{bit-cases, bit-lt}
 use Rattle.binary_field_theory.proofs.Clmul.{digits-step}
@@ -46,6 +46,12 @@ module _ (d : ℕ) (h : low d < 2 ^ d) where
   squarings-product zero a b = simp squarings-zero
   squarings-product (suc k) a b =
       simp squarings-suc (ap (square d) (squarings-product k a b) ∙ Products.square-product d h (squarings d k a) (squarings d k b))
+
+  -- the remainder may be taken before
+  pub squarings-remainder : (k n : ℕ) → squarings d (suc k) (remainder d (low d) n) ≡ squarings d (suc k) n
+  unfolding squarings
+  squarings-remainder zero n = Products.square-remainder d h n
+  squarings-remainder (suc k) n = ap (square d) (squarings-remainder k n)
 
   square-one : square d 1 ≡ 1
   unfolding square

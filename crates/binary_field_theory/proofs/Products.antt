@@ -1,15 +1,12 @@
 -- The product of elements, for every d with low d below 2^d: closed below 2^d, commutative, associative, distributive,
 -- with unit 1. Squaring is additive and spreads the digits before the remainder is taken.
 use Prim.Native.Nat.{ℕ, zero, suc, _*_, _/_, _%_, _^_, _≤_, _<_}
-use mathlib.Core.Path.{_≡_, sym, ap, ap₂, subst, _∙_}
+use mathlib.Core.Path.{_≡_, sym, ap, subst, _∙_}
 use mathlib.Core.Bool.{Bool, true, false, cond, _||_}
-use native.Mathlib.Nat.{zero-mul, one-mul}
 use native.Mathlib.Omega.{arith}
 use lib.Dec.{T, eqb, eqb→eq}
-use lib.Pow.{pow-pos}
-use Rattle.binary_field_theory.specs.Carryless.{_⊕_, clmul, spread, reduce, remainder}
+use Rattle.binary_field_theory.specs.Carryless.{_⊕_, clmul, spread, remainder}
 use Rattle.binary_field_theory.specs.Element.{Accepted, low, product, square}
-use Rattle.binary_field_theory.proofs.Sums.{bit-cases, bit-lt}
 use Rattle.binary_field_theory.proofs.Clmul
 use Rattle.binary_field_theory.proofs.Spread.{clmul-self}
 use Rattle.binary_field_theory.proofs.Remainder
@@ -54,10 +51,6 @@ module _ (d : ℕ) (h : low d < 2 ^ d) where
   unfolding product
   product-sum a b c = ap (remainder d (low d)) (Clmul.clmul-sum a b c) ∙ Remainder.remainder-sum d (low d) h (clmul a b) (clmul a c)
 
-  pub sum-product : (a b c : ℕ) → product d (a ⊕ b) c ≡ product d a c ⊕ product d b c
-  unfolding product
-  sum-product a b c = ap (remainder d (low d)) (Clmul.sum-clmul a b c) ∙ Remainder.remainder-sum d (low d) h (clmul a c) (clmul b c)
-
   pub product-assoc : (a b c : ℕ) → product d (product d a b) c ≡ product d a (product d b c)
   unfolding product
   product-assoc a b c =
@@ -79,17 +72,6 @@ module _ (d : ℕ) (h : low d < 2 ^ d) where
   unfolding product
   two-product a = ap (remainder d (low d)) (Clmul.double-clmul 1 a ∙ ap (λ x. 2 * x) (Clmul.one-clmul a))
 
-  -- one turn of the product by Horner's rule over the digits of b
-  pub product-step : (a b : ℕ) → a < 2 ^ d → product d b a ≡ (b % 2) * a ⊕ reduce d (low d) (2 * product d (b / 2) a)
-  unfolding product
-  product-step a b ha =
-      ap (remainder d (low d)) (Clmul.clmul-step b a) ∙ Remainder.remainder-sum d (low d) h (b % 2 * a) (2 * clmul (b / 2) a)
-      ∙ ap₂ _⊕_ (Remainder.remainder-small d (low d) h (b % 2 * a) (bit-mul-lt (b % 2) (bit-lt b)))
-      (Remainder.remainder-double d (low d) (clmul (b / 2) a))
-    where
-      bit-mul-lt : (x : ℕ) → x < 2 → x * a < 2 ^ d
-      bit-mul-lt = bit-cases (λ x. x * a < 2 ^ d) (rw zero-mul (pow-pos d)) (rw one-mul ha)
-
   pub square-lt : (a : ℕ) → square d a < 2 ^ d
   unfolding square
   square-lt a = product-lt a a
@@ -97,6 +79,11 @@ module _ (d : ℕ) (h : low d < 2 ^ d) where
   pub square-sum : (a b : ℕ) → square d (a ⊕ b) ≡ square d a ⊕ square d b
   unfolding square product
   square-sum a b = ap (remainder d (low d)) (Clmul.clmul-self-sum a b) ∙ Remainder.remainder-sum d (low d) h (clmul a a) (clmul b b)
+
+  -- the remainder may be taken before
+  pub square-remainder : (a : ℕ) → square d (remainder d (low d) a) ≡ square d a
+  unfolding square product
+  square-remainder a = Remainder.remainder-clmul-left d (low d) h a (remainder d (low d) a) ∙ Remainder.remainder-clmul d (low d) h a a
 
   pub square-product : (a b : ℕ) → square d (product d a b) ≡ product d (square d a) (square d b)
   unfolding square

@@ -1,10 +1,8 @@
 -- What document 01, 'The fields', says of the elements of degree 5 and 61: every element has one square root; the inverse of
--- 0 is 0; every other inverse times its element is 1. A product is 0 only if a factor is. That both moduli are irreducible is
--- `irreducible` of Irreducible; the field laws are those of the record in Field.
+-- 0 is 0; every other inverse times its element is 1. That both moduli are irreducible is
+-- `irreducible` of Irreducible; the field laws are those of the record `field` of binary_field.
 use Prim.Native.Nat.{ℕ, _^_, _<_}
 use mathlib.Core.Path.{_≡_, sym, ap, _∙_}
-use mathlib.Core.Logic.{_⊎_, inl, inr}
-use native.Mathlib.Decide.{ℕ-discrete}
 use Rattle.binary_field_theory.specs.Element.{Accepted, product, square, root, inverse}
 use Rattle.binary_field_theory.proofs.Products.{low-lt}
 use Rattle.binary_field_theory.proofs.Frobenius.{square-root, root-square, root-lt}
@@ -31,10 +29,3 @@ module _ (d : ℕ) (ok : Accepted d) where
 
   pub inverse-times : (a : ℕ) → a < 2 ^ d → ¬ (a ≡ 0) → product d a (inverse d a) ≡ 1
   inverse-times = Inverses.product-inverse d (certified d ok)
-
-  pub zero-factor : (a b : ℕ) → a < 2 ^ d → b < 2 ^ d → product d a b ≡ 0 → (a ≡ 0) ⊎ (b ≡ 0)
-  zero-factor a b ha hb e = factor (ℕ-discrete a 0)
-    where
-      factor : Dec (a ≡ 0) → (a ≡ 0) ⊎ (b ≡ 0)
-      factor (yes z) = inl z
-      factor (no ne) = inr (Inverses.product-cancel d (certified d ok) a b ha hb e ne)

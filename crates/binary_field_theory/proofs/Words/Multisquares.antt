@@ -1,23 +1,24 @@
--- The table of the elements squared six times. Squaring is additive, so the rule is tested by computing at the powers of t alone,
--- which are the digits 1, 2, 4 and 8 at each place; every other entry is tested to be the sum of those.
-use mathlib.Core.Path.{_≡_, ap, sym, _∙_}
-use mathlib.Core.Bool.{Bool}
+-- The table of the elements squared six times. Squaring is additive, so the rule is tested at the powers of t alone, which are the
+-- digits 1, 2, 4 and 8 at each place: each is the one before it times t^64. Every other entry is tested to be the sum of those.
+use mathlib.Core.Path.{_≡_, refl, ap, sym, _∙_}
+use mathlib.Core.Bool.{Bool, true, _&&_}
 use mathlib.Core.List.{List, [], _∷_}
 use Prim.Native.Nat.{ℕ, zero, suc, _+_, _*_, _/_, _%_, _^_, _<_, _≤_}
-use native.Mathlib.Nat.{mod-lt, mod-eq-of-lt, lt-of-lt-of-le}
+use native.Mathlib.Nat.{mod-lt, mod-eq-of-lt, lt-of-lt-of-le, add-zero, zero-add, le-of-suc-le-suc, not-suc-le-zero}
 use native.Mathlib.Omega.{arith}
-use lib.Dec.{T}
+use lib.Dec.{T, eqb, eqb→eq}
 use lib.Bits.{bitXor, bitAnd, and-mask, mask-lt}
 use lib.Pow.{pow-pos, pow-mono, shl-lt, mod-pow-add}
 use lib.ListN.{length, getD, drop}
-use Rattle.binary_field_theory.specs.Carryless.{_⊕_}
-use Rattle.binary_field_theory.specs.Element.{squarings}
+use Rattle.binary_field_theory.specs.Carryless.{_⊕_, digits-to, digits, spread, reduce, remainder}
+use Rattle.binary_field_theory.specs.Element.{low, product, squarings}
+use Rattle.binary_field_theory.specs.Chain.{spreadings}
 use Rattle.binary_field_theory.specs.Multisquaring.{Multisquares}
 use Rattle.binary_field_theory.proofs.Sums.{sum-comm, sum-shifted}
-use Rattle.binary_field_theory.proofs.Linear.{additive-zero, basis, same, same-at, combine, combine-additive}
-use Rattle.binary_field_theory.proofs.FastInverse.{spreadings, spreadings-squarings}
-use Rattle.binary_field_theory.proofs.Products.{low-lt}
-use Rattle.binary_field_theory.proofs.Power.{squarings-sum}
+use Rattle.binary_field_theory.proofs.Linear.{additive-zero, basis, both, combine, combine-additive, combine-at}
+use Rattle.binary_field_theory.proofs.Chain.{spreadings-squarings}
+use Rattle.binary_field_theory.proofs.Products.{low-lt, two-product}
+use Rattle.binary_field_theory.proofs.Power.{squarings-sum, squarings-one, squarings-product, squarings-remainder}
 use Rattle.binary_field_theory.proofs.Words.Table.{every, each-entry}
 
 -- the entries of the digits 1, 2, 4 and 8 at k places
@@ -34,19 +35,43 @@ unfolding digit
 digit-lt n h =
     lt-of-lt-of-le (shl-lt 4 (4 * (n / 16)) (omega arith)) (pow-mono {j = 64} (omega arith))
 
--- the test at the powers of t, and the test of all entries
-unfoldable pub powers-test : List ℕ → Bool
-powers-test xs = same (spreadings 61 6) (combine (powers 16 xs)) 64
+-- the test at the powers of t: each value is v, and the next is 0x138, which is t^64, times it
+unfoldable pub powers-test : ℕ → List ℕ → Bool
+powers-test v [] = true
+powers-test v (x ∷ xs) = eqb x v && powers-test (product 61 0x138 x) xs
 
+-- the test of all entries
 unfoldable pub sums-test : List ℕ → Bool
 sums-test xs = let vs = powers 16 xs in every (λ n. combine vs (digit n)) 0 xs
 
-module _ (xs : List ℕ) (e : length xs ≡ 256) (t : T (powers-test xs)) (u : T (sums-test xs)) where
+two-squared : squarings 61 6 2 ≡ 0x138
+unfolding spreadings low spread remainder reduce digits digits-to _⊕_
+two-squared = sym (spreadings-squarings 61 6 2) ∙ refl
+
+next-power : (a : ℕ) → product 61 0x138 (squarings 61 6 a) ≡ squarings 61 6 (2 * a)
+next-power a =
+    rw (← two-squared)
+    (sym (squarings-product 61 (low-lt 61 tt) 6 2 a) ∙ ap (squarings 61 6) (two-product 61 (low-lt 61 tt) a)
+    ∙ squarings-remainder 61 (low-lt 61 tt) 5 (2 * a))
+
+powers-at : (vs : List ℕ) (i : ℕ) {v : ℕ} → v ≡ squarings 61 6 (2 ^ i) → T (powers-test v vs)
+    → (k : ℕ) → k < length vs → getD vs k 0 ≡ squarings 61 6 (2 ^ (i + k))
+unfolding powers-test
+powers-at [] i e t k h = absurd (not-suc-le-zero h)
+powers-at (x ∷ xs) i {v} e t zero h = rw add-zero (eqb→eq x v (both (eqb x v) _ t .0) ∙ e)
+powers-at (x ∷ xs) i {v} e t (suc k) h =
+    let p = both (eqb x v) (powers-test (product 61 0x138 x) xs) t in
+    let g : 2 * 2 ^ i ≡ 2 ^ suc i = omega arith in
+    let s : suc i + k ≡ i + suc k = omega arith in
+    powers-at xs (suc i) (ap (product 61 0x138) (eqb→eq x v (p .0) ∙ e) ∙ next-power (2 ^ i) ∙ ap (squarings 61 6) g) (p .1) k (le-of-suc-le-suc h)
+    ∙ ap (λ j. squarings 61 6 (2 ^ j)) s
+
+module _ (xs : List ℕ) (e : length xs ≡ 256) (t : T (powers-test 1 (powers 16 xs))) (u : T (sums-test xs)) where
   combined : (a : ℕ) → a < 2 ^ 64 → squarings 61 6 a ≡ combine (powers 16 xs) a
-  unfolding powers-test
+  unfolding powers
   combined =
       basis (squarings 61 6) (combine (powers 16 xs)) (squarings-sum 61 (low-lt 61 tt) 6) (combine-additive (powers 16 xs)) 64
-      (λ i h. sym (spreadings-squarings 61 6 (2 ^ i)) ∙ same-at (spreadings 61 6) (combine (powers 16 xs)) 64 t i h)
+      (λ i h. sym (combine-at (powers 16 xs) i ∙ powers-at (powers 16 xs) 0 (sym (squarings-one 61 (low-lt 61 tt) 6)) t i h ∙ ap (λ j. squarings 61 6 (2 ^ j)) (zero-add i)))
 
   pub by-tests : Multisquares xs
   unfolding digit sums-test

@@ -1,40 +1,20 @@
--- The inverse by few products: the power 2^k - 1 from the power 2^(k/2) - 1 by k/2 squarings and a product, or one squaring
--- and one product more where k is odd. It computes what `inverse` is.
+-- Repeated spreading is repeated squaring, and the inverse by few products is the inverse.
 use Prim.Native.Nat.{ℕ, zero, suc, _+_, _-_, _*_, _/_, _%_, _^_, _<_}
 use mathlib.Core.Path.{_≡_, refl, sym, ap, ap₂, _∙_}
-use mathlib.Core.Bool.{cond}
 use native.Mathlib.Omega.{arith}
-use lib.Dec.{eqb}
 use lib.Arith.{bin-ind}
 use Rattle.binary_field_theory.specs.Carryless.{digits-to, digits, spread, remainder}
 use Rattle.binary_field_theory.specs.Element.{low, product, square, squarings, power, inverse}
+use Rattle.binary_field_theory.specs.Chain.{spreadings, chain-turn, chain, chain-inverse}
 use Rattle.binary_field_theory.proofs.Sums.{bit-cases, bit-lt}
 use Rattle.binary_field_theory.proofs.Clmul.{digits-step}
 use Rattle.binary_field_theory.proofs.Products
 use Rattle.binary_field_theory.proofs.Power
 
--- squared k times, by spreading
-unfoldable pub spreadings : ℕ → ℕ → ℕ → ℕ
-spreadings d zero a = a
-spreadings d (suc k) a = remainder d (low d) (spread (spreadings d k a))
-
 pub spreadings-squarings : (d k a : ℕ) → spreadings d k a ≡ squarings d k a
 unfolding spreadings squarings
 spreadings-squarings d zero a = refl
 spreadings-squarings d (suc k) a = ap (λ x. remainder d (low d) (spread x)) (spreadings-squarings d k a) ∙ sym (Products.square-spread d (squarings d k a))
-
--- the power 2^k - 1
-unfoldable pub chain-turn : ℕ → ℕ → ℕ → ℕ → ℕ
-chain-turn d a k r =
-    let s = product d (spreadings d (k / 2) r) r in
-    let t = product d (spreadings d 1 s) a in
-    cond (eqb (k % 2) 1) t s
-
-unfoldable pub chain : ℕ → ℕ → ℕ → ℕ
-chain d a k = digits 1 (chain-turn d a) k
-
-unfoldable pub chain-inverse : ℕ → ℕ → ℕ
-chain-inverse d a = spreadings d 1 (chain d a (d - 1))
 
 module _ (d : ℕ) (h : low d < 2 ^ d) (a : ℕ) (ha : a < 2 ^ d) where
   turn-zero : chain-turn d a 0 1 ≡ 1

@@ -1,8 +1,8 @@
--- `range_due` meets its contract: each return by the tests that led to it.
+-- `range_refusal` meets its contract: each return by the tests that led to it.
 use borrow.Author.Tests.{lt-ltb, le-ltb}
 use Rattle.binary_field.specs.Answer.{below}
-use Rattle.binary_field.proofs.range_due.Statement.{statement}
-use Rattle.binary_field.proofs.range_due.Tie as tie
+use Rattle.binary_field.proofs.range_refusal.Statement.{statement}
+use Rattle.binary_field.proofs.range_refusal.Tie as tie
 
 returns : tie.Need-returns
 unfolding below
@@ -16,5 +16,5 @@ returns-3 : tie.Need-returns-3
 unfolding below
 returns-3 c = simp (le-ltb _ _ (c .if1 .left))
 
-pub range-due-spec : {M : Type 1} → statement M
-range-due-spec = tie.close (tie.spec returns returns-2 returns-3)
+pub range-refusal-spec : {M : Type 1} → statement M
+range-refusal-spec = tie.close (tie.spec returns returns-2 returns-3)

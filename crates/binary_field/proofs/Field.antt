@@ -1,0 +1,47 @@
+-- The numbers that the field's operations give, and the element that a number stands for. Under `unfolding field element computing`
+-- closed operations compute.
+use Prim.Native.Nat.{ℕ, _^_, _<_}
+use mathlib.Core.Path.{_≡_, refl}
+use native.Mathlib.Decide.{ℕ-discrete, Fin-discrete}
+use Rattle.binary_field_theory.specs.Carryless.{_⊕_, digits-to, digits, clmul, spread, reduce, remainder}
+use Rattle.binary_field_theory.specs.Element.{Accepted, Element, low, product, root, inverse}
+use Rattle.binary_field_theory.specs.Chain.{spreadings, chain-turn, chain, chain-inverse}
+use Rattle.binary_field_theory.proofs.{Remainder.remainder-small, Products.low-lt, Elements.element-path, Elements.chain-number, Elements.spreadings-root}
+use Rattle.binary_field.specs.Field.{field, element}
+
+module _ (d : ℕ) (ok : Accepted d) where
+  pub add-number : (x y : Element d) → (field d ok .ring .add x y) .0 ≡ x .0 ⊕ y .0
+  unfolding field
+  add-number x y = refl
+
+  pub mul-number : (x y : Element d) → (field d ok .ring .mul x y) .0 ≡ product d (x .0) (y .0)
+  unfolding field
+  mul-number x y = refl
+
+  pub nought-number : (field d ok .ring .nought) .0 ≡ 0
+  unfolding field
+  nought-number = refl
+
+  pub one-number : (field d ok .ring .one) .0 ≡ 1
+  unfolding field
+  one-number = refl
+
+  pub inverse-number : (x : Element d) → (field d ok .inverse x) .0 ≡ inverse d (x .0)
+  unfolding field
+  inverse-number x = chain-number d ok (x .0) (x .1)
+
+  pub root-number : (x : Element d) → (field d ok .root x) .0 ≡ root d (x .0)
+  unfolding field
+  root-number x = spreadings-root d ok (x .0)
+
+  pub element-small : (n : ℕ) → n < 2 ^ d → (element d ok n) .0 ≡ n
+  unfolding element
+  element-small = remainder-small d (low d) (low-lt d ok)
+
+  pub element-number : (x : Element d) → element d ok (x .0) ≡ x
+  element-number x = element-path d (element-small (x .0) (x .1))
+
+-- what the operations call, opened by one name
+unfoldable pub computing : Unit {0}
+unfolding _⊕_ digits-to digits clmul spread reduce remainder low product spreadings chain-turn chain chain-inverse ℕ-discrete Fin-discrete
+computing = tt
