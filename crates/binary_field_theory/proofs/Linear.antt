@@ -4,12 +4,12 @@ use Prim.Native.Nat.{ℕ, zero, suc, _*_, _/_, _%_, _^_, _<_}
 use mathlib.Core.Path.{_≡_, refl, sym, ap, ap₂, subst, _∙_}
 use mathlib.Core.Bool.{Bool, true, false, _&&_}
 use mathlib.Core.List.{List, [], _∷_}
-use native.Mathlib.Nat.{zero-mul, one-mul, mod-lt, le-refl, div-lt-iff-lt-mul}
+use native.Mathlib.Nat.{zero-mul, one-mul, mul-one, pow-suc, mod-lt, le-refl, div-lt-iff-lt-mul}
 use native.Mathlib.Decide.{decLt}
 use native.Mathlib.Omega.{arith}
 use lib.Arith.{lt-one}
 use lib.Dec.{T, eqb, eqb→eq}
-use lib.ListN.{getD}
+use lib.ListN.{getD, drop}
 use lib.Pow.{pow-pos}
 use Rattle.binary_field_theory.specs.Carryless.{_⊕_}
 use Rattle.binary_field_theory.proofs.Sums.{bit-cases, bit-lt, sum-self, sum-zero, zero-sum, sum-half, sum-odd, sum-split, sum-middle, bit-sum-mul}
@@ -55,22 +55,51 @@ same-at f g (suc k) t i h = at (both (eqb (f (2 ^ k)) (g (2 ^ k))) (same f g k) 
 -- the sum of the values at the digits of n
 unfoldable pub combine : List ℕ → ℕ → ℕ
 combine [] n = 0
-combine (c ∷ cs) n = (n % 2) * c ⊕ combine cs (n / 2)
+combine (c ∷ cs) zero = 0
+combine (c ∷ cs) (suc n) = (suc n % 2) * c ⊕ combine cs (suc n / 2)
+
+combine-zero : (cs : List ℕ) → combine cs 0 ≡ 0
+unfolding combine
+combine-zero [] = refl
+combine-zero (c ∷ cs) = refl
+
+combine-step : (c : ℕ) (cs : List ℕ) (n : ℕ) → combine (c ∷ cs) n ≡ (n % 2) * c ⊕ combine cs (n / 2)
+unfolding combine
+combine-step c cs zero = sym (ap₂ _⊕_ (zero-mul c) (combine-zero cs) ∙ sum-zero 0)
+combine-step c cs (suc n) = refl
 
 pub combine-additive : (cs : List ℕ) → Additive (combine cs)
 unfolding combine
 combine-additive [] a b = sym (sum-zero 0)
 combine-additive (c ∷ cs) a b =
-    rw (sum-half, sum-odd, combine-additive cs (a / 2) (b / 2), bit-sum-mul (a % 2) (b % 2) c (bit-lt a) (bit-lt b))
+    rw (
+      combine-step c cs (a ⊕ b),
+      combine-step c cs a,
+      combine-step c cs b,
+      sum-half,
+      sum-odd,
+      combine-additive cs (a / 2) (b / 2),
+      bit-sum-mul (a % 2) (b % 2) c (bit-lt a) (bit-lt b),
+    )
     (sum-middle _ _ _ _)
+
+-- a number moved up by k digits
+pub combine-drop : (k : ℕ) (cs : List ℕ) (n : ℕ) → combine (drop k cs) n ≡ combine cs (n * 2 ^ k)
+unfolding combine
+combine-drop zero cs n = ap (combine cs) (sym (mul-one n))
+combine-drop (suc k) [] n = refl
+combine-drop (suc k) (c ∷ cs) n =
+    let p : n * 2 ^ suc k ≡ 2 * (n * 2 ^ k) = rw (pow-suc 2 k) (omega arith) in
+    let e : n * 2 ^ suc k % 2 ≡ 0 = omega arith in
+    let h : n * 2 ^ suc k / 2 ≡ n * 2 ^ k = omega arith in
+    rw (combine-step c cs (n * 2 ^ suc k), e, h, zero-mul, zero-sum) (combine-drop k cs n)
 
 -- at a power of t it is the value there
 pub combine-at : (cs : List ℕ) (k : ℕ) → combine cs (2 ^ k) ≡ getD cs k 0
 unfolding combine
 combine-at [] k = refl
-combine-at (c ∷ cs) zero =
-    ap₂ _⊕_ (one-mul c) (additive-zero (combine cs) (combine-additive cs)) ∙ sum-zero c
+combine-at (c ∷ cs) zero = combine-step c cs 1 ∙ ap₂ _⊕_ (one-mul c) (combine-zero cs) ∙ sum-zero c
 combine-at (c ∷ cs) (suc k) =
     let e : 2 ^ suc k % 2 ≡ 0 = omega arith in
     let h : 2 ^ suc k / 2 ≡ 2 ^ k = omega arith in
-    rw (e, h, zero-mul, zero-sum) (combine-at cs k)
+    rw (combine-step c cs (2 ^ suc k), e, h, zero-mul, zero-sum) (combine-at cs k)

@@ -15,7 +15,7 @@ use Rattle.binary_field_theory.specs.Element.{low, product, squarings}
 use Rattle.binary_field_theory.specs.Chain.{spreadings}
 use Rattle.binary_field_theory.specs.Multisquaring.{Multisquares}
 use Rattle.binary_field_theory.proofs.Sums.{sum-comm, sum-shifted}
-use Rattle.binary_field_theory.proofs.Linear.{additive-zero, basis, both, combine, combine-additive, combine-at}
+use Rattle.binary_field_theory.proofs.Linear.{additive-zero, basis, both, combine, combine-additive, combine-at, combine-drop}
 use Rattle.binary_field_theory.proofs.Chain.{spreadings-squarings}
 use Rattle.binary_field_theory.proofs.Products.{low-lt, two-product}
 use Rattle.binary_field_theory.proofs.Power.{squarings-sum, squarings-one, squarings-product, squarings-remainder}
@@ -27,7 +27,7 @@ powers zero xs = []
 powers (suc k) xs = getD xs 1 0 ∷ getD xs 2 0 ∷ getD xs 4 0 ∷ getD xs 8 0 ∷ powers k (drop 16 xs)
 
 -- the number of which an entry is the power: a digit at its place
-unfoldable pub digit : ℕ → ℕ
+digit : ℕ → ℕ
 digit n = n % 16 * 2 ^ (4 * (n / 16))
 
 digit-lt : (n : ℕ) → n < 256 → digit n < 2 ^ 64
@@ -42,7 +42,7 @@ powers-test v (x ∷ xs) = eqb x v && powers-test (product 61 0x138 x) xs
 
 -- the test of all entries
 unfoldable pub sums-test : List ℕ → Bool
-sums-test xs = let vs = powers 16 xs in every (λ n. combine vs (digit n)) 0 xs
+sums-test xs = let vs = powers 16 xs in every (λ n. combine (drop (4 * (n / 16)) vs) (n % 16)) 0 xs
 
 two-squared : squarings 61 6 2 ≡ 0x138
 unfolding spreadings low spread remainder reduce digits digits-to _⊕_
@@ -76,7 +76,11 @@ module _ (xs : List ℕ) (e : length xs ≡ 256) (t : T (powers-test 1 (powers 1
   pub by-tests : Multisquares xs
   unfolding digit sums-test
   by-tests =
-      record { entry = λ n h. each-entry (λ n. combine (powers 16 xs) (digit n)) xs 256 e u n h ∙ sym (combined (digit n) (digit-lt n h)) }
+      record {
+        entry = λ n h.
+            each-entry (λ n. combine (drop (4 * (n / 16)) (powers 16 xs)) (n % 16)) xs 256 e u n h
+            ∙ combine-drop (4 * (n / 16)) (powers 16 xs) (n % 16) ∙ sym (combined (digit n) (digit-lt n h));
+      }
 
 -- ---- the loop over the digits, the lowest first
 pub no-digit : (a : ℕ) → 0 ≡ squarings 61 6 (a % 2 ^ (4 * 0))

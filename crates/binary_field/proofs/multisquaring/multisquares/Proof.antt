@@ -4,12 +4,12 @@ use Rattle.binary_field_theory.specs.Carryless.{_⊕_, clmul, reduce, remainder
 use Rattle.binary_field_theory.specs.Element.{low, product}
 use Rattle.binary_field_theory.proofs.Linear.{combine}
 use Rattle.binary_field_theory.proofs.Words.Table.{every}
-use Rattle.binary_field_theory.proofs.Words.Multisquares.{powers, digit, powers-test, sums-test, by-tests}
+use Rattle.binary_field_theory.proofs.Words.Multisquares.{powers, powers-test, sums-test, by-tests}
 use Rattle.binary_field.proofs.multisquaring.multisquares.Statement.{statement}
 use Rattle.binary_field.proofs.multisquaring.multisquares.Tie as tie
 
 returns : tie.Need-returns
-unfolding powers digit powers-test sums-test every low product clmul remainder reduce digits digits-to combine _⊕_
+unfolding powers powers-test sums-test every low product clmul remainder reduce digits digits-to combine _⊕_
 returns c = by-tests _ refl tt tt
 
 pub multisquares-spec : {M : Type 1} → statement M
