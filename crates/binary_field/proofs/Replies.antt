@@ -1,14 +1,15 @@
 -- What the answers of the calls on elements come to: the refusal where there is one, and else what the field's operation gives.
-use mathlib.Core.Path.{_≡_, refl, ap, ap₂, sym, _∙_}
+use mathlib.Core.Path.{_≡_, refl, ap, sym, _∙_}
 use mathlib.Core.Bool.{Bool, true, false, cond, _||_, _&&_}
 use mathlib.Core.List.{[], _∷_}
 use Prim.Native.Nat.{ℕ, zero, suc, _^_, _<_}
 use native.Mathlib.Omega.{arith}
-use lib.Dec.{T, eqb, ltb}
-use borrow.Author.Tests.{lt-ltb, ltb-true}
+use lib.Dec.{T, eqb, ltb, ltb→lt}
+use borrow.Author.Tests.{lt-ltb}
 use Rattle.binary_field.specs.declared.Answer.{Answer}
 use Rattle.binary_field.specs.declared.Answer.the-variants.{Element, Refused}
 use Rattle.binary_field_theory.specs.{Carryless._⊕_, Element.Accepted, Element.product, Element.square, Element.root, Element.inverse}
+use Rattle.binary_field_theory.proofs.Linear.{both}
 use Rattle.binary_field.specs.Field.{field}
 use Rattle.binary_field.specs.Field.{element as at}
 use Rattle.binary_field.specs.Answer.{element, refusal, reply, below, element-refusal, answered, sum-reply, product-reply, square-reply, root-reply, inverse-reply}
@@ -28,22 +29,10 @@ pub replies : {k n u v : ℕ} → k ≡ n → k ≡ 0 → u ≡ v → element u 
 unfolding answered
 replies e h f = rw (← e, h) (ap element f)
 
-both-pass : (x y : Bool) → _≡_ {A = ℕ} 0 (cond x (cond y 0 110) 106) → (x ≡ true) × (y ≡ true)
-both-pass true true e = (refl, refl)
+both-pass : (x y : Bool) → _≡_ {A = ℕ} 0 (cond x (cond y 0 110) 106) → T x × T y
+both-pass true true e = (tt, tt)
 both-pass true false e = absurd (omega arith)
 both-pass false y e = absurd (omega arith)
-
-T-of : {x : Bool} → x ≡ true → T x
-T-of e = rw e tt
-
-of-T : (x : Bool) → T x → x ≡ true
-of-T true t = refl
-of-T false t = absurd t
-
-both : (x y : Bool) → (x && y) ≡ true → (x ≡ true) × (y ≡ true)
-both true y e = (refl, e)
-both false true e = (e, refl)
-both false false e = (e, e)
 
 -- no refusal: the degree is accepted and the numbers are in range
 pub none-refused : (d a b : ℕ) {k : ℕ} → k ≡ element-refusal d (a ∷ b ∷ []) → k ≡ 0 → Accepted d × (a < 2 ^ d) × (b < 2 ^ d)
@@ -51,7 +40,7 @@ unfolding element-refusal below
 none-refused d a b e h =
     let z = both-pass (eqb d 5 || eqb d 61) (ltb a (2 ^ d) && (ltb b (2 ^ d) && true)) (sym h ∙ e) in
     let y = both (ltb a (2 ^ d)) (ltb b (2 ^ d) && true) (z .1) in
-    (T-of (z .0), ltb-true _ _ (y .0), ltb-true _ _ (both (ltb b (2 ^ d)) true (y .1) .0))
+    (z .0, ltb→lt _ _ (y .0), ltb→lt _ _ (both (ltb b (2 ^ d)) true (y .1) .0))
 
 -- a call on one number tests it twice
 pub refusal-twice : (d a : ℕ) → element-refusal d (a ∷ a ∷ []) ≡ element-refusal d (a ∷ [])
@@ -61,6 +50,10 @@ refusal-twice d a = ap (λ (x : Bool). cond (eqb d 5 || eqb d 61) (cond x 0 110)
     twice : (x : Bool) → (x && (x && true)) ≡ (x && true)
     twice true = refl
     twice false = refl
+
+of-T : (x : Bool) → T x → x ≡ true
+of-T true t = refl
+of-T false t = absurd t
 
 -- the degree is accepted and the numbers are in range: the answer is the element
 module _ (d a : ℕ) (hd : Accepted d) (ha : a < 2 ^ d) where

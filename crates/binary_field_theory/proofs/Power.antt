@@ -127,9 +127,6 @@ module _ (d : ℕ) (h : low d < 2 ^ d) where
       ∙ power-add a (2 ^ k * (2 ^ j - 1)) (2 ^ k - 1)
       ∙ ap (λ x. product d x (power d a (2 ^ k - 1))) (sym (squarings-power k a (2 ^ j - 1)))
 
-  pub power-ones-one : (a : ℕ) → a < 2 ^ d → power d a (2 ^ 1 - 1) ≡ a
-  power-ones-one = power-one
-
   pub inverse-ones : (a : ℕ) → inverse d a ≡ square d (power d a (2 ^ (d - 1) - 1))
   unfolding inverse
   inverse-ones a = ap (power d a) even ∙ power-even a (2 ^ (d - 1) - 1)

@@ -6,7 +6,7 @@ use native.Mathlib.Nat.{mod-lt, add-zero, mul-comm, zero-mul, one-mul}
 use native.Mathlib.Omega.{arith}
 use lib.Arith.{bin-ind}
 use lib.Pow.{pow-pos, split}
-use lib.Bits.{bitXor, xor-comm, xor-self, xor-zero-r, xor-lt, xor-shr, xor-mod, xor-block, xor-shifted}
+use lib.Bits.{bitXor, bitAnd, and-shr, and-mod, xor-comm, xor-self, xor-zero-r, xor-lt, xor-shr, xor-mod, xor-block, xor-shifted}
 use Rattle.binary_field_theory.specs.Carryless.{_⊕_}
 
 -- a binary digit is 0 or 1
@@ -118,3 +118,21 @@ unfolding _⊕_
 bit-sum-mul x y b hx hy =
     bit-cases (λ x. (y : ℕ) → y < 2 → (x ⊕ y) * b ≡ x * b ⊕ y * b) (λ y hy. rw zero-mul)
     (bit-cases (λ y. (1 ⊕ y) * b ≡ 1 * b ⊕ y * b) (simp (zero-mul, one-mul, xor-zero-r)) (simp (zero-mul, one-mul, xor-self))) x hx y hy
+
+-- a mask
+and-sum-bits : (x : ℕ) → x < 2 → (y : ℕ) → y < 2 → (m : ℕ) → m < 2 → bitAnd (x ⊕ y) m ≡ bitAnd x m ⊕ bitAnd y m
+unfolding _⊕_
+and-sum-bits =
+    bit-cases (λ x. (y : ℕ) → y < 2 → (m : ℕ) → m < 2 → bitAnd (x ⊕ y) m ≡ bitAnd x m ⊕ bitAnd y m) (λ y hy m hm. refl)
+    (bit-cases (λ y. (m : ℕ) → m < 2 → bitAnd (1 ⊕ y) m ≡ bitAnd 1 m ⊕ bitAnd y m)
+    (bit-cases (λ m. bitAnd 1 m ≡ bitAnd 1 m ⊕ 0) refl refl) (bit-cases (λ m. 0 ≡ bitAnd 1 m ⊕ bitAnd 1 m) refl refl))
+
+pub and-sum : (a b m : ℕ) → bitAnd (a ⊕ b) m ≡ bitAnd a m ⊕ bitAnd b m
+and-sum =
+    bin-ind (λ (n : ℕ). (b m : ℕ) → bitAnd (n ⊕ b) m ≡ bitAnd n m ⊕ bitAnd b m)
+    (λ b m. ap (λ (x : ℕ). bitAnd x m) (zero-sum b) ∙ sym (zero-sum (bitAnd b m)))
+    (λ n ih b m. same-digits _ _
+    (and-shr (n ⊕ b) m 1 ∙ ap (λ (x : ℕ). bitAnd x (m / 2)) (sum-half n b) ∙ ih (b / 2) (m / 2)
+    ∙ sym (sum-half (bitAnd n m) (bitAnd b m) ∙ ap₂ _⊕_ (and-shr n m 1) (and-shr b m 1)))
+    (and-mod (n ⊕ b) m 1 ∙ ap (λ (x : ℕ). bitAnd x (m % 2)) (sum-odd n b) ∙ and-sum-bits (n % 2) (bit-lt n) (b % 2) (bit-lt b) (m % 2) (bit-lt m)
+    ∙ sym (sum-odd (bitAnd n m) (bitAnd b m) ∙ ap₂ _⊕_ (and-mod n m 1) (and-mod b m 1))))

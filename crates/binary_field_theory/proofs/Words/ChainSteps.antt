@@ -5,7 +5,7 @@ use native.Mathlib.Numerals.{add-one}
 use native.Mathlib.Omega.{arith}
 use Rattle.binary_field_theory.specs.Element.{Accepted, product, square, squarings, power, inverse}
 use Rattle.binary_field_theory.proofs.Products.{low-lt, product-lt, square-lt}
-use Rattle.binary_field_theory.proofs.Power.{squarings-zero, squarings-suc, squarings-add, squarings-lt, power-ones-add, power-ones-one, inverse-ones}
+use Rattle.binary_field_theory.proofs.Power.{squarings-zero, squarings-suc, squarings-add, squarings-lt, power-ones-add, power-one, inverse-ones}
 
 pub none-squared : (d a : ℕ) → a < 2 ^ d → (a ≡ squarings d 0 a) × (a < 2 ^ d)
 none-squared d a h = (sym (squarings-zero d a), h)
@@ -35,7 +35,7 @@ joins d a j k hd ex ey er =
     er ∙ ap₂ (λ (u v : ℕ). product d (squarings d k u) v) ex ey ∙ sym (power-ones-add d (low-lt d hd) a j k)
 
 pub first : (d a : ℕ) → Accepted d → a < 2 ^ d → a ≡ power d a (2 ^ 1 - 1)
-first d a hd h = sym (power-ones-one d (low-lt d hd) a h)
+first d a hd h = sym (power-one d (low-lt d hd) a h)
 
 -- the square of the last is the inverse
 pub last : (d a : ℕ) {x r : ℕ} → Accepted d → x ≡ power d a (2 ^ (d - 1) - 1) → r ≡ square d x → r ≡ inverse d a

@@ -1,45 +1,23 @@
 -- Two numbers of 32 bits by their parts: the sixteen products of parts, those of one place modulo 4 added and masked, add up to
 -- the carry-less product.
 use mathlib.Core.Path.{_≡_, refl, sym, ap₂, _∙_}
-use Prim.Native.Nat.{ℕ, _+_, _*_, _/_, _%_, _^_, _<_, min}
-use native.Mathlib.Omega.{arith}
-use native.Mathlib.Nat.{mod-eq-of-lt, zero-min}
-use lib.Arith.{bin-ind}
-use lib.Bits.{bitXor, bitAnd, and-step, xor-shr, xor-mod, xor-block, and-mask, and-comm}
+use Prim.Native.Nat.{ℕ, _*_, _^_, _<_}
+use native.Mathlib.Nat.{mod-eq-of-lt}
+use lib.Bits.{bitAnd, and-mask, and-comm}
 use Rattle.binary_field_theory.specs.Carryless.{_⊕_, clmul}
-use Rattle.binary_field_theory.proofs.Sums.{bit-cases, bit-lt, sums}
+use Rattle.binary_field_theory.proofs.Sums.{sums, and-sum}
 use Rattle.binary_field_theory.proofs.Clmul.{clmul-sum, sum-clmul}
 use Rattle.binary_field_theory.proofs.Words.Parts.{ones, part, near, far}
 
-bits-and-xor : (u : ℕ) → u < 2 → (v : ℕ) → v < 2 → (w : ℕ) → w < 2 → min u (bitXor v w) ≡ bitXor (min u v) (min u w)
-bits-and-xor =
-    bit-cases (λ u. (v : ℕ) → v < 2 → (w : ℕ) → w < 2 → min u (bitXor v w) ≡ bitXor (min u v) (min u w))
-    (λ v hv w hw. simp zero-min)
-    (bit-cases (λ v. (w : ℕ) → w < 2 → min 1 (bitXor v w) ≡ bitXor (min 1 v) (min 1 w)) (λ w hw. refl)
-    (bit-cases (λ w. min 1 (bitXor 1 w) ≡ bitXor 1 (min 1 w)) refl refl))
-
-and-xor : (a x y : ℕ) → bitAnd a (bitXor x y) ≡ bitXor (bitAnd a x) (bitAnd a y)
-and-xor =
-    bin-ind (λ a. (x y : ℕ) → bitAnd a (bitXor x y) ≡ bitXor (bitAnd a x) (bitAnd a y)) (λ x y. refl)
-    (λ a ih x y.
-    let p = bitAnd (a / 2) (x / 2) in
-    let q = bitAnd (a / 2) (y / 2) in
-    and-step a (bitXor x y)
-    ∙ ap₂ (λ u v. bitAnd (a / 2) u * 2 + min (a % 2) v) (xor-shr x y 1) (xor-mod x y 1)
-    ∙ ap₂ (λ u v. u * 2 + v) (ih (x / 2) (y / 2)) (bits-and-xor (a % 2) (bit-lt a) (x % 2) (bit-lt x) (y % 2) (bit-lt y))
-    ∙ sym (xor-block 1 p q (min (a % 2) (x % 2)) (min (a % 2) (y % 2)) (omega (arith, bit-lt a)) (omega (arith, bit-lt a)))
-    ∙ ap₂ bitXor (sym (and-step a x)) (sym (and-step a y)))
+sum-mask : (a x y : ℕ) → bitAnd a (x ⊕ y) ≡ bitAnd a x ⊕ bitAnd a y
+sum-mask a x y = and-comm a (x ⊕ y) ∙ and-sum x y a ∙ ap₂ _⊕_ (and-comm x a) (and-comm y a)
 
 -- a number of 32 bits is the sum of its four parts
 parts : (a : ℕ) → a < 2 ^ 32 → a ≡ (part 0 a ⊕ part 1 a) ⊕ (part 2 a ⊕ part 3 a)
 unfolding _⊕_ part ones
 parts a h =
-    sym (mod-eq-of-lt h) ∙ sym (and-mask a 32) ∙ and-xor a 0x3333_3333 0xcccc_cccc
-    ∙ ap₂ bitXor (and-xor a 0x1111_1111 0x2222_2222) (and-xor a 0x4444_4444 0x8888_8888)
-
-mask-sum : (m x y : ℕ) → bitAnd (x ⊕ y) m ≡ bitAnd x m ⊕ bitAnd y m
-unfolding _⊕_
-mask-sum m x y = and-comm (bitXor x y) m ∙ and-xor m x y ∙ ap₂ bitXor (and-comm m x) (and-comm m y)
+    sym (mod-eq-of-lt h) ∙ sym (and-mask a 32) ∙ sum-mask a 0x3333_3333 0xcccc_cccc
+    ∙ ap₂ _⊕_ (sum-mask a 0x1111_1111 0x2222_2222) (sum-mask a 0x4444_4444 0x8888_8888)
 
 -- one term for each part of the first number
 abbrev pub column : (ℕ → ℕ → ℕ) → ℕ → ℕ → ℕ → ℕ → ℕ
@@ -47,7 +25,7 @@ column f i j k l = (f 0 i ⊕ f 1 j) ⊕ (f 2 k ⊕ f 3 l)
 
 masked : (m : ℕ) (f g : ℕ → ℕ → ℕ) (i j k l : ℕ) → bitAnd (f 0 i) m ≡ g 0 i → bitAnd (f 1 j) m ≡ g 1 j → bitAnd (f 2 k) m ≡ g 2 k
     → bitAnd (f 3 l) m ≡ g 3 l → bitAnd (column f i j k l) m ≡ column g i j k l
-masked m f g i j k l p q r s = simp mask-sum (ap₂ _⊕_ (ap₂ _⊕_ p q) (ap₂ _⊕_ r s))
+masked m f g i j k l p q r s = simp and-sum (ap₂ _⊕_ (ap₂ _⊕_ p q) (ap₂ _⊕_ r s))
 
 -- the products of two sums of four
 expand : (f g : ℕ → ℕ)

@@ -1,35 +1,17 @@
 -- The digits at even places: the code brings them together in ever longer runs; and a number is its digits at even places,
 -- spread, and those at odd places, spread and moved up by one. Both are equations of additive maps, tested at each power of t.
-use mathlib.Core.Path.{_≡_, refl, ap, ap₂, sym, _∙_}
+use mathlib.Core.Path.{_≡_, refl, sym}
 use Prim.Native.Nat.{ℕ, zero, suc, _+_, _*_, _/_, _%_, _^_, _<_, _≤_}
 use native.Mathlib.Omega.{arith}
-use lib.Arith.{bin-ind}
-use lib.Bits.{bitAnd, and-shr, and-mod}
+use lib.Bits.{bitAnd}
 use lib.Pow.{pow-pos}
 use Rattle.binary_field_theory.specs.Carryless.{_⊕_, spread, digits, digits-to}
 use Rattle.binary_field_theory.specs.Spreading.{evens}
-use Rattle.binary_field_theory.proofs.Sums.{bit-cases, bit-lt, same-digits, sum-half, sum-odd, sum-shr, sum-double, sum-middle, sum-self, zero-sum, double-plus-sum}
+use Rattle.binary_field_theory.proofs.Sums.{bit-lt, sum-half, sum-odd, sum-shr, sum-double, sum-middle, sum-self, double-plus-sum, and-sum}
 use Rattle.binary_field_theory.proofs.Linear.{Additive, basis, same, same-at}
 use Rattle.binary_field_theory.proofs.Spread.{spread-sum}
 
 -- ---- the operations are additive
-and-sum-bits : (x : ℕ) → x < 2 → (y : ℕ) → y < 2 → (m : ℕ) → m < 2 → bitAnd (x ⊕ y) m ≡ bitAnd x m ⊕ bitAnd y m
-unfolding _⊕_
-and-sum-bits =
-    bit-cases (λ x. (y : ℕ) → y < 2 → (m : ℕ) → m < 2 → bitAnd (x ⊕ y) m ≡ bitAnd x m ⊕ bitAnd y m) (λ y hy m hm. refl)
-    (bit-cases (λ y. (m : ℕ) → m < 2 → bitAnd (1 ⊕ y) m ≡ bitAnd 1 m ⊕ bitAnd y m)
-    (bit-cases (λ m. bitAnd 1 m ≡ bitAnd 1 m ⊕ 0) refl refl) (bit-cases (λ m. 0 ≡ bitAnd 1 m ⊕ bitAnd 1 m) refl refl))
-
-pub and-sum : (a b m : ℕ) → bitAnd (a ⊕ b) m ≡ bitAnd a m ⊕ bitAnd b m
-and-sum =
-    bin-ind (λ (n : ℕ). (b m : ℕ) → bitAnd (n ⊕ b) m ≡ bitAnd n m ⊕ bitAnd b m)
-    (λ b m. ap (λ (x : ℕ). bitAnd x m) (zero-sum b) ∙ sym (zero-sum (bitAnd b m)))
-    (λ n ih b m. same-digits _ _
-    (and-shr (n ⊕ b) m 1 ∙ ap (λ (x : ℕ). bitAnd x (m / 2)) (sum-half n b) ∙ ih (b / 2) (m / 2)
-    ∙ sym (sum-half (bitAnd n m) (bitAnd b m) ∙ ap₂ _⊕_ (and-shr n m 1) (and-shr b m 1)))
-    (and-mod (n ⊕ b) m 1 ∙ ap (λ (x : ℕ). bitAnd x (m % 2)) (sum-odd n b) ∙ and-sum-bits (n % 2) (bit-lt n) (b % 2) (bit-lt b) (m % 2) (bit-lt m)
-    ∙ sym (sum-odd (bitAnd n m) (bitAnd b m) ∙ ap₂ _⊕_ (and-mod n m 1) (and-mod b m 1))))
-
 -- runs of s digits that stand s apart are joined two by two
 unfoldable pub gather : ℕ → ℕ → ℕ → ℕ
 gather s m n = bitAnd (n ⊕ (n / 2 ^ s)) m

@@ -4,10 +4,9 @@ use mathlib.Core.Path.{_≡_, ap, sym, _∙_}
 use Prim.Native.Nat.{ℕ, _+_, _-_, _*_, _/_, _%_, _^_, _<_}
 use lib.Bits.{bitAnd, mask-lt}
 use Rattle.binary_field_theory.specs.Carryless.{_⊕_, clmul, digits, digits-to}
-use Rattle.binary_field_theory.proofs.Sums.{sum-shl, sum-mod, sum-shr, sum-middle, sum-shifted}
+use Rattle.binary_field_theory.proofs.Sums.{sum-shl, sum-mod, sum-shr, sum-middle, sum-shifted, and-sum}
 use Rattle.binary_field_theory.proofs.Clmul.{sum-clmul}
 use Rattle.binary_field_theory.proofs.Linear.{Additive, basis, same, same-at}
-use Rattle.binary_field_theory.proofs.Words.Evens.{and-sum}
 
 -- moved up by k places in a word
 unfoldable pub up : ℕ → ℕ → ℕ

@@ -1,4 +1,4 @@
--- `binary_field::carryless::product_of` meets its contract.
+-- `product_of` meets its contract.
 use mathlib.Core.Path.{_∙_, ap}
 use Rattle.binary_field_theory.specs.Carryless.{remainder}
 use Rattle.binary_field_theory.specs.Element.{low, product}

@@ -1,4 +1,4 @@
--- `binary_field::carryless::wide_product` meets its contract.
+-- `wide_product` meets its contract.
 use Prim.Native.Nat.{ℕ, _-_, _/_, _^_, _<_}
 use native.Mathlib.Omega.{arith}
 use lib.Bits.{bitAnd, bitXor, mask-lt, xor-lt}
