@@ -3,9 +3,7 @@
 use Prim.Native.Nat.{ℕ, _^_, _<_}
 use mathlib.Core.Path.{_≡_, refl}
 use native.Mathlib.Decide.{ℕ-discrete, Fin-discrete}
-use Rattle.binary_field_theory.specs.Carryless.{_⊕_, digits-to, digits, clmul, spread, reduce, remainder}
-use Rattle.binary_field_theory.specs.Element.{Accepted, Element, low, product, root, inverse}
-use Rattle.binary_field_theory.specs.Chain.{spreadings, chain-turn, chain, chain-inverse}
+use Rattle.binary_field_theory.specs.{Carryless._⊕_, Carryless.digits-to, Carryless.digits, Carryless.clmul, Carryless.spread, Carryless.reduce, Carryless.remainder, Element.Accepted, Element.Element, Element.low, Element.product, Element.root, Element.inverse, Chain.spreadings, Chain.chain-turn, Chain.chain, Chain.chain-inverse}
 use Rattle.binary_field_theory.proofs.{Remainder.remainder-small, Products.low-lt, Elements.element-path, Elements.chain-number, Elements.spreadings-root}
 use Rattle.binary_field.specs.Field.{field, element}
 

@@ -10,9 +10,8 @@ use Rattle.binary_field.specs.declared.Answer.{Answer}
 use Rattle.binary_field.specs.declared.Answer.the-variants.{Element, Refused}
 use Rattle.binary_field_theory.specs.{Carryless._⊕_, Element.Accepted, Element.product, Element.square, Element.root, Element.inverse}
 use Rattle.binary_field_theory.proofs.Linear.{both}
-use Rattle.binary_field.specs.Field.{field}
+use Rattle.binary_field.specs.{Field.field, Answer.element, Answer.refusal, Answer.reply, Answer.below, Answer.element-refusal, Answer.answered, Answer.sum-reply, Answer.product-reply, Answer.square-reply, Answer.root-reply, Answer.inverse-reply}
 use Rattle.binary_field.specs.Field.{element as at}
-use Rattle.binary_field.specs.Answer.{element, refusal, reply, below, element-refusal, answered, sum-reply, product-reply, square-reply, root-reply, inverse-reply}
 use Rattle.binary_field.proofs.Field.{add-number, mul-number, root-number, inverse-number, element-small}
 
 refusal-of : (k v : ℕ) → (k ≡ 0 → ⊥) → refusal k ≡ answered k v

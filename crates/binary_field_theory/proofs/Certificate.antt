@@ -7,13 +7,9 @@ use mathlib.Core.Bool.{Bool}
 use mathlib.Core.List.{List, [], _∷_}
 use native.Mathlib.Omega.{arith}
 use lib.Dec.{T}
-use Rattle.binary_field_theory.specs.Carryless.{_⊕_, digits-to, digits, clmul, spread, reduce, remainder}
-use Rattle.binary_field_theory.specs.Element.{Accepted, low, product, square, squarings}
-use Rattle.binary_field_theory.specs.Chain.{spreadings}
-use Rattle.binary_field_theory.proofs.Sums.{sum-self, sum-cancel, sum-odd, sum-middle}
-use Rattle.binary_field_theory.proofs.Linear.{Additive, additive-zero, basis, same, same-at, combine, combine-additive}
+use Rattle.binary_field_theory.specs.{Carryless._⊕_, Carryless.digits-to, Carryless.digits, Carryless.clmul, Carryless.spread, Carryless.reduce, Carryless.remainder, Element.Accepted, Element.low, Element.product, Element.square, Element.squarings, Chain.spreadings}
+use Rattle.binary_field_theory.proofs.{Sums.sum-self, Sums.sum-cancel, Sums.sum-odd, Sums.sum-middle, Linear.Additive, Linear.additive-zero, Linear.basis, Linear.same, Linear.same-at, Linear.combine, Linear.combine-additive, Chain.spreadings-squarings}
 use Rattle.binary_field_theory.proofs.Products
-use Rattle.binary_field_theory.proofs.Chain.{spreadings-squarings}
 
 -- what makes the elements of degree d a field
 pub record Certified (d : ℕ) : Type 0 where

@@ -5,12 +5,8 @@ use mathlib.Core.Path.{_≡_, sym, ap, ap₂, _∙_}
 use native.Mathlib.Numerals.{add-one}
 use native.Mathlib.Omega.{arith}
 use lib.Arith.{bin-ind}
-use Rattle.binary_field_theory.specs.Carryless.{_⊕_}
-use Rattle.binary_field_theory.specs.Element.{low, product, square, squarings, root}
-use Rattle.binary_field_theory.proofs.Sums.{bit-cases, bit-lt}
-use Rattle.binary_field_theory.proofs.Clmul.{digit-split}
-use Rattle.binary_field_theory.proofs.Linear.{additive-zero}
-use Rattle.binary_field_theory.proofs.Remainder.{remainder-small}
+use Rattle.binary_field_theory.specs.{Carryless._⊕_, Element.low, Element.product, Element.square, Element.squarings, Element.root}
+use Rattle.binary_field_theory.proofs.{Sums.bit-cases, Sums.bit-lt, Clmul.digit-split, Linear.additive-zero, Remainder.remainder-small}
 use Rattle.binary_field_theory.proofs.Products
 use Rattle.binary_field_theory.proofs.Power
 

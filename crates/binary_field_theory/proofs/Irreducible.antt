@@ -8,13 +8,8 @@ use native.Mathlib.Decide.{ℕ-discrete, decLt}
 use native.Mathlib.Omega.{arith}
 use lib.Arith.{bin-ind}
 use lib.Pow.{pow-pos, pow-mono}
-use Rattle.binary_field_theory.specs.Carryless.{_⊕_, clmul, remainder}
-use Rattle.binary_field_theory.specs.Element.{Accepted, low, modulus, product}
-use Rattle.binary_field_theory.proofs.Sums.{bit-cases, bit-lt, zero-sum, sum-half, sum-shr}
-use Rattle.binary_field_theory.proofs.Clmul.{clmul-step, zero-clmul, clmul-zero, one-clmul}
-use Rattle.binary_field_theory.proofs.Remainder.{remainder-modulus}
-use Rattle.binary_field_theory.proofs.Certificate.{Certified, certified}
-use Rattle.binary_field_theory.proofs.Inverses.{product-cancel}
+use Rattle.binary_field_theory.specs.{Carryless._⊕_, Carryless.clmul, Carryless.remainder, Element.Accepted, Element.low, Element.modulus, Element.product}
+use Rattle.binary_field_theory.proofs.{Sums.bit-cases, Sums.bit-lt, Sums.zero-sum, Sums.sum-half, Sums.sum-shr, Clmul.clmul-step, Clmul.zero-clmul, Clmul.clmul-zero, Clmul.one-clmul, Remainder.remainder-modulus, Certificate.Certified, Certificate.certified, Inverses.product-cancel}
 
 -- n has degree i
 abbrev pub Degree : ℕ → ℕ → Type 0

@@ -8,10 +8,8 @@ use native.Mathlib.Omega.{arith}
 use lib.Dec.{eqb}
 use lib.Arith.{bin-ind}
 use lib.Pow.{ones-split}
-use Rattle.binary_field_theory.specs.Carryless.{_⊕_, digits-to, digits, remainder}
-use Rattle.binary_field_theory.specs.Element.{low, product, square, squarings, power, inverse}
-use Rattle.binary_field_theory.proofs.Sums.{bit-cases, bit-lt}
-use Rattle.binary_field_theory.proofs.Clmul.{digits-step}
+use Rattle.binary_field_theory.specs.{Carryless._⊕_, Carryless.digits-to, Carryless.digits, Carryless.remainder, Element.low, Element.product, Element.square, Element.squarings, Element.power, Element.inverse}
+use Rattle.binary_field_theory.proofs.{Sums.bit-cases, Sums.bit-lt, Clmul.digits-step}
 use Rattle.binary_field_theory.proofs.Products
 
 pub squarings-zero : (d a : ℕ) → squarings d 0 a ≡ a

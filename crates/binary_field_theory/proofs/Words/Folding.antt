@@ -7,10 +7,7 @@ use lib.Dec.{lit<, lit≤}
 use lib.Pow.{mod-mod-pow}
 use lib.Bits.{bitAnd, and-mask}
 use Rattle.binary_field_theory.specs.Carryless.{_⊕_, clmul, remainder}
-use Rattle.binary_field_theory.proofs.Sums.{sums, zero-sum, sum-lt, sum-mod, sum-shr}
-use Rattle.binary_field_theory.proofs.Clmul.{clmul-sum, sum-clmul, clmul-pow, clmul-one}
-use Rattle.binary_field_theory.proofs.Remainder.{remainder-fold, remainder-small}
-use Rattle.binary_field_theory.proofs.Words.Sizes.{clmul-lt}
+use Rattle.binary_field_theory.proofs.{Sums.sums, Sums.zero-sum, Sums.sum-lt, Sums.sum-mod, Sums.sum-shr, Clmul.clmul-sum, Clmul.sum-clmul, Clmul.clmul-pow, Clmul.clmul-one, Remainder.remainder-fold, Remainder.remainder-small, Words.Sizes.clmul-lt}
 
 -- the low digits of a sum come from those of its terms
 low-sum : (k x x' y y' : ℕ) → x % 2 ^ k ≡ x' % 2 ^ k → y % 2 ^ k ≡ y' % 2 ^ k → (x ⊕ y) % 2 ^ k ≡ (x' ⊕ y') % 2 ^ k

@@ -10,16 +10,8 @@ use lib.Dec.{T, eqb, eqb→eq}
 use lib.Bits.{bitXor, bitAnd, and-mask, mask-lt}
 use lib.Pow.{pow-pos, pow-mono, shl-lt, mod-pow-add}
 use lib.ListN.{length, getD, drop}
-use Rattle.binary_field_theory.specs.Carryless.{_⊕_, digits-to, digits, spread, reduce, remainder}
-use Rattle.binary_field_theory.specs.Element.{low, product, squarings}
-use Rattle.binary_field_theory.specs.Chain.{spreadings}
-use Rattle.binary_field_theory.specs.Multisquaring.{Multisquares}
-use Rattle.binary_field_theory.proofs.Sums.{sum-comm, sum-shifted}
-use Rattle.binary_field_theory.proofs.Linear.{additive-zero, basis, both, combine, combine-additive, combine-at, combine-drop}
-use Rattle.binary_field_theory.proofs.Chain.{spreadings-squarings}
-use Rattle.binary_field_theory.proofs.Products.{low-lt, two-product}
-use Rattle.binary_field_theory.proofs.Power.{squarings-sum, squarings-one, squarings-product, squarings-remainder}
-use Rattle.binary_field_theory.proofs.Words.Table.{every, each-entry}
+use Rattle.binary_field_theory.specs.{Carryless._⊕_, Carryless.digits-to, Carryless.digits, Carryless.spread, Carryless.reduce, Carryless.remainder, Element.low, Element.product, Element.squarings, Chain.spreadings, Multisquaring.Multisquares}
+use Rattle.binary_field_theory.proofs.{Sums.sum-comm, Sums.sum-shifted, Linear.additive-zero, Linear.basis, Linear.both, Linear.combine, Linear.combine-additive, Linear.combine-at, Linear.combine-drop, Chain.spreadings-squarings, Products.low-lt, Products.two-product, Power.squarings-sum, Power.squarings-one, Power.squarings-product, Power.squarings-remainder, Words.Table.every, Words.Table.each-entry}
 
 -- the entries of the digits 1, 2, 4 and 8 at k places
 unfoldable pub powers : ℕ → List ℕ → List ℕ

@@ -3,16 +3,8 @@ use mathlib.Core.Path.{_≡_, refl, ap, ap₂, sym, _∙_}
 use Prim.Native.Nat.{ℕ, _*_, _/_, _^_, _<_}
 use native.Mathlib.Omega.{arith}
 use lib.Bits.{bitXor}
-use Rattle.binary_field_theory.specs.Carryless.{_⊕_, clmul, spread, reduce, remainder, digits, digits-to}
-use Rattle.binary_field_theory.specs.Element.{Accepted, low, product, square, root}
-use Rattle.binary_field_theory.specs.Spreading.{evens}
-use Rattle.binary_field_theory.proofs.Sums.{sum-lt}
-use Rattle.binary_field_theory.proofs.Remainder.{remainder-sum, remainder-small, remainder-double, remainder-idem}
-use Rattle.binary_field_theory.proofs.Products.{low-lt, product-lt, product-comm, two-product, square-sum, square-product, square-spread}
-use Rattle.binary_field_theory.proofs.Certificate.{certified}
-use Rattle.binary_field_theory.proofs.Frobenius.{square-root, square-injective, root-lt}
-use Rattle.binary_field_theory.proofs.Degrees.{digits-61}
-use Rattle.binary_field_theory.proofs.Words.Evens.{evens-parts, evens-le, evens-lt}
+use Rattle.binary_field_theory.specs.{Carryless._⊕_, Carryless.clmul, Carryless.spread, Carryless.reduce, Carryless.remainder, Carryless.digits, Carryless.digits-to, Element.Accepted, Element.low, Element.product, Element.square, Element.root, Spreading.evens}
+use Rattle.binary_field_theory.proofs.{Sums.sum-lt, Remainder.remainder-sum, Remainder.remainder-small, Remainder.remainder-double, Remainder.remainder-idem, Products.low-lt, Products.product-lt, Products.product-comm, Products.two-product, Products.square-sum, Products.square-product, Products.square-spread, Certificate.certified, Frobenius.square-root, Frobenius.square-injective, Frobenius.root-lt, Degrees.digits-61, Words.Evens.evens-parts, Words.Evens.evens-le, Words.Evens.evens-lt}
 
 -- the square of what the code makes is the element
 module _ (d : ℕ) (hd : Accepted d) where

@@ -8,8 +8,7 @@ use lib.Dec.{T, ltb, lit<}
 use mir.Syntax.{w64}
 use mir.Val.{Fits}
 use Rattle.binary_field_theory.specs.Carryless.{_⊕_}
-use Rattle.binary_field_theory.proofs.Words.Parts.{ones, part}
-use Rattle.binary_field_theory.proofs.Words.Columns.{joined}
+use Rattle.binary_field_theory.proofs.{Words.Parts.ones, Words.Parts.part, Words.Columns.joined}
 use Rattle.binary_field.proofs.carryless.clmul32.Statement.{statement}
 use Rattle.binary_field.proofs.carryless.clmul32.Tie as tie
 
