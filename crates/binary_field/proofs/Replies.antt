@@ -1,81 +1,67 @@
--- What the answers of the calls on elements come to: the refusal where one is due, and the element
--- where the degree is accepted and the numbers are in range.
+-- What the answers of the calls on elements come to: the refusal where there is one, and else what the field's operation gives.
 use mathlib.Core.Path.{_≡_, refl, ap, sym, _∙_}
 use mathlib.Core.Bool.{Bool, true, false, cond, _||_, _&&_}
 use mathlib.Core.List.{[], _∷_}
 use Prim.Native.Nat.{ℕ, zero, suc, _^_, _<_}
 use native.Mathlib.Omega.{arith}
-use lib.Dec.{T, eqb, ltb}
-use borrow.Author.Tests.{lt-ltb, ltb-true}
+use lib.Dec.{T, eqb, ltb, ltb→lt}
+use borrow.Author.Tests.{lt-ltb}
 use Rattle.binary_field.specs.declared.Answer.{Answer}
 use Rattle.binary_field.specs.declared.Answer.the-variants.{Element, Refused}
-use Rattle.binary_field.specs.Carryless.{_⊕_}
-use Rattle.binary_field.specs.Element.{Accepted, product, square, root, inverse}
-use Rattle.binary_field.specs.Answer.{element, refusal, reply, below, due, answered, sum-reply, product-reply, square-reply, root-reply, inverse-reply}
+use Rattle.binary_field_theory.specs.{Carryless._⊕_, Element.Accepted, Element.product, Element.square, Element.root, Element.inverse}
+use Rattle.binary_field_theory.proofs.Linear.{both}
+use Rattle.binary_field.specs.{Field.field, Answer.element, Answer.refusal, Answer.reply, Answer.below, Answer.element-refusal, Answer.answered, Answer.sum-reply, Answer.product-reply, Answer.square-reply, Answer.root-reply, Answer.inverse-reply}
+use Rattle.binary_field.specs.Field.{element as at}
+use Rattle.binary_field.proofs.Field.{add-number, mul-number, root-number, inverse-number, element-small}
 
 refusal-of : (k v : ℕ) → (k ≡ 0 → ⊥) → refusal k ≡ answered k v
 unfolding answered
 refusal-of zero v h = absurd (h refl)
 refusal-of (suc k) v h = refl
 
--- a refusal is answered where one is due
+-- a refusal is answered where there is one
 pub refuses : {k n : ℕ} (v : ℕ) → k ≡ n → (k ≡ 0 → ⊥) → refusal k ≡ answered n v
 refuses {k} v e h = refusal-of k v h ∙ ap (λ (x : ℕ). answered x v) e
 
 -- and else the element
-pub replies : {k n v : ℕ} → k ≡ n → k ≡ 0 → element v ≡ answered n v
+pub replies : {k n u v : ℕ} → k ≡ n → k ≡ 0 → u ≡ v → element u ≡ answered n v
 unfolding answered
-replies e h = rw (← e, h)
+replies e h f = rw (← e, h) (ap element f)
 
-none-due : (x y : Bool) → _≡_ {A = ℕ} 0 (cond x (cond y 0 110) 106) → (x ≡ true) × (y ≡ true)
-none-due true true e = (refl, refl)
-none-due true false e = absurd (omega arith)
-none-due false y e = absurd (omega arith)
+both-pass : (x y : Bool) → _≡_ {A = ℕ} 0 (cond x (cond y 0 110) 106) → T x × T y
+both-pass true true e = (tt, tt)
+both-pass true false e = absurd (omega arith)
+both-pass false y e = absurd (omega arith)
 
-T-of : {x : Bool} → x ≡ true → T x
-T-of e = rw e tt
-
-of-T : (x : Bool) → T x → x ≡ true
-of-T true t = refl
-of-T false t = absurd t
-
-both : (x y : Bool) → (x && y) ≡ true → (x ≡ true) × (y ≡ true)
-both true y e = (refl, e)
-both false true e = (e, refl)
-both false false e = (e, e)
-
--- no refusal is due: the degree is accepted and the numbers are in range
-pub none-refused : (d a b : ℕ) {k : ℕ} → k ≡ due d (a ∷ b ∷ []) → k ≡ 0 → Accepted d × (a < 2 ^ d) × (b < 2 ^ d)
-unfolding due below
+-- no refusal: the degree is accepted and the numbers are in range
+pub none-refused : (d a b : ℕ) {k : ℕ} → k ≡ element-refusal d (a ∷ b ∷ []) → k ≡ 0 → Accepted d × (a < 2 ^ d) × (b < 2 ^ d)
+unfolding element-refusal below
 none-refused d a b e h =
-    let z = none-due (eqb d 5 || eqb d 61) (ltb a (2 ^ d) && (ltb b (2 ^ d) && true)) (sym h ∙ e) in
+    let z = both-pass (eqb d 5 || eqb d 61) (ltb a (2 ^ d) && (ltb b (2 ^ d) && true)) (sym h ∙ e) in
     let y = both (ltb a (2 ^ d)) (ltb b (2 ^ d) && true) (z .1) in
-    (T-of (z .0), ltb-true _ _ (y .0), ltb-true _ _ (both (ltb b (2 ^ d)) true (y .1) .0))
+    (z .0, ltb→lt _ _ (y .0), ltb→lt _ _ (both (ltb b (2 ^ d)) true (y .1) .0))
 
--- a number tested twice
-pub due-twice : (d a : ℕ) → due d (a ∷ a ∷ []) ≡ due d (a ∷ [])
-unfolding due below
-due-twice d a = ap (λ (x : Bool). cond (eqb d 5 || eqb d 61) (cond x 0 110) 106) (twice (ltb a (2 ^ d)))
+-- a call on one number tests it twice
+pub refusal-twice : (d a : ℕ) → element-refusal d (a ∷ a ∷ []) ≡ element-refusal d (a ∷ [])
+unfolding element-refusal below
+refusal-twice d a = ap (λ (x : Bool). cond (eqb d 5 || eqb d 61) (cond x 0 110) 106) (twice (ltb a (2 ^ d)))
   where
     twice : (x : Bool) → (x && (x && true)) ≡ (x && true)
     twice true = refl
     twice false = refl
 
--- a call on one number
-pub refuses-one : (d a v : ℕ) {k : ℕ} → k ≡ due d (a ∷ a ∷ []) → (k ≡ 0 → ⊥) → refusal k ≡ answered (due d (a ∷ [])) v
-refuses-one d a v e h = refuses v (e ∙ due-twice d a) h
-
-pub replies-one : (d a : ℕ) {k v : ℕ} → k ≡ due d (a ∷ a ∷ []) → k ≡ 0 → element v ≡ answered (due d (a ∷ [])) v
-replies-one d a e h = replies (e ∙ due-twice d a) h
+of-T : (x : Bool) → T x → x ≡ true
+of-T true t = refl
+of-T false t = absurd t
 
 -- the degree is accepted and the numbers are in range: the answer is the element
 module _ (d a : ℕ) (hd : Accepted d) (ha : a < 2 ^ d) where
-  none-one : due d (a ∷ []) ≡ 0
-  unfolding due below
+  none-one : element-refusal d (a ∷ []) ≡ 0
+  unfolding element-refusal below
   none-one = rw (of-T (eqb d 5 || eqb d 61) hd, lt-ltb _ _ ha)
 
-  none-two : (b : ℕ) → b < 2 ^ d → due d (a ∷ b ∷ []) ≡ 0
-  unfolding due below
+  none-two : (b : ℕ) → b < 2 ^ d → element-refusal d (a ∷ b ∷ []) ≡ 0
+  unfolding element-refusal below
   none-two b hb = rw (of-T (eqb d 5 || eqb d 61) hd, lt-ltb _ _ ha, lt-ltb _ _ hb)
 
   pub sum-replies : (b : ℕ) → b < 2 ^ d → sum-reply d a b ≡ element (a ⊕ b)
@@ -97,6 +83,25 @@ module _ (d a : ℕ) (hd : Accepted d) (ha : a < 2 ^ d) where
   pub inverse-replies : inverse-reply d a ≡ element (inverse d a)
   unfolding inverse-reply answered
   inverse-replies = rw none-one
+
+-- the calls give the sums, products, squares, roots and inverses of the field
+module _ (d : ℕ) (ok : Accepted d) (a : ℕ) (ha : a < 2 ^ d) where
+  module _ (b : ℕ) (hb : b < 2 ^ d) where
+    pub sum-in-field : sum-reply d a b ≡ element ((field d ok .ring .add (at d ok a) (at d ok b)) .0)
+    sum-in-field = rw (add-number d ok, element-small d ok a ha, element-small d ok b hb) (sum-replies d a ok ha b hb)
+
+    pub product-in-field : product-reply d a b ≡ element ((field d ok .ring .mul (at d ok a) (at d ok b)) .0)
+    product-in-field = rw (mul-number d ok, element-small d ok a ha, element-small d ok b hb) (product-replies d a ok ha b hb)
+
+  pub square-in-field : square-reply d a ≡ element ((field d ok .ring .mul (at d ok a) (at d ok a)) .0)
+  unfolding square
+  square-in-field = rw (mul-number d ok, element-small d ok a ha) (square-replies d a ok ha)
+
+  pub root-in-field : root-reply d a ≡ element ((field d ok .root (at d ok a)) .0)
+  root-in-field = rw (root-number d ok, element-small d ok a ha) (root-replies d a ok ha)
+
+  pub inverse-in-field : inverse-reply d a ≡ element ((field d ok .inverse (at d ok a)) .0)
+  inverse-in-field = rw (inverse-number d ok, element-small d ok a ha) (inverse-replies d a ok ha)
 
 -- for a caller that takes the answer apart: its element is the one that the reply says, and it is no refusal
 pub element-is : {x : Answer} {n v : ℕ} → x ≡ Element n → reply x ≡ element v → n ≡ v

@@ -5,8 +5,7 @@ use mathlib.Core.List.{List, [], _∷_}
 use lib.Dec.{eqb, ltb}
 use Rattle.binary_field.specs.declared.Answer.{Answer}
 use Rattle.binary_field.specs.declared.Answer.the-variants.{Element, Refused}
-use Rattle.binary_field.specs.Carryless.{_⊕_}
-use Rattle.binary_field.specs.Element.{product, square, root, inverse}
+use Rattle.binary_field_theory.specs.{Carryless._⊕_, Element.product, Element.square, Element.root, Element.inverse}
 
 -- an answer is an element or a refusal with its number
 pub data Reply : Type 0 where
@@ -23,11 +22,11 @@ unfoldable pub below : ℕ → List ℕ → Bool
 below m [] = true
 below m (n ∷ ns) = ltb n m && below m ns
 
--- the refusal that is due, and 0 where none is: 106 for a degree other than 5 and 61, then 110 for a number of 2^d or more
-unfoldable pub due : ℕ → List ℕ → ℕ
-due d ns = cond (eqb d 5 || eqb d 61) (cond (below (2 ^ d) ns) 0 110) 106
+-- the refusal of a call on elements, and 0 where there is none: 106 for a degree other than 5 and 61, then 110 for a number of 2^d or more
+unfoldable pub element-refusal : ℕ → List ℕ → ℕ
+element-refusal d ns = cond (eqb d 5 || eqb d 61) (cond (below (2 ^ d) ns) 0 110) 106
 
--- the refusal where one is due, else the element
+-- the refusal where there is one, else the element
 unfoldable pub answered : ℕ → ℕ → Reply
 answered zero v = element v
 answered (suc k) v = refusal (suc k)
@@ -36,20 +35,20 @@ answered (suc k) v = refusal (suc k)
 
 -- the sum is bitwise exclusive or
 unfoldable pub sum-reply : ℕ → ℕ → ℕ → Reply
-sum-reply d a b = answered (due d (a ∷ b ∷ [])) (a ⊕ b)
+sum-reply d a b = answered (element-refusal d (a ∷ b ∷ [])) (a ⊕ b)
 
 -- the product modulo the modulus of the degree
 unfoldable pub product-reply : ℕ → ℕ → ℕ → Reply
-product-reply d a b = answered (due d (a ∷ b ∷ [])) (product d a b)
+product-reply d a b = answered (element-refusal d (a ∷ b ∷ [])) (product d a b)
 
 -- the square
 unfoldable pub square-reply : ℕ → ℕ → Reply
-square-reply d a = answered (due d (a ∷ [])) (square d a)
+square-reply d a = answered (element-refusal d (a ∷ [])) (square d a)
 
 -- the square root: every element has one
 unfoldable pub root-reply : ℕ → ℕ → Reply
-root-reply d a = answered (due d (a ∷ [])) (root d a)
+root-reply d a = answered (element-refusal d (a ∷ [])) (root d a)
 
 -- the inverse, which is 0 of 0
 unfoldable pub inverse-reply : ℕ → ℕ → Reply
-inverse-reply d a = answered (due d (a ∷ [])) (inverse d a)
+inverse-reply d a = answered (element-refusal d (a ∷ [])) (inverse d a)

@@ -1,6 +1,3 @@
--- Elements of GF(2^5) and GF(2^61): the polynomials over GF(2) that they are, and their arithmetic.
-pub mod Carryless
-pub mod Element
+-- The field of elements, and what the calls on elements answer.
+pub mod Field
 pub mod Answer
-pub mod Spreading
-pub mod Multisquaring

@@ -1,8 +1,8 @@
 // The product of two elements without a table or a branch: carry-less products by integer multiplication, and the remainder.
 ghost use mathlib.Core.Path.{_≡_};
 ghost use Prim.Native.Nat.{_+_, _*_, _^_, _<_};
-ghost use Rattle.binary_field.specs.Carryless.{clmul, remainder};
-ghost use Rattle.binary_field.specs.Element.{Accepted, low, product};
+ghost use Rattle.binary_field_theory.specs.Carryless.{clmul, remainder};
+ghost use Rattle.binary_field_theory.specs.Element.{Accepted, low, product};
 
 // The carry-less product of two 32-bit numbers. Each is cut into four parts by the places of its bits modulo 4. In the integer
 // product of two parts at most eight ones meet in a place, so their count stays within the four bits up to the next place, and its

@@ -2,9 +2,9 @@
 // 2^k - 1 of a, k squarings and one product make the power 2^(j+k) - 1.
 ghost use mathlib.Core.Path.{_≡_};
 ghost use Prim.Native.Nat.{_*_, _<_, _^_};
-ghost use Rattle.binary_field.specs.Element.{Accepted, product, squarings, inverse};
-ghost use Rattle.binary_field.specs.Spreading.{Spreads};
-ghost use Rattle.binary_field.specs.Multisquaring.{Multisquares};
+ghost use Rattle.binary_field_theory.specs.Element.{Accepted, product, squarings, inverse};
+ghost use Rattle.binary_field_theory.specs.Spreading.{Spreads};
+ghost use Rattle.binary_field_theory.specs.Multisquaring.{Multisquares};
 use crate::carryless;
 use crate::multisquaring;
 use crate::squaring;
@@ -62,6 +62,7 @@ fn inverse_61(a: u64, table: &[u16; 256], sixfold: &[u64; 256]) -> u64
     squaring::square_of(61, a60, table)
 }
 
+// The inverse of an element, by the chain of its degree.
 pub(crate) fn inverse_of(d: u8, a: u64, table: &[u16; 256]) -> u64
     requires { ⌜ Accepted d × (a < 2 ^ d) × Spreads (now table) ⌝ }
     ensures { λ r. ⌜ r ≡ inverse d a ⌝ }

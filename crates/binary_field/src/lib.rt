@@ -3,7 +3,7 @@
 ghost use mathlib.Core.Path.{_≡_};
 ghost use mathlib.Core.Bool.{cond};
 ghost use mathlib.Core.List.{[], _∷_};
-ghost use Rattle.binary_field.specs.Answer.{reply, below, due, sum-reply, product-reply, square-reply, root-reply, inverse-reply};
+ghost use Rattle.binary_field.specs.Answer.{reply, below, element-refusal, sum-reply, product-reply, square-reply, root-reply, inverse-reply};
 
 mod carryless;
 mod inverting;
@@ -18,7 +18,7 @@ pub enum Answer {
 }
 
 // 110 where one of two numbers is m or more, else 0.
-fn range_due(m: u64, a: u64, b: u64) -> u32
+fn range_refusal(m: u64, a: u64, b: u64) -> u32
     ensures { λ r. ⌜ r ≡ cond (below m (a ∷ b ∷ [])) 0 110 ⌝ }
 {
     if a < m {
@@ -29,15 +29,15 @@ fn range_due(m: u64, a: u64, b: u64) -> u32
     110
 }
 
-// The refusal that is due to a call on two numbers, and 0 where none is.
-fn refusal_due(d: u8, a: u64, b: u64) -> u32
-    ensures { λ r. ⌜ r ≡ due d (a ∷ b ∷ []) ⌝ }
+// The refusal of a call on two numbers, and 0 where there is none: the degree is tested first.
+fn refusal(d: u8, a: u64, b: u64) -> u32
+    ensures { λ r. ⌜ r ≡ element-refusal d (a ∷ b ∷ []) ⌝ }
 {
     if d == 5 {
-        return range_due(0x20, a, b);
+        return range_refusal(0x20, a, b);
     }
     if d == 61 {
-        return range_due(0x2000_0000_0000_0000, a, b);
+        return range_refusal(0x2000_0000_0000_0000, a, b);
     }
     106
 }
@@ -46,7 +46,7 @@ fn refusal_due(d: u8, a: u64, b: u64) -> u32
 pub fn sum(d: u8, a: u64, b: u64) -> Answer
     ensures { λ r. ⌜ reply r ≡ sum-reply d a b ⌝ }
 {
-    let n = refusal_due(d, a, b);
+    let n = refusal(d, a, b);
     if n != 0 {
         return Answer::Refused(n);
     }
@@ -57,7 +57,7 @@ pub fn sum(d: u8, a: u64, b: u64) -> Answer
 pub fn product(d: u8, a: u64, b: u64) -> Answer
     ensures { λ r. ⌜ reply r ≡ product-reply d a b ⌝ }
 {
-    let n = refusal_due(d, a, b);
+    let n = refusal(d, a, b);
     if n != 0 {
         return Answer::Refused(n);
     }
@@ -68,7 +68,7 @@ pub fn product(d: u8, a: u64, b: u64) -> Answer
 pub fn square(d: u8, a: u64) -> Answer
     ensures { λ r. ⌜ reply r ≡ square-reply d a ⌝ }
 {
-    let n = refusal_due(d, a, a);
+    let n = refusal(d, a, a);
     if n != 0 {
         return Answer::Refused(n);
     }
@@ -80,7 +80,7 @@ pub fn square(d: u8, a: u64) -> Answer
 pub fn square_root(d: u8, a: u64) -> Answer
     ensures { λ r. ⌜ reply r ≡ root-reply d a ⌝ }
 {
-    let n = refusal_due(d, a, a);
+    let n = refusal(d, a, a);
     if n != 0 {
         return Answer::Refused(n);
     }
@@ -91,7 +91,7 @@ pub fn square_root(d: u8, a: u64) -> Answer
 pub fn inverse(d: u8, a: u64) -> Answer
     ensures { λ r. ⌜ reply r ≡ inverse-reply d a ⌝ }
 {
-    let n = refusal_due(d, a, a);
+    let n = refusal(d, a, a);
     if n != 0 {
         return Answer::Refused(n);
     }

@@ -1,8 +1,8 @@
 // Six squarings of an element of GF(2^61) at once. Squaring is additive, so the result is the sum of what each hexadecimal digit
 // of the element gives at its place, which a table of 256 entries has.
 ghost use mathlib.Core.Path.{_≡_};
-ghost use Rattle.binary_field.specs.Element.{squarings};
-ghost use Rattle.binary_field.specs.Multisquaring.{Multisquares};
+ghost use Rattle.binary_field_theory.specs.Element.{squarings};
+ghost use Rattle.binary_field_theory.specs.Multisquaring.{Multisquares};
 
 // Entry 16 i + j is j t^(4i), squared six times.
 const MULTISQUARES: [u64; 256] = [
@@ -271,6 +271,7 @@ pub(crate) fn multisquares() -> [u64; 256]
     MULTISQUARES
 }
 
+// An element squared six times: the sum of the entries of its sixteen digits.
 pub(crate) fn multisquare(a: u64, table: &[u64; 256]) -> u64
     requires { ⌜ Multisquares (now table) ⌝ }
     ensures { λ r. ⌜ r ≡ squarings 61 6 a ⌝ }

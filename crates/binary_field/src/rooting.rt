@@ -2,9 +2,9 @@
 // the root of t.
 ghost use mathlib.Core.Path.{_≡_};
 ghost use Prim.Native.Nat.{_+_, _*_, _<_, _^_};
-ghost use Rattle.binary_field.specs.Carryless.{clmul};
-ghost use Rattle.binary_field.specs.Element.{Accepted, product, square, root};
-ghost use Rattle.binary_field.specs.Spreading.{evens};
+ghost use Rattle.binary_field_theory.specs.Carryless.{clmul};
+ghost use Rattle.binary_field_theory.specs.Element.{Accepted, product, square, root};
+ghost use Rattle.binary_field_theory.specs.Spreading.{evens};
 use crate::carryless;
 use crate::carryless::Words;
 
@@ -49,6 +49,7 @@ fn times_root_of_t(d: u8, n: u64) -> u64
     carryless::fold(61, wide_times_root(n))
 }
 
+// The square root of an element, from its digits at even and at odd places.
 pub(crate) fn root_of(d: u8, a: u64) -> u64
     requires { ⌜ Accepted d × (a < 2 ^ d) ⌝ }
     ensures { λ r. ⌜ r ≡ root d a ⌝ }

@@ -1,8 +1,8 @@
 // Spreading the digits of a number, bit i to bit 2i, by a table of 256 entries that spreads a byte to sixteen bits.
 ghost use mathlib.Core.Path.{_≡_};
 ghost use Prim.Native.Nat.{_<_, _^_};
-ghost use Rattle.binary_field.specs.Carryless.{spread};
-ghost use Rattle.binary_field.specs.Spreading.{Spreads};
+ghost use Rattle.binary_field_theory.specs.Carryless.{spread};
+ghost use Rattle.binary_field_theory.specs.Spreading.{Spreads};
 
 // Bit i of a byte goes to bit 2i.
 const SPREAD: [u16; 256] = [
@@ -271,6 +271,7 @@ pub(crate) fn spreads() -> [u16; 256]
     SPREAD
 }
 
+// A byte, spread: its entry of the table.
 fn spread_8(w: u64, table: &[u16; 256]) -> u64
     requires { ⌜ Spreads (now table) × (w < 2 ^ 8) ⌝ }
     ensures { λ r. ⌜ r ≡ spread w ⌝ }
@@ -279,6 +280,7 @@ fn spread_8(w: u64, table: &[u16; 256]) -> u64
     table[i] as u64
 }
 
+// Sixteen digits, spread byte by byte.
 fn spread_16(w: u64, table: &[u16; 256]) -> u64
     requires { ⌜ Spreads (now table) × (w < 2 ^ 16) ⌝ }
     ensures { λ r. ⌜ r ≡ spread w ⌝ }
@@ -286,6 +288,7 @@ fn spread_16(w: u64, table: &[u16; 256]) -> u64
     (spread_8(w >> 8, table) << 16) ^ spread_8(w & 0xff, table)
 }
 
+// Thirty-two digits, spread half by half.
 pub(crate) fn spread_32(w: u64, table: &[u16; 256]) -> u64
     requires { ⌜ Spreads (now table) × (w < 2 ^ 32) ⌝ }
     ensures { λ r. ⌜ r ≡ spread w ⌝ }

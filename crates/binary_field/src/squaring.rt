@@ -1,8 +1,8 @@
 // The square of an element: its digits are spread, and the result is folded.
 ghost use mathlib.Core.Path.{_≡_};
 ghost use Prim.Native.Nat.{_<_, _^_};
-ghost use Rattle.binary_field.specs.Element.{Accepted, square};
-ghost use Rattle.binary_field.specs.Spreading.{Spreads};
+ghost use Rattle.binary_field_theory.specs.Element.{Accepted, square};
+ghost use Rattle.binary_field_theory.specs.Spreading.{Spreads};
 use crate::carryless;
 use crate::carryless::Words;
 use crate::spreading;

@@ -7,7 +7,7 @@ use native.Mathlib.Decide.{decLe}
 use lib.Dec.{eqb}
 use lib.ListN.{length, getD, List·getD-eq-default}
 use borrow.Author.Tests.{eqb-true, eq-eqb, ne-eqb}
-use Rattle.binary_field.specs.Element.{Accepted}
+use Rattle.binary_field_theory.specs.Element.{Accepted}
 use Rattle.char2_algebra.specs.Lead.{Monic}
 use Rattle.char2_algebra.proofs.{Degree.len-zero, Degree.len-nought, Division.rem-of-divides, Division.divides-of-rem, Lead.monic-nonzero}
 use Rattle.class_group.specs.Curve as Theory

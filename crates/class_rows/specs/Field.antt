@@ -4,8 +4,8 @@ use mathlib.Core.Bool.{Bool, true, false, cond}
 use mathlib.Core.List.{List, map}
 use lib.Dec.{eqb}
 use Rattle.field_laws.specs.Field.{Field2}
-use Rattle.binary_field.specs.Element.{Element, Accepted}
-use Rattle.binary_field.proofs.Field.{field, element}
+use Rattle.binary_field_theory.specs.Element.{Element, Accepted}
+use Rattle.binary_field.specs.Field.{field, element}
 use Rattle.char2_algebra.specs.Polynomials.{Polynomials}
 use Rattle.char2_algebra.specs.Polynomial.{Polynomial, of-list}
 use Rattle.char2_algebra.proofs.Polynomial.{polynomials}

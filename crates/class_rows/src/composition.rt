@@ -1,6 +1,6 @@
 // Cantor's composition for a sum, from the coefficients of any greatest common divisor and with short polynomials.
 ghost use mathlib.Core.Path.{_≡_};
-ghost use Rattle.binary_field.specs.Element.{Accepted};
+ghost use Rattle.binary_field_theory.specs.Element.{Accepted};
 ghost use Rattle.class_group.specs.Composition.{compose};
 ghost use Rattle.class_group.specs.Curve.{Curve as TheoryCurve};
 ghost use Rattle.class_group.proofs.Joined.{joined};

@@ -1,6 +1,6 @@
 // Is a pair a reduced divisor of the curve of f? The division that tells yields the cofactor w = (v² + v + f) / u besides.
 ghost use Rattle.class_group.specs.{Curve.Curve as TheoryCurve, Mumford.value};
-ghost use Rattle.binary_field.specs.Element.{Accepted};
+ghost use Rattle.binary_field_theory.specs.Element.{Accepted};
 ghost use Rattle.char2_algebra.specs.Lead.{Monic};
 ghost use Rattle.class_rows.specs.{Field.𝔸, Field.poly, Row.InRange, Row.Stands, Core.OnCurve};
 ghost use Rattle.class_rows.specs.Checked.{Decides, FormedPair, FormedRows, CheckedRows, CheckedBoth};

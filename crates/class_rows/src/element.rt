@@ -1,7 +1,7 @@
 // Elements, through the element crate's calls: each function requires numbers in range and takes the answer apart.
 ghost use Prim.Native.Nat.{ℕ, _<_, _^_};
 ghost use mathlib.Core.Path.{_≡_};
-ghost use Rattle.binary_field.specs.Element.{Accepted};
+ghost use Rattle.binary_field_theory.specs.Element.{Accepted};
 ghost use Rattle.binary_field.specs.Answer.{element, reply};
 ghost use Rattle.class_rows.specs.Field.{degree-of, F, el};
 ghost use Rattle.class_rows.specs.Row.{Is};

@@ -2,7 +2,7 @@
 ghost use Prim.Native.Nat.{ℕ, _+_, _≤_, _<_, _^_};
 ghost use mathlib.Core.Path.{_≡_};
 ghost use mathlib.Core.List.{List};
-ghost use Rattle.binary_field.specs.Element.{Accepted};
+ghost use Rattle.binary_field_theory.specs.Element.{Accepted};
 ghost use Rattle.char2_algebra.specs.Lead.{lead};
 ghost use Rattle.class_rows.specs.Field.{degree-of, F, 𝔸, el, poly};
 ghost use Rattle.class_rows.specs.Row.{Is, InRange, Stands, row-len};

@@ -2,7 +2,7 @@
 ghost use Prim.Native.Nat.{_+_, _≤_, _<_, _^_};
 ghost use mathlib.Core.Path.{_≡_};
 ghost use lib.ListN.{getD};
-ghost use Rattle.binary_field.specs.Element.{Accepted};
+ghost use Rattle.binary_field_theory.specs.Element.{Accepted};
 ghost use Rattle.char2_algebra.specs.Square.{sqrt};
 ghost use Rattle.class_group.specs.Curve.{Curve as TheoryCurve};
 ghost use Rattle.class_group.specs.Half.{quadratic, half, half-of-degree-1, half-of-degree-2, half-of-degree-3};

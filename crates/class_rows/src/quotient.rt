@@ -2,7 +2,7 @@
 ghost use Prim.Native.Nat.{ℕ, _<_};
 ghost use mathlib.Core.Path.{_≡_};
 ghost use lib.ListN.{getD};
-ghost use Rattle.binary_field.specs.Element.{Accepted};
+ghost use Rattle.binary_field_theory.specs.Element.{Accepted};
 ghost use Rattle.char2_algebra.specs.Lead.{Monic};
 ghost use Rattle.class_rows.specs.Field.{𝔸, poly};
 ghost use Rattle.class_rows.specs.Row.{Is, InRange, Stands};

@@ -1,7 +1,7 @@
 // Cantor's reduction, and the double. The cofactor w = (v² + v + f) / u is found once for each step, by an exact division, and for a double
 // from that of the class by squares, so that a double divides no polynomial of degree 10.
 ghost use Prim.Native.Nat.{_<_};
-ghost use Rattle.binary_field.specs.Element.{Accepted};
+ghost use Rattle.binary_field_theory.specs.Element.{Accepted};
 ghost use Rattle.class_group.specs.Curve.{Curve as TheoryCurve};
 ghost use Rattle.class_group.specs.Reduction.{reduction-step, reduce};
 ghost use Rattle.class_group.specs.Operations.{counted-double};

@@ -1,7 +1,7 @@
 // Polynomials as rows of twelve coefficients by value, the lowest first.
 ghost use Prim.Native.Nat.{ℕ, _+_, _≤_, _<_, _^_};
 ghost use mathlib.Core.Path.{_≡_};
-ghost use Rattle.binary_field.specs.Element.{Accepted};
+ghost use Rattle.binary_field_theory.specs.Element.{Accepted};
 ghost use Rattle.char2_algebra.specs.Lead.{monic-of};
 ghost use Rattle.char2_algebra.specs.Square.{sqrt};
 ghost use Rattle.class_rows.specs.Field.{degree-of, F, 𝔸, el, poly};

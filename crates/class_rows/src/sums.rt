@@ -1,5 +1,5 @@
 // The sum and the opposite of reduced pairs, and the rules of a commit and an undo on them.
-ghost use Rattle.binary_field.specs.Element.{Accepted};
+ghost use Rattle.binary_field_theory.specs.Element.{Accepted};
 ghost use Rattle.class_group.specs.Curve.{Curve as TheoryCurve};
 ghost use Rattle.class_group.specs.{Mumford.opposite, Operations.counted-sum, Moves.double-and-add, Moves.subtract-and-halve};
 ghost use Rattle.class_rows.specs.Field.{𝔸};

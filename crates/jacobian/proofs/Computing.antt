@@ -1,5 +1,5 @@
 -- What the operations on classes call, opened by one name: under `unfolding computing` a closed sum, double, half or answer of a call computes.
-use Rattle.binary_field.proofs.Field.{field, element}
+use Rattle.binary_field.specs.Field.{field, element}
 use Rattle.binary_field.proofs.Field.{computing as numbers-computing}
 use Rattle.char2_algebra.specs.Polynomial.{of-list}
 use Rattle.char2_algebra.specs.Lead.{lead, monic-of}

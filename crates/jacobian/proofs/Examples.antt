@@ -5,7 +5,7 @@ use mathlib.Core.Bool.{Bool, true, _&&_}
 use mathlib.Core.List.{List, [], _∷_}
 use lib.Dec.{T}
 use mir.Facts.{and-yes}
-use Rattle.binary_field.specs.Element.{Accepted}
+use Rattle.binary_field_theory.specs.Element.{Accepted}
 use Rattle.class_group.specs.Mumford.{Pair}
 use Rattle.class_group.specs.Operations.{double, sum}
 use Rattle.class_group.specs.Half.{half}

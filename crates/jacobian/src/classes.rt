@@ -2,7 +2,7 @@
 ghost use Prim.Native.Nat.{ℕ, _≤_};
 ghost use mathlib.Core.Path.{_≡_};
 ghost use lib.ListN.{drop};
-ghost use Rattle.binary_field.specs.Element.{Accepted};
+ghost use Rattle.binary_field_theory.specs.Element.{Accepted};
 ghost use Rattle.class_rows.specs.{Row.InRange, Row.rows-pair};
 ghost use Rattle.jacobian.specs.{Checks.below, Checks.blank, Curves.curve-refusal, Due.form-refusal};
 ghost use Rattle.jacobian.specs.{Classes.class-of, Classes.shape-refusal, Classes.range-refusal, Classes.class-refusal, ClassRows.Led, ClassRows.Widened, ClassRows.RowsOf, ClassRows.first};

@@ -1,21 +1,20 @@
 -- `product` meets its contract.
-use mathlib.Core.Path.{ap, _∙_}
 use borrow.Author.Needs.{needs}
-use Rattle.binary_field.specs.Answer.{product-reply, element}
+use Rattle.binary_field.specs.Answer.{product-reply}
 use Rattle.binary_field.proofs.Replies.{refuses, replies, none-refused}
 use Rattle.binary_field.proofs.product.Statement.{statement}
 use Rattle.binary_field.proofs.product.Tie as tie
 
 returns : tie.Need-returns
 unfolding product-reply
-returns c = refuses _ (c .before .refusal-due .ensures) (c .if1 .taken)
+returns c = refuses _ (c .before .refusal .ensures) (c .if1 .taken)
 
 product-of-requires : tie.Need-product-of-requires
-product-of-requires c κs = none-refused _ _ _ (c .before .refusal-due .ensures) (c .if1 .left)
+product-of-requires c κs = none-refused _ _ _ (c .before .refusal .ensures) (c .if1 .left)
 
 returns-2 : tie.Need-returns-2
 unfolding product-reply
-returns-2 c = ap element (c .product-of .ensures) ∙ replies (c .before .before .refusal-due .ensures) (c .before .if1 .left)
+returns-2 c = let s = c .before in replies (s .before .refusal .ensures) (s .if1 .left) (c .product-of .ensures)
 
 pub product-spec : {M : Type 1} → statement M
 product-spec = tie.close (tie.spec (λ c κs. search needs) returns product-of-requires returns-2)

@@ -1,8 +1,8 @@
 -- What the element crate's calls answer, as numbers that stand for elements; and products with 0 and 1, which need no call.
 use Prim.Native.Nat.{ℕ, _<_, _^_}
 use mathlib.Core.Path.{_≡_, sym, _∙_, ap, ap₂}
-use Rattle.binary_field.specs.Carryless.{_⊕_}
-use Rattle.binary_field.specs.Element.{Accepted, product, square, root, inverse}
+use Rattle.binary_field_theory.specs.Carryless.{_⊕_}
+use Rattle.binary_field_theory.specs.Element.{Accepted, product, square, root, inverse}
 use Rattle.binary_field.specs.Answer.{element, sum-reply, product-reply, square-reply, root-reply, inverse-reply}
 use Rattle.binary_field.proofs.Field.{add-number, mul-number, inverse-number, root-number}
 use Rattle.binary_field.proofs.Replies.{sum-replies, product-replies, square-replies, root-replies, inverse-replies}

@@ -5,8 +5,9 @@ use mathlib.Core.Bool.{Bool, true, false, cond, _||_}
 use native.Mathlib.Omega.{arith}
 use lib.Dec.{T, eqb, lit<}
 use borrow.Author.Tests.{eqb-true}
-use Rattle.binary_field.specs.Element.{Accepted}
-use Rattle.binary_field.proofs.Field.{element-path, element-small, element-number, nought-number, one-number}
+use Rattle.binary_field_theory.specs.Element.{Accepted}
+use Rattle.binary_field_theory.proofs.Elements.{element-path}
+use Rattle.binary_field.proofs.Field.{element-small, element-number, nought-number, one-number}
 use Rattle.class_rows.specs.Field.{degree-of, accepted, K, F, el}
 use Rattle.class_rows.specs.Row.{Is}
 

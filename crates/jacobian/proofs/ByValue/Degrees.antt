@@ -4,7 +4,7 @@ use mathlib.Core.Path.{_≡_, refl}
 use mathlib.Core.Bool.{Bool, true, false, _||_}
 use lib.Dec.{T, eqb}
 use borrow.Author.Tests.{eqb-true}
-use Rattle.binary_field.specs.Element.{Accepted}
+use Rattle.binary_field_theory.specs.Element.{Accepted}
 
 by-first : (x y : Bool) (P : Type 0) → T (x || y) → (x ≡ true → P) → (y ≡ true → P) → P
 by-first true y P t h k = h refl

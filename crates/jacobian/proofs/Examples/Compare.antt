@@ -5,7 +5,7 @@ use mathlib.Core.Bool.{Bool, true, false, _&&_}
 use mathlib.Core.List.{List, [], _∷_}
 use lib.Dec.{T, eqb, eqb→eq}
 use mir.Facts.{and-yes}
-use Rattle.binary_field.proofs.Field.{element-path}
+use Rattle.binary_field_theory.proofs.Elements.{element-path}
 use Rattle.char2_algebra.proofs.PolynomialRing.{eq-of-coefficients}
 use Rattle.class_group.specs.Mumford.{Pair}
 use Rattle.class_rows.specs.Field.{degree-of, K, Poly, F}

@@ -20,7 +20,7 @@ pub use Rattle.jacobian.specs.Classes.{Three}
 use Rattle.class_rows.proofs.Rows.Elements.{degree-is, el-number, el-of, el-zero, el-one, zero-lt, one-lt}
 use Rattle.class_rows.proofs.Rows.Coefficients.{coeff-poly, row-len-le}
 use Rattle.jacobian.proofs.ByValue.Checks.{ShapePasses, RangePasses}
-use Rattle.binary_field.specs.Element.{Accepted}
+use Rattle.binary_field_theory.specs.Element.{Accepted}
 
 -- the form of a class by value: rows of three numbers in range, 0 at and past the degree, which is at most 3
 pub record Formed (d : ℕ) (a : Class) : Type 0 where

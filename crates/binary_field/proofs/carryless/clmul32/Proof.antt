@@ -1,4 +1,4 @@
--- `binary_field::carryless::clmul32` meets its contract.
+-- `clmul32` meets its contract.
 use mathlib.Core.Path.{subst⁻¹}
 use Prim.Native.Nat.{ℕ, _+_, _*_, _^_, _<_}
 use native.Mathlib.Nat.{lt-of-le-of-lt, le-of-lt, mul-le-mul-left, mul-lt-mul-of-pos-right}
@@ -7,9 +7,8 @@ use lib.Pow.{pow-pos, pow-add}
 use lib.Dec.{T, ltb, lit<}
 use mir.Syntax.{w64}
 use mir.Val.{Fits}
-use Rattle.binary_field.specs.Carryless.{_⊕_}
-use Rattle.binary_field.proofs.carryless.Parts.{ones, part}
-use Rattle.binary_field.proofs.carryless.Columns.{joined}
+use Rattle.binary_field_theory.specs.Carryless.{_⊕_}
+use Rattle.binary_field_theory.proofs.{Words.Parts.ones, Words.Parts.part, Words.Columns.joined}
 use Rattle.binary_field.proofs.carryless.clmul32.Statement.{statement}
 use Rattle.binary_field.proofs.carryless.clmul32.Tie as tie
 
@@ -26,54 +25,6 @@ fits c m n hm hn =
       fits = below 32 (lt-of-le-of-lt (and-le-r (c .args .a) m) (lit< hm)) (lt-of-le-of-lt (and-le-r (c .args .b) n) (lit< hn));
     }
 
-mul-z0 : tie.Need-mul-z0
-mul-z0 c = fits c 0x1111_1111 0x1111_1111 tt tt
-
-mul-z0-2 : tie.Need-mul-z0-2
-mul-z0-2 c = fits c 0x2222_2222 0x8888_8888 tt tt
-
-mul-z0-3 : tie.Need-mul-z0-3
-mul-z0-3 c = fits c 0x4444_4444 0x4444_4444 tt tt
-
-mul-z0-4 : tie.Need-mul-z0-4
-mul-z0-4 c = fits c 0x8888_8888 0x2222_2222 tt tt
-
-mul-z1 : tie.Need-mul-z1
-mul-z1 c = fits c 0x1111_1111 0x2222_2222 tt tt
-
-mul-z1-2 : tie.Need-mul-z1-2
-mul-z1-2 c = fits c 0x2222_2222 0x1111_1111 tt tt
-
-mul-z1-3 : tie.Need-mul-z1-3
-mul-z1-3 c = fits c 0x4444_4444 0x8888_8888 tt tt
-
-mul-z1-4 : tie.Need-mul-z1-4
-mul-z1-4 c = fits c 0x8888_8888 0x4444_4444 tt tt
-
-mul-z2 : tie.Need-mul-z2
-mul-z2 c = fits c 0x1111_1111 0x4444_4444 tt tt
-
-mul-z2-2 : tie.Need-mul-z2-2
-mul-z2-2 c = fits c 0x2222_2222 0x2222_2222 tt tt
-
-mul-z2-3 : tie.Need-mul-z2-3
-mul-z2-3 c = fits c 0x4444_4444 0x1111_1111 tt tt
-
-mul-z2-4 : tie.Need-mul-z2-4
-mul-z2-4 c = fits c 0x8888_8888 0x8888_8888 tt tt
-
-mul-z3 : tie.Need-mul-z3
-mul-z3 c = fits c 0x1111_1111 0x8888_8888 tt tt
-
-mul-z3-2 : tie.Need-mul-z3-2
-mul-z3-2 c = fits c 0x2222_2222 0x4444_4444 tt tt
-
-mul-z3-3 : tie.Need-mul-z3-3
-mul-z3-3 c = fits c 0x4444_4444 0x2222_2222 tt tt
-
-mul-z3-4 : tie.Need-mul-z3-4
-mul-z3-4 c = fits c 0x8888_8888 0x1111_1111 tt tt
-
 returns : tie.Need-returns
 unfolding _⊕_ part ones
 returns c = joined (c .args .a) (c .args .b) (c .pre .0) (c .pre .1)
@@ -82,20 +33,20 @@ pub clmul32-spec : {M : Type 1} → statement M
 clmul32-spec =
     tie.close
     (tie.spec
-    mul-z0
-    mul-z0-2
-    mul-z0-3
-    mul-z0-4
-    mul-z1
-    mul-z1-2
-    mul-z1-3
-    mul-z1-4
-    mul-z2
-    mul-z2-2
-    mul-z2-3
-    mul-z2-4
-    mul-z3
-    mul-z3-2
-    mul-z3-3
-    mul-z3-4
+    (λ c. fits c 0x1111_1111 0x1111_1111 tt tt)
+    (λ c. fits c 0x2222_2222 0x8888_8888 tt tt)
+    (λ c. fits c 0x4444_4444 0x4444_4444 tt tt)
+    (λ c. fits c 0x8888_8888 0x2222_2222 tt tt)
+    (λ c. fits c 0x1111_1111 0x2222_2222 tt tt)
+    (λ c. fits c 0x2222_2222 0x1111_1111 tt tt)
+    (λ c. fits c 0x4444_4444 0x8888_8888 tt tt)
+    (λ c. fits c 0x8888_8888 0x4444_4444 tt tt)
+    (λ c. fits c 0x1111_1111 0x4444_4444 tt tt)
+    (λ c. fits c 0x2222_2222 0x2222_2222 tt tt)
+    (λ c. fits c 0x4444_4444 0x1111_1111 tt tt)
+    (λ c. fits c 0x8888_8888 0x8888_8888 tt tt)
+    (λ c. fits c 0x1111_1111 0x8888_8888 tt tt)
+    (λ c. fits c 0x2222_2222 0x4444_4444 tt tt)
+    (λ c. fits c 0x4444_4444 0x2222_2222 tt tt)
+    (λ c. fits c 0x8888_8888 0x1111_1111 tt tt)
     returns)

@@ -1,11 +1,11 @@
--- `binary_field::carryless::fold` meets its contract.
+-- `fold` meets its contract.
 use mathlib.Core.Path.{_≡_, sym, ap, subst, _∙_}
 use Prim.Native.Nat.{ℕ, _+_, _*_, _^_, _<_}
 use native.Mathlib.Omega.{arith}
-use Rattle.binary_field.specs.Carryless.{_⊕_, remainder}
-use Rattle.binary_field.specs.Element.{low}
-use Rattle.binary_field.proofs.Degrees.{other-degree}
-use Rattle.binary_field.proofs.carryless.Folding.{fold-5, fold-61}
+use Rattle.binary_field_theory.specs.Carryless.{_⊕_, remainder}
+use Rattle.binary_field_theory.specs.Element.{low}
+use Rattle.binary_field_theory.proofs.Degrees.{other-degree}
+use Rattle.binary_field_theory.proofs.Words.Folding.{fold-5, fold-61}
 use Rattle.binary_field.proofs.carryless.fold.Statement.{statement}
 use Rattle.binary_field.proofs.carryless.fold.Tie as tie
 
@@ -16,19 +16,18 @@ returns : tie.Need-returns
 unfolding _⊕_ low
 returns c =
     let s = c .before in
-    let n : ℕ = s .args .w .hi * 2 ^ 61 + s .args .w .lo in
-    fold-5 (s .args .w .hi) (s .args .w .lo) (subst (λ d. n < 2 ^ (d + d)) (c .if1 .taken) (s .pre .2))
-    ∙ ap (λ d. remainder d (low d) n) (sym (c .if1 .taken))
+    let w = s .args .w in
+    fold-5 (w .hi) (w .lo) (subst (λ d. w .hi * 2 ^ 61 + w .lo < 2 ^ (d + d)) (c .if1 .taken) (s .pre .2))
+    ∙ ap (λ d. remainder d (low d) (w .hi * 2 ^ 61 + w .lo)) (sym (c .if1 .taken))
 
 returns-2 : tie.Need-returns-2
 unfolding _⊕_ low
 returns-2 c =
     let s = c .before in
-    let n : ℕ = s .args .w .hi * 2 ^ 61 + s .args .w .lo in
+    let w = s .args .w in
     let e : s .args .d ≡ 61 = other-degree (s .args .d) (s .pre .0) (c .if1 .left) in
-    fold-61 (s .args .w .hi) (s .args .w .lo)
-    (high-lt (s .args .w .hi) (s .args .w .lo) (subst (λ d. n < 2 ^ (d + d)) e (s .pre .2))) (s .pre .1)
-    ∙ ap (λ d. remainder d (low d) n) (sym e)
+    fold-61 (w .hi) (w .lo) (high-lt _ _ (subst (λ d. w .hi * 2 ^ 61 + w .lo < 2 ^ (d + d)) e (s .pre .2))) (s .pre .1)
+    ∙ ap (λ d. remainder d (low d) (w .hi * 2 ^ 61 + w .lo)) (sym e)
 
 pub fold-spec : {M : Type 1} → statement M
 fold-spec = tie.close (tie.spec returns returns-2)

@@ -1,9 +1,9 @@
--- `binary_field::carryless::wide_product` meets its contract.
+-- `wide_product` meets its contract.
 use Prim.Native.Nat.{ℕ, _-_, _/_, _^_, _<_}
 use native.Mathlib.Omega.{arith}
 use lib.Bits.{bitAnd, bitXor, mask-lt, xor-lt}
-use Rattle.binary_field.specs.Carryless.{_⊕_}
-use Rattle.binary_field.proofs.carryless.Karatsuba.{words}
+use Rattle.binary_field_theory.specs.Carryless.{_⊕_}
+use Rattle.binary_field_theory.proofs.Words.Karatsuba.{words}
 use Rattle.binary_field.proofs.carryless.wide_product.Statement.{statement}
 use Rattle.binary_field.proofs.carryless.wide_product.Tie as tie
 

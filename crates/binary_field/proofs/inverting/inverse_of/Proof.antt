@@ -1,6 +1,6 @@
 -- `inverse_of` meets its contract, degree by degree.
 use borrow.Author.Needs.{needs}
-use Rattle.binary_field.proofs.Degrees.{other-degree}
+use Rattle.binary_field_theory.proofs.Degrees.{other-degree}
 use Rattle.binary_field.proofs.inverting.inverse_of.Statement.{statement}
 use Rattle.binary_field.proofs.inverting.inverse_of.Tie as tie
 
@@ -12,11 +12,12 @@ returns c = rw (c .before .if1 .taken) (c .inverse-5 .ensures)
 
 inverse-61-requires : tie.Need-inverse-61-requires
 inverse-61-requires c κs =
-    let s = c .before .before .before in
-    (rw (other-degree _ (s .pre .0) (c .before .before .if1 .left)) at (s .pre .1), s .pre .2, c .before .multisquares .ensures)
+    let s = c .before .before in
+    let p = s .before .pre in
+    (rw (other-degree _ (p .0) (s .if1 .left)) at (p .1), p .2, c .before .multisquares .ensures)
 
 returns-2 : tie.Need-returns-2
-returns-2 c = rw (other-degree _ (c .before .before .before .before .pre .0) (c .before .before .before .if1 .left)) (c .inverse-61 .ensures)
+returns-2 c = let s = c .before .before .before in rw (other-degree _ (s .before .pre .0) (s .if1 .left)) (c .inverse-61 .ensures)
 
 pub inverse-of-spec : {M : Type 1} → statement M
 inverse-of-spec = tie.close (tie.spec inverse-5-requires returns (λ c κs. search needs) inverse-61-requires returns-2)

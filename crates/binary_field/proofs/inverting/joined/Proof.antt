@@ -2,8 +2,8 @@
 use mathlib.Core.Path.{_≡_}
 use Prim.Native.Nat.{_≤_, _<_, _-_, _^_}
 use native.Mathlib.Omega.{arith}
-use Rattle.binary_field.specs.Element.{squarings}
-use Rattle.binary_field.proofs.ChainSteps.{none-squared, once-more, all-squared, multiplied}
+use Rattle.binary_field_theory.specs.Element.{squarings}
+use Rattle.binary_field_theory.proofs.Words.ChainSteps.{none-squared, once-more, all-squared, multiplied}
 use Rattle.binary_field.proofs.inverting.joined.Statement.{statement}
 use Rattle.binary_field.proofs.inverting.joined.Tie as tie
 
@@ -17,19 +17,19 @@ loop-holds : tie.Need-loop-holds Inv-loop μ-loop
 loop-holds c = (omega arith, none-squared _ _ (c .pre .1))
 
 square-of-requires : tie.Need-square-of-requires Inv-loop μ-loop
-square-of-requires c κs = (c .before .before .pre .0, c .before .loop .inv .1 .1, c .before .before .pre .3)
+square-of-requires c κs = let s = c .before in (s .before .pre .0, s .loop .inv .1 .1, s .before .pre .3)
 
 loop-again : tie.Need-loop-again Inv-loop μ-loop
-loop-again c =
-    (omega arith, once-more _ _ _ (c .before .before .before .pre .0) (c .before .before .loop .inv .1 .0) (c .square-of .ensures))
+loop-again c = let s = c .before .before in (omega arith, once-more _ _ _ (s .before .pre .0) (s .loop .inv .1 .0) (c .square-of .ensures))
 
 product-of-requires : tie.Need-product-of-requires Inv-loop μ-loop
-product-of-requires c κs = (c .before .before .pre .0, c .before .loop .inv .1 .1, c .before .before .pre .2)
+product-of-requires c κs = let s = c .before in (s .before .pre .0, s .loop .inv .1 .1, s .before .pre .2)
 
 returns : tie.Need-returns Inv-loop μ-loop
 returns c =
-    let e = all-squared _ _ (c .before .before .loop .inv .1) (c .before .before .loop .inv .0) (c .before .loop-test .left) in
-    multiplied _ _ _ (c .before .before .before .pre .0) (e .0) (c .product-of .ensures)
+    let s = c .before .before in
+    let e = all-squared _ _ (s .loop .inv .1) (s .loop .inv .0) (c .before .loop-test .left) in
+    multiplied _ _ _ (s .before .pre .0) (e .0) (c .product-of .ensures)
 
 pub joined-spec : {M : Type 1} → statement M
 joined-spec =

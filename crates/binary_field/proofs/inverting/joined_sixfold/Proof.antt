@@ -2,8 +2,8 @@
 use mathlib.Core.Path.{_≡_}
 use Prim.Native.Nat.{_≤_, _<_, _-_, _*_, _^_}
 use native.Mathlib.Omega.{arith}
-use Rattle.binary_field.specs.Element.{squarings}
-use Rattle.binary_field.proofs.ChainSteps.{none-squared, six-more, all-squared, multiplied}
+use Rattle.binary_field_theory.specs.Element.{squarings}
+use Rattle.binary_field_theory.proofs.Words.ChainSteps.{none-squared, six-more, all-squared, multiplied}
 use Rattle.binary_field.proofs.inverting.joined_sixfold.Statement.{statement}
 use Rattle.binary_field.proofs.inverting.joined_sixfold.Tie as tie
 
@@ -27,7 +27,8 @@ product-of-requires c κs = (tt, c .before .loop .inv .1 .1, c .before .before .
 
 returns : tie.Need-returns Inv-loop μ-loop
 returns c =
-    let e = all-squared 61 _ {k = c .before .before .before .args .n * 6} (c .before .before .loop .inv .1) (omega arith) (omega arith) in
+    let s = c .before .before in
+    let e = all-squared 61 _ {k = s .before .args .n * 6} (s .loop .inv .1) (omega arith) (omega arith) in
     multiplied 61 _ _ tt (e .0) (c .product-of .ensures)
 
 pub joined-sixfold-spec : {M : Type 1} → statement M

@@ -2,8 +2,8 @@
 use mathlib.Core.Path.{_≡_}
 use Prim.Native.Nat.{_≤_, _<_, _-_, _*_, _/_, _%_, _^_}
 use native.Mathlib.Omega.{arith}
-use Rattle.binary_field.specs.Element.{squarings}
-use Rattle.binary_field.proofs.Multisquares.{place-lt, no-digit, one-digit-more, all-digits}
+use Rattle.binary_field_theory.specs.Element.{squarings}
+use Rattle.binary_field_theory.proofs.Words.Multisquares.{place-lt, no-digit, one-digit-more, all-digits}
 use Rattle.binary_field.proofs.multisquaring.multisquare.Statement.{statement}
 use Rattle.binary_field.proofs.multisquaring.multisquare.Tie as tie
 
@@ -16,21 +16,16 @@ abbrev μ-loop : tie.MeasureT-loop
 loop-holds : tie.Need-loop-holds Inv-loop μ-loop
 loop-holds c = (omega arith, no-digit _)
 
-add-place : tie.Need-add-place Inv-loop μ-loop
-add-place c = omega (arith, place-lt (c .before .before .args .a / 2 ^ (4 * c .before .loop .i)) (c .before .loop .i) (c .loop-test .taken))
-
-mul-r : tie.Need-mul-r Inv-loop μ-loop
-mul-r c = omega (arith, place-lt (c .before .before .args .a / 2 ^ (4 * c .before .loop .i)) (c .before .loop .i) (c .loop-test .taken))
-
-element-copy-out-r : tie.Need-element-copy-out-r Inv-loop μ-loop
-element-copy-out-r c = place-lt (c .before .before .args .a / 2 ^ (4 * c .before .loop .i)) (c .before .loop .i) (c .loop-test .taken)
+place : tie.Need-element-copy-out-r Inv-loop μ-loop
+place c = let s = c .before in place-lt (s .before .args .a / 2 ^ (4 * s .loop .i)) _ (c .loop-test .taken)
 
 loop-again : tie.Need-loop-again Inv-loop μ-loop
 loop-again c =
-    (omega arith, one-digit-more _ _ (c .before .before .before .pre) (c .before .loop-test .taken) (c .before .before .loop .inv .1))
+    let s = c .before .before in
+    (omega arith, one-digit-more _ _ (s .before .pre) (c .before .loop-test .taken) (s .loop .inv .1))
 
 returns : tie.Need-returns Inv-loop μ-loop
-returns c = all-digits _ _ (c .before .before .fits .a .fits) (c .before .loop .inv .0) (c .loop-test .left) (c .before .loop .inv .1)
+returns c = let s = c .before in all-digits _ _ (s .before .fits .a .fits) (s .loop .inv .0) (c .loop-test .left) (s .loop .inv .1)
 
 pub multisquare-spec : {M : Type 1} → statement M
 multisquare-spec =
@@ -42,9 +37,9 @@ multisquare-spec =
     (λ c. omega arith)
     (λ c. omega arith)
     (λ c. omega arith)
-    add-place
-    mul-r
-    element-copy-out-r
+    (λ c. omega (arith, place c))
+    (λ c. omega (arith, place c))
+    place
     (λ c. omega arith)
     (λ c. omega arith)
     loop-again

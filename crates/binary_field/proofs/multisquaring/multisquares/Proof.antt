@@ -1,16 +1,15 @@
--- `multisquares` meets its contract: the table's rule is computed at the powers of t, and the other entries are sums of theirs.
+-- `multisquares` meets its contract: the table's rule is tested at the powers of t, and the other entries are sums of theirs.
 use mathlib.Core.Path.{refl}
-use Rattle.binary_field.specs.Carryless.{_⊕_, spread, reduce, remainder, digits, digits-to}
-use Rattle.binary_field.specs.Element.{low}
-use Rattle.binary_field.proofs.Linear.{same, combine}
-use Rattle.binary_field.proofs.FastInverse.{spreadings}
-use Rattle.binary_field.proofs.Table.{every}
-use Rattle.binary_field.proofs.Multisquares.{powers, digit, powers-test, sums-test, by-tests}
+use Rattle.binary_field_theory.specs.Carryless.{_⊕_, clmul, reduce, remainder, digits, digits-to}
+use Rattle.binary_field_theory.specs.Element.{low, product}
+use Rattle.binary_field_theory.proofs.Linear.{combine}
+use Rattle.binary_field_theory.proofs.Words.Table.{every}
+use Rattle.binary_field_theory.proofs.Words.Multisquares.{powers, powers-test, sums-test, by-tests}
 use Rattle.binary_field.proofs.multisquaring.multisquares.Statement.{statement}
 use Rattle.binary_field.proofs.multisquaring.multisquares.Tie as tie
 
 returns : tie.Need-returns
-unfolding powers digit powers-test sums-test same every spreadings low spread remainder reduce digits digits-to combine _⊕_
+unfolding powers powers-test sums-test every low product clmul remainder reduce digits digits-to combine _⊕_
 returns c = by-tests _ refl tt tt
 
 pub multisquares-spec : {M : Type 1} → statement M

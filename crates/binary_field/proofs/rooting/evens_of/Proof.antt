@@ -1,6 +1,6 @@
 -- `evens_of` meets its contract.
-use Rattle.binary_field.specs.Carryless.{_⊕_}
-use Rattle.binary_field.proofs.Evens.{gather, gathered, gathered-evens}
+use Rattle.binary_field_theory.specs.Carryless.{_⊕_}
+use Rattle.binary_field_theory.proofs.Words.Evens.{gather, gathered, gathered-evens}
 use Rattle.binary_field.proofs.rooting.evens_of.Statement.{statement}
 use Rattle.binary_field.proofs.rooting.evens_of.Tie as tie
 

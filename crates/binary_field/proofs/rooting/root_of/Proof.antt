@@ -1,6 +1,6 @@
 -- `root_of` meets its contract.
 use borrow.Author.Needs.{needs}
-use Rattle.binary_field.proofs.Roots.{root-made, odd-below}
+use Rattle.binary_field_theory.proofs.Words.Roots.{root-made, odd-below}
 use Rattle.binary_field.proofs.rooting.root_of.Statement.{statement}
 use Rattle.binary_field.proofs.rooting.root_of.Tie as tie
 

@@ -3,11 +3,11 @@ use mathlib.Core.Path.{ap, _∙_}
 use borrow.Author.Needs.{needs}
 use native.Mathlib.Nat.{lt-of-lt-of-le}
 use lib.Dec.{lit<, lit≤}
-use Rattle.binary_field.specs.Carryless.{remainder}
-use Rattle.binary_field.specs.Element.{low, product}
-use Rattle.binary_field.proofs.Degrees.{other-degree}
-use Rattle.binary_field.proofs.Roots.{times-root, root-5, root-61}
-use Rattle.binary_field.proofs.carryless.Sizes.{clmul-lt}
+use Rattle.binary_field_theory.specs.Carryless.{remainder}
+use Rattle.binary_field_theory.specs.Element.{low, product}
+use Rattle.binary_field_theory.proofs.Degrees.{other-degree}
+use Rattle.binary_field_theory.proofs.Words.Roots.{times-root, root-5, root-61}
+use Rattle.binary_field_theory.proofs.Words.Sizes.{clmul-lt}
 use Rattle.binary_field.proofs.rooting.times_root_of_t.Statement.{statement}
 use Rattle.binary_field.proofs.rooting.times_root_of_t.Tie as tie
 
@@ -19,17 +19,15 @@ returns c = rw (c .before .if1 .taken) (times-root 5 tt _ _ root-5 (c .product-o
 
 fold-requires : tie.Need-fold-requires
 fold-requires c κs =
-    let p = c .before .before .pre in (
-      tt,
-      c .wide-times-root .ensures .0,
-      rw (c .wide-times-root .ensures .1) (lt-of-lt-of-le (clmul-lt 30 62 (c .before .before .args .n) 0x7fff_ffff_8000_0072 (p .2) (lit< tt)) (lit≤ tt)),
-    )
+    let (l, e) = c .wide-times-root .ensures in
+    (tt, l, rw e (lt-of-lt-of-le (clmul-lt 30 62 _ 0x7fff_ffff_8000_0072 (c .before .before .pre .2) (lit< tt)) (lit≤ tt)))
 
 returns-2 : tie.Need-returns-2
 unfolding product
 returns-2 c =
-    rw (other-degree _ (c .before .before .before .pre .0) (c .before .before .if1 .left))
-    (times-root 61 tt (c .before .before .before .args .n) 0x7fff_ffff_8000_0072 root-61
+    let s = c .before .before in
+    rw (other-degree _ (s .before .pre .0) (s .if1 .left))
+    (times-root 61 tt (s .before .args .n) 0x7fff_ffff_8000_0072 root-61
     (c .fold .ensures ∙ ap (remainder 61 (low 61)) (c .before .wide-times-root .ensures .1)))
 
 pub times-root-of-t-spec : {M : Type 1} → statement M

@@ -1,6 +1,6 @@
 -- `wide_times_root` meets its contract.
-use Rattle.binary_field.specs.Carryless.{_⊕_}
-use Rattle.binary_field.proofs.RunOfPowers.{up, doubled, run, rest, low-word, wide-words}
+use Rattle.binary_field_theory.specs.Carryless.{_⊕_}
+use Rattle.binary_field_theory.proofs.Words.RunOfPowers.{up, doubled, run, rest, low-word, wide-words}
 use Rattle.binary_field.proofs.rooting.wide_times_root.Statement.{statement}
 use Rattle.binary_field.proofs.rooting.wide_times_root.Tie as tie
 

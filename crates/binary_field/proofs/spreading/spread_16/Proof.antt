@@ -2,7 +2,7 @@
 use borrow.Author.Needs.{needs}
 use lib.Bits.{mask-lt}
 use lib.Dec.{lit≤}
-use Rattle.binary_field.proofs.Halves.{spread-joined}
+use Rattle.binary_field_theory.proofs.Words.Halves.{spread-joined}
 use Rattle.binary_field.proofs.spreading.spread_16.Statement.{statement}
 use Rattle.binary_field.proofs.spreading.spread_16.Tie as tie
 

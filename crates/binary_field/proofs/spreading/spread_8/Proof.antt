@@ -1,7 +1,7 @@
 -- `spread_8` meets its contract by the table's rule.
 use borrow.Author.Needs.{needs}
 use native.Mathlib.Omega.{arith}
-use Rattle.binary_field.proofs.Spread.{spread-lt}
+use Rattle.binary_field_theory.proofs.Spread.{spread-lt}
 use Rattle.binary_field.proofs.spreading.spread_8.Statement.{statement}
 use Rattle.binary_field.proofs.spreading.spread_8.Tie as tie
 

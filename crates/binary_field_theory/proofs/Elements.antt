@@ -1,0 +1,37 @@
+-- What a field record of the elements of degree d is made of, for d = 5 and d = 61: elements are equal by their numbers, and the
+-- root and the inverse as they are computed are elements and do what they should. Nothing here rests on the inverse of 0.
+use Prim.Native.Nat.{ℕ, _-_, _^_, _<_}
+use mathlib.Core.Path.{_≡_}
+use native.Mathlib.Decide.{Fin·val-path}
+use Rattle.binary_field_theory.specs.Element.{Accepted, Element, product, square, root, inverse}
+use Rattle.binary_field_theory.specs.Chain.{spreadings, chain-inverse}
+use Rattle.binary_field_theory.proofs.Products.{low-lt}
+use Rattle.binary_field_theory.proofs.Frobenius.{root-lt, square-root}
+use Rattle.binary_field_theory.proofs.Certificate.{certified}
+use Rattle.binary_field_theory.proofs.Inverses.{inverse-lt, product-inverse}
+use Rattle.binary_field_theory.proofs.Chain.{chain-is-inverse, spreadings-squarings}
+
+pub element-path : (d : ℕ) {x y : Element d} → x .0 ≡ y .0 → x ≡ y
+element-path d {x} {y} = Fin·val-path {n = 2 ^ d} {i = x} {j = y}
+
+module _ (d : ℕ) (ok : Accepted d) where
+  pub spreadings-root : (a : ℕ) → spreadings d (d - 1) a ≡ root d a
+  unfolding root
+  spreadings-root = spreadings-squarings d (d - 1)
+
+  module _ (a : ℕ) (ha : a < 2 ^ d) where
+    pub spreadings-lt : spreadings d (d - 1) a < 2 ^ d
+    spreadings-lt = rw (spreadings-root a) (root-lt d (low-lt d ok) (certified d ok .fixed) a ha)
+
+    pub spreadings-square : product d (spreadings d (d - 1) a) (spreadings d (d - 1) a) ≡ a
+    unfolding square
+    spreadings-square = rw (spreadings-root a) (square-root d (low-lt d ok) (certified d ok .fixed) a ha)
+
+    pub chain-number : chain-inverse d a ≡ inverse d a
+    chain-number = chain-is-inverse d (low-lt d ok) a ha
+
+    pub chain-lt : chain-inverse d a < 2 ^ d
+    chain-lt = rw chain-number (inverse-lt d (certified d ok) a ha)
+
+    pub product-chain : ¬ (a ≡ 0) → product d a (chain-inverse d a) ≡ 1
+    product-chain ne = rw chain-number (product-inverse d (certified d ok) a ha ne)

@@ -1,0 +1,31 @@
+-- What document 01, 'The fields', says of the elements of degree 5 and 61: every element has one square root; the inverse of
+-- 0 is 0; every other inverse times its element is 1. That both moduli are irreducible is
+-- `irreducible` of Irreducible; the field laws are those of the record `field` of binary_field.
+use Prim.Native.Nat.{ℕ, _^_, _<_}
+use mathlib.Core.Path.{_≡_, sym, ap, _∙_}
+use Rattle.binary_field_theory.specs.Element.{Accepted, product, square, root, inverse}
+use Rattle.binary_field_theory.proofs.Products.{low-lt}
+use Rattle.binary_field_theory.proofs.Frobenius.{square-root, root-square, root-lt}
+use Rattle.binary_field_theory.proofs.Certificate.{certified}
+use Rattle.binary_field_theory.proofs.Inverses
+
+-- r is an element whose square is a, and the only one
+pub record OneRoot (d a r : ℕ) : Type 0 where
+  pub below : r < 2 ^ d
+  pub squares : square d r ≡ a
+  pub only : (b : ℕ) → b < 2 ^ d → square d b ≡ a → b ≡ r
+
+module _ (d : ℕ) (ok : Accepted d) where
+  pub one-root : (a : ℕ) → a < 2 ^ d → OneRoot d a (root d a)
+  one-root a ha =
+      record {
+        below = root-lt d (low-lt d ok) (certified d ok .fixed) a ha;
+        squares = square-root d (low-lt d ok) (certified d ok .fixed) a ha;
+        only = λ b hb e. sym (root-square d (low-lt d ok) (certified d ok .fixed) b hb) ∙ ap (root d) e;
+      }
+
+  pub zero-inverse : inverse d 0 ≡ 0
+  zero-inverse = Inverses.inverse-zero d (certified d ok)
+
+  pub inverse-times : (a : ℕ) → a < 2 ^ d → ¬ (a ≡ 0) → product d a (inverse d a) ≡ 1
+  inverse-times = Inverses.product-inverse d (certified d ok)

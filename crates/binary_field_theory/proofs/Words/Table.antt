@@ -1,0 +1,29 @@
+-- The rule of a constant table, proved at all of its entries by one computed test.
+use mathlib.Core.Path.{_≡_, ap, sym, _∙_}
+use mathlib.Core.Bool.{Bool, true, _&&_}
+use mathlib.Core.List.{List, [], _∷_}
+use Prim.Native.Nat.{ℕ, zero, suc, _+_, _<_}
+use native.Mathlib.Nat.{add-zero, zero-add, add-suc, suc-add, le-of-suc-le-suc, not-suc-le-zero}
+use lib.Dec.{T, eqb, eqb→eq}
+use lib.ListN.{length, getD}
+use Rattle.binary_field_theory.specs.Carryless.{spread}
+use Rattle.binary_field_theory.specs.Spreading.{Spreads}
+use Rattle.binary_field_theory.proofs.Linear.{both}
+
+-- each entry is what f gives at its place, counted from i
+unfoldable pub every : (ℕ → ℕ) → ℕ → List ℕ → Bool
+every f i [] = true
+every f i (x ∷ xs) = eqb x (f i) && every f (suc i) xs
+
+from : (f : ℕ → ℕ) (xs : List ℕ) (i : ℕ) → T (every f i xs) → (k : ℕ) → k < length xs → getD xs k 0 ≡ f (i + k)
+unfolding every
+from f [] i t k h = absurd (not-suc-le-zero h)
+from f (x ∷ xs) i t zero h = eqb→eq x (f i) (both (eqb x (f i)) (every f (suc i) xs) t .0) ∙ ap f (sym (add-zero i))
+from f (x ∷ xs) i t (suc k) h =
+    from f xs (suc i) (both (eqb x (f i)) (every f (suc i) xs) t .1) k (le-of-suc-le-suc h) ∙ ap f (suc-add i k ∙ sym (add-suc i k))
+
+pub each-entry : (f : ℕ → ℕ) (xs : List ℕ) (n : ℕ) → length xs ≡ n → T (every f 0 xs) → (i : ℕ) → i < n → getD xs i 0 ≡ f i
+each-entry f xs n e t i h = from f xs 0 t i (rw e h) ∙ ap f (zero-add i)
+
+pub by-test : (xs : List ℕ) → length xs ≡ 256 → T (every spread 0 xs) → Spreads xs
+by-test xs e t = record { entry = each-entry spread xs 256 e t }

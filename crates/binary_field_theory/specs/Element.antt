@@ -1,0 +1,44 @@
+-- Elements of degree d: numbers below 2^d, polynomials over GF(2) modulo t^61 + t^5 + t^2 + t + 1 for d = 61
+-- and modulo t^5 + t^2 + 1 for d = 5 (document 01, 'The fields').
+use Prim.Native.Nat.{ℕ, zero, suc, _+_, _-_, _%_, _^_, _<_}
+use mathlib.Core.Bool.{cond, _||_}
+use lib.Dec.{T, eqb}
+use Rattle.binary_field_theory.specs.Carryless.{clmul, remainder, digits}
+
+-- the degree is 5 or 61
+abbrev pub Accepted : ℕ → Type 0
+Accepted d = T (eqb d 5 || eqb d 61)
+
+-- the modulus below its leading term: t^2 + 1 for 5 (binary 101), and t^5 + t^2 + t + 1 for 61 (binary 100111)
+unfoldable pub low : ℕ → ℕ
+low d = cond (eqb d 61) 39 5
+
+unfoldable pub modulus : ℕ → ℕ
+modulus d = 2 ^ d + low d
+
+abbrev pub Element : ℕ → Type 0
+Element d = (n : ℕ) × (n < 2 ^ d)
+
+-- the product: that of the polynomials, modulo the modulus
+unfoldable pub product : ℕ → ℕ → ℕ → ℕ
+product d a b = remainder d (low d) (clmul a b)
+
+unfoldable pub square : ℕ → ℕ → ℕ
+square d a = product d a a
+
+-- squared k times: a to the power 2^k
+unfoldable pub squarings : ℕ → ℕ → ℕ → ℕ
+squarings d zero a = a
+squarings d (suc k) a = square d (squarings d k a)
+
+-- a to the power n, by Horner's rule over the digits of n: square, and times a where the digit is 1
+unfoldable pub power : ℕ → ℕ → ℕ → ℕ
+power d a n = digits 1 (λ k r. product d (cond (eqb (k % 2) 1) a 1) (square d r)) n
+
+-- the square root: a to the power 2^(d-1)
+unfoldable pub root : ℕ → ℕ → ℕ
+root d a = squarings d (d - 1) a
+
+-- the inverse: a to the power 2^d - 2
+unfoldable pub inverse : ℕ → ℕ → ℕ
+inverse d a = power d a (2 ^ d - 2)

@@ -1,0 +1,15 @@
+-- The table that spreads a byte to sixteen bits (document 01, 'The fields'): bit i of the byte is bit 2i of its entry.
+use mathlib.Core.Path.{_≡_}
+use mathlib.Core.List.{List}
+use Prim.Native.Nat.{ℕ, zero, suc, _+_, _*_, _/_, _%_, _<_}
+use lib.ListN.{getD}
+use Rattle.binary_field_theory.specs.Carryless.{spread}
+
+-- the table's rule
+pub record Spreads (table : List ℕ) : Type 0 where
+  pub entry : (i : ℕ) → i < 256 → getD table i 0 ≡ spread i
+
+-- the k lowest digits at even places, brought together: bit 2i goes to bit i
+unfoldable pub evens : ℕ → ℕ → ℕ
+evens zero n = 0
+evens (suc k) n = 2 * evens k (n / 4) + n % 2
