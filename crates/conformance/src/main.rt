@@ -18,7 +18,6 @@
 ghost use Prim.Native.Nat.{_≤_};
 use jacobian::Class;
 use jacobian::ClassAnswer;
-use jacobian::CountedAnswer;
 use jacobian::Curve;
 use jacobian::Outcome;
 
@@ -35,12 +34,7 @@ fn class(case: &[u8; 138], place: u8) -> Class
 
 // The curve of the case.
 fn curve(case: &[u8; 138]) -> Curve {
-    Curve {
-        degree: case[1],
-        f3: trial_text::number(case, 0),
-        f1: trial_text::number(case, 1),
-        f0: trial_text::number(case, 2),
-    }
+    jacobian::curves::curve_with(case[1], trial_text::row(case, 0))
 }
 
 // Writes a class.
@@ -69,7 +63,7 @@ fn write_answer(answer: ClassAnswer) {
 }
 
 // Writes what a call that counts its reduction steps answers.
-fn write_counted(answer: CountedAnswer) {
+fn write_counted(answer: ClassAnswer) {
     let outcome = answer.outcome;
     let class = answer.class;
     match outcome {
@@ -114,8 +108,8 @@ fn answer_call(call: u8, curve: Curve, a: Class, b: Class) {
         5 => write_answer(jacobian::sum(curve, a, b)),
         6 => write_answer(half_of_double(curve, a)),
         7 => write_answer(double_of_half(curve, a)),
-        8 => write_counted(jacobian::counted_double(curve, a)),
-        9 => write_counted(jacobian::counted_sum(curve, a, b)),
+        8 => write_counted(jacobian::double(curve, a)),
+        9 => write_counted(jacobian::sum(curve, a, b)),
         10 => write_answer(jacobian::double_and_add(curve, a, b)),
         11 => write_answer(jacobian::subtract_and_halve(curve, a, b)),
         12 => write_outcome(jacobian::accepts_curve(curve)),
