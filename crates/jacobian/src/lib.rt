@@ -173,9 +173,9 @@ fn on_two(op: Binary, curve: Curve, a: Class, b: Class) -> ClassAnswer
     let f = curves::f_row(curve);
     let left = classes::to_rows(a);
     let right = classes::to_rows(b);
-    let given = binary_rows(op, curve.degree, f, left, right);
-    let pair = given.rows.pair;
-    settled(given.divisor, pair, given.rows.steps)
+    let answer = binary_rows(op, curve.degree, f, left, right);
+    let pair = answer.rows.pair;
+    settled(answer.divisor, pair, answer.rows.steps)
 }
 
 // Is the pair a class of the curve?
