@@ -12,12 +12,12 @@ use Rattle.class_group.proofs.{Closed.neutral-reduced, Closed.opposite-reduced,
 use Rattle.class_group.proofs.{Group.sum-comm, Group.sum-assoc, Group.sum-neutral, Group.sum-opposite, Group.double-sum}
 use Rattle.class_group.proofs.Halving.{half-reduced, double-half, half-double, half-unique}
 use Rattle.class_rows.specs.{Field.Poly, Field.𝔸}
-use Rattle.jacobian.specs.{Curves.curve-refusal, Curves.curve, Classes.pair, Classes.numbers, Classes.class-of, Classes.class-refusal}
+use Rattle.jacobian.specs.{Curves.curve-refusal, Curves.curve, Classes.Three, Classes.pair, Classes.numbers, Classes.class-of, Classes.class-refusal}
 use Rattle.jacobian.specs.Answer.{accepted, Result, result, answered, refusal, refusal-of-two, neutral-class, opposite-answer, double-answer, half-answer, sum-answer}
 use Rattle.jacobian.specs.declared.{Curve.Curve, Class.Class}
 use Rattle.jacobian.proofs.Representation.{accepted-reduced, class-of-accepted, class-of-pair, pair-injective}
 use Rattle.jacobian.proofs.Representation.Unrefused.{zero-then}
-use Rattle.jacobian.proofs.Representation.Form.{Three, pair-class-of, class-of-three}
+use Rattle.jacobian.proofs.Representation.Form.{pair-class-of, class-of-three}
 
 -- an accepted answer with a class, whatever its steps
 abbrev pub gives : Class → Result

@@ -15,10 +15,10 @@ use Rattle.class_rows.specs.Row.{InRange}
 use Rattle.jacobian.specs.declared.Curve.{Curve}
 use Rattle.jacobian.specs.declared.Class.{Class}
 use Rattle.jacobian.specs.Curves.{curve-refusal, curve}
-use Rattle.jacobian.specs.Classes.{pair, class-of, class-refusal}
+use Rattle.jacobian.specs.Classes.{Three, pair, class-of, class-refusal}
 use Rattle.class_rows.proofs.Rows.Elements.{degree-is}
 use Rattle.jacobian.proofs.ByValue.Checks.{curve-passes, class-passes}
-use Rattle.jacobian.proofs.Representation.Form.{Three, Formed, passes-formed, formed-reduced, u-monic, class-of-formed, class-of-is-formed, pair-class-of}
+use Rattle.jacobian.proofs.Representation.Form.{Formed, passes-formed, formed-reduced, u-monic, class-of-formed, class-of-is-formed, pair-class-of}
 use Rattle.jacobian.proofs.Representation.Unrefused.{passes-unrefused}
 pub mod Form
 pub mod Unrefused
@@ -45,7 +45,7 @@ module _ (c : Curve) (ok : curve-refusal c ≡ 0) where
       let nonzero = monic-nonzero P (D .u) (u-monic (c .degree) a h) in
       passes-unrefused c a
       (record {
-        shape = record { low = h .degree-le; u-blank = h .u-blank; v-blank = h .v-blank };
+        shape = h .shape;
         range = record { u-below = range-in (a .u) (h .u-range); v-below = range-in (a .v) (h .v-range) };
         divides = ap (P .len) (rem-of-divides P (D .u) nonzero (value (curve c) (D .v)) k) ∙ len-nought P;
       })

@@ -17,22 +17,14 @@ use class_rows::row::RowPair;
 fn blank_from(n: u64, r: [u64; 3]) -> bool
     ensures { λ t. ⌜ t ≡ blank (drop n r) ⌝ }
 {
-    if n > 2 {
-        return true;
+    let mut i = n;
+    while i < 3 {
+        if r[i as usize] != 0 {
+            return false;
+        }
+        i += 1;
     }
-    if r[2] != 0 {
-        return false;
-    }
-    if n == 2 {
-        return true;
-    }
-    if r[1] != 0 {
-        return false;
-    }
-    if n == 1 {
-        return true;
-    }
-    r[0] == 0
+    true
 }
 
 // Is every number below m?

@@ -7,7 +7,7 @@ ghost use mathlib.Core.Bool.{true};
 ghost use Rattle.class_group.specs.Reduction.{Counted};
 ghost use Rattle.class_rows.specs.{Field.Poly, Core.StandsCounted};
 ghost use Rattle.jacobian.specs.{Checks.unless, Checks._or-else_, Curves.curve-refusal, internal.Refusals.form-refusal, internal.Refusals.FormRefusalOfTwo, internal.Calls.OnOne};
-ghost use Rattle.jacobian.specs.Answer.{outcome-refusal, neutral-class, refusal, verdict, reply, answered, curve-answer, membership-answer, opposite-answer, double-answer, HalfAnswers, binary-answer, sum-answer, double-and-add-answer, subtract-and-halve-answer};
+ghost use Rattle.jacobian.specs.Answer.{outcome-refusal, neutral-class, refusal, verdict, verdict-of, reply, answered, curve-answer, membership-answer, opposite-answer, double-answer, HalfAnswers, binary-answer, sum-answer, double-and-add-answer, subtract-and-halve-answer};
 
 pub mod classes;
 pub mod curves;
@@ -54,6 +54,16 @@ pub fn outcome_refusal(o: Outcome) -> u32
         Outcome::Accepted => 0,
         Outcome::Refused(n) => n,
     }
+}
+
+// The refusal with a number, and acceptance for 0.
+fn outcome_of(n: u32) -> Outcome
+    ensures { λ r. ⌜ verdict r ≡ verdict-of n ⌝ }
+{
+    if n != 0 {
+        return Outcome::Refused(n);
+    }
+    Outcome::Accepted
 }
 
 // The neutral class [1, 0].
@@ -163,20 +173,16 @@ fn on_two(op: Binary, curve: Curve, a: Class, b: Class) -> ClassAnswer
     let f = curves::f_row(curve);
     let left = classes::to_rows(a);
     let right = classes::to_rows(b);
-    let given = binary_rows(op, curve.degree, f, left, right);
-    let pair = given.rows.pair;
-    settled(given.divisor, pair, given.rows.steps)
+    let answer = binary_rows(op, curve.degree, f, left, right);
+    let pair = answer.rows.pair;
+    settled(answer.divisor, pair, answer.rows.steps)
 }
 
 // Is the pair a class of the curve?
 pub fn membership(curve: Curve, a: Class) -> Outcome
     ensures { λ r. ⌜ verdict r ≡ membership-answer curve a ⌝ }
 {
-    let n = class_refusal(curve, a);
-    if n != 0 {
-        return Outcome::Refused(n);
-    }
-    Outcome::Accepted
+    outcome_of(class_refusal(curve, a))
 }
 
 // The opposite of a class.
@@ -225,9 +231,5 @@ pub fn subtract_and_halve(curve: Curve, a: Class, b: Class) -> ClassAnswer
 pub fn accepts_curve(curve: Curve) -> Outcome
     ensures { λ r. ⌜ verdict r ≡ curve-answer curve ⌝ }
 {
-    let n = curves::curve_refusal(curve);
-    if n != 0 {
-        return Outcome::Refused(n);
-    }
-    Outcome::Accepted
+    outcome_of(curves::curve_refusal(curve))
 }

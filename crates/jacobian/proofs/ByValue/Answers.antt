@@ -4,7 +4,7 @@ use mathlib.Core.Path.{_≡_, refl, sym, _∙_, ap}
 use native.Mathlib.Omega.{arith}
 use Rattle.class_group.specs.Reduction.{Counted}
 use Rattle.class_rows.specs.{Field.Poly}
-use Rattle.jacobian.specs.{Answer.accepted, Answer.refused, Answer.verdict, Answer.verdict-of, Answer.outcome-refusal, Answer.refusal, Answer.neutral-class, Answer.Reply, Answer.answered, declared.Curve.Curve, declared.Class.Class, declared.Outcome.Outcome, declared.Outcome.the-variants.Accepted, declared.Outcome.the-variants.Refused}
+use Rattle.jacobian.specs.{Answer.refused, Answer.verdict, Answer.verdict-of, Answer.outcome-refusal, Answer.refusal, Answer.neutral-class, Answer.Reply, Answer.answered, declared.Curve.Curve, declared.Class.Class, declared.Outcome.Outcome, declared.Outcome.the-variants.Accepted, declared.Outcome.the-variants.Refused}
 use Rattle.jacobian.proofs.ByValue.Checks.{CurvePasses, ClassPasses, then-zero, curve-passes, class-passes}
 
 -- the number of an outcome is the refusal that was due
@@ -15,14 +15,10 @@ outcome-refusal-is Accepted (suc n) e = let z : _≡_ {A = ℕ} 0 1 = cc in absu
 outcome-refusal-is (Refused m) zero e = let z : _≡_ {A = ℕ} 0 1 = cc in absurd (omega arith)
 outcome-refusal-is (Refused m) (suc n) e = cc
 
-pub refused-verdict : {n m : ℕ} → n ≡ m → ¬ (n ≡ 0) → refused n ≡ verdict-of m
+pub refused-verdict : (n : ℕ) → ¬ (n ≡ 0) → refused n ≡ verdict-of n
 unfolding verdict-of
-refused-verdict {m = zero} e h = absurd (h e)
-refused-verdict {m = suc m} e h = ap refused e
-
-pub accepted-verdict : {n m : ℕ} → n ≡ m → n ≡ 0 → accepted ≡ verdict-of m
-unfolding verdict-of
-accepted-verdict e h = rw (← e, h)
+refused-verdict zero h = absurd (h refl)
+refused-verdict (suc n) h = refl
 
 module _ (d : ℕ) (D : Counted (Poly d)) where
   pub refused-answered : (n : ℕ) → ¬ (n ≡ 0) → _≡_ {A = Reply} (record { outcome = refused n; class = neutral-class; steps = 0 }) (answered d n D)

@@ -1,12 +1,14 @@
--- The numbers of a row below a bound, tested one after the other.
+-- The numbers of a row below a bound, and those that are 0 from a place on, tested one after the other.
 use Prim.Native.Nat.{ℕ, zero, suc, _+_, _≤_, _<_}
-use mathlib.Core.Path.{_≡_, refl, subst}
-use mathlib.Core.{Bool.true, Bool.false, Bool.and-false, List.List, List.[], List._∷_}
+use mathlib.Core.Path.{_≡_, refl, subst, _∙_}
+use mathlib.Core.{Bool.Bool, Bool.true, Bool.false, Bool.and-false, List.List, List.[], List._∷_}
 use native.Mathlib.Omega.{arith}
 use native.Mathlib.Decide.{decLe}
-use lib.ListN.{getD, length}
-use borrow.Author.Tests.{lt-ltb, le-ltb}
-use Rattle.jacobian.specs.Checks.{below}
+use lib.ListN.{getD, length, drop, List·getD-eq-default}
+use lib.Seq.{getD-drop}
+use borrow.Author.Tests.{lt-ltb, le-ltb, eq-eqb}
+use Rattle.jacobian.specs.Checks.{below, blank}
+use Rattle.jacobian.proofs.ByValue.Checks.{blank-past}
 
 -- the numbers before place i are below m
 pub record BelowTo (m : ℕ) (r : List ℕ) (i : ℕ) : Type 0 where
@@ -33,3 +35,40 @@ unfolding below
 below-fails m [] i h k = absurd (omega arith)
 below-fails m (n ∷ r) zero h k = rw (le-ltb n m k)
 below-fails m (n ∷ r) (suc i) h k = rw (below-fails m r i (omega arith) k, and-false)
+
+-- the numbers from place n to place i are 0
+pub record BlankTo (n : ℕ) (r : List ℕ) (i : ℕ) : Type 0 where
+  pub at : (j : ℕ) → n ≤ j → j < i → getD r j 0 ≡ 0
+
+module _ {n : ℕ} {r : List ℕ} where
+  pub blank-none : BlankTo n r n
+  blank-none = record { at = λ j h k. absurd (omega arith) }
+
+  pub blank-more : {i : ℕ} → BlankTo n r i → getD r i 0 ≡ 0 → BlankTo n r (i + 1)
+  blank-more {i} b e = record { at = λ j h k. go j h k (decLe i j) }
+    where
+      go : (j : ℕ) → n ≤ j → j < i + 1 → Dec (i ≤ j) → getD r j 0 ≡ 0
+      go j h k (no l) = b .at j h (omega arith)
+      go j h k (yes l) = let s : i ≡ j = omega arith in subst (λ n. getD r n 0 ≡ 0) s e
+
+at-blank : (r : List ℕ) → ((i : ℕ) → getD r i 0 ≡ 0) → blank r ≡ true
+unfolding blank
+at-blank [] h = refl
+at-blank (n ∷ r) h = rw (eq-eqb n 0 (h 0)) (at-blank r (λ i. h (suc i)))
+
+pub from-blank : (n : ℕ) (r : List ℕ) → ((i : ℕ) → n ≤ i → getD r i 0 ≡ 0) → blank (drop n r) ≡ true
+from-blank n r h = at-blank (drop n r) (λ i. getD-drop n r i 0 ∙ h (n + i) (omega arith))
+
+pub blank-all : (n : ℕ) (r : List ℕ) {i : ℕ} → BlankTo n r i → length r ≤ i → blank (drop n r) ≡ true
+blank-all n r {i} b l = from-blank n r (λ j h. go j h (decLe i j))
+  where
+    go : (j : ℕ) → n ≤ j → Dec (i ≤ j) → getD r j 0 ≡ 0
+    go j h (no k) = b .at j h (omega arith)
+    go j h (yes k) = List·getD-eq-default r 0 (omega arith)
+
+pub blank-fails : (n : ℕ) (r : List ℕ) (i : ℕ) → n ≤ i → ¬ (getD r i 0 ≡ 0) → blank (drop n r) ≡ false
+blank-fails n r i h k = go (blank (drop n r)) refl
+  where
+    go : (b : Bool) → blank (drop n r) ≡ b → blank (drop n r) ≡ false
+    go true e = absurd (k (blank-past n r e i h))
+    go false e = e

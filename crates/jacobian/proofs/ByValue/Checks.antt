@@ -74,6 +74,7 @@ eight P a b z d o (suc (suc (suc (suc (suc (suc (suc (suc i)))))))) = z
 -- ---- a curve that no check refuses
 pub record CurvePasses (c : Curve) : Type 0 where
   pub accepted : Accepted (c .degree)
+  pub coefficients-below : (i : ℕ) → getD (coefficients c) i 0 < 2 ^ c .degree
   pub f-below : (i : ℕ) → getD (f-row c) i 0 < 2 ^ c .degree
 
 pub curve-passes : (c : Curve) → curve-refusal c ≡ 0 → CurvePasses c
@@ -87,6 +88,7 @@ curve-passes c e =
     let at = below-at _ _ (omega arith) (unless-zero _ 106 of-coefficients) in
     record {
       accepted = ok;
+      coefficients-below = at;
       f-below = eight (λ n. n < 2 ^ c .degree) (at 2) (at 1) (omega arith) (at 0) (omega arith);
     }
 

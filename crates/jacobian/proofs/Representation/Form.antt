@@ -15,8 +15,7 @@ use Rattle.class_group.specs.Mumford.{Pair, Reduced, value}
 use Rattle.class_rows.specs.Field.{degree-of, K, Poly, F, 𝔸, el}
 use Rattle.class_rows.specs.Row.{InRange}
 use Rattle.jacobian.specs.declared.Class.{Class}
-use Rattle.jacobian.specs.Classes.{u-row, pair, numbers, class-of}
-pub use Rattle.jacobian.specs.Classes.{Three}
+use Rattle.jacobian.specs.Classes.{Three, u-row, pair, numbers, class-of}
 use Rattle.class_rows.proofs.Rows.Elements.{degree-is, el-number, el-of, el-zero, el-one, zero-lt, one-lt}
 use Rattle.class_rows.proofs.Rows.Coefficients.{coeff-poly, row-len-le}
 use Rattle.jacobian.proofs.ByValue.Checks.{ShapePasses, RangePasses}
@@ -25,9 +24,7 @@ use Rattle.binary_field_theory.specs.Element.{Accepted}
 -- the form of a class by value: rows of three numbers in range, 0 at and past the degree, which is at most 3
 pub record Formed (d : ℕ) (a : Class) : Type 0 where
   pub three : Three a
-  pub degree-le : a .degree ≤ 3
-  pub u-blank : (i : ℕ) → a .degree ≤ i → getD (a .u) i 0 ≡ 0
-  pub v-blank : (i : ℕ) → a .degree ≤ i → getD (a .v) i 0 ≡ 0
+  pub shape : ShapePasses a
   pub u-range : InRange d (a .u)
   pub v-range : InRange d (a .v)
 
@@ -90,12 +87,12 @@ module _ (d : ℕ) (a : Class) (h : Formed d a) where
 
   pub v-len : 𝔸 d .len (pair d a .v) ≤ a .degree
   unfolding pair
-  v-len = row-len-le d (a .v) (a .degree) (h .v-blank)
+  v-len = row-len-le d (a .v) (a .degree) (h .shape .v-blank)
 
   -- where u divides v² + v + f the pair is reduced
   pub formed-reduced : (C : Theory.Curve (𝔸 d)) → 𝔸 d .len (𝔸 d .rem (value C (pair d a .v)) (pair d a .u)) ≡ 0 → Reduced C (pair d a)
   formed-reduced C e =
-      let n : a .degree ≤ 3 = h .degree-le in
+      let n : a .degree ≤ 3 = h .shape .low in
       let l : 𝔸 d .len (pair d a .u) ≡ suc (a .degree) = u-len in
       let m : 𝔸 d .len (pair d a .v) ≤ a .degree = v-len in
       record {
@@ -110,9 +107,7 @@ pub passes-formed : (d : ℕ) → Accepted d → (a : Class) → Three a → Sha
 passes-formed d ok a three shape range =
     record {
       three = three;
-      degree-le = shape .low;
-      u-blank = shape .u-blank;
-      v-blank = shape .v-blank;
+      shape = shape;
       u-range = λ i. rw (degree-is d ok) (range .u-below i);
       v-range = λ i. rw (degree-is d ok) (range .v-below i);
     }
@@ -154,7 +149,7 @@ module _ (d : ℕ) (a : Class) (h : Formed d a) where
       at : (i : ℕ) → Dec (a .degree ≤ i) → getD (numbers d (a .degree) p) i 0 ≡ getD r i 0
       at i (yes k) = numbers-past d (a .degree) p i k ∙ sym (blank i k)
       at i (no k) =
-          numbers-below d (a .degree) p i (omega arith) (h .degree-le)
+          numbers-below d (a .degree) p i (omega arith) (h .shape .low)
           ∙ ap (λ (e : K d). e .0) (same i (omega arith))
           ∙ el-number d (getD r i 0) (range i)
 
@@ -164,9 +159,9 @@ module _ (d : ℕ) (a : Class) (h : Formed d a) where
       let D = pair d a in
       let n-is : 𝔸 d .len (D .u) - 1 ≡ a .degree = rw (u-len d a h) (omega arith) in
       let u-is : numbers d (a .degree) (D .u) ≡ a .u =
-      row-back (a .u) (D .u) (h .three .u-three) (h .u-range) (h .u-blank) (coeff-u-below d a h) in
+      row-back (a .u) (D .u) (h .three .u-three) (h .u-range) (h .shape .u-blank) (coeff-u-below d a h) in
       let v-is : numbers d (a .degree) (D .v) ≡ a .v =
-      row-back (a .v) (D .v) (h .three .v-three) (h .v-range) (h .v-blank) (λ i _. coeff-v d a h i) in
+      row-back (a .v) (D .v) (h .three .v-three) (h .v-range) (h .shape .v-blank) (λ i _. coeff-v d a h i) in
       ap (λ n. as-class n (numbers d n (D .u)) (numbers d n (D .v))) n-is ∙ ap₂ (as-class (a .degree)) u-is v-is
     where
       as-class : ℕ → List ℕ → List ℕ → Class
@@ -190,9 +185,7 @@ module _ (d : ℕ) (C : Theory.Curve (𝔸 d)) (D : Pair (Poly d)) (h : Reduced 
       let n = 𝔸 d .len (D .u) - 1 in
       record {
         three = class-of-three d D;
-        degree-le = degree-le-3;
-        u-blank = numbers-past d n (D .u);
-        v-blank = numbers-past d n (D .v);
+        shape = record { low = degree-le-3; u-blank = numbers-past d n (D .u); v-blank = numbers-past d n (D .v) };
         u-range = numbers-range d n (D .u) degree-le-3;
         v-range = numbers-range d n (D .v) degree-le-3;
       }

@@ -1,17 +1,13 @@
 -- `membership` meets its contract.
-use Rattle.jacobian.specs.Answer.{membership-answer}
-use Rattle.jacobian.proofs.ByValue.Answers.{refused-verdict, accepted-verdict}
+use mathlib.Core.Path.{_∙_, ap}
+use Rattle.jacobian.specs.Answer.{verdict-of, membership-answer}
 use borrow.Author.Needs.{needs}
 use Rattle.jacobian.proofs.membership.Statement.{statement}
 use Rattle.jacobian.proofs.membership.Tie as tie
 
 returns : tie.Need-returns
 unfolding membership-answer
-returns c = refused-verdict (c .before .class-refusal .ensures) (c .if1 .taken)
-
-returns-2 : tie.Need-returns-2
-unfolding membership-answer
-returns-2 c = accepted-verdict (c .before .class-refusal .ensures) (c .if1 .left)
+returns c = c .outcome-of .ensures ∙ ap verdict-of (c .before .class-refusal .ensures)
 
 pub membership-spec : {M : Type 1} → statement M
-membership-spec = tie.close (tie.spec (λ c κs. search needs) returns returns-2)
+membership-spec = tie.close (tie.spec (λ c κs. search needs) (λ c κs. search needs) returns)
