@@ -1,35 +1,20 @@
 -- Rows that stand for semi-reduced pairs: what the functions of a reduction require of each other, and what they promise, from what
 -- the functions on rows promise.
-use Prim.Native.Nat.{ℕ, zero, suc, _≤_, _<_, _^_}
+use Prim.Native.Nat.{ℕ, _≤_, _<_}
 use mathlib.Core.Path.{_≡_, refl, sym, _∙_, ap, ap₂, subst}
-use mathlib.Core.List.{List, _∷_}
+use mathlib.Core.List.{List}
 use native.Mathlib.Omega.{arith}
-use lib.ListN.{getD, replicate}
 use Rattle.field_laws.specs.Ring.{Ring2}
 use Rattle.char2_algebra.specs.{Polynomials.Polynomials, Lead.monic-of}
-use Rattle.char2_algebra.proofs.{Degree.coeff-one, Degree.coeff-one-suc, Divides.divides-eq}
+use Rattle.char2_algebra.proofs.Divides.{divides-eq}
 use Rattle.class_group.specs.Curve as Theory
 use Rattle.class_group.specs.{Mumford.Pair, Mumford.Reduced, Mumford.value, Reduction.reduction-step, Reduction.reduce}
 use Rattle.class_group.proofs.SemiReduced.{SemiReduced, cofactor-nonzero, step-semi, step-len}
-use Rattle.class_rows.specs.{Field.𝔸, Field.Poly, Field.poly, Field.el, Field.degree-of, Row.InRange, Row.Stands, Row.StandsPair, Row.rows-pair, Row.row-len}
-use Rattle.class_rows.specs.{Core.OnCurve, Core.ReducedRows, Core.SemiReducedRows, Core.StandsCounted, Cofactor.CofactorRow, declared.row.RowPair.RowPair}
-use Rattle.class_rows.proofs.Rows.{Elements.el-zero, Elements.el-one, Elements.zero-lt, Elements.one-lt, Coefficients.stands-by, Fill.zeros-at}
-use Rattle.class_rows.proofs.ReductionSteps.{reduce-none, reduce-once, reduce-twice}
-
--- the row of the polynomial 1
-abbrev pub one-row : List ℕ
-one-row = 1 ∷ replicate 11 0
-
-pub one-stands : (d : ℕ) → Stands d one-row (𝔸 d .ring .one)
-one-stands d = stands-by d one-row (𝔸 d .ring .one) range number
-  where
-    range : InRange d one-row
-    range zero = one-lt d
-    range (suc i) = subst (λ n. n < 2 ^ degree-of d) (sym (zeros-at 11 i)) (zero-lt d)
-
-    number : (i : ℕ) → el d (getD one-row i 0) ≡ 𝔸 d .coeff (𝔸 d .ring .one) i
-    number zero = el-one d ∙ sym (coeff-one (𝔸 d))
-    number (suc i) = ap (el d) (zeros-at 11 i) ∙ el-zero d ∙ sym (coeff-one-suc (𝔸 d) i)
+use Rattle.row_theory.specs.{Field.𝔸, Field.Poly, Field.poly, Row.InRange, Row.Stands, Row.row-len}
+use Rattle.row_theory.proofs.{Rows.Coefficients.self-stands, Rows.Coefficients.stands-eq, Rows.Constants.one-row, Rows.Constants.one-stands}
+use Rattle.row_theory.proofs.ReductionSteps.{reduce-none, reduce-once, reduce-twice}
+use Rattle.class_rows.specs.{Pair.StandsPair, Pair.rows-pair, Core.OnCurve, Core.ReducedRows, Core.SemiReducedRows, Core.StandsCounted}
+use Rattle.class_rows.specs.{internal.Cofactor.CofactorRow, declared.row.RowPair.RowPair}
 
 -- v² + v + f, from what the functions on rows promise
 pub value-stands :
@@ -50,6 +35,12 @@ module _ (d : ℕ) where
   pub pair-eq : {b : RowPair} {D : Pair (Poly d)} → StandsPair d b D → rows-pair d b ≡ D
   unfolding rows-pair
   pair-eq t = λ i. record { u = t .u-stands .stands i; v = t .v-stands .stands i }
+
+  pub stands-pair-eq : {r : RowPair} {D E : Pair (Poly d)} → D ≡ E → StandsPair d r D → StandsPair d r E
+  stands-pair-eq e s = record { u-stands = stands-eq d (ap (λ D. D .u) e) (s .u-stands); v-stands = stands-eq d (ap (λ D. D .v) e) (s .v-stands) }
+
+  pub pair-stands : {u v : List ℕ} {D : Pair (Poly d)} → InRange d u → InRange d v → record { u = poly d u; v = poly d v } ≡ D → StandsPair d (record { u = u; v = v }) D
+  pair-stands hu hv e = stands-pair-eq e (record { u-stands = self-stands d _ hu; v-stands = self-stands d _ hv })
 
   -- the rows b are one reduction step after the rows a
   abbrev pub Stepped : List ℕ → RowPair → RowPair → Type 0

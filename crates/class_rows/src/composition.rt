@@ -3,11 +3,9 @@ ghost use mathlib.Core.Path.{_≡_};
 ghost use Rattle.binary_field.specs.Element.{Accepted};
 ghost use Rattle.class_group.specs.Composition.{compose};
 ghost use Rattle.class_group.specs.Curve.{Curve as TheoryCurve};
-ghost use Rattle.class_group.proofs.Joined.{joined};
-ghost use Rattle.class_rows.specs.Field.{𝔸, poly};
-ghost use Rattle.class_rows.specs.Row.{InRange, Stands, StandsPair, rows-pair};
-ghost use Rattle.class_rows.specs.Bezout.{BezoutRows};
-ghost use Rattle.class_rows.specs.Compose.{Short, multiple};
+ghost use Rattle.class_group.specs.Composition.{joined};
+ghost use Rattle.row_theory.specs.{Field.𝔸, Field.poly, Row.InRange, Row.Stands, internal.Compose.Short, internal.Compose.multiple};
+ghost use Rattle.class_rows.specs.{Pair.StandsPair, Pair.rows-pair, internal.Bezout.Combines};
 ghost use Rattle.class_rows.specs.Core.{OnCurve, ReducedRows};
 use crate::euclid::Combination;
 use crate::euclid::bezout;
@@ -43,7 +41,7 @@ fn multiple_row(
     second: Combination,
 ) -> [u64; 12]
     requires { ⌜ Accepted d × Short d 3 sum × Short d 8 w × Short d 4 (first .s) × Short d 4 (second .s) × Short d 4 (second .t) ⌝ }
-    ensures { λ r. ⌜ Stands d r (multiple d sum w first second) ⌝ }
+    ensures { λ r. ⌜ Stands d r (multiple d sum w (first .s) (second .s) (second .t)) ⌝ }
 {
     let s = first.s;
     let s0 = second.s;
@@ -56,7 +54,7 @@ fn multiple_row(
 
 // The composition where u1 and u2 have a common divisor: e is the greatest that v1 + v2 + 1 has too.
 fn compose_common(d: u8, f: [u64; 12], a: RowPair, b: RowPair, first: Combination) -> RowPair
-    requires { ⌜ Accepted d × ReducedRows d f a × ReducedRows d f b × BezoutRows d (a .u) (b .u) first ⌝ }
+    requires { ⌜ Accepted d × ReducedRows d f a × ReducedRows d f b × Combines d (a .u) (b .u) first ⌝ }
     ensures { λ r. ⌜ ((C : TheoryCurve (𝔸 d)) → OnCurve d f C → StandsPair d r (compose C (rows-pair d a) (rows-pair d b))) ⌝ }
 {
     let u1 = a.u;

@@ -2,7 +2,8 @@
 ghost use Rattle.class_group.specs.{Curve.Curve as TheoryCurve, Mumford.value};
 ghost use Rattle.binary_field.specs.Element.{Accepted};
 ghost use Rattle.char2_algebra.specs.Lead.{Monic};
-ghost use Rattle.class_rows.specs.{Field.𝔸, Field.poly, Row.InRange, Row.Stands, Core.OnCurve};
+ghost use Rattle.row_theory.specs.{Field.𝔸, Field.poly, Row.InRange, Row.Stands};
+ghost use Rattle.class_rows.specs.Core.{OnCurve};
 ghost use Rattle.class_rows.specs.Checked.{Decides, FormedPair, FormedRows, CheckedRows, CheckedBoth};
 use crate::row::Division;
 use crate::row::RowPair;

@@ -4,9 +4,8 @@ ghost use mathlib.Core.Path.{_≡_};
 ghost use mathlib.Core.List.{List};
 ghost use Rattle.binary_field.specs.Element.{Accepted};
 ghost use Rattle.char2_algebra.specs.Lead.{lead};
-ghost use Rattle.class_rows.specs.Field.{degree-of, F, 𝔸, el, poly};
-ghost use Rattle.class_rows.specs.Row.{Is, InRange, Stands, row-len};
-ghost use Rattle.class_rows.specs.Bezout.{BezoutRows, Substituted};
+ghost use Rattle.row_theory.specs.{Field.degree-of, Field.F, Field.𝔸, Field.el, Field.poly, Row.Is, Row.InRange, Row.Stands, Row.row-len};
+ghost use Rattle.class_rows.specs.internal.Bezout.{Combines};
 use crate::element::inverted;
 use crate::row::add_rows;
 use crate::row::divide;
@@ -41,7 +40,7 @@ fn lead_inverse(d: u8, a: [u64; 12]) -> u64
 // The divisor of a and 0: a made monic.
 fn bezout_nought(d: u8, a: [u64; 12]) -> Combination
     requires { ⌜ Accepted d × InRange d a ⌝ }
-    ensures { λ r. ⌜ ((b : List ℕ) → row-len d b ≡ 0 → BezoutRows d a b r) ⌝ }
+    ensures { λ r. ⌜ ((b : List ℕ) → row-len d b ≡ 0 → Combines d a b r) ⌝ }
 {
     let zero = constant(d, 0);
     let n = length(a);
@@ -65,7 +64,7 @@ fn bezout_nought(d: u8, a: [u64; 12]) -> Combination
 // The divisor of any polynomial and a constant other than 0: 1.
 fn bezout_constant(d: u8, b: [u64; 12]) -> Combination
     requires { ⌜ Accepted d × InRange d b × (row-len d b ≡ 1) ⌝ }
-    ensures { λ r. ⌜ ((a : List ℕ) → BezoutRows d a b r) ⌝ }
+    ensures { λ r. ⌜ ((a : List ℕ) → Combines d a b r) ⌝ }
 {
     let g = constant(d, 1);
     let s = constant(d, 0);
@@ -77,7 +76,7 @@ fn bezout_constant(d: u8, b: [u64; 12]) -> Combination
 // From g = s b + t r and a = q b + r: g = t a + (s + t q) b.
 fn substituted(d: u8, q: [u64; 12], r: Combination) -> Combination
     requires { ⌜ Accepted d × InRange d q × InRange d (r .s) × InRange d (r .t) × (row-len d (r .t) + row-len d q ≤ 13) ⌝ }
-    ensures { λ c. ⌜ Substituted d q r c ⌝ }
+    ensures { λ c. ⌜ (c .g ≡ r .g) × (c .s ≡ r .t) × Stands d (c .t) (𝔸 d .ring .add (poly d (r .s)) (𝔸 d .ring .mul (poly d (r .t)) (poly d q))) ⌝ }
 {
     let g = r.g;
     let s = r.t;
@@ -90,7 +89,7 @@ fn substituted(d: u8, q: [u64; 12], r: Combination) -> Combination
 // The monic greatest common divisor of a and b as a combination of them; what the rules leave free of s and t is promised by what holds of them.
 pub(crate) fn bezout(d: u8, a: [u64; 12], b: [u64; 12]) -> Combination
     requires { ⌜ Accepted d × InRange d a × InRange d b × (row-len d a ≤ 4) × (row-len d b ≤ 4) ⌝ }
-    ensures { λ r. ⌜ BezoutRows d a b r ⌝ }
+    ensures { λ r. ⌜ Combines d a b r ⌝ }
 {
     let n = length(b);
     if n == 0 {

@@ -2,7 +2,7 @@
 // f, the opposite, the double, the half and the sum of such pairs, and the two rules that move a seal. Each function checks its rows itself, by one
 // division for each pair, whose quotient w = (v² + v + f) / u serves the double and the half; where a check fails the answer says so.
 ghost use Rattle.class_group.specs.{Mumford.opposite, Operations.counted-double, Operations.counted-sum, Half.half, Moves.double-and-add, Moves.subtract-and-halve};
-ghost use Rattle.class_rows.specs.{Row.rows-pair, Checked.Decides, Checked.Divisor, Checked.GivesPair, Checked.GivesCounted};
+ghost use Rattle.class_rows.specs.{Pair.rows-pair, Checked.Decides, Checked.Divisor, Checked.GivesPair, Checked.GivesCounted};
 
 mod composition;
 mod divisor;

@@ -3,7 +3,7 @@ use Prim.Native.Nat.{ℕ, zero, suc}
 use mathlib.Core.Path.{_≡_}
 use mathlib.Core.List.{[], _∷_}
 use Rattle.class_group.specs.{Mumford.Pair, Mumford.opposite, Reduction.Counted, Operations.sum, Operations.double, Operations.counted-sum, Operations.counted-double, Half.half, Moves.double-and-add, Moves.subtract-and-halve}
-use Rattle.class_rows.specs.{Field.Poly}
+use Rattle.row_theory.specs.Field.{Poly}
 use Rattle.jacobian.specs.{Checks._or-else_, Curves.curve-refusal, Curves.curve, Classes.pair, Classes.class-of, Classes.class-refusal, declared.Curve.Curve, declared.Class.Class, declared.Outcome.Outcome, declared.Outcome.the-variants.Accepted, declared.Outcome.the-variants.Refused, declared.ClassAnswer.ClassAnswer, declared.CountedAnswer.CountedAnswer}
 
 -- an outcome is acceptance or a refusal with its number

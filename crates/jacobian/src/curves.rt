@@ -3,7 +3,7 @@ ghost use mathlib.Core.Path.{_≡_};
 ghost use mathlib.Core.List.{[], _∷_};
 ghost use Rattle.jacobian.specs.Checks.{unless, below};
 ghost use Rattle.jacobian.specs.Curves.{curve-refusal, f-row};
-ghost use Rattle.class_rows.specs.Row.{filled};
+ghost use Rattle.row_theory.specs.Row.{filled};
 use crate::Curve;
 
 // 107 where a coefficient is m or more, else 0.

@@ -2,7 +2,7 @@
 use Prim.Native.Nat.{ℕ, zero, suc}
 use mathlib.Core.Path.{_≡_, refl, sym, _∙_, ap}
 use Rattle.class_group.specs.{Mumford.Pair, Reduction.Counted}
-use Rattle.class_rows.specs.{Field.Poly}
+use Rattle.row_theory.specs.Field.{Poly}
 use Rattle.jacobian.specs.{Answer.accepted, Answer.refused, Answer.verdict-of, Answer.refusal, Answer.neutral-class, Answer.Reply, Answer.answered, Answer.CountedReply, Answer.counted-answered, declared.Curve.Curve, declared.Class.Class}
 use Rattle.jacobian.proofs.ByValue.Checks.{CurvePasses, ClassPasses, then-zero, curve-passes, class-passes}
 

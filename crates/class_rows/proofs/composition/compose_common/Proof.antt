@@ -1,7 +1,7 @@
 -- `compose_common`: e is a divisor of u1 and u2, all products fit a row, and the joined pair is the composition.
 use native.Mathlib.Omega.{arith}
 use borrow.Author.Needs.{needs}
-use Rattle.class_rows.proofs.Rows.Elements.{one-lt}
+use Rattle.row_theory.proofs.Rows.Elements.{one-lt}
 use Rattle.class_rows.proofs.DoubleRows.{reduced-semi}
 use Rattle.class_rows.proofs.ComposeRows.{Common, sum-len, third-len, divisor-len, cofactor-short, sum-short, first-short, second-s-short, second-t-short, e-nonzero, part₁-short, part₂-short, part₁-nonzero, part₂-nonzero, common-stands}
 use Rattle.class_rows.proofs.composition.compose_common.Statement.{statement}
@@ -13,7 +13,7 @@ start e = e .before .before .before .before .before .before .before .before .bef
 
 -- what is known there
 common : (e : tie.After-bezout)
-    → Common (start e .args .d) (start e .args .f) (start e .args .a) (start e .args .b) (start e .args .first) (e .before .before .before .add-rows .result) (e .before .before .constant .result) (e .before .add-rows2 .result) (e .bezout .result)
+    → Common (start e .args .d) (start e .args .f) (start e .args .a) (start e .args .b) (start e .args .first .g) (start e .args .first .s) (start e .args .first .t) (e .before .before .before .add-rows .result) (e .before .before .constant .result) (e .before .add-rows2 .result) (e .bezout .result .g) (e .bezout .result .s) (e .bezout .result .t)
 unfolding start
 common e = record {
   reduced₁ = start e .pre .1;

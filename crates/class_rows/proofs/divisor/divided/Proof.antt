@@ -2,8 +2,9 @@
 use mathlib.Core.Path.{ap}
 use native.Mathlib.Omega.{arith}
 use Rattle.char2_algebra.proofs.Lead.{monic-nonzero}
-use Rattle.class_rows.specs.{Field.𝔸, Field.poly}
-use Rattle.class_rows.proofs.{ReductionRows.value-stands, Rows.Coefficients.stands-eq}
+use Rattle.row_theory.specs.Field.{𝔸, poly}
+use Rattle.class_rows.proofs.ReductionRows.{value-stands}
+use Rattle.row_theory.proofs.Rows.Coefficients.{stands-eq}
 use Rattle.class_rows.proofs.divisor.divided.Statement.{statement}
 use Rattle.class_rows.proofs.divisor.divided.Tie as tie
 

@@ -2,7 +2,7 @@
 use mathlib.Core.Path.{refl, sym, _∙_, ap, subst}
 use borrow.Author.Tests.{not-true, not-false}
 use Rattle.char2_algebra.specs.Lead.{Monic}
-use Rattle.class_rows.specs.Field.{𝔸, poly}
+use Rattle.row_theory.specs.Field.{𝔸, poly}
 use Rattle.class_rows.proofs.CheckRows.{denied, no-it-is-not, also}
 use Rattle.class_rows.proofs.divisor.is_curve.Statement.{statement}
 use Rattle.class_rows.proofs.divisor.is_curve.Tie as tie

@@ -1,7 +1,7 @@
 -- `is_monic` meets its contract.
 use mathlib.Core.Path.{refl, sym, _∙_}
 use native.Mathlib.Omega.{arith}
-use Rattle.class_rows.proofs.Rows.Length.{length-le}
+use Rattle.row_theory.proofs.Rows.Length.{length-le}
 use Rattle.class_rows.proofs.CheckRows.{no-it-is-not, none-monic, monic-decides}
 use Rattle.class_rows.proofs.divisor.is_monic.Statement.{statement}
 use Rattle.class_rows.proofs.divisor.is_monic.Tie as tie

@@ -3,9 +3,8 @@ use Prim.Native.Nat.{ℕ, _<_}
 use mathlib.Core.Path.{_≡_, sym, _∙_, subst}
 use native.Mathlib.Omega.{arith}
 use Rattle.char2_algebra.proofs.Degree.{nonzero-of-len}
-use Rattle.class_rows.specs.Field.{𝔸, poly}
-use Rattle.class_rows.specs.Row.{row-len}
-use Rattle.class_rows.proofs.Bezout.{remainder-less, quotient-le, step-rows}
+use Rattle.row_theory.specs.{Field.𝔸, Field.poly, Row.row-len}
+use Rattle.row_theory.proofs.Bezout.{remainder-less, quotient-le, step-rows}
 use borrow.Fn.Kinds.{In}
 use borrow.Fn.PlainCycle.{Measures, is, falls, and}
 use Rattle.class_rows.proofs.euclid.bezout.Reads as bezout
@@ -103,8 +102,9 @@ returns-3 : (t : ℕ) → lts.Need-returns-3 (callees t) (given t) bezout.Post
 returns-3 t c =
     let start = c .before .before .before .before .before .before .before .before in
     let q = c .before .before .before .before .divide .ensures in
-    step-rows (start .args .d) (start .args .a) (start .args .b) (b-nonzero t (c .before .before .before .before .before)) (q .0) (q .1)
-    (c .before .bezout .ensures) (c .substituted .ensures)
+    let e = c .substituted .ensures in
+    rw (e .0, e .1)
+    (step-rows (start .args .d) (start .args .a) (start .args .b) (b-nonzero t (c .before .before .before .before .before)) (q .0) (q .1) (c .before .bezout .ensures) (e .2))
 
 pub +bezout-spec : {M : Type 1} → statement M
 +bezout-spec = close μ

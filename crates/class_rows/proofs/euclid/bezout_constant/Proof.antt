@@ -2,9 +2,8 @@
 use native.Mathlib.Omega.{arith}
 use borrow.Author.Needs.{needs}
 use Rattle.char2_algebra.proofs.Degree.{nonzero-of-len}
-use Rattle.class_rows.specs.Field.{𝔸, poly}
-use Rattle.class_rows.proofs.Rows.Elements.{zero-lt, one-lt}
-use Rattle.class_rows.proofs.Bezout.{constant-rows}
+use Rattle.row_theory.specs.Field.{𝔸, poly}
+use Rattle.row_theory.proofs.{Rows.Elements.zero-lt, Rows.Elements.one-lt, Bezout.constant-rows}
 use Rattle.class_rows.proofs.euclid.bezout_constant.Statement.{statement}
 use Rattle.class_rows.proofs.euclid.bezout_constant.Tie as tie
 

@@ -3,9 +3,8 @@ use mathlib.Core.Path.{sym, _∙_}
 use native.Mathlib.Omega.{arith}
 use borrow.Author.Needs.{needs}
 use Rattle.char2_algebra.proofs.Degree.{nonzero-of-len}
-use Rattle.class_rows.specs.Field.{𝔸, poly}
-use Rattle.class_rows.proofs.Rows.Elements.{zero-lt}
-use Rattle.class_rows.proofs.Bezout.{nought-rows, blank-rows}
+use Rattle.row_theory.specs.Field.{𝔸, poly}
+use Rattle.row_theory.proofs.{Rows.Elements.zero-lt, Bezout.nought-rows, Bezout.blank-rows}
 use Rattle.class_rows.proofs.euclid.bezout_nought.Statement.{statement}
 use Rattle.class_rows.proofs.euclid.bezout_nought.Tie as tie
 

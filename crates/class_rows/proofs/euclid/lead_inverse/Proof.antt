@@ -3,9 +3,8 @@ use Prim.Native.Nat.{_-_}
 use mathlib.Core.Path.{sym, ap}
 use native.Mathlib.Omega.{arith}
 use borrow.Author.Needs.{needs}
-use Rattle.class_rows.specs.Field.{F}
-use Rattle.class_rows.proofs.Rows.Elements.{is-eq}
-use Rattle.class_rows.proofs.Rows.Lead.{length-pos, Leads, leads, lead-row}
+use Rattle.row_theory.specs.Field.{F}
+use Rattle.row_theory.proofs.{Rows.Elements.is-eq, Rows.Lead.length-pos, Rows.Lead.Leads, Rows.Lead.leads, Rows.Lead.lead-row}
 use Rattle.class_rows.proofs.euclid.lead_inverse.Statement.{statement}
 use Rattle.class_rows.proofs.euclid.lead_inverse.Tie as tie
 

@@ -1,8 +1,9 @@
 -- `half_of_degree_1` meets its contract: its calls give the lift of the rule (proofs/Halving/Computed1.antt).
 use native.Mathlib.Omega.{arith}
-use Rattle.class_rows.proofs.HalfRows.Rows.{quadratic-fits, quartic-fits}
-use Rattle.class_rows.proofs.HalfRows.Computed1.{Computed1, root-nonzero-1, result-1}
+use Rattle.row_theory.proofs.{HalfRows.Rows.quadratic-fits, HalfRows.Rows.quartic-fits, HalfRows.Computed1.Computed1, HalfRows.Computed1.root-nonzero-1}
+use Rattle.row_theory.proofs.HalfRows.Computed1.{result-1}
 use borrow.Author.Needs.{needs}
+use Rattle.class_rows.proofs.ReductionRows.{stands-pair-eq}
 use Rattle.class_rows.proofs.halving.half_of_degree_1.Statement.{statement}
 use Rattle.class_rows.proofs.halving.half_of_degree_1.Tie as tie
 
@@ -60,7 +61,7 @@ root-pair-requires : tie.Need-root-pair-requires
 root-pair-requires c κs = (c .before .before .before .before .before .before .before .before .pre .0, c .before .lifted-row .ensures .in-range, c .stepped-row .ensures .in-range, root-nonzero-1 _ _ _ _ (computed c) (c .before .before .before .before .before .before .before .before .pre .1))
 
 returns : tie.Need-returns
-returns c = result-1 _ _ _ _ (computed (c .before)) (c .root-pair .ensures)
+returns c = stands-pair-eq _ (result-1 _ _ _ _ (computed (c .before))) (c .root-pair .ensures)
 
 pub half-of-degree-1-spec : {M : Type 1} → statement M
 half-of-degree-1-spec =

@@ -1,9 +1,10 @@
 -- `half_of_degree_3` meets its contract: the first lift is a square where t is 0, else the second lift gives one (proofs/Halving/Computed3.antt, Lifted3.antt).
 use native.Mathlib.Omega.{arith}
-use Rattle.class_rows.proofs.HalfRows.Rows.{quadratic-fits}
-use Rattle.class_rows.proofs.HalfRows.Computed3.{Computed3, first-lift-short, root-nonzero-3-square, result-3-square}
-use Rattle.class_rows.proofs.HalfRows.Lifted3.{Lifted3, root-len, result-3}
+use Rattle.row_theory.proofs.{HalfRows.Rows.quadratic-fits, HalfRows.Computed3.Computed3, HalfRows.Computed3.first-lift-short}
+use Rattle.row_theory.proofs.{HalfRows.Computed3.root-nonzero-3-square, HalfRows.Computed3.result-3-square, HalfRows.Lifted3.Lifted3}
+use Rattle.row_theory.proofs.HalfRows.Lifted3.{root-len, result-3}
 use borrow.Author.Needs.{needs}
+use Rattle.class_rows.proofs.ReductionRows.{stands-pair-eq, pair-stands}
 use Rattle.class_rows.proofs.halving.half_of_degree_3.Statement.{statement}
 use Rattle.class_rows.proofs.halving.half_of_degree_3.Tie as tie
 
@@ -56,7 +57,7 @@ root-pair-requires : tie.Need-root-pair-requires
 root-pair-requires c κs = (c .before .before .before .before .before .before .pre .0, c .before .before .before .before .first-lift .ensures .in-range, c .stepped-row .ensures .in-range, root-nonzero-3-square _ _ _ _ (first (c .before .before .before)) (c .before .before .if1 .taken))
 
 returns : tie.Need-returns
-returns c = result-3-square _ _ _ _ (first (c .before .before .before .before)) (c .before .before .before .if1 .taken) (c .before .before .quadratic-row .ensures) (c .before .stepped-row .ensures) (c .root-pair .ensures)
+returns c = stands-pair-eq _ (result-3-square _ _ _ _ (first (c .before .before .before .before)) (c .before .before .before .if1 .taken) (c .before .before .quadratic-row .ensures) (c .before .stepped-row .ensures)) (c .root-pair .ensures)
 
 plus-requires : tie.Need-plus-requires
 plus-requires c κs = (c .before .before .before .before .before .pre .0, c .before .before .before .before .before .pre .1 .u-range 1, c .inverted .ensures .in-range)
@@ -73,7 +74,7 @@ second-remainder-requires c κs =
     (c .before .before .before .before .before .before .before .before .before .pre .0, f .rows .u-range, f .rows .v-range, f .s-is .in-range, s .a-is .in-range, f .r-is .in-range, s .i-is .in-range, s .q-is .in-range, omega (arith, f .rows .u-len), root-len _ _ _ _ s)
 
 returns-2 : tie.Need-returns-2
-returns-2 c = result-3 _ _ _ _ (second (c .before)) (c .second-remainder .ensures)
+returns-2 c = let s = second (c .before) in pair-stands _ (s .a-is .in-range) (c .second-remainder .ensures .in-range) (result-3 _ _ _ _ s (c .second-remainder .ensures))
 
 pub half-of-degree-3-spec : {M : Type 1} → statement M
 half-of-degree-3-spec =

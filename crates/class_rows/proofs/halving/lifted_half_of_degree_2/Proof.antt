@@ -1,9 +1,9 @@
 -- `lifted_half_of_degree_2` meets its contract: its calls give the lift of the rule (proofs/Halving/Computed2.antt).
 use native.Mathlib.Omega.{arith}
-use Rattle.class_rows.proofs.Rows.Elements.{one-lt}
-use Rattle.class_rows.proofs.HalfRows.Rows.{quadratic-fits, quartic-fits}
-use Rattle.class_rows.proofs.HalfRows.Computed2.{Computed2, root-nonzero-2, result-2}
+use Rattle.row_theory.proofs.{Rows.Elements.one-lt, HalfRows.Rows.quadratic-fits, HalfRows.Rows.quartic-fits, HalfRows.Computed2.Computed2}
+use Rattle.row_theory.proofs.HalfRows.Computed2.{root-nonzero-2, result-2}
 use borrow.Author.Needs.{needs}
+use Rattle.class_rows.proofs.ReductionRows.{stands-pair-eq}
 use Rattle.class_rows.proofs.halving.lifted_half_of_degree_2.Statement.{statement}
 use Rattle.class_rows.proofs.halving.lifted_half_of_degree_2.Tie as tie
 
@@ -77,7 +77,7 @@ root-pair-requires : tie.Need-root-pair-requires
 root-pair-requires c κs = (c .before .before .before .before .before .before .before .before .before .before .before .before .before .pre .0, c .before .lifted-row .ensures .in-range, c .stepped-row .ensures .in-range, root-nonzero-2 _ _ _ _ (computed c) (c .before .before .before .before .before .before .before .before .before .before .before .before .before .pre .1) (c .before .before .before .before .before .before .before .before .before .before .before .before .before .pre .2))
 
 returns : tie.Need-returns
-returns c = result-2 _ _ _ _ (computed (c .before)) (c .before .before .before .before .before .before .before .before .before .before .before .before .before .before .pre .1) (c .before .before .before .before .before .before .before .before .before .before .before .before .before .before .pre .2) (c .root-pair .ensures)
+returns c = stands-pair-eq _ (result-2 _ _ _ _ (computed (c .before)) (c .before .before .before .before .before .before .before .before .before .before .before .before .before .before .pre .1) (c .before .before .before .before .before .before .before .before .before .before .before .before .before .before .pre .2)) (c .root-pair .ensures)
 
 pub lifted-half-of-degree-2-spec : {M : Type 1} → statement M
 lifted-half-of-degree-2-spec =

@@ -1,8 +1,7 @@
 -- `second_remainder` meets its contract: both remainders are by the same divisor of length 4.
 use native.Mathlib.Omega.{arith}
-use Rattle.class_rows.proofs.Rows.Elements.{zero-lt, one-lt}
-use Rattle.class_rows.proofs.HalfRows.Rows.{quadratic-fits}
-use Rattle.class_rows.proofs.HalfRows.Parts3.{divisor-nonzero, remainder-len, sum-len, second-remainder-stands}
+use Rattle.row_theory.proofs.{Rows.Elements.zero-lt, Rows.Elements.one-lt, HalfRows.Rows.quadratic-fits, HalfRows.Parts3.divisor-nonzero}
+use Rattle.row_theory.proofs.HalfRows.Parts3.{remainder-len, sum-len, second-remainder-stands}
 use borrow.Author.Needs.{needs}
 use Rattle.class_rows.proofs.halving.second_remainder.Statement.{statement}
 use Rattle.class_rows.proofs.halving.second_remainder.Tie as tie

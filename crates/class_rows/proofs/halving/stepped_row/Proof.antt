@@ -1,6 +1,5 @@
 -- `stepped_row` meets its contract: the row of 1 is added to v + k u.
-use Rattle.class_rows.proofs.Rows.Elements.{zero-lt, one-lt}
-use Rattle.class_rows.proofs.HalfRows.Rows.{stepped-stands}
+use Rattle.row_theory.proofs.{Rows.Elements.zero-lt, Rows.Elements.one-lt, HalfRows.Rows.stepped-stands}
 use borrow.Author.Needs.{needs}
 use Rattle.class_rows.proofs.halving.stepped_row.Statement.{statement}
 use Rattle.class_rows.proofs.halving.stepped_row.Tie as tie

@@ -3,9 +3,9 @@ use Prim.Native.Nat.{suc, _≤_}
 use mathlib.Core.Path.{_≡_}
 use native.Mathlib.Omega.{arith}
 use Rattle.char2_algebra.proofs.{Lead.monic-nonzero, Degree.len-nonzero}
-use Rattle.class_rows.specs.{Field.𝔸, Row.row-len}
-use Rattle.class_rows.proofs.Rows.Coefficients.{row-len-length}
-use Rattle.class_rows.proofs.QuotientRows.{Divided, divided-start, divided-turn, divided-end}
+use Rattle.row_theory.specs.{Field.𝔸, Row.row-len}
+use Rattle.row_theory.proofs.{Rows.Coefficients.row-len-length, QuotientRows.Divided, QuotientRows.divided-start, QuotientRows.divided-turn}
+use Rattle.row_theory.proofs.QuotientRows.{divided-end}
 use Rattle.class_rows.proofs.quotient.quotient.Statement.{statement}
 use Rattle.class_rows.proofs.quotient.quotient.Tie as tie
 

@@ -1,8 +1,9 @@
 -- `step` promises the definition's reduction step: w made monic, and the remainder of v + 1.
 use mathlib.Core.Path.{sym, _∙_}
 use Rattle.char2_algebra.proofs.Lead.{monic-of-nonzero}
-use Rattle.class_rows.specs.Field.{𝔸}
-use Rattle.class_rows.proofs.ReductionRows.{one-stands, cofactor-row-range, cofactor-row-nonzero, step-rows}
+use Rattle.row_theory.specs.Field.{𝔸}
+use Rattle.row_theory.proofs.Rows.Constants.{one-stands}
+use Rattle.class_rows.proofs.ReductionRows.{cofactor-row-range, cofactor-row-nonzero, step-rows}
 use Rattle.class_rows.proofs.reduction.step.Statement.{statement}
 use Rattle.class_rows.proofs.reduction.step.Tie as tie
 

@@ -2,11 +2,10 @@
 -- Assumes nothing.
 use Prim.Native.Nat.{_+_, _-_, _≤_}
 use native.Mathlib.Omega.{arith}
-use Rattle.class_rows.specs.Field.{𝔸, el, poly}
-use Rattle.class_rows.specs.Row.{x-power}
-use Rattle.class_rows.proofs.Rows.Fill.{Filled, filled-start, filled-turn, filled-to, filled-end}
-use Rattle.class_rows.proofs.Rows.Coefficients.{stands-eq, self-stands}
-use Rattle.class_rows.proofs.Rows.Sums.{multiple-nought, added-below, added-turn, added-past}
+use Rattle.row_theory.specs.{Field.𝔸, Field.el, Field.poly, Row.x-power}
+use Rattle.row_theory.proofs.Rows.Fill.{Filled, filled-start, filled-turn, filled-to, filled-end}
+use Rattle.row_theory.proofs.{Rows.Coefficients.stands-eq, Rows.Coefficients.self-stands, Rows.Sums.multiple-nought, Rows.Sums.added-below}
+use Rattle.row_theory.proofs.Rows.Sums.{added-turn, added-past}
 use Rattle.class_rows.proofs.row.add_multiple.Statement.{statement}
 use Rattle.class_rows.proofs.row.add_multiple.Tie as tie
 

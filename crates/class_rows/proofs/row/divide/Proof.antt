@@ -1,10 +1,10 @@
 -- `row::divide` meets its contract. The invariant: a = q b + r, and r has no numbers from k on. Assumes nothing.
 use Prim.Native.Nat.{_-_, _≤_}
 use native.Mathlib.Omega.{arith}
-use Rattle.class_rows.specs.Field.{poly}
-use Rattle.class_rows.proofs.Rows.Length.{length-le}
-use Rattle.class_rows.proofs.Rows.Lead.{length-pos, Leads, leads, low-range, low-len}
-use Rattle.class_rows.proofs.Rows.Divide.{divisor, Dividing, dividing-start, struck-range, dividing-turn, quotient-stands, remainder-stands}
+use Rattle.row_theory.specs.Field.{poly}
+use Rattle.row_theory.proofs.{Rows.Length.length-le, Rows.Lead.length-pos, Rows.Lead.Leads, Rows.Lead.leads, Rows.Lead.low-range, Rows.Lead.low-len}
+use Rattle.row_theory.proofs.Rows.Divide.{divisor, Dividing, dividing-start, struck-range, dividing-turn}
+use Rattle.row_theory.proofs.Rows.Divide.{quotient-stands, remainder-stands}
 use Rattle.class_rows.proofs.row.divide.Statement.{statement}
 use Rattle.class_rows.proofs.row.divide.Tie as tie
 

@@ -1,7 +1,7 @@
 -- `row::length` meets its contract. The invariant: the numbers from n on are 0. Assumes nothing.
 use Prim.Native.Nat.{_≤_}
 use native.Mathlib.Omega.{arith}
-use Rattle.class_rows.proofs.Rows.Length.{Blank, blank-start, blank-less, blank-length, blank-none}
+use Rattle.row_theory.proofs.Rows.Length.{Blank, blank-start, blank-less, blank-length, blank-none}
 use Rattle.class_rows.proofs.row.length.Statement.{statement}
 use Rattle.class_rows.proofs.row.length.Tie as tie
 

@@ -1,8 +1,7 @@
 -- `row::monic` meets its contract. The leading number becomes 1 without a product. Assumes nothing.
 use Prim.Native.Nat.{_-_}
 use native.Mathlib.Omega.{arith}
-use Rattle.class_rows.proofs.Rows.Lead.{length-pos, Leads, leads, low-range}
-use Rattle.class_rows.proofs.Rows.Monic.{monic-already, monic-made}
+use Rattle.row_theory.proofs.{Rows.Lead.length-pos, Rows.Lead.Leads, Rows.Lead.leads, Rows.Lead.low-range, Rows.Monic.monic-already, Rows.Monic.monic-made}
 use borrow.Author.Needs.{needs}
 use Rattle.class_rows.proofs.row.monic.Statement.{statement}
 use Rattle.class_rows.proofs.row.monic.Tie as tie

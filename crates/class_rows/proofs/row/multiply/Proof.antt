@@ -1,8 +1,7 @@
 -- `row::multiply` meets its contract. The invariant: the row stands for the part of a below x^i, times b. Assumes nothing.
 use Prim.Native.Nat.{_-_, _≤_}
 use native.Mathlib.Omega.{arith}
-use Rattle.class_rows.proofs.Rows.Length.{length-le}
-use Rattle.class_rows.proofs.Rows.Multiply.{Partial, partial-start, partial-turn, partial-end}
+use Rattle.row_theory.proofs.{Rows.Length.length-le, Rows.Multiply.Partial, Rows.Multiply.partial-start, Rows.Multiply.partial-turn, Rows.Multiply.partial-end}
 use Rattle.class_rows.proofs.row.multiply.Statement.{statement}
 use Rattle.class_rows.proofs.row.multiply.Tie as tie
 

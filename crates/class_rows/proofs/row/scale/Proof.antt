@@ -1,10 +1,9 @@
 -- `row::scale` meets its contract. The invariant: the numbers below i are those of c a, the others those of a. Assumes nothing.
 use Prim.Native.Nat.{_-_, _≤_}
 use native.Mathlib.Omega.{arith}
-use Rattle.class_rows.specs.Field.{𝔸, el, poly}
-use Rattle.class_rows.proofs.Rows.Length.{length-le}
-use Rattle.class_rows.proofs.Rows.Fill.{Filled, filled-start, filled-turn, filled-end}
-use Rattle.class_rows.proofs.Rows.Sums.{scaled-at, scaled-past}
+use Rattle.row_theory.specs.Field.{𝔸, el, poly}
+use Rattle.row_theory.proofs.{Rows.Length.length-le, Rows.Fill.Filled, Rows.Fill.filled-start, Rows.Fill.filled-turn, Rows.Fill.filled-end}
+use Rattle.row_theory.proofs.Rows.Sums.{scaled-at, scaled-past}
 use Rattle.class_rows.proofs.row.scale.Statement.{statement}
 use Rattle.class_rows.proofs.row.scale.Tie as tie
 

@@ -3,9 +3,10 @@ use Prim.Native.Nat.{_+_, _-_, _≤_}
 use mathlib.Core.Path.{refl, sym, _∙_}
 use native.Mathlib.Omega.{arith}
 use lib.ListN.{replicate}
-use Rattle.class_rows.specs.Field.{𝔸, poly}
-use Rattle.class_rows.proofs.Rows.Fill.{Filled, zeros-range, coeff-zeros, filled-start, filled-turn, filled-skip, filled-to, filled-end}
-use Rattle.class_rows.proofs.Rows.Squares.{squared-at, squared-odd, squared-past}
+use Rattle.row_theory.specs.Field.{𝔸, poly}
+use Rattle.row_theory.proofs.Rows.Fill.{Filled, zeros-range, coeff-zeros, filled-start, filled-turn}
+use Rattle.row_theory.proofs.{Rows.Fill.filled-skip, Rows.Fill.filled-to, Rows.Fill.filled-end, Rows.Squares.squared-at, Rows.Squares.squared-odd}
+use Rattle.row_theory.proofs.Rows.Squares.{squared-past}
 use Rattle.class_rows.proofs.row.square_row.Statement.{statement}
 use Rattle.class_rows.proofs.row.square_row.Tie as tie
 

@@ -1,6 +1,6 @@
 -- `opposite_of_reduced` meets its contract: the neutral class is its own opposite.
 use native.Mathlib.Omega.{arith}
-use Rattle.class_rows.proofs.ReductionRows.{one-stands}
+use Rattle.row_theory.proofs.Rows.Constants.{one-stands}
 use Rattle.class_rows.proofs.OppositeRows.{opposite-short, opposite-long}
 use borrow.Author.Needs.{needs}
 use Rattle.class_rows.proofs.sums.opposite_of_reduced.Statement.{statement}
