@@ -11,10 +11,10 @@ use Rattle.class_group.specs.Curve as Theory
 use Rattle.class_group.specs.{Mumford.value, Composition.compose}
 use Rattle.class_group.proofs.{Norm.value-len, Joined.compose-coprime, Joined.compose-common}
 use Rattle.class_group.specs.Composition.{joined}
-use Rattle.row_theory.specs.{Field.𝔸, Field.el, Field.Poly, Field.poly, Row.Stands, Row.row-len, internal.Bezout.BezoutRows, internal.Compose.Short}
+use Rattle.row_theory.specs.{Field.𝔸, Field.Poly, Field.poly, Row.Stands, Row.row-len, internal.Bezout.BezoutRows, internal.Compose.Short}
 use Rattle.row_theory.specs.internal.Compose.{multiple}
 use Rattle.class_rows.specs.{Pair.StandsPair, Pair.rows-pair, Core.OnCurve, Core.ReducedRows, internal.Cofactor.CofactorRow}
-use Rattle.row_theory.proofs.{Rows.Coefficients.stands-eq, Rows.Coefficients.stands-len, Rows.Constants.constant-one}
+use Rattle.row_theory.proofs.{Rows.Coefficients.stands-eq, Rows.Coefficients.stands-len}
 use Rattle.class_rows.proofs.{ReductionRows.reduced-on, DoubleRows.reduced-len}
 use Rattle.class_rows.specs.declared.{row.RowPair.RowPair}
 
@@ -118,13 +118,13 @@ module _ (d : ℕ) where
     pub reduced₂ : ReducedRows d f b
     pub first-is : BezoutRows d (a .u) (b .u) g s t
     pub sum-is : Stands d sum (poly d (a .v) + poly d (b .v))
-    pub one-is : Stands d one (𝔸 d .con (el d 1))
+    pub one-is : Stands d one 𝟙
     pub third-is : Stands d c (poly d sum + poly d one)
     pub second-is : BezoutRows d g c e s′ t′
 
-  pub third-len : (sum : List ℕ) {one c : List ℕ} → Stands d one (𝔸 d .con (el d 1)) → Stands d c (poly d sum + poly d one) → row-len d sum ≤ 3 → row-len d c ≤ 3
+  pub third-len : (sum : List ℕ) {one c : List ℕ} → Stands d one 𝟙 → Stands d c (poly d sum + poly d one) → row-len d sum ≤ 3 → row-len d c ≤ 3
   third-len sum {one} O T h =
-      let n = len-add (𝔸 d) (poly d sum) (poly d one) 3 h (omega (arith, stands-len d (constant-one d O), len-one (𝔸 d))) in
+      let n = len-add (𝔸 d) (poly d sum) (poly d one) 3 h (omega (arith, stands-len d O, len-one (𝔸 d))) in
       omega (arith, stands-len d T, n)
 
 module _ {d : ℕ} {f : List ℕ} {a b : RowPair} {g s t sum one c e s′ t′ : List ℕ} (k : Common d f a b g s t sum one c e s′ t′) where
@@ -169,7 +169,7 @@ module _ {d : ℕ} {f : List ℕ} {a b : RowPair} {g s t sum one c e s′ t′ :
         → (C : Theory.Curve (𝔸 d)) → OnCurve d f C → StandsPair d r (compose C (rows-pair d a) (rows-pair d b))
     unfolding rows-pair multiple
     common-stands {r = r} W M Z C on =
-        let c-is : poly d c ≡ poly d (a .v) + poly d (b .v) + 𝟙 = k .third-is .stands ∙ ap₂ _+_ (S .stands) (constant-one d (k .one-is) .stands) in
+        let c-is : poly d c ≡ poly d (a .v) + poly d (b .v) + 𝟙 = k .third-is .stands ∙ ap₂ _+_ (S .stands) (k .one-is .stands) in
         let i = subst (λ z. IsBezout (𝔸 d) (poly d g) z (record { g = poly d e; s = poly d s′; t = poly d t′ })) c-is (J .bezout) in
         let m-is = M .stands ∙ ap₂ (λ y z. poly d s′ · poly d s · y + poly d t′ · z) (S .stands) (W C on .stands) in
         subst (StandsPair d r)

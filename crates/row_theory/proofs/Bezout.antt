@@ -8,7 +8,7 @@ use Rattle.char2_algebra.specs.Lead.{lead, monic-of}
 use Rattle.char2_algebra.proofs.{Degree.len-nought, Degree.len-zero, Degree.len-con-le, Division.len-quot-le}
 use Rattle.char2_algebra.proofs.Euclid.{IsBezout, bezout-nought-is, bezout-noughts-is, bezout-constant-is, bezout-step-is, len-substituted}
 use Rattle.row_theory.specs.{Field.F, Field.Poly, Field.𝔸, Field.el, Field.poly, Row.Is, Row.Stands, Row.row-len, internal.Bezout.BezoutRows}
-use Rattle.row_theory.proofs.Rows.{Coefficients.self-stands, Coefficients.stands-eq, Coefficients.stands-len, Constants.zero-stands, Constants.constant-one}
+use Rattle.row_theory.proofs.Rows.{Coefficients.self-stands, Coefficients.stands-eq, Coefficients.stands-len, Constants.zero-stands}
 
 module _ (d : ℕ) where
   -- rows that stand for Bezout coefficients
@@ -47,11 +47,11 @@ module _ (d : ℕ) where
 
   -- where b is another constant: 1
   pub constant-rows : (b : List ℕ) {c : ℕ} {g s t : List ℕ} → row-len d b ≡ 1 → Is d c (F d .inverse (lead (𝔸 d) (poly d b)))
-      → Stands d g (𝔸 d .con (el d 1)) → Stands d s (𝔸 d .con (el d 0)) → Stands d t (𝔸 d .con (el d c)) → (a : List ℕ) → BezoutRows d a b g s t
+      → Stands d g (𝔸 d .ring .one) → Stands d s (𝔸 d .con (el d 0)) → Stands d t (𝔸 d .con (el d c)) → (a : List ℕ) → BezoutRows d a b g s t
   constant-rows b e C G S T a =
       let l : 𝔸 d .len (𝔸 d .con (F d .inverse (lead (𝔸 d) (poly d b)))) ≤ 1 = len-con-le (𝔸 d) _ in
       let m : 𝔸 d .len (𝔸 d .ring .nought) ≡ 0 = len-nought (𝔸 d) in
-      bezout-rows a b _ _ _ (constant-one d G) (zero-stands d S)
+      bezout-rows a b _ _ _ G (zero-stands d S)
       (stands-eq d (ap (𝔸 d .con) (C .stands)) T)
       (bezout-constant-is (𝔸 d) (poly d a) (poly d b) e) (omega arith) (omega arith)
 

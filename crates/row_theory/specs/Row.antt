@@ -1,7 +1,7 @@
 -- What the functions on numbers and rows promise: numbers in range that stand for elements and polynomials.
 use Prim.Native.Nat.{ℕ, zero, suc, _-_, _≤_, _<_, _^_}
 use mathlib.Core.Path.{_≡_}
-use mathlib.Core.List.{List, _++_}
+use mathlib.Core.List.{List, [], _∷_, _++_}
 use lib.ListN.{length, getD, replicate}
 use Rattle.row_theory.specs.Field.{degree-of, K, Poly, 𝔸, el, poly}
 
@@ -22,6 +22,16 @@ pub record Stands (d : ℕ) (r : List ℕ) (p : Poly d) : Type 0 where
 -- a row of twelve places: the numbers, and 0 after them
 unfoldable pub filled : List ℕ → List ℕ
 filled r = r ++ replicate (12 - length r) 0
+
+-- one past the last number that is not 0
+unfoldable pub after : ℕ → ℕ → ℕ
+after (suc k) n = suc (suc k)
+after zero zero = 0
+after zero (suc n) = 1
+
+unfoldable pub places : List ℕ → ℕ
+places [] = 0
+places (n ∷ r) = after (places r) n
 
 -- the degree plus one of the polynomial that a row stands for
 abbrev pub row-len : ℕ → List ℕ → ℕ

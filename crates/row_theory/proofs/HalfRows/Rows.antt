@@ -65,19 +65,14 @@ module _ (d : ℕ) where
     unfolding even-quartic
     quartic-stands = cons-stands hc (zero-stands (cons-stands hb (zero-stands (last-stands ha seven-zeros))))
 
-  -- the row of 1
-  one-row : quadratic (𝔸 d) (el d 0) (el d 0) (el d 1) ≡ 𝔸 d .ring .one
-  one-row =
-      ap₂ (λ y z. quadratic (𝔸 d) y y z) (el-zero d) (el-one d) ∙ constant (𝔸 d) (F d .ring .one) ∙ con-one (𝔸 d)
-
   -- p + 1
   pub stepped-stands :
       (p : Poly d) {s one o : List ℕ}
       → Stands d s p
-      → Stands d one (quadratic (𝔸 d) (el d 0) (el d 0) (el d 1))
+      → Stands d one (𝔸 d .ring .one)
       → Stands d o (poly d s ⊞ poly d one)
       → Stands d o (p ⊞ 𝔸 d .ring .one)
-  stepped-stands p hs h1 = stands-eq d (ap₂ _⊞_ (hs .stands) (h1 .stands ∙ one-row))
+  stepped-stands p hs h1 = stands-eq d (ap₂ _⊞_ (hs .stands) (h1 .stands))
 
   -- a product with a short row fits
   row-short : {r : List ℕ} (p : Poly d) (n : ℕ) → 𝔸 d .len p ≤ n → Stands d r p → row-len d r ≤ n

@@ -23,12 +23,9 @@ module _ (d : ℕ) where
   pub zero-stands : {r : List ℕ} → Stands d r (𝔸 d .con (el d 0)) → Stands d r (𝔸 d .ring .nought)
   zero-stands s = stands-eq d (ap (𝔸 d .con) (el-zero d) ∙ con-nought (𝔸 d)) s
 
-  pub constant-one : {r : List ℕ} → Stands d r (𝔸 d .con (el d 1)) → Stands d r (𝔸 d .ring .one)
-  constant-one s = stands-eq d (ap (𝔸 d .con) (el-one d) ∙ con-one (𝔸 d)) s
-
 -- the row of the polynomial 1
 abbrev pub one-row : List ℕ
 one-row = 1 ∷ replicate 11 0
 
 pub one-stands : (d : ℕ) → Stands d one-row (𝔸 d .ring .one)
-one-stands d = constant-one d (constant-stands d 1 (one-lt d))
+one-stands d = stands-eq d (ap (𝔸 d .con) (el-one d) ∙ con-one (𝔸 d)) (constant-stands d 1 (one-lt d))

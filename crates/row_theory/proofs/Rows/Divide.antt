@@ -7,6 +7,7 @@ use native.Mathlib.Decide.{ℕ-discrete}
 use lib.ListN.{length, getD, set, replicate, length-set}
 use lib.Seq.{getD-set-same, getD-set-other}
 use Rattle.field_laws.specs.Ring.{Ring2}
+use Rattle.char2_algebra.specs.Lead.{lead}
 use Rattle.char2_algebra.proofs.Ring.{ring2, 𝟘-+, 𝟘-·, +-𝟘, ·-𝟘, ·-𝟙, ·-assoc, ·-comm}
 use Rattle.char2_algebra.proofs.Degree.{coeff-nought, con-mul}
 use Rattle.char2_algebra.proofs.Division.{rem-is, quot-is}
@@ -14,7 +15,7 @@ use Rattle.row_theory.specs.{Field.K, Field.F, Field.Poly, Field.𝔸, F
 use Rattle.row_theory.proofs.{Rows.Elements.zero-lt, Rows.Elements.el-zero, Rows.Elements.zero-of-nought, Rows.Coefficients.coeff-poly}
 use Rattle.row_theory.proofs.Rows.Coefficients.{row-len-le, zero-past, self-stands, stands-eq}
 use Rattle.row_theory.proofs.{Rows.Length.Blank, Rows.Fill.range-set, Rows.Fill.zeros-at, Rows.Fill.zeros-range, Rows.Fill.coeff-zeros, Rows.Shift.x-power-add}
-use Rattle.row_theory.proofs.{Rows.Shift.poly-set-zero, Rows.Shift.poly-strike, Rows.Shift.coeff-shift-past, Rows.Lead.Leads, Rows.Lead.row-split}
+use Rattle.row_theory.proofs.{Rows.Shift.poly-set-zero, Rows.Shift.poly-strike, Rows.Shift.coeff-shift-past, Rows.Lead.Leads, Rows.Lead.lead-row, Rows.Lead.row-split}
 use Rattle.row_theory.proofs.Rows.Lead.{lead-nonzero}
 
 -- q b + r, where c x^s b is added to q b and taken from r, b = low + l x^t, and the leading term c l x^s x^t is struck out
@@ -30,11 +31,11 @@ pub record IsDivisor (d : ℕ) (low : List ℕ) (top inverse : ℕ) (g : Poly d)
   pub unit : F d .ring .mul lead (el d inverse) ≡ F d .ring .one
   pub split : g ≡ 𝔸 d .ring .add (poly d low) (𝔸 d .ring .mul (𝔸 d .con lead) (x-power d top))
 
-pub divisor : {d : ℕ} {b : List ℕ} {top inverse : ℕ} → Leads d b top → Is d inverse (F d .inverse (el d (getD b top 0))) → IsDivisor d (set b top 0) top inverse (poly d b)
+pub divisor : {d : ℕ} {b : List ℕ} {top inverse : ℕ} → Leads d b top → Is d inverse (F d .inverse (lead (𝔸 d) (poly d b))) → IsDivisor d (set b top 0) top inverse (poly d b)
 divisor {d} {b} {top} s e =
     record {
       lead = el d (getD b top 0);
-      unit = ap (F d .ring .mul (el d (getD b top 0))) (e .stands) ∙ F d .mul-inverse (el d (getD b top 0)) (lead-nonzero s);
+      unit = ap (F d .ring .mul (el d (getD b top 0))) (e .stands ∙ ap (F d .inverse) (lead-row s)) ∙ F d .mul-inverse (el d (getD b top 0)) (lead-nonzero s);
       split = row-split s;
     }
 

@@ -27,12 +27,15 @@ pub record Leads (d : ℕ) (r : List ℕ) (top : ℕ) : Type 0 where
 pub length-pos : (d : ℕ) (r : List ℕ) {n : ℕ} → n ≡ row-len d r → ¬ (poly d r ≡ 𝔸 d .ring .nought) → 1 ≤ n
 length-pos d r e h = let k : 0 < row-len d r = len-nonzero (𝔸 d) (poly d r) h in omega arith
 
+pub leads-at : (d : ℕ) (r : List ℕ) {top : ℕ} → length r ≡ 12 → InRange d r → row-len d r ≡ suc top → Leads d r top
+leads-at d r {top} s g e =
+    let l : row-len d r ≤ 12 = row-len-length d r 12 s in
+    record { size = s; range = g; top-lt = omega arith; len = e; nonzero = top-nonzero d r top e }
+
 pub leads : (d : ℕ) (r : List ℕ) {n : ℕ} → length r ≡ 12 → InRange d r → n ≡ row-len d r → ¬ (poly d r ≡ 𝔸 d .ring .nought) → Leads d r (n - 1)
 leads d r {n} s g e h =
     let k : 0 < row-len d r = len-nonzero (𝔸 d) (poly d r) h in
-    let l : row-len d r ≤ 12 = row-len-length d r 12 s in
-    let m : row-len d r ≡ suc (n - 1) = omega arith in
-    record { size = s; range = g; top-lt = omega arith; len = m; nonzero = top-nonzero d r (n - 1) m }
+    leads-at d r s g (omega arith)
 
 module _ {d : ℕ} {r : List ℕ} {top : ℕ} (s : Leads d r top) where
   pub lead-row : lead (𝔸 d) (poly d r) ≡ el d (getD r top 0)

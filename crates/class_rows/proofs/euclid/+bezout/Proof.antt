@@ -5,6 +5,7 @@ use native.Mathlib.Omega.{arith}
 use Rattle.char2_algebra.proofs.Degree.{nonzero-of-len}
 use Rattle.row_theory.specs.{Field.𝔸, Field.poly, Row.row-len}
 use Rattle.row_theory.proofs.Bezout.{remainder-less, quotient-le, step-rows}
+use Rattle.row_theory.proofs.Rows.Length.{places-len}
 use borrow.Fn.Kinds.{In}
 use borrow.Fn.PlainCycle.{Measures, is, falls, and}
 use Rattle.class_rows.proofs.euclid.bezout.Reads as bezout
@@ -49,7 +50,7 @@ length-requires t c κs = tt
 
 -- the length that was found is that of b
 found : (t : ℕ) (c : lts.After-length (callees t) (given t) bezout.Post) → c .length .result ≡ row-len (c .before .args .d) (c .before .args .b)
-found t c = c .length .ensures (c .before .args .d) (c .before .pre .1 .2)
+found t c = places-len _ (c .length .ensures) (c .before .args .d) (c .before .pre .1 .2)
 
 bezout-nought-requires : (t : ℕ) → lts.Need-bezout-nought-requires (callees t) (given t) bezout.Post
 bezout-nought-requires t c κs =

@@ -4,6 +4,7 @@ use native.Mathlib.Omega.{arith}
 use Rattle.row_theory.specs.Field.{𝔸, el, poly}
 use Rattle.row_theory.proofs.{Rows.Length.length-le, Rows.Fill.Filled, Rows.Fill.filled-start, Rows.Fill.filled-turn, Rows.Fill.filled-end}
 use Rattle.row_theory.proofs.Rows.Sums.{scaled-at, scaled-past}
+use Rattle.row_theory.proofs.Rows.Length.{places-len}
 use Rattle.class_rows.proofs.row.scale.Statement.{statement}
 use Rattle.class_rows.proofs.row.scale.Tie as tie
 
@@ -16,7 +17,7 @@ abbrev μ-loop : tie.MeasureT-loop
 loop-holds : tie.Need-loop-holds Inv-loop μ-loop
 loop-holds c =
     let size = c .before .good .1 .1 .0 .1 .0 .1 in
-    (omega arith, length-le _ _ (c .length .ensures _ (c .before .pre .2)) size, filled-start size (c .before .pre .2) (λ i h. absurd (omega arith)))
+    (omega arith, length-le _ _ (places-len _ (c .length .ensures) _ (c .before .pre .2)) size, filled-start size (c .before .pre .2) (λ i h. absurd (omega arith)))
 
 times-requires : tie.Need-times-requires Inv-loop μ-loop
 times-requires c κs = let pre = c .before .before .before .pre in (pre .0, pre .1, pre .2 (c .before .loop .i))
@@ -27,7 +28,7 @@ loop-again c =
 
 returns : tie.Need-returns Inv-loop μ-loop
 returns c =
-    let len = c .before .before .length .ensures _ (c .before .before .before .pre .2) in
+    let len = places-len _ (c .before .before .length .ensures) _ (c .before .before .before .pre .2) in
     filled-end (c .before .loop .inv .2) (λ i h. scaled-past _ _ _ i (omega arith))
 
 pub scale-spec : {M : Type 1} → statement M
