@@ -84,7 +84,7 @@ module _ {B : Type 0} (R : Ring2 B) where
   last-three u i t l s l' h1 h2 h3 h4 =
       combine R _ _ (both R (by R (i · i) h1) (both R (by R (t · i ⊞ 𝟙) h2) (both R (by R 𝟙 h3) (by R s h4)))) (simp (ring2, R))
 
-  squares-one : (t i : B) → t · i ≡ 𝟙 → t · t · (i · i) ≡ 𝟙
+  pub squares-one : (t i : B) → t · i ≡ 𝟙 → t · t · (i · i) ≡ 𝟙
   squares-one t i h = combine R _ _ (by R (t · i ⊞ 𝟙) h) (simp (ring2, R))
 
   times-one : (s u a : B) → s ≡ a → u ≡ 𝟙 → s · u ≡ a

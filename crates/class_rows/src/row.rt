@@ -104,14 +104,7 @@ pub(crate) fn scale(d: u8, c: u64, a: Row) -> Row
     requires { ⌜ Accepted d × (c < 2 ^ degree-of d) × InRange d a ⌝ }
     ensures { λ r. ⌜ Stands d r (𝔸 d .ring .mul (𝔸 d .con (el d c)) (poly d a)) ⌝ }
 {
-    let n = length(a);
-    let mut r = a;
-    let mut i = 0;
-    while i < n {
-        r[i] = times(d, c, a[i]);
-        i += 1;
-    }
-    r
+    add_multiple(d, [0; 12], c, a, 0)
 }
 
 // The square: the squares of the coefficients at the even powers.

@@ -11,7 +11,7 @@ use Rattle.char2_algebra.proofs.Ring.{ring2, +-𝟘, 𝟘-+, 𝟘-·, ·-𝟘, 
 use Rattle.char2_algebra.proofs.{Degree.coeff-nought, Degree.coeff-tail, Degree.len-bound, Product.coeff-mul-zero, Product.coeff-mul-suc, Division.quot-is, Lead.monic-top}
 use Rattle.row_theory.specs.{Field.K, Field.F, Field.Poly, Field.𝔸, Field.el, Field.poly, Row.Is, Row.InRange, Row.Stands, Row.row-len, Row.x-power}
 use Rattle.row_theory.proofs.{Rows.Elements.el-zero, Rows.Elements.zero-is, Rows.Elements.is-eq, Rows.Coefficients.coeff-poly, Rows.Fill.range-set}
-use Rattle.row_theory.proofs.{Rows.Fill.zeros-at, Rows.Fill.zeros-range, Rows.Fill.coeff-zeros, Rows.Shift.coeff-shift, Rows.Shift.coeff-shift-past}
+use Rattle.row_theory.proofs.{Rows.Fill.zeros-at, Rows.Fill.zeros-range, Rows.Fill.zeros-poly, Rows.Shift.coeff-shift, Rows.Shift.coeff-shift-past}
 use Rattle.row_theory.proofs.Rows.Shift.{monomial-at, monomial-off, poly-set-zero}
 
 -- a coefficient of a product depends on no higher coefficient of a factor
@@ -105,12 +105,9 @@ module _ (d : ℕ) where
   pub divided-start : {a b : List ℕ} {top k : ℕ} → k ≡ row-len d a → Divided a b (replicate 12 0) top k
   divided-start {a} {b} e = record { size = refl; range = zeros-range d 12; blank = λ i h. zeros-at 12 i; clear = λ i h. at i (omega arith) }
     where
-      none : poly d (replicate 12 0) ≡ 𝟘
-      none = 𝔸 d .ext _ _ (λ i. coeff-zeros d 12 i ∙ sym (coeff-nought (𝔸 d) i))
-
       at : (i : ℕ) → row-len d a ≤ i → coeff (poly d a ⊞ poly d (replicate 12 0) · poly d b) i ≡ 𝟎
       at i h =
-          ap (λ z. coeff z i) (ap (λ z. poly d a ⊞ z) (ap (λ z. z · poly d b) none ∙ 𝟘-· R (poly d b)) ∙ +-𝟘 R (poly d a))
+          ap (λ z. coeff z i) (ap (λ z. poly d a ⊞ z) (ap (λ z. z · poly d b) (zeros-poly d 12) ∙ 𝟘-· R (poly d b)) ∙ +-𝟘 R (poly d a))
           ∙ 𝔸 d .len-past (poly d a) i h
 
   pub divided-turn : {a b q : List ℕ} {top k p c : ℕ}

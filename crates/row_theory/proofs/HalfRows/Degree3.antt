@@ -9,7 +9,7 @@ use Rattle.char2_algebra.proofs.{Ring.ring2, Ring.by, Ring.both, Ring.combine, 
 use Rattle.char2_algebra.proofs.{Degree.len-con-le, Product.len-mul-le, Division.rem-is, Lead.monic-top, Lead.monic-nonzero}
 use Rattle.class_group.specs.{Mumford.Pair, Half.Triple, Half.lift, Half.step, Half.halved, Half.quadratic, Half.half-of-degree-3}
 use Rattle.class_group.specs.{Half.stepped-of-degree-3, Half.lifted-half-of-degree-3}
-use Rattle.class_group.proofs.{Rows.row-3, Rows.row-3-square, Rows.second-lift, EvenRoot.MonicRoot, EvenRoot.even-root}
+use Rattle.class_group.proofs.{Rows.row-3, Rows.row-3-square, Rows.squares-one, Rows.second-lift, EvenRoot.MonicRoot, EvenRoot.even-root}
 use Rattle.class_group.specs.Half.{first-lift}
 use Rattle.row_theory.specs.internal.Halving.{even-quartic, root-pair, second-square, second-remainder}
 use Rattle.row_theory.proofs.HalfRows.Squares.{quartic-is, quadratic-is, square-of, square-of-one}
@@ -22,9 +22,6 @@ module _ {B : Type 0} (R : Ring2 B) where
   infixl 60 _⊞_
   infixl 70 _·_
   -- with t i = 1: t² k² and t² k for k = i x + q i
-  scaled-one : (t i : B) → t · i ≡ 𝟙 → t · t · (i · i) ≡ 𝟙
-  scaled-one t i h = combine R _ _ (by R (t · i ⊞ 𝟙) h) (simp (ring2, R))
-
   scaled-root : (t i q g : B) → t · i ≡ 𝟙 → q · q ≡ g → t · t · (q · i · (q · i)) ≡ g
   scaled-root t i q g h e = combine R _ _ (both R (by R (q · q · (t · i ⊞ 𝟙)) h) (by R 𝟙 e)) (simp (ring2, R))
 
@@ -140,7 +137,7 @@ module _ {K P : Type 0} {F : Field2 K} (A : Polynomials F P) where
       unfolding second-square
       square-is =
           square-of A (t ·ₖ t) k _ L (T .u)
-          (quartic-is A (t ·ₖ t) _ _ _ _ _ _ (zero-square _) (scaled-one (F .ring) t i inverts) (scaled-root (F .ring) t i q _ inverts (F .root-square _)))
+          (quartic-is A (t ·ₖ t) _ _ _ _ _ _ (zero-square _) (squares-one (F .ring) t i inverts) (scaled-root (F .ring) t i q _ inverts (F .root-square _)))
           ∙ ap₂
           (λ y z. y ⊞ z ⊞ even-quartic A 𝟘ₖ 𝟙ₖ (coeff (T .u) 1 +ₖ i) · L)
           (ap (λ z. con z · T .u) (F .root-square (coeff L 1)))

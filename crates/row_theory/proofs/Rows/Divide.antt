@@ -9,12 +9,12 @@ use lib.Seq.{getD-set-same, getD-set-other}
 use Rattle.field_laws.specs.Ring.{Ring2}
 use Rattle.char2_algebra.specs.Lead.{lead}
 use Rattle.char2_algebra.proofs.Ring.{ring2, 𝟘-+, 𝟘-·, +-𝟘, ·-𝟘, ·-𝟙, ·-assoc, ·-comm}
-use Rattle.char2_algebra.proofs.Degree.{coeff-nought, con-mul}
+use Rattle.char2_algebra.proofs.Degree.{con-mul}
 use Rattle.char2_algebra.proofs.Division.{rem-is, quot-is}
 use Rattle.row_theory.specs.{Field.K, Field.F, Field.Poly, Field.𝔸, Field.el, Field.poly, Row.Is, Row.InRange, Row.Stands, Row.row-len, Row.x-power}
 use Rattle.row_theory.proofs.{Rows.Elements.zero-lt, Rows.Elements.el-zero, Rows.Elements.zero-of-nought, Rows.Coefficients.coeff-poly}
 use Rattle.row_theory.proofs.Rows.Coefficients.{row-len-le, zero-past, self-stands, stands-eq}
-use Rattle.row_theory.proofs.{Rows.Length.Blank, Rows.Fill.range-set, Rows.Fill.zeros-at, Rows.Fill.zeros-range, Rows.Fill.coeff-zeros, Rows.Shift.x-power-add}
+use Rattle.row_theory.proofs.{Rows.Length.Blank, Rows.Fill.range-set, Rows.Fill.zeros-at, Rows.Fill.zeros-range, Rows.Fill.zeros-poly, Rows.Shift.x-power-add}
 use Rattle.row_theory.proofs.{Rows.Shift.poly-set-zero, Rows.Shift.poly-strike, Rows.Shift.coeff-shift-past, Rows.Lead.Leads, Rows.Lead.lead-row, Rows.Lead.row-split}
 use Rattle.row_theory.proofs.Rows.Lead.{lead-nonzero}
 
@@ -60,7 +60,7 @@ module _ {d : ℕ} {low : List ℕ} {top inverse : ℕ} where
         q-blank = λ i m. zeros-at 12 i;
         equation =
             λ g v. sym
-            (ap (λ z. 𝔸 d .ring .add (𝔸 d .ring .mul z g) (poly d r)) (𝔸 d .ext _ _ (λ j. coeff-zeros d 12 j ∙ sym (coeff-nought (𝔸 d) j)))
+            (ap (λ z. 𝔸 d .ring .add (𝔸 d .ring .mul z g) (poly d r)) (zeros-poly d 12)
             ∙ ap (λ z. 𝔸 d .ring .add z (poly d r)) (𝟘-· (𝔸 d .ring) g)
             ∙ 𝟘-+ (𝔸 d .ring) (poly d r));
       }

@@ -21,7 +21,7 @@ degree-is d ok = go (eqb d 5) (eqb d 61) refl refl ok
     go false false e f t = absurd t
 
 module _ (d : ℕ) where
-  -- elements fit 61 bits, and 0 and 1 are in range
+  -- 0 and 1 are in range
   pub two-le : 2 ≤ 2 ^ degree-of d
   unfolding degree-of
   two-le = go (eqb d 61)
@@ -29,14 +29,6 @@ module _ (d : ℕ) where
       go : (b : Bool) → 2 ≤ 2 ^ cond b 61 5
       go true = lit< tt
       go false = lit< tt
-
-  pub range-fits : 2 ^ degree-of d ≤ 2 ^ 61
-  unfolding degree-of
-  range-fits = go (eqb d 61)
-    where
-      go : (b : Bool) → 2 ^ cond b 61 5 ≤ 2 ^ 61
-      go true = omega arith
-      go false = omega arith
 
   pub zero-lt : 0 < 2 ^ degree-of d
   zero-lt = let h : 2 ≤ 2 ^ degree-of d = two-le in omega arith

@@ -7,6 +7,7 @@ use native.Mathlib.Omega.{arith}
 use native.Mathlib.Decide.{decLe, ℕ-discrete}
 use lib.ListN.{length, getD, set, replicate, length-set}
 use lib.Seq.{getD-set-same, getD-set-other}
+use Rattle.char2_algebra.proofs.Degree.{coeff-nought}
 use Rattle.row_theory.specs.{Field.degree-of, Field.F, Field.Poly, Field.𝔸, Field.el, Field.poly, Row.Is, Row.InRange, Row.Stands}
 use Rattle.row_theory.proofs.{Rows.Elements.zero-lt, Rows.Elements.el-zero, Rows.Coefficients.coeff-poly, Rows.Coefficients.stands-by}
 
@@ -29,6 +30,9 @@ zeros-range d n i = rw (zeros-at n i) (zero-lt d)
 
 pub coeff-zeros : (d n i : ℕ) → 𝔸 d .coeff (poly d (replicate n 0)) i ≡ F d .ring .nought
 coeff-zeros d n i = coeff-poly d (replicate n 0) i ∙ ap (el d) (zeros-at n i) ∙ el-zero d
+
+pub zeros-poly : (d n : ℕ) → poly d (replicate n 0) ≡ 𝔸 d .ring .nought
+zeros-poly d n = 𝔸 d .ext _ _ (λ i. coeff-zeros d n i ∙ sym (coeff-nought (𝔸 d) i))
 
 pub record Filled (d : ℕ) (r : List ℕ) (k : ℕ) (p q : Poly d) : Type 0 where
   pub size : length r ≡ 12

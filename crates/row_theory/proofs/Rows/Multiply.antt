@@ -9,7 +9,7 @@ use Rattle.field_laws.specs.Ring.{Ring2}
 use Rattle.char2_algebra.proofs.Ring.{ring2, +-𝟘, 𝟘-+, 𝟘-·}
 use Rattle.char2_algebra.proofs.Degree.{coeff-nought}
 use Rattle.row_theory.specs.{Field.F, Field.Poly, Field.𝔸, Field.el, Field.poly, Row.InRange, Row.Stands, Row.x-power, Row.row-len}
-use Rattle.row_theory.proofs.{Rows.Coefficients.coeff-poly, Rows.Fill.zeros-range, Rows.Fill.coeff-zeros, Rows.Shift.monomial-at, Rows.Shift.monomial-off}
+use Rattle.row_theory.proofs.{Rows.Coefficients.coeff-poly, Rows.Fill.zeros-range, Rows.Fill.zeros-poly, Rows.Shift.monomial-at, Rows.Shift.monomial-off}
 
 one-more : {A : Type 0} (R : Ring2 A) (p c x b : A) → R .add (R .mul p b) (R .mul c (R .mul x b)) ≡ R .mul (R .add p (R .mul c x)) b
 one-more R p c x b = simp (ring2, R)
@@ -29,7 +29,7 @@ module _ {d : ℕ} {a b : List ℕ} where
         front = 𝔸 d .ring .nought;
         below = λ j h. absurd (omega arith);
         above = λ j h. coeff-nought (𝔸 d) j;
-        product = 𝔸 d .ext _ _ (λ j. coeff-zeros d 12 j ∙ sym (coeff-nought (𝔸 d) j)) ∙ sym (𝟘-· (𝔸 d .ring) (poly d b));
+        product = zeros-poly d 12 ∙ sym (𝟘-· (𝔸 d .ring) (poly d b));
       }
 
   pub partial-turn :

@@ -1,14 +1,14 @@
--- Coefficients of c a and of a + c x^s b, in the words of the loops that compute them.
+-- Coefficients of a + c x^s b, in the words of the loops that compute them.
 use Prim.Native.Nat.{ℕ, _+_, _≤_, _<_}
 use mathlib.Core.Path.{_≡_, sym, _∙_, ap, ap₂}
 use mathlib.Core.List.{List}
-use lib.ListN.{getD}
+use lib.ListN.{getD, replicate}
 use Rattle.field_laws.specs.Ring.{Ring2}
 use Rattle.char2_algebra.specs.Polynomials.{Polynomials}
-use Rattle.char2_algebra.proofs.Ring.{+-𝟘, ·-𝟘, 𝟘-·, 𝟙-·}
+use Rattle.char2_algebra.proofs.Ring.{+-𝟘, 𝟘-+, ·-𝟘, 𝟘-·, 𝟙-·}
 use Rattle.char2_algebra.proofs.Degree.{con-nought, con-one}
 use Rattle.row_theory.specs.{Field.K, Field.F, Field.Poly, Field.𝔸, Field.el, Field.poly, Row.Is, Row.x-power}
-use Rattle.row_theory.proofs.{Rows.Elements.el-zero, Rows.Elements.el-one, Rows.Elements.is-eq, Rows.Coefficients.coeff-poly, Rows.Shift.coeff-shift}
+use Rattle.row_theory.proofs.{Rows.Elements.el-zero, Rows.Elements.el-one, Rows.Elements.is-eq, Rows.Coefficients.coeff-poly, Rows.Fill.zeros-poly, Rows.Shift.coeff-shift}
 use Rattle.row_theory.proofs.Rows.Shift.{coeff-shift-below, coeff-shift-past}
 
 module _ (d : ℕ) where
@@ -20,14 +20,6 @@ module _ (d : ℕ) where
   infixl 70 _·_
   infixl 60 _⊕_
   infixl 70 _⊙_
-  -- c a
-  pub scaled-at : (c : K d) (r : List ℕ) (i : ℕ) {v : ℕ} → Is d v (c ⊙ el d (getD r i 0)) → Is d v (coeff (con c · poly d r) i)
-  scaled-at c r i = is-eq d (sym (𝔸 d .coeff-con-mul c (poly d r) i ∙ ap (λ z. c ⊙ z) (coeff-poly d r i)))
-
-  pub scaled-past : (c : K d) (p : Poly d) (i : ℕ) → len p ≤ i → coeff p i ≡ coeff (con c · p) i
-  scaled-past c p i h =
-      𝔸 d .len-past p i h ∙ sym (𝔸 d .coeff-con-mul c p i ∙ ap (λ z. c ⊙ z) (𝔸 d .len-past p i h) ∙ ·-𝟘 (F d .ring) c)
-
   -- a + c x^s b
   coeff-added : (p q : Poly d) (c : K d) (i : ℕ) → coeff (p ⊞ con c · q) i ≡ coeff p i ⊕ c ⊙ coeff q i
   coeff-added p q c i = 𝔸 d .coeff-add _ _ i ∙ ap (λ z. coeff p i ⊕ z) (𝔸 d .coeff-con-mul c q i)
@@ -52,6 +44,10 @@ module _ (d : ℕ) where
   pub multiple-one : (p q : Poly d) → p ⊞ con (el d 1) · (x-power d 0 · q) ≡ p ⊞ q
   unfolding x-power
   multiple-one p q = ap (λ z. p ⊞ z) (ap₂ _·_ (ap con (el-one d) ∙ con-one (𝔸 d)) (𝟙-· ring q) ∙ 𝟙-· ring q)
+
+  pub multiple-alone : (c : K d) (p : Poly d) → poly d (replicate 12 0) ⊞ con c · (x-power d 0 · p) ≡ con c · p
+  unfolding x-power
+  multiple-alone c p = ap₂ _⊞_ (zeros-poly d 12) (ap (λ z. con c · z) (𝟙-· ring p)) ∙ 𝟘-+ ring _
 
   pub added-turn :
       (p : Poly d) (b : List ℕ) (c : K d) (s i : ℕ) {y : K d} {t v : ℕ}
