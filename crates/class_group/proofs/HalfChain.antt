@@ -15,7 +15,8 @@ use Rattle.class_group.specs.Curve.{Curve}
 use Rattle.class_group.specs.Mumford.{Pair, Reduced, value}
 use Rattle.class_group.specs.Half.{Triple, triple, lift, step, halved, half, half-by, half-of-degree-1, half-of-degree-2, half-of-degree-3, stepped-of-degree-3, lifted-half-of-degree-2, lifted-half-of-degree-3}
 use Rattle.class_group.proofs.Triple.{Meets, Chain, start, lifted, stepped}
-use Rattle.class_group.proofs.Rows.{Even, row-1, row-2, row-2-square, row-3, row-3-square, first-lift, second-lift, first-lift-nonzero}
+use Rattle.class_group.proofs.Rows.{Even, row-1, row-2, row-2-square, row-3, row-3-square, second-lift, first-lift-nonzero}
+use Rattle.class_group.specs.Half.{first-lift}
 use Rattle.class_group.proofs.EvenRoot.{MonicRoot, even-root, even-nonzero}
 
 module _ {K P : Type 0} {F : Field2 K} {A : Polynomials F P} (C : Curve A) where

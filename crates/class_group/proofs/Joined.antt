@@ -9,7 +9,7 @@ use Rattle.char2_algebra.specs.{Polynomials.Polynomials, Divides.Divides, Eucli
 use Rattle.char2_algebra.proofs.{Ring.ring2, Ring.·-𝟙, Ring.by, Ring.combine, Product.mul-nonzero, Product.cancel-left, Product.left-nonzero}
 use Rattle.char2_algebra.proofs.{Divides.divides-eq, Division.quot-exact, Division.quot-mul, Division.rem-divides, Division.rem-congruent, Lead.monic-nonzero, Lead.monic-constant}
 use Rattle.char2_algebra.proofs.Euclid.{IsBezout, IsBezout3, bezout3-is, bezout3-unique, bezout3-nonzero, bezout-twice, bezout-coprime}
-use Rattle.class_group.specs.{Curve.Curve, Mumford.Pair, Mumford.Reduced, Mumford.value, Composition.composed, Composition.compose}
+use Rattle.class_group.specs.{Curve.Curve, Mumford.Pair, Mumford.Reduced, Mumford.value, Composition.composed, Composition.compose, Composition.joined}
 use Rattle.class_group.proofs.{Coordinate.coordinate, Coordinate.constant-mul, PairIdeal.pair-ideal-y₁, SemiReduced.SemiReduced, SemiReduced.semi-of-reduced}
 use Rattle.class_group.proofs.Composition.{Composed, composed-within, composed-within⁻¹, divisor-nonzero, Identities.congruent-eq}
 use Rattle.class_group.proofs.Composed.{Combines, full-v, e-nonzero, composition, composition-e, composed-nonzero}
@@ -31,16 +31,6 @@ module _ {P : Type 0} (R : Ring2 P) where
 
   modulo-eq : (v d₁ d₂ m r q : P) → m + r ≡ q · d₂ → v + d₁ · m + (v + d₁ · r) ≡ q · (d₁ · d₂)
   modulo-eq v d₁ d₂ m r q h = combine R _ _ (by R d₁ h) (simp (ring2, R))
-
-module _ {K P : Type 0} {F : Field2 K} (A : Polynomials F P) where
-  open Polynomials A using (rem)
-  open Ring2 (A .ring) using (add as _+_, mul as _·_)
-
-  infixl 60 _+_
-  infixl 70 _·_
-  -- [d1 d2, v1 + d1 (m mod d2) modulo d1 d2]
-  unfoldable pub joined : (d₁ d₂ v₁ m : P) → Pair P
-  joined d₁ d₂ v₁ m = record { u = d₁ · d₂; v = rem (v₁ + d₁ · rem m d₂) (d₁ · d₂) }
 
 module _ {K P : Type 0} {F : Field2 K} {A : Polynomials F P} (C : Curve A) where
   open Polynomials A using (ring as R, len, quot, rem)

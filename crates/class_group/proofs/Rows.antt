@@ -8,6 +8,7 @@ use Rattle.field_laws.specs.Field.{Field2}
 use Rattle.char2_algebra.specs.Polynomials.{Polynomials}
 use Rattle.char2_algebra.proofs.Ring.{ring2, ·-𝟘, by, both, combine}
 use Rattle.char2_algebra.proofs.Degree.{coeff-nought}
+use Rattle.class_group.specs.Half.{first-lift}
 use Rattle.class_group.proofs.LiftCoefficients.{lifted, lifted-one, lifted-three, lifted-past}
 
 -- p is even of degree 2m up to a factor: no odd power, nothing past 2m, and c times the highest coefficient is one.
@@ -83,7 +84,7 @@ module _ {B : Type 0} (R : Ring2 B) where
   last-three u i t l s l' h1 h2 h3 h4 =
       combine R _ _ (both R (by R (i · i) h1) (both R (by R (t · i ⊞ 𝟙) h2) (both R (by R 𝟙 h3) (by R s h4)))) (simp (ring2, R))
 
-  squares-one : (t i : B) → t · i ≡ 𝟙 → t · t · (i · i) ≡ 𝟙
+  pub squares-one : (t i : B) → t · i ≡ 𝟙 → t · t · (i · i) ≡ 𝟙
   squares-one t i h = combine R _ _ (by R (t · i ⊞ 𝟙) h) (simp (ring2, R))
 
   times-one : (s u a : B) → s ≡ a → u ≡ 𝟙 → s · u ≡ a
@@ -188,18 +189,14 @@ module _ {K P : Type 0} {F : Field2 K} (A : Polynomials F P) where
           past : (j : ℕ) → 7 ≤ j → coeff (lifted A (root i) (root (coeff w 3 · i)) (root ((coeff w 1 ⊞ root (coeff w 3 · i)) · i)) u w) j ≡ 𝟘
           past = lifted-ends u w _ _ _ 3 (omega arith) (omega arith)
 
-  -- degree 3: after the lift by √w3
-  unfoldable pub first-lift : P → P → P
-  first-lift u w = lifted A 𝟘 𝟘 (root (coeff w 3)) u w
-
-  -- and after the lift by (x + q)/t, with i = 1/t and q² = u1 + i
+  -- degree 3: after the first lift, and the lift by (x + q)/t, with i = 1/t and q² = u1 + i
   unfoldable pub second-lift : P → P → K → P
-  second-lift u w i = lifted A 𝟘 i (root (coeff u 1 ⊞ i) · i) (first-lift u w) u
+  second-lift u w i = lifted A 𝟘 i (root (coeff u 1 ⊞ i) · i) (first-lift A u w) u
 
   -- u = x³ + .., w = x⁴ + ..; the first lift clears x³
   module _ (u w : P) (u-len : len u ≡ 4) (u-top : coeff u 3 ≡ 𝟙) (w-len : len w ≡ 5) (w-top : coeff w 4 ≡ 𝟙) where
     abbrev L : P
-    L = first-lift u w
+    L = first-lift A u w
 
     u-past : (i : ℕ) → 4 ≤ i → coeff u i ≡ 𝟘
     u-past i h = A .len-past u i (omega arith)
@@ -221,7 +218,7 @@ module _ {K P : Type 0} {F : Field2 K} (A : Polynomials F P) where
     L-past (suc (suc (suc (suc j)))) h =
         lifted-past A _ _ _ u w j ∙ stays-first 𝕂 _ _ _ _ _ (u-past _ (omega arith)) ∙ A .len-past w _ (omega arith)
 
-    pub first-lift-nonzero : ¬ (first-lift u w ≡ A .ring .nought)
+    pub first-lift-nonzero : ¬ (first-lift A u w ≡ A .ring .nought)
     first-lift-nonzero e = F .one≢nought (sym L-four ∙ ap (λ z. coeff z 4) e ∙ coeff-nought A 4)
 
     pub row-3-square : root (coeff L 1) ≡ 𝟘 → Even A 𝟙 2 L

@@ -30,3 +30,13 @@ module _ {K P : Type 0} {F : Field2 K} {A : Polynomials F P} (C : Curve A) where
   compose-double D =
       let u = D .u · D .u in
       record { u = u; v = rem (D .v · D .v + f) u }
+
+module _ {K P : Type 0} {F : Field2 K} (A : Polynomials F P) where
+  open Polynomials A using (rem)
+  open Ring2 (A .ring) using (add as _+_, mul as _·_)
+
+  infixl 60 _+_
+  infixl 70 _·_
+  -- the composition with short polynomials, from u1 = d1 e, u2 = d2 e and a multiple m: [d1 d2, v1 + d1 (m mod d2) modulo d1 d2]
+  unfoldable pub joined : (d₁ d₂ v₁ m : P) → Pair P
+  joined d₁ d₂ v₁ m = record { u = d₁ · d₂; v = rem (v₁ + d₁ · rem m d₂) (d₁ · d₂) }

@@ -61,6 +61,10 @@ module _ {K P : Type 0} {F : Field2 K} (A : Polynomials F P) where
   unfoldable pub half-of-degree-2 : Triple P → Pair P
   half-of-degree-2 T = elim (discrete (coeff (T .u) 1) 𝟘ₖ) [ yes _ ↦ halved 𝟙ₖ T | no _ ↦ lifted-half-of-degree-2 T ]
 
+  -- degree 3: w after the lift by √w3
+  unfoldable pub first-lift : P → P → P
+  first-lift u w = let k = quadratic 𝟘ₖ 𝟘ₖ (root (coeff w 3)) in w + k + k · k · u
+
   -- degree 3: the lift by √w3 and a step give the first polynomial x⁴ + e2 x² + t² x + e0
   unfoldable pub stepped-of-degree-3 : Triple P → Triple P
   stepped-of-degree-3 T = step (lift (quadratic 𝟘ₖ 𝟘ₖ (root (coeff (T .w) 3))) T)

@@ -12,11 +12,13 @@ use Rattle.char2_algebra.specs.Lead.{Monic}
 use Rattle.char2_algebra.proofs.{Degree.len-zero, Degree.len-nought, Division.rem-of-divides, Division.divides-of-rem, Lead.monic-nonzero}
 use Rattle.class_group.specs.Curve as Theory
 use Rattle.class_group.specs.{Mumford.value, Reduction.Counted}
-use Rattle.class_rows.specs.{Field.degree-of, Field.Poly, Field.𝔸, Field.el, Field.poly, Row.InRange, Row.Stands, Row.row-len, Row.rows-pair}
+use Rattle.row_theory.specs.{Field.degree-of, Field.Poly, Field.𝔸, Field.el, Field.poly, Row.InRange, Row.Stands, Row.row-len}
+use Rattle.class_rows.specs.Pair.{rows-pair}
+use Rattle.row_theory.proofs.{Rows.Elements.degree-is, Rows.Elements.zero-lt, Rows.Elements.el-one, Rows.Elements.one-of-one, Rows.Lead.leads}
+use Rattle.row_theory.proofs.Rows.Lead.{lead-row}
+use Rattle.class_rows.proofs.ReductionRows.{reduced-on}
 use Rattle.class_rows.specs.{Core.OnCurve, Core.StandsCounted, Checked.Decides, Checked.Divisor, Checked.FormedRows, Checked.Gives}
 use Rattle.class_rows.specs.declared.{row.RowPair.RowPair, reduction.CountedRows.CountedRows}
-use Rattle.class_rows.proofs.{Rows.Elements.degree-is, Rows.Elements.zero-lt, Rows.Elements.el-one, Rows.Elements.one-of-one}
-use Rattle.class_rows.proofs.{Rows.Lead.leads, Rows.Lead.lead-row, ReductionRows.reduced-on}
 
 -- ---- tests
 pub yes-it-is : {P : Type 0} → P → Decides true P

@@ -9,11 +9,14 @@ use Rattle.char2_algebra.proofs.{Degree.len-add, Degree.len-one, Product.mul-no
 use Rattle.char2_algebra.proofs.{Division.divides-len, Division.len-quot-le, Division.quot-exact-nonzero, Euclid.IsBezout}
 use Rattle.class_group.specs.Curve as Theory
 use Rattle.class_group.specs.{Mumford.value, Composition.compose}
-use Rattle.class_group.proofs.{Norm.value-len, Joined.joined, Joined.compose-coprime, Joined.compose-common}
-use Rattle.class_rows.specs.{Field.𝔸, Field.el, Field.Poly, Field.poly, Row.Stands, Row.StandsPair, Row.rows-pair, Row.row-len}
-use Rattle.class_rows.specs.{Bezout.BezoutRows, Compose.Short, Compose.multiple, Core.OnCurve, Core.ReducedRows, Cofactor.CofactorRow}
-use Rattle.class_rows.specs.declared.{row.RowPair.RowPair, euclid.Combination.Combination}
-use Rattle.class_rows.proofs.{Rows.Coefficients.stands-eq, Bezout.stands-len, Bezout.one-stands, ReductionRows.reduced-on, DoubleRows.reduced-len}
+use Rattle.class_group.proofs.{Norm.value-len, Joined.compose-coprime, Joined.compose-common}
+use Rattle.class_group.specs.Composition.{joined}
+use Rattle.row_theory.specs.{Field.𝔸, Field.Poly, Field.poly, Row.Stands, Row.row-len, internal.Bezout.BezoutRows, internal.Compose.Short}
+use Rattle.row_theory.specs.internal.Compose.{multiple}
+use Rattle.class_rows.specs.{Pair.StandsPair, Pair.rows-pair, Core.OnCurve, Core.ReducedRows, internal.Cofactor.CofactorRow}
+use Rattle.row_theory.proofs.{Rows.Coefficients.stands-eq, Rows.Coefficients.stands-len}
+use Rattle.class_rows.proofs.{ReductionRows.reduced-on, DoubleRows.reduced-len}
+use Rattle.class_rows.specs.declared.{row.RowPair.RowPair}
 
 module _ (d : ℕ) where
   open Polynomials (𝔸 d) using (ring as R, len, quot, rem)
@@ -43,10 +46,10 @@ module _ (d : ℕ) where
   pub product-len : {r : List ℕ} (p q : Poly d) (m n : ℕ) → Stands d r (p · q) → len p ≤ suc m → len q ≤ n → row-len d r ≤ m +ℕ n
   product-len p q m n s h k = omega (arith, stands-len d s, len-mul-le (𝔸 d) m n p q h k)
 
-  pub multiple-stands : (sum w : List ℕ) (first second : Combination) {s₁ p q r : List ℕ} → Stands d s₁ (poly d (second .s) · poly d (first .s)) → Stands d p (poly d s₁ · poly d sum)
-      → Stands d q (poly d (second .t) · poly d w) → Stands d r (poly d p + poly d q) → Stands d r (multiple d sum w first second)
+  pub multiple-stands : (sum w s s′ t′ : List ℕ) {s₁ p q r : List ℕ} → Stands d s₁ (poly d s′ · poly d s) → Stands d p (poly d s₁ · poly d sum)
+      → Stands d q (poly d t′ · poly d w) → Stands d r (poly d p + poly d q) → Stands d r (multiple d sum w s s′ t′)
   unfolding multiple
-  multiple-stands sum w first second S P Q = stands-eq d (ap₂ _+_ (P .stands ∙ ap (λ z. z · poly d sum) (S .stands)) (Q .stands))
+  multiple-stands sum w s s′ t′ S P Q = stands-eq d (ap₂ _+_ (P .stands ∙ ap (λ z. z · poly d sum) (S .stands)) (Q .stands))
 
   -- two reduced pairs of rows, and Euclid's rule of their u
   module _ {f : List ℕ} {a : RowPair} (A : ReducedRows d f a) where
@@ -68,13 +71,13 @@ module _ (d : ℕ) where
         record { in-range = w C (A .on-curve) .in-range; len-le = omega (arith, l .0, l .1, s, n, m) }
 
     -- a common divisor of u and another polynomial
-    module _ {b : List ℕ} {r : Combination} (B : BezoutRows d (a .u) b r) where
-      pub divisor-len : row-len d (r .g) ≤ 4
+    module _ {b g s t : List ℕ} (B : BezoutRows d (a .u) b g s t) where
+      pub divisor-len : row-len d g ≤ 4
       divisor-len =
           let l = divides-len (𝔸 d) (B .bezout .divides-first) u-nonzero in
           omega (arith, l, reduced-len d A .0)
 
-      pub divisor-nonzero : ¬ (poly d (r .g) ≡ 𝟘)
+      pub divisor-nonzero : ¬ (poly d g ≡ 𝟘)
       divisor-nonzero = monic-nonzero (𝔸 d) _ (B .bezout .monic (λ z. u-nonzero (z .0)))
 
     -- u divided by a divisor of it
@@ -85,7 +88,7 @@ module _ (d : ℕ) where
       pub part-nonzero : Divides R (poly d g) (poly d (a .u)) → ¬ (poly d q ≡ 𝟘)
       part-nonzero D z = quot-exact-nonzero (𝔸 d) (poly d g) h (poly d (a .u)) u-nonzero D (sym (Q .stands) ∙ z)
 
-  module _ {f : List ℕ} {a b : RowPair} (A : ReducedRows d f a) (B : ReducedRows d f b) {first : Combination} (I : BezoutRows d (a .u) (b .u) first)
+  module _ {f : List ℕ} {a b : RowPair} (A : ReducedRows d f a) (B : ReducedRows d f b) {g s t : List ℕ} (I : BezoutRows d (a .u) (b .u) g s t)
       {sum : List ℕ} (S : Stands d sum (poly d (a .v) + poly d (b .v))) where
     -- v1 + v2, and s1
     pub sum-len : row-len d sum ≤ 3
@@ -95,36 +98,36 @@ module _ (d : ℕ) where
         let n = len-add (𝔸 d) (poly d (a .v)) (poly d (b .v)) 3 (omega (arith, l .0, l .1)) (omega (arith, m .0, m .1)) in
         omega (arith, stands-len d S, n)
 
-    pub first-len : row-len d (first .s) ≤ 4
+    pub first-len : row-len d s ≤ 4
     first-len = omega (arith, I .s-len, reduced-len d B .0)
 
     -- u1 and u2 without a common divisor
-    pub coprime-stands : {m : List ℕ} {r : RowPair} → row-len d (first .g) ≤ 1 → Stands d m (poly d (first .s) · poly d sum)
+    pub coprime-stands : {m : List ℕ} {r : RowPair} → row-len d g ≤ 1 → Stands d m (poly d s · poly d sum)
         → StandsPair d r (joined (𝔸 d) (poly d (a .u)) (poly d (b .u)) (poly d (a .v)) (poly d m))
         → (C : Theory.Curve (𝔸 d)) → OnCurve d f C → StandsPair d r (compose C (rows-pair d a) (rows-pair d b))
     unfolding rows-pair
     coprime-stands {r = r} h M J C on =
         subst (StandsPair d r)
-        (ap (joined (𝔸 d) (poly d (a .u)) (poly d (b .u)) (poly d (a .v))) (M .stands ∙ ap (λ z. poly d (first .s) · z) (S .stands))
+        (ap (joined (𝔸 d) (poly d (a .u)) (poly d (b .u)) (poly d (a .v))) (M .stands ∙ ap (λ z. poly d s · z) (S .stands))
         ∙ sym (compose-coprime C (reduced-on d A on) (reduced-on d B on) (I .bezout) h))
         J
 
   -- and with one: the rows of u1 and u2, of v1 + v2, 1 and v1 + v2 + 1, and Euclid's rule used twice
-  pub record Common (f : List ℕ) (a b : RowPair) (first : Combination) (sum one c : List ℕ) (second : Combination) : Type 0 where
+  pub record Common (f : List ℕ) (a b : RowPair) (g s t sum one c e s′ t′ : List ℕ) : Type 0 where
     pub reduced₁ : ReducedRows d f a
     pub reduced₂ : ReducedRows d f b
-    pub first-is : BezoutRows d (a .u) (b .u) first
+    pub first-is : BezoutRows d (a .u) (b .u) g s t
     pub sum-is : Stands d sum (poly d (a .v) + poly d (b .v))
-    pub one-is : Stands d one (𝔸 d .con (el d 1))
+    pub one-is : Stands d one 𝟙
     pub third-is : Stands d c (poly d sum + poly d one)
-    pub second-is : BezoutRows d (first .g) c second
+    pub second-is : BezoutRows d g c e s′ t′
 
-  pub third-len : (sum : List ℕ) {one c : List ℕ} → Stands d one (𝔸 d .con (el d 1)) → Stands d c (poly d sum + poly d one) → row-len d sum ≤ 3 → row-len d c ≤ 3
+  pub third-len : (sum : List ℕ) {one c : List ℕ} → Stands d one 𝟙 → Stands d c (poly d sum + poly d one) → row-len d sum ≤ 3 → row-len d c ≤ 3
   third-len sum {one} O T h =
-      let n = len-add (𝔸 d) (poly d sum) (poly d one) 3 h (omega (arith, stands-len d (one-stands d O), len-one (𝔸 d))) in
+      let n = len-add (𝔸 d) (poly d sum) (poly d one) 3 h (omega (arith, stands-len d O, len-one (𝔸 d))) in
       omega (arith, stands-len d T, n)
 
-module _ {d : ℕ} {f : List ℕ} {a b : RowPair} {first second : Combination} {sum one c : List ℕ} (k : Common d f a b first sum one c second) where
+module _ {d : ℕ} {f : List ℕ} {a b : RowPair} {g s t sum one c e s′ t′ : List ℕ} (k : Common d f a b g s t sum one c e s′ t′) where
   open Polynomials (𝔸 d) using (ring as R, quot)
   open Ring2 (𝔸 d .ring) using (add as _+_, mul as _·_, nought as 𝟘, one as 𝟙)
   open Common k using (reduced₁ as A, reduced₂ as B, first-is as I, sum-is as S, second-is as J)
@@ -134,41 +137,41 @@ module _ {d : ℕ} {f : List ℕ} {a b : RowPair} {first second : Combination} {
   pub sum-short : Short d 3 sum
   sum-short = record { in-range = S .in-range; len-le = sum-len d A B I S }
 
-  pub first-short : Short d 4 (first .s)
+  pub first-short : Short d 4 s
   first-short = record { in-range = I .s-range; len-le = first-len d A B I S }
 
-  pub second-s-short : Short d 4 (second .s)
+  pub second-s-short : Short d 4 s′
   second-s-short = record { in-range = J .s-range; len-le = omega (arith, J .s-len, third-len d sum (k .one-is) (k .third-is) (sum-short .len-le)) }
 
-  pub second-t-short : Short d 4 (second .t)
+  pub second-t-short : Short d 4 t′
   second-t-short = record { in-range = J .t-range; len-le = omega (arith, J .t-len, divisor-len d A I) }
 
-  pub e-nonzero : ¬ (poly d (second .g) ≡ 𝟘)
+  pub e-nonzero : ¬ (poly d e ≡ 𝟘)
   e-nonzero = monic-nonzero (𝔸 d) _ (J .bezout .monic (λ z. divisor-nonzero d A I (z .0)))
 
   -- u1 / e and u2 / e
-  module _ {d₁ d₂ : List ℕ} (D : Stands d d₁ (quot (poly d (a .u)) (poly d (second .g)))) (E : Stands d d₂ (quot (poly d (b .u)) (poly d (second .g)))) where
+  module _ {d₁ d₂ : List ℕ} (D : Stands d d₁ (quot (poly d (a .u)) (poly d e))) (E : Stands d d₂ (quot (poly d (b .u)) (poly d e))) where
     pub part₁-short : Short d 4 d₁
-    part₁-short = record { in-range = D .in-range; len-le = part-len d A (second .g) e-nonzero D }
+    part₁-short = record { in-range = D .in-range; len-le = part-len d A e e-nonzero D }
 
     pub part₂-short : Short d 4 d₂
-    part₂-short = record { in-range = E .in-range; len-le = part-len d B (second .g) e-nonzero E }
+    part₂-short = record { in-range = E .in-range; len-le = part-len d B e e-nonzero E }
 
     pub part₁-nonzero : ¬ (poly d d₁ ≡ 𝟘)
-    part₁-nonzero = part-nonzero d A (second .g) e-nonzero D (divides-trans R (J .bezout .divides-first) (I .bezout .divides-first))
+    part₁-nonzero = part-nonzero d A e e-nonzero D (divides-trans R (J .bezout .divides-first) (I .bezout .divides-first))
 
     pub part₂-nonzero : ¬ (poly d d₂ ≡ 𝟘)
-    part₂-nonzero = part-nonzero d B (second .g) e-nonzero E (divides-trans R (J .bezout .divides-first) (I .bezout .divides-second))
+    part₂-nonzero = part-nonzero d B e e-nonzero E (divides-trans R (J .bezout .divides-first) (I .bezout .divides-second))
 
     pub common-stands : {w m : List ℕ} {r : RowPair} → CofactorRow d f a w
-        → Stands d m (multiple d sum w first second)
+        → Stands d m (multiple d sum w s s′ t′)
         → StandsPair d r (joined (𝔸 d) (poly d d₁) (poly d d₂) (poly d (a .v)) (poly d m))
         → (C : Theory.Curve (𝔸 d)) → OnCurve d f C → StandsPair d r (compose C (rows-pair d a) (rows-pair d b))
     unfolding rows-pair multiple
     common-stands {r = r} W M Z C on =
-        let c-is : poly d c ≡ poly d (a .v) + poly d (b .v) + 𝟙 = k .third-is .stands ∙ ap₂ _+_ (S .stands) (one-stands d (k .one-is) .stands) in
-        let i = subst (λ z. IsBezout (𝔸 d) (poly d (first .g)) z (record { g = poly d (second .g); s = poly d (second .s); t = poly d (second .t) })) c-is (J .bezout) in
-        let m-is = M .stands ∙ ap₂ (λ y z. poly d (second .s) · poly d (first .s) · y + poly d (second .t) · z) (S .stands) (W C on .stands) in
+        let c-is : poly d c ≡ poly d (a .v) + poly d (b .v) + 𝟙 = k .third-is .stands ∙ ap₂ _+_ (S .stands) (k .one-is .stands) in
+        let i = subst (λ z. IsBezout (𝔸 d) (poly d g) z (record { g = poly d e; s = poly d s′; t = poly d t′ })) c-is (J .bezout) in
+        let m-is = M .stands ∙ ap₂ (λ y z. poly d s′ · poly d s · y + poly d t′ · z) (S .stands) (W C on .stands) in
         subst (StandsPair d r)
         ((λ j. joined (𝔸 d) (D .stands j) (E .stands j) (poly d (a .v)) (m-is j))
         ∙ sym (compose-common C (reduced-on d A on) (reduced-on d B on) (I .bezout) i))

@@ -8,10 +8,12 @@ use Rattle.char2_algebra.specs.Polynomials.{Polynomials}
 use Rattle.class_group.specs.Curve as Theory
 use Rattle.class_group.specs.{Mumford.value, Composition.compose-double, Reduction.reduce, Operations.counted-double}
 use Rattle.class_group.proofs.{SemiReduced.semi-of-reduced, Composed.compose-double-semi, Composed.compose-double-len}
-use Rattle.class_rows.specs.{Field.𝔸, Field.poly, Row.Stands, Row.StandsPair, Row.rows-pair, Row.row-len}
-use Rattle.class_rows.specs.{Core.OnCurve, Core.ReducedRows, Core.SemiReducedRows, Core.StandsCounted, Cofactor.CofactorRow, Cofactor.SquaredRows}
+use Rattle.row_theory.specs.{Field.𝔸, Field.poly, Row.Stands, Row.row-len}
+use Rattle.class_rows.specs.{Pair.StandsPair, Pair.rows-pair, Core.OnCurve, Core.ReducedRows, Core.SemiReducedRows, Core.StandsCounted}
+use Rattle.class_rows.specs.internal.Cofactor.{CofactorRow, SquaredRows}
+use Rattle.row_theory.proofs.ReductionSteps.{square-nonzero, square-len, double-cofactor, cofactor-short}
+use Rattle.row_theory.proofs.ReductionSteps.{quotient-short}
 use Rattle.class_rows.specs.declared.{row.RowPair.RowPair, reduction.CountedRows.CountedRows, reduction.Squared.Squared}
-use Rattle.class_rows.proofs.ReductionSteps.{square-nonzero, square-len, double-cofactor, cofactor-short, quotient-short}
 use Rattle.class_rows.proofs.ReductionRows.{pair-eq, reduced-on, semi-rows}
 
 -- the composed pair

@@ -1,11 +1,7 @@
 -- Rows of coefficients: lemmas that belong to no one function.
-pub mod Rows
-pub mod Bezout
-pub mod ReductionSteps
 pub mod ReductionRows
 pub mod DoubleRows
 pub mod ComposeRows
-pub mod QuotientRows
 pub mod HalfRows
 pub mod OppositeRows
 pub mod MoveRows

@@ -5,7 +5,8 @@ use mathlib.Core.List.{List}
 use Rattle.class_group.specs.Curve as Theory
 use Rattle.class_group.specs.{Mumford.opposite, Operations.sum, Operations.double, Operations.counted-sum, Operations.counted-double, Half.half, Moves.counted-double-and-add, Moves.counted-subtract-and-halve}
 use Rattle.class_group.proofs.Closed.{sum-reduced, sum-steps, double-reduced, double-steps, opposite-reduced}
-use Rattle.class_rows.specs.{Field.𝔸, Row.StandsPair, Row.rows-pair, Core.OnCurve, Core.ReducedRows, Core.StandsCounted}
+use Rattle.row_theory.specs.Field.{𝔸}
+use Rattle.class_rows.specs.{Pair.StandsPair, Pair.rows-pair, Core.OnCurve, Core.ReducedRows, Core.StandsCounted}
 use Rattle.class_rows.specs.declared.{row.RowPair.RowPair, reduction.CountedRows.CountedRows}
 use Rattle.class_rows.proofs.ReductionRows.{pair-eq, reduced-on, reduced-rows}
 

@@ -7,8 +7,9 @@ use Rattle.field_laws.specs.Field.{Field2}
 use Rattle.char2_algebra.specs.Polynomials.{Polynomials}
 use Rattle.class_group.specs.Curve as Theory
 use Rattle.class_group.specs.Mumford.{Pair, opposite}
-use Rattle.class_rows.specs.{Field.𝔸, Field.poly, Row.InRange, Row.Stands, Row.StandsPair, Row.row-len, Row.rows-pair, declared.row.RowPair.RowPair}
-use Rattle.class_rows.proofs.ReductionRows.{one-row, one-stands}
+use Rattle.row_theory.specs.{Field.𝔸, Field.poly, Row.InRange, Row.Stands, Row.row-len}
+use Rattle.class_rows.specs.{Pair.StandsPair, Pair.rows-pair, declared.row.RowPair.RowPair}
+use Rattle.row_theory.proofs.Rows.Constants.{one-row, one-stands}
 
 -- the opposite by the length of u
 module _ {K P : Type 0} {F : Field2 K} {A : Polynomials F P} (C : Theory.Curve A) where

@@ -1,44 +1,28 @@
 -- Rows that stand for semi-reduced pairs: what the functions of a reduction require of each other, and what they promise, from what
 -- the functions on rows promise.
-use Prim.Native.Nat.{ℕ, zero, suc, _≤_, _<_, _^_}
+use Prim.Native.Nat.{ℕ, _≤_, _<_}
 use mathlib.Core.Path.{_≡_, refl, sym, _∙_, ap, ap₂, subst}
-use mathlib.Core.List.{List, _∷_}
+use mathlib.Core.List.{List}
 use native.Mathlib.Omega.{arith}
-use lib.ListN.{getD, replicate}
 use Rattle.field_laws.specs.Ring.{Ring2}
 use Rattle.char2_algebra.specs.{Polynomials.Polynomials, Lead.monic-of}
-use Rattle.char2_algebra.proofs.{Degree.coeff-one, Degree.coeff-one-suc, Divides.divides-eq}
+use Rattle.char2_algebra.proofs.Divides.{divides-eq}
 use Rattle.class_group.specs.Curve as Theory
 use Rattle.class_group.specs.{Mumford.Pair, Mumford.Reduced, Mumford.value, Reduction.reduction-step, Reduction.reduce}
 use Rattle.class_group.proofs.SemiReduced.{SemiReduced, cofactor-nonzero, step-semi, step-len}
-use Rattle.class_rows.specs.{Field.𝔸, Field.Poly, Field.poly, Field.el, Field.degree-of, Row.InRange, Row.Stands, Row.StandsPair, Row.rows-pair, Row.row-len}
-use Rattle.class_rows.specs.{Core.OnCurve, Core.ReducedRows, Core.SemiReducedRows, Core.StandsCounted, Cofactor.CofactorRow, declared.row.RowPair.RowPair}
-use Rattle.class_rows.proofs.Rows.{Elements.el-zero, Elements.el-one, Elements.zero-lt, Elements.one-lt, Coefficients.stands-by, Fill.zeros-at}
-use Rattle.class_rows.proofs.ReductionSteps.{reduce-none, reduce-once, reduce-twice}
+use Rattle.row_theory.specs.{Field.𝔸, Field.Poly, Field.poly, Row.InRange, Row.Stands, Row.row-len}
+use Rattle.row_theory.proofs.Rows.Coefficients.{self-stands, stands-eq}
+use Rattle.row_theory.proofs.ReductionSteps.{reduce-none, reduce-once, reduce-twice}
+use Rattle.class_rows.specs.{Pair.StandsPair, Pair.rows-pair, Core.OnCurve, Core.ReducedRows, Core.SemiReducedRows, Core.StandsCounted}
+use Rattle.class_rows.specs.{internal.Cofactor.CofactorRow, declared.row.RowPair.RowPair}
 
--- the row of the polynomial 1
-abbrev pub one-row : List ℕ
-one-row = 1 ∷ replicate 11 0
-
-pub one-stands : (d : ℕ) → Stands d one-row (𝔸 d .ring .one)
-one-stands d = stands-by d one-row (𝔸 d .ring .one) range number
-  where
-    range : InRange d one-row
-    range zero = one-lt d
-    range (suc i) = subst (λ n. n < 2 ^ degree-of d) (sym (zeros-at 11 i)) (zero-lt d)
-
-    number : (i : ℕ) → el d (getD one-row i 0) ≡ 𝔸 d .coeff (𝔸 d .ring .one) i
-    number zero = el-one d ∙ sym (coeff-one (𝔸 d))
-    number (suc i) = ap (el d) (zeros-at 11 i) ∙ el-zero d ∙ sym (coeff-one-suc (𝔸 d) i)
-
--- v² + v + f, from what the functions on rows promise
+-- v² + v + f on a curve of f
 pub value-stands :
-    (d : ℕ) (v : List ℕ) {f square left all : List ℕ} {C : Theory.Curve (𝔸 d)} → OnCurve d f C
-    → Stands d square (𝔸 d .ring .mul (poly d v) (poly d v)) → Stands d left (𝔸 d .ring .add (poly d square) (poly d v))
-    → Stands d all (𝔸 d .ring .add (poly d left) (poly d f)) → poly d all ≡ value C (poly d v)
+    (d : ℕ) (v : List ℕ) {f r : List ℕ} {C : Theory.Curve (𝔸 d)} → OnCurve d f C
+    → Stands d r (𝔸 d .ring .add (𝔸 d .ring .add (𝔸 d .ring .mul (poly d v) (poly d v)) (poly d v)) (poly d f))
+    → poly d r ≡ value C (poly d v)
 unfolding value
-value-stands d v on s l a =
-    a .stands ∙ ap₂ (𝔸 d .ring .add) (l .stands ∙ ap (λ z. 𝔸 d .ring .add z (poly d v)) (s .stands)) (on .is-f)
+value-stands d v on s = s .stands ∙ ap (𝔸 d .ring .add _) (on .is-f)
 
 module _ (d : ℕ) where
   open Polynomials (𝔸 d) using (ring as R, len, quot, rem)
@@ -50,6 +34,12 @@ module _ (d : ℕ) where
   pub pair-eq : {b : RowPair} {D : Pair (Poly d)} → StandsPair d b D → rows-pair d b ≡ D
   unfolding rows-pair
   pair-eq t = λ i. record { u = t .u-stands .stands i; v = t .v-stands .stands i }
+
+  pub stands-pair-eq : {r : RowPair} {D E : Pair (Poly d)} → D ≡ E → StandsPair d r D → StandsPair d r E
+  stands-pair-eq e s = record { u-stands = stands-eq d (ap (λ D. D .u) e) (s .u-stands); v-stands = stands-eq d (ap (λ D. D .v) e) (s .v-stands) }
+
+  pub pair-stands : {u v : List ℕ} {D : Pair (Poly d)} → InRange d u → InRange d v → record { u = poly d u; v = poly d v } ≡ D → StandsPair d (record { u = u; v = v }) D
+  pair-stands hu hv e = stands-pair-eq e (record { u-stands = self-stands d _ hu; v-stands = self-stands d _ hv })
 
   -- the rows b are one reduction step after the rows a
   abbrev pub Stepped : List ℕ → RowPair → RowPair → Type 0
@@ -101,19 +91,11 @@ module _ (d : ℕ) where
         }
 
     -- the cofactor of a pair: w = (v² + v + f) / u
-    pub cofactor-row : (a : RowPair) {s t n w : List ℕ}
-        → Stands d s (poly d (a .v) · poly d (a .v))
-        → Stands d t (poly d s + poly d (a .v))
-        → Stands d n (poly d t + poly d f)
+    pub cofactor-row : (a : RowPair) {n w : List ℕ}
+        → Stands d n (poly d (a .v) · poly d (a .v) + poly d (a .v) + poly d f)
         → Stands d w (quot (poly d n) (poly d (a .u)))
         → CofactorRow d f a w
-    unfolding value
-    cofactor-row a s t n w C on = record {
-      in-range = w .in-range;
-      stands =
-          w .stands
-          ∙ ap (λ z. quot z (poly d (a .u))) (n .stands ∙ ap₂ _+_ (t .stands ∙ ap (λ z. z + poly d (a .v)) (s .stands)) (on .is-f));
-    }
+    cofactor-row a n w C on = stands-eq d (ap (λ z. quot z (poly d (a .u))) (value-stands d (a .v) on n)) w
 
     pub cofactor-row-range : {a : RowPair} {w : List ℕ} → SemiReducedRows d f a → CofactorRow d f a w → InRange d w
     cofactor-row-range s w = w (s .C) (s .on-curve) .in-range
@@ -123,20 +105,21 @@ module _ (d : ℕ) where
     cofactor-row-nonzero s w e = cofactor-nonzero (s .C) (semi-on s (s .on-curve)) (sym (w (s .C) (s .on-curve) .stands) ∙ e)
 
     -- a reduction step
-    pub step-rows : (a : RowPair) {w n o r : List ℕ}
+    pub step-rows : (a : RowPair) {w n e o r : List ℕ}
         → CofactorRow d f a w
         → Stands d n (monic-of (𝔸 d) (poly d w))
-        → Stands d o (poly d (a .v) + poly d one-row)
+        → Stands d e (𝔸 d .ring .one)
+        → Stands d o (poly d (a .v) + poly d e)
         → Stands d r (rem (poly d o) (poly d n))
         → Stepped f a (record { u = n; v = r })
     unfolding reduction-step rows-pair
-    step-rows a w n o r C on =
+    step-rows a w n e o r C on =
         let u : poly d _ ≡ monic-of (𝔸 d) (quot (value C (poly d (a .v))) (poly d (a .u))) = n .stands ∙ ap (monic-of (𝔸 d)) (w C on .stands) in
         record {
           u-stands = record { in-range = n .in-range; stands = u };
           v-stands = record {
             in-range = r .in-range;
-            stands = r .stands ∙ ap₂ rem (o .stands ∙ ap (λ z. poly d (a .v) + z) (one-stands d .stands)) u;
+            stands = r .stands ∙ ap₂ rem (o .stands ∙ ap (λ z. poly d (a .v) + z) (e .stands)) u;
           };
         }
 

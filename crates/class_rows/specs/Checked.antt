@@ -7,7 +7,8 @@ use Rattle.binary_field_theory.specs.Element.{Accepted}
 use Rattle.char2_algebra.specs.Lead.{Monic}
 use Rattle.class_group.specs.Curve as Theory
 use Rattle.class_group.specs.Reduction.{Counted}
-use Rattle.class_rows.specs.{Field.Poly, Field.𝔸, Field.poly, Row.InRange, Row.row-len, Core.OnCurve, Core.ReducedRows, Core.StandsCounted, Cofactor.CofactorRow}
+use Rattle.row_theory.specs.{Field.Poly, Field.𝔸, Field.poly, Row.InRange, Row.row-len}
+use Rattle.class_rows.specs.{Core.OnCurve, Core.ReducedRows, Core.StandsCounted, internal.Cofactor.CofactorRow}
 use Rattle.class_rows.specs.declared.{row.RowPair.RowPair, divisor.Check.Check, RowsAnswer.RowsAnswer}
 
 -- true exactly where P holds

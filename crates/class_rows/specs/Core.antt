@@ -7,8 +7,8 @@ use Rattle.char2_algebra.specs.Divides.{Divides}
 use Rattle.class_group.specs.Curve as Theory
 use Rattle.class_group.specs.Mumford.{Pair, Reduced, value}
 use Rattle.class_group.specs.Reduction.{Counted}
-use Rattle.class_rows.specs.Field.{𝔸, Poly, poly}
-use Rattle.class_rows.specs.Row.{InRange, Stands, StandsPair, rows-pair}
+use Rattle.row_theory.specs.{Field.𝔸, Field.Poly, Field.poly, Row.InRange, Row.Stands}
+use Rattle.class_rows.specs.Pair.{StandsPair, rows-pair}
 use Rattle.class_rows.specs.declared.row.RowPair.{RowPair}
 use Rattle.class_rows.specs.declared.reduction.CountedRows.{CountedRows}
 

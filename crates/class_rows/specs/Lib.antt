@@ -1,10 +1,6 @@
--- The polynomials that rows of numbers stand for, and what the functions on rows require and promise.
-pub mod Field
-pub mod Row
-pub mod Bezout
-pub mod Compose
+-- What the functions on rows of numbers require and promise.
+pub mod Pair
 pub mod Core
-pub mod Cofactor
-pub mod Halving
 pub mod Operations
 pub mod Checked
+pub mod internal

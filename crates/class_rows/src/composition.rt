@@ -3,24 +3,23 @@ ghost use mathlib.Core.Path.{_≡_};
 ghost use Rattle.binary_field_theory.specs.Element.{Accepted};
 ghost use Rattle.class_group.specs.Composition.{compose};
 ghost use Rattle.class_group.specs.Curve.{Curve as TheoryCurve};
-ghost use Rattle.class_group.proofs.Joined.{joined};
-ghost use Rattle.class_rows.specs.Field.{𝔸, poly};
-ghost use Rattle.class_rows.specs.Row.{InRange, Stands, StandsPair, rows-pair};
-ghost use Rattle.class_rows.specs.Bezout.{BezoutRows};
-ghost use Rattle.class_rows.specs.Compose.{Short, multiple};
+ghost use Rattle.class_group.specs.Composition.{joined};
+ghost use Rattle.row_theory.specs.{Field.𝔸, Field.poly, Row.InRange, Row.Stands, internal.Compose.Short, internal.Compose.multiple};
+ghost use Rattle.class_rows.specs.{Pair.StandsPair, Pair.rows-pair, internal.Bezout.Combines};
 ghost use Rattle.class_rows.specs.Core.{OnCurve, ReducedRows};
 use crate::euclid::Combination;
 use crate::euclid::bezout;
-use crate::euclid::constant;
 use crate::reduction::cofactor;
+use crate::row::Row;
 use crate::row::RowPair;
 use crate::row::add_rows;
 use crate::row::divide;
 use crate::row::length;
 use crate::row::multiply;
+use crate::row::one;
 
 // The pair [d1 d2, v1 + d1 (m mod d2) modulo d1 d2].
-fn joined_rows(d: u8, d1: [u64; 12], d2: [u64; 12], v1: [u64; 12], m: [u64; 12]) -> RowPair
+fn joined_rows(d: u8, d1: Row, d2: Row, v1: Row, m: Row) -> RowPair
     requires { ⌜ Accepted d × Short d 4 d1 × Short d 4 d2 × InRange d v1 × InRange d m × ¬ (poly d d1 ≡ 𝔸 d .ring .nought) × ¬ (poly d d2 ≡ 𝔸 d .ring .nought) ⌝ }
     ensures { λ r. ⌜ StandsPair d r (joined (𝔸 d) (poly d d1) (poly d d2) (poly d v1) (poly d m)) ⌝ }
 {
@@ -31,19 +30,13 @@ fn joined_rows(d: u8, d1: [u64; 12], d2: [u64; 12], v1: [u64; 12], m: [u64; 12])
     let s = add_rows(d, v1, p);
     let j = divide(d, s, u);
     let v = j.remainder;
-    RowPair { u: u, v: v }
+    RowPair { u, v }
 }
 
 // s1 (v1 + v2) + s3 w1, from the coefficients of the two uses of Euclid's rule.
-fn multiple_row(
-    d: u8,
-    sum: [u64; 12],
-    w: [u64; 12],
-    first: Combination,
-    second: Combination,
-) -> [u64; 12]
+fn multiple_row(d: u8, sum: Row, w: Row, first: Combination, second: Combination) -> Row
     requires { ⌜ Accepted d × Short d 3 sum × Short d 8 w × Short d 4 (first .s) × Short d 4 (second .s) × Short d 4 (second .t) ⌝ }
-    ensures { λ r. ⌜ Stands d r (multiple d sum w first second) ⌝ }
+    ensures { λ r. ⌜ Stands d r (multiple d sum w (first .s) (second .s) (second .t)) ⌝ }
 {
     let s = first.s;
     let s0 = second.s;
@@ -55,8 +48,8 @@ fn multiple_row(
 }
 
 // The composition where u1 and u2 have a common divisor: e is the greatest that v1 + v2 + 1 has too.
-fn compose_common(d: u8, f: [u64; 12], a: RowPair, b: RowPair, first: Combination) -> RowPair
-    requires { ⌜ Accepted d × ReducedRows d f a × ReducedRows d f b × BezoutRows d (a .u) (b .u) first ⌝ }
+fn compose_common(d: u8, f: Row, a: RowPair, b: RowPair, first: Combination) -> RowPair
+    requires { ⌜ Accepted d × ReducedRows d f a × ReducedRows d f b × Combines d (a .u) (b .u) first ⌝ }
     ensures { λ r. ⌜ ((C : TheoryCurve (𝔸 d)) → OnCurve d f C → StandsPair d r (compose C (rows-pair d a) (rows-pair d b))) ⌝ }
 {
     let u1 = a.u;
@@ -65,8 +58,8 @@ fn compose_common(d: u8, f: [u64; 12], a: RowPair, b: RowPair, first: Combinatio
     let v2 = b.v;
     let g = first.g;
     let sum = add_rows(d, v1, v2);
-    let one = constant(d, 1);
-    let c = add_rows(d, sum, one);
+    let unit = one();
+    let c = add_rows(d, sum, unit);
     let second = bezout(d, g, c);
     let e = second.g;
     let w = cofactor(d, f, a);
@@ -79,7 +72,7 @@ fn compose_common(d: u8, f: [u64; 12], a: RowPair, b: RowPair, first: Combinatio
 }
 
 // The composition of two reduced pairs. Where u1 and u2 have no common divisor, nothing else is needed than the coefficient of u1.
-pub(crate) fn compose_rows(d: u8, f: [u64; 12], a: RowPair, b: RowPair) -> RowPair
+pub(crate) fn compose_rows(d: u8, f: Row, a: RowPair, b: RowPair) -> RowPair
     requires { ⌜ Accepted d × ReducedRows d f a × ReducedRows d f b ⌝ }
     ensures { λ r. ⌜ ((C : TheoryCurve (𝔸 d)) → OnCurve d f C → StandsPair d r (compose C (rows-pair d a) (rows-pair d b))) ⌝ }
 {

@@ -1,10 +1,13 @@
 // Is a pair a reduced divisor of the curve of f? The division that tells yields the cofactor w = (v² + v + f) / u besides.
+ghost use Prim.Native.Nat.{_≤_};
 ghost use Rattle.class_group.specs.{Curve.Curve as TheoryCurve, Mumford.value};
 ghost use Rattle.binary_field_theory.specs.Element.{Accepted};
 ghost use Rattle.char2_algebra.specs.Lead.{Monic};
-ghost use Rattle.class_rows.specs.{Field.𝔸, Field.poly, Row.InRange, Row.Stands, Core.OnCurve};
+ghost use Rattle.row_theory.specs.{Field.𝔸, Field.poly, Row.InRange, Row.Stands, Row.row-len};
+ghost use Rattle.class_rows.specs.Core.{OnCurve};
 ghost use Rattle.class_rows.specs.Checked.{Decides, FormedPair, FormedRows, CheckedRows, CheckedBoth};
 use crate::row::Division;
+use crate::row::Row;
 use crate::row::RowPair;
 use crate::row::add_rows;
 use crate::row::bound;
@@ -15,7 +18,7 @@ use crate::row::square_row;
 // The verdict on a pair, and its cofactor where it is a divisor.
 pub(crate) struct Check {
     pub divisor: bool,
-    pub w: [u64; 12],
+    pub w: Row,
 }
 
 // Is d a degree of the two fields?
@@ -29,7 +32,7 @@ fn is_degree(d: u8) -> bool
 }
 
 // Is every number an element?
-fn in_range(d: u8, r: [u64; 12]) -> bool
+fn in_range(d: u8, r: Row) -> bool
     ensures { λ t. ⌜ Decides t (InRange d r) ⌝ }
 {
     let m = bound(d);
@@ -44,7 +47,7 @@ fn in_range(d: u8, r: [u64; 12]) -> bool
 }
 
 // Is the leading coefficient 1?
-fn is_monic(d: u8, r: [u64; 12]) -> bool
+fn is_monic(d: u8, r: Row) -> bool
     requires { ⌜ InRange d r ⌝ }
     ensures { λ t. ⌜ Decides t (Monic (𝔸 d) (poly d r)) ⌝ }
 {
@@ -56,7 +59,7 @@ fn is_monic(d: u8, r: [u64; 12]) -> bool
 }
 
 // Is f monic of degree 7?
-fn is_curve(d: u8, f: [u64; 12]) -> bool
+fn is_curve(d: u8, f: Row) -> bool
     ensures { λ t. ⌜ Decides t ((C : TheoryCurve (𝔸 d)) × OnCurve d f C) ⌝ }
 {
     if !in_range(d, f) {
@@ -91,7 +94,7 @@ fn is_pair(d: u8, a: RowPair) -> bool
 }
 
 // All that is asked of f and the pair before a division.
-fn in_form(d: u8, f: [u64; 12], a: RowPair) -> bool
+fn in_form(d: u8, f: Row, a: RowPair) -> bool
     ensures { λ t. ⌜ Decides t (FormedRows d f a) ⌝ }
 {
     if !is_degree(d) {
@@ -103,21 +106,29 @@ fn in_form(d: u8, f: [u64; 12], a: RowPair) -> bool
     is_pair(d, a)
 }
 
+// v² + v + f.
+pub(crate) fn curve_value(d: u8, f: Row, v: Row) -> Row
+    requires { ⌜ Accepted d × InRange d f × InRange d v × (row-len d v ≤ 6) ⌝ }
+    ensures { λ r. ⌜ Stands d r (𝔸 d .ring .add (𝔸 d .ring .add (𝔸 d .ring .mul (poly d v) (poly d v)) (poly d v)) (poly d f)) ⌝ }
+{
+    let square = square_row(d, v);
+    let sum = add_rows(d, square, v);
+    add_rows(d, sum, f)
+}
+
 // v² + v + f divided by u.
-fn divided(d: u8, f: [u64; 12], a: RowPair) -> Division
+fn divided(d: u8, f: Row, a: RowPair) -> Division
     requires { ⌜ FormedRows d f a ⌝ }
     ensures { λ r. ⌜ ((C : TheoryCurve (𝔸 d)) → OnCurve d f C → Stands d (r .quotient) (𝔸 d .quot (value C (poly d (a .v))) (poly d (a .u))) × Stands d (r .remainder) (𝔸 d .rem (value C (poly d (a .v))) (poly d (a .u)))) ⌝ }
 {
     let u = a.u;
     let v = a.v;
-    let square = square_row(d, v);
-    let left = add_rows(d, square, v);
-    let all = add_rows(d, left, f);
-    divide(d, all, u)
+    let value = curve_value(d, f, v);
+    divide(d, value, u)
 }
 
 // The check of a pair.
-pub(crate) fn checked(d: u8, f: [u64; 12], a: RowPair) -> Check
+pub(crate) fn checked(d: u8, f: Row, a: RowPair) -> Check
     ensures { λ r. ⌜ CheckedRows d f a r ⌝ }
 {
     if !in_form(d, f, a) {
@@ -130,14 +141,11 @@ pub(crate) fn checked(d: u8, f: [u64; 12], a: RowPair) -> Check
     let w = division.quotient;
     let rest = division.remainder;
     let n = length(rest);
-    Check {
-        divisor: n == 0,
-        w: w,
-    }
+    Check { divisor: n == 0, w }
 }
 
 // The check of two pairs, with the cofactor of the first.
-pub(crate) fn checked_both(d: u8, f: [u64; 12], a: RowPair, b: RowPair) -> Check
+pub(crate) fn checked_both(d: u8, f: Row, a: RowPair, b: RowPair) -> Check
     ensures { λ r. ⌜ CheckedBoth d f a b r ⌝ }
 {
     let second = checked(d, f, b);

@@ -3,45 +3,36 @@ ghost use Prim.Native.Nat.{ℕ, _+_, _≤_, _<_, _^_};
 ghost use mathlib.Core.Path.{_≡_};
 ghost use mathlib.Core.List.{List};
 ghost use Rattle.binary_field_theory.specs.Element.{Accepted};
-ghost use Rattle.char2_algebra.specs.Lead.{lead};
-ghost use Rattle.class_rows.specs.Field.{degree-of, F, 𝔸, el, poly};
-ghost use Rattle.class_rows.specs.Row.{Is, InRange, Stands, row-len};
-ghost use Rattle.class_rows.specs.Bezout.{BezoutRows, Substituted};
-use crate::element::inverted;
+ghost use Rattle.row_theory.specs.{Field.degree-of, Field.𝔸, Field.el, Field.poly, Row.InRange, Row.Stands, Row.row-len};
+ghost use Rattle.class_rows.specs.internal.Bezout.{Combines};
+use crate::row::Row;
 use crate::row::add_rows;
 use crate::row::divide;
+use crate::row::leading;
 use crate::row::length;
 use crate::row::multiply;
+use crate::row::one;
 use crate::row::scale;
 
 // g = s a + t b.
 pub(crate) struct Combination {
-    pub g: [u64; 12],
-    pub s: [u64; 12],
-    pub t: [u64; 12],
+    pub g: Row,
+    pub s: Row,
+    pub t: Row,
 }
 
 // The constant c.
-pub(crate) fn constant(d: u8, c: u64) -> [u64; 12]
+pub(crate) fn constant(d: u8, c: u64) -> Row
     requires { ⌜ Accepted d × (c < 2 ^ degree-of d) ⌝ }
     ensures { λ r. ⌜ Stands d r (𝔸 d .con (el d c)) ⌝ }
 {
     [c, 0, 0, 0, 0, 0, 0, 0, 0, 0, 0, 0]
 }
 
-// The inverse of the leading coefficient.
-fn lead_inverse(d: u8, a: [u64; 12]) -> u64
-    requires { ⌜ Accepted d × InRange d a × ¬ (poly d a ≡ 𝔸 d .ring .nought) ⌝ }
-    ensures { λ r. ⌜ Is d r (F d .inverse (lead (𝔸 d) (poly d a))) ⌝ }
-{
-    let top = length(a) - 1;
-    inverted(d, a[top])
-}
-
 // The divisor of a and 0: a made monic.
-fn bezout_nought(d: u8, a: [u64; 12]) -> Combination
+fn bezout_nought(d: u8, a: Row) -> Combination
     requires { ⌜ Accepted d × InRange d a ⌝ }
-    ensures { λ r. ⌜ ((b : List ℕ) → row-len d b ≡ 0 → BezoutRows d a b r) ⌝ }
+    ensures { λ r. ⌜ ((b : List ℕ) → row-len d b ≡ 0 → Combines d a b r) ⌝ }
 {
     let zero = constant(d, 0);
     let n = length(a);
@@ -52,45 +43,43 @@ fn bezout_nought(d: u8, a: [u64; 12]) -> Combination
             t: zero,
         };
     }
-    let c = lead_inverse(d, a);
+    let first = leading(d, a);
+    let c = first.inverse;
     let s = constant(d, c);
     let g = scale(d, c, a);
-    Combination {
-        g: g,
-        s: s,
-        t: zero,
-    }
+    Combination { g, s, t: zero }
 }
 
 // The divisor of any polynomial and a constant other than 0: 1.
-fn bezout_constant(d: u8, b: [u64; 12]) -> Combination
+fn bezout_constant(d: u8, b: Row) -> Combination
     requires { ⌜ Accepted d × InRange d b × (row-len d b ≡ 1) ⌝ }
-    ensures { λ r. ⌜ ((a : List ℕ) → BezoutRows d a b r) ⌝ }
+    ensures { λ r. ⌜ ((a : List ℕ) → Combines d a b r) ⌝ }
 {
-    let g = constant(d, 1);
+    let g = one();
     let s = constant(d, 0);
-    let c = lead_inverse(d, b);
+    let first = leading(d, b);
+    let c = first.inverse;
     let t = constant(d, c);
-    Combination { g: g, s: s, t: t }
+    Combination { g, s, t }
 }
 
 // From g = s b + t r and a = q b + r: g = t a + (s + t q) b.
-fn substituted(d: u8, q: [u64; 12], r: Combination) -> Combination
+fn substituted(d: u8, q: Row, r: Combination) -> Combination
     requires { ⌜ Accepted d × InRange d q × InRange d (r .s) × InRange d (r .t) × (row-len d (r .t) + row-len d q ≤ 13) ⌝ }
-    ensures { λ c. ⌜ Substituted d q r c ⌝ }
+    ensures { λ c. ⌜ (c .g ≡ r .g) × (c .s ≡ r .t) × Stands d (c .t) (𝔸 d .ring .add (poly d (r .s)) (𝔸 d .ring .mul (poly d (r .t)) (poly d q))) ⌝ }
 {
     let g = r.g;
     let s = r.t;
     let rest = r.s;
     let product = multiply(d, s, q);
     let t = add_rows(d, rest, product);
-    Combination { g: g, s: s, t: t }
+    Combination { g, s, t }
 }
 
 // The monic greatest common divisor of a and b as a combination of them; what the rules leave free of s and t is promised by what holds of them.
-pub(crate) fn bezout(d: u8, a: [u64; 12], b: [u64; 12]) -> Combination
+pub(crate) fn bezout(d: u8, a: Row, b: Row) -> Combination
     requires { ⌜ Accepted d × InRange d a × InRange d b × (row-len d a ≤ 4) × (row-len d b ≤ 4) ⌝ }
-    ensures { λ r. ⌜ BezoutRows d a b r ⌝ }
+    ensures { λ r. ⌜ Combines d a b r ⌝ }
 {
     let n = length(b);
     if n == 0 {

@@ -6,27 +6,29 @@ ghost use Rattle.binary_field_theory.specs.Element.{Accepted};
 ghost use Rattle.char2_algebra.specs.Square.{sqrt};
 ghost use Rattle.class_group.specs.Curve.{Curve as TheoryCurve};
 ghost use Rattle.class_group.specs.Half.{quadratic, half, half-of-degree-1, half-of-degree-2, half-of-degree-3};
-ghost use Rattle.class_group.proofs.Rows.{first-lift};
-ghost use Rattle.class_rows.specs.Field.{degree-of, F, 𝔸, el, poly};
-ghost use Rattle.class_rows.specs.Row.{Is, InRange, Stands, StandsPair, row-len, rows-pair};
+ghost use Rattle.class_group.specs.Half.{first-lift};
+ghost use Rattle.row_theory.specs.{Field.degree-of, Field.F, Field.𝔸, Field.el, Field.poly, Row.Is, Row.InRange, Row.Stands, Row.row-len};
+ghost use Rattle.row_theory.specs.internal.Halving.{HalvingRows, even-quartic, root-pair, rows-triple};
+ghost use Rattle.row_theory.specs.internal.Halving.{second-square, second-remainder};
+ghost use Rattle.class_rows.specs.{Pair.StandsPair, Pair.rows-pair, internal.Cofactor.CofactorRow};
 ghost use Rattle.class_rows.specs.Core.{OnCurve, ReducedRows};
-ghost use Rattle.class_rows.specs.Cofactor.{CofactorRow};
-ghost use Rattle.class_rows.specs.Halving.{HalvingRows, even-quartic, root-pair, rows-triple, second-square, second-remainder};
 use crate::element::inverted;
 use crate::element::plus;
 use crate::element::root_of;
 use crate::element::times;
+use crate::row::Row;
 use crate::row::RowPair;
 use crate::row::add_multiple;
 use crate::row::add_rows;
 use crate::row::divide;
 use crate::row::length;
 use crate::row::multiply;
+use crate::row::one;
 use crate::row::root_row;
 use crate::row::scale;
 
 // k2 x² + k1 x + k0.
-fn quadratic_row(d: u8, k2: u64, k1: u64, k0: u64) -> [u64; 12]
+fn quadratic_row(d: u8, k2: u64, k1: u64, k0: u64) -> Row
     requires { ⌜ (k2 < 2 ^ degree-of d) × (k1 < 2 ^ degree-of d) × (k0 < 2 ^ degree-of d) ⌝ }
     ensures { λ r. ⌜ Stands d r (quadratic (𝔸 d) (el d k2) (el d k1) (el d k0)) ⌝ }
 {
@@ -34,7 +36,7 @@ fn quadratic_row(d: u8, k2: u64, k1: u64, k0: u64) -> [u64; 12]
 }
 
 // m2 x⁴ + m1 x² + m0.
-fn quartic_row(d: u8, m2: u64, m1: u64, m0: u64) -> [u64; 12]
+fn quartic_row(d: u8, m2: u64, m1: u64, m0: u64) -> Row
     requires { ⌜ (m2 < 2 ^ degree-of d) × (m1 < 2 ^ degree-of d) × (m0 < 2 ^ degree-of d) ⌝ }
     ensures { λ r. ⌜ Stands d r (even-quartic (𝔸 d) (el d m2) (el d m1) (el d m0)) ⌝ }
 {
@@ -42,7 +44,7 @@ fn quartic_row(d: u8, m2: u64, m1: u64, m0: u64) -> [u64; 12]
 }
 
 // a + k b, for a short k: no product where a coefficient is 0 or 1.
-fn add_product(d: u8, a: [u64; 12], k: [u64; 12], b: [u64; 12]) -> [u64; 12]
+fn add_product(d: u8, a: Row, k: Row, b: Row) -> Row
     requires { ⌜ Accepted d × InRange d a × InRange d k × InRange d b × (row-len d k + row-len d b ≤ 13) ⌝ }
     ensures { λ r. ⌜ Stands d r (𝔸 d .ring .add (poly d a) (𝔸 d .ring .mul (poly d k) (poly d b))) ⌝ }
 {
@@ -51,7 +53,7 @@ fn add_product(d: u8, a: [u64; 12], k: [u64; 12], b: [u64; 12]) -> [u64; 12]
 }
 
 // w + k + m u: the third polynomial of a lift, where m stands for k².
-fn lifted_row(d: u8, w: [u64; 12], k: [u64; 12], m: [u64; 12], u: [u64; 12]) -> [u64; 12]
+fn lifted_row(d: u8, w: Row, k: Row, m: Row, u: Row) -> Row
     requires { ⌜ Accepted d × InRange d w × InRange d k × InRange d m × InRange d u × (row-len d m + row-len d u ≤ 13) ⌝ }
     ensures { λ r. ⌜ Stands d r (𝔸 d .ring .add (𝔸 d .ring .add (poly d w) (poly d k)) (𝔸 d .ring .mul (poly d m) (poly d u))) ⌝ }
 {
@@ -60,17 +62,17 @@ fn lifted_row(d: u8, w: [u64; 12], k: [u64; 12], m: [u64; 12], u: [u64; 12]) -> 
 }
 
 // v + k u + 1: the second polynomial after a lift and a step.
-fn stepped_row(d: u8, v: [u64; 12], k: [u64; 12], u: [u64; 12]) -> [u64; 12]
+fn stepped_row(d: u8, v: Row, k: Row, u: Row) -> Row
     requires { ⌜ Accepted d × InRange d v × InRange d k × InRange d u × (row-len d k + row-len d u ≤ 13) ⌝ }
     ensures { λ r. ⌜ Stands d r (𝔸 d .ring .add (𝔸 d .ring .add (poly d v) (𝔸 d .ring .mul (poly d k) (poly d u))) (𝔸 d .ring .one)) ⌝ }
 {
     let s = add_product(d, v, k, u);
-    let one = quadratic_row(d, 0, 0, 1);
-    add_rows(d, s, one)
+    let unit = one();
+    add_rows(d, s, unit)
 }
 
 // [a, v modulo a] for a square p = a².
-fn root_pair(d: u8, p: [u64; 12], v: [u64; 12]) -> RowPair
+fn root_pair(d: u8, p: Row, v: Row) -> RowPair
     requires { ⌜ Accepted d × InRange d p × InRange d v × ¬ (sqrt (𝔸 d) (poly d p) ≡ 𝔸 d .ring .nought) ⌝ }
     ensures { λ r. ⌜ StandsPair d r (root-pair (𝔸 d) (poly d p) (poly d v)) ⌝ }
 {
@@ -81,7 +83,7 @@ fn root_pair(d: u8, p: [u64; 12], v: [u64; 12]) -> RowPair
 }
 
 // Degree 1: a lift by k2 = √w5, k1 = √w3, k0 = √(w1 + k1), and a step.
-fn half_of_degree_1(d: u8, u: [u64; 12], v: [u64; 12], w: [u64; 12]) -> RowPair
+fn half_of_degree_1(d: u8, u: Row, v: Row, w: Row) -> RowPair
     requires { ⌜ Accepted d × HalvingRows d 2 u v w ⌝ }
     ensures { λ r. ⌜ StandsPair d r (half-of-degree-1 (𝔸 d) (rows-triple d u v w)) ⌝ }
 {
@@ -101,7 +103,7 @@ fn half_of_degree_1(d: u8, u: [u64; 12], v: [u64; 12], w: [u64; 12]) -> RowPair
 
 // Degree 2 with u1 other than 0: a lift by k2 = 1/√u1, k1 = √(w3/u1), k0 = √((w1 + k1)/u1), and a step. The square is
 // u1 w + u1 k + (x⁴ + w3 x² + w1 + k1) u.
-fn lifted_half_of_degree_2(d: u8, u: [u64; 12], v: [u64; 12], w: [u64; 12]) -> RowPair
+fn lifted_half_of_degree_2(d: u8, u: Row, v: Row, w: Row) -> RowPair
     requires { ⌜ Accepted d × HalvingRows d 3 u v w × ¬ (getD u 1 0 ≡ 0) ⌝ }
     ensures { λ r. ⌜ StandsPair d r (half-of-degree-2 (𝔸 d) (rows-triple d u v w)) ⌝ }
 {
@@ -125,7 +127,7 @@ fn lifted_half_of_degree_2(d: u8, u: [u64; 12], v: [u64; 12], w: [u64; 12]) -> R
 }
 
 // Degree 2: where u1 is 0, u is a square.
-fn half_of_degree_2(d: u8, u: [u64; 12], v: [u64; 12], w: [u64; 12]) -> RowPair
+fn half_of_degree_2(d: u8, u: Row, v: Row, w: Row) -> RowPair
     requires { ⌜ Accepted d × HalvingRows d 3 u v w ⌝ }
     ensures { λ r. ⌜ StandsPair d r (half-of-degree-2 (𝔸 d) (rows-triple d u v w)) ⌝ }
 {
@@ -137,7 +139,7 @@ fn half_of_degree_2(d: u8, u: [u64; 12], v: [u64; 12], w: [u64; 12]) -> RowPair
 }
 
 // Degree 3, the first lift, by r = √w3: w + r + w3 u, which is x⁴ + e2 x² + t² x + e0.
-fn first_lift(d: u8, u: [u64; 12], w: [u64; 12], r: u64) -> [u64; 12]
+fn first_lift(d: u8, u: Row, w: Row, r: u64) -> Row
     requires { ⌜ Accepted d × InRange d u × InRange d w × Is d r (F d .root (el d (getD w 3 0))) × (row-len d u ≤ 5) ⌝ }
     ensures { λ s. ⌜ Stands d s (first-lift (𝔸 d) (poly d u) (poly d w)) ⌝ }
 {
@@ -148,7 +150,7 @@ fn first_lift(d: u8, u: [u64; 12], w: [u64; 12], r: u64) -> [u64; 12]
 }
 
 // Degree 3, the square after the second lift, by (x + q)/t: t² u + t x + t q + (x² + q²) s, where t² is the coefficient of x in s and g is q².
-fn second_square(d: u8, u: [u64; 12], s: [u64; 12], t: u64, q: u64, g: u64) -> [u64; 12]
+fn second_square(d: u8, u: Row, s: Row, t: u64, q: u64, g: u64) -> Row
     requires { ⌜ Accepted d × InRange d u × InRange d s × (t < 2 ^ degree-of d) × (q < 2 ^ degree-of d) × (g < 2 ^ degree-of d) × (row-len d s ≤ 5) ⌝ }
     ensures { λ r. ⌜ Stands d r (second-square (𝔸 d) (poly d u) (poly d s) (el d t) (el d q) (el d g)) ⌝ }
 {
@@ -161,16 +163,7 @@ fn second_square(d: u8, u: [u64; 12], s: [u64; 12], t: u64, q: u64, g: u64) -> [
 }
 
 // Degree 3, v + r (u + a) + i z, where z is (x + q) s modulo a.
-fn second_remainder(
-    d: u8,
-    u: [u64; 12],
-    v: [u64; 12],
-    s: [u64; 12],
-    a: [u64; 12],
-    r: u64,
-    i: u64,
-    q: u64,
-) -> [u64; 12]
+fn second_remainder(d: u8, u: Row, v: Row, s: Row, a: Row, r: u64, i: u64, q: u64) -> Row
     requires { ⌜ Accepted d × InRange d u × InRange d v × InRange d s × InRange d a × (r < 2 ^ degree-of d) × (i < 2 ^ degree-of d) × (q < 2 ^ degree-of d) × (row-len d u ≤ 4) × (row-len d a ≡ 4) ⌝ }
     ensures { λ o. ⌜ Stands d o (second-remainder (𝔸 d) (poly d u) (poly d v) (poly d s) (poly d a) (el d r) (el d i) (el d q)) ⌝ }
 {
@@ -186,7 +179,7 @@ fn second_remainder(
 }
 
 // Degree 3: where t is 0 the first lift is a square; else a second lift, by (x + q)/t with q = √(u1 + 1/t), and a step.
-fn half_of_degree_3(d: u8, u: [u64; 12], v: [u64; 12], w: [u64; 12]) -> RowPair
+fn half_of_degree_3(d: u8, u: Row, v: Row, w: Row) -> RowPair
     requires { ⌜ Accepted d × HalvingRows d 4 u v w ⌝ }
     ensures { λ r. ⌜ StandsPair d r (half-of-degree-3 (𝔸 d) (rows-triple d u v w)) ⌝ }
 {
@@ -211,7 +204,7 @@ fn half_of_degree_3(d: u8, u: [u64; 12], v: [u64; 12], w: [u64; 12]) -> RowPair
 }
 
 // The half of a reduced pair, with w at hand.
-pub(crate) fn half_of_reduced(d: u8, f: [u64; 12], a: RowPair, w: [u64; 12]) -> RowPair
+pub(crate) fn half_of_reduced(d: u8, f: Row, a: RowPair, w: Row) -> RowPair
     requires { ⌜ Accepted d × ReducedRows d f a × CofactorRow d f a w ⌝ }
     ensures { λ r. ⌜ ((C : TheoryCurve (𝔸 d)) → OnCurve d f C → StandsPair d r (half C (rows-pair d a))) ⌝ }
 {

@@ -1,7 +1,7 @@
 // Pairs of rows of coefficients, for the calls on classes by value in the crate above: whether a pair is a reduced divisor of the curve of the row
 // f, and the operations on one such pair and on two. Each function checks its rows itself, by one division for each pair, whose quotient
 // w = (v² + v + f) / u serves the double and the half; where a check fails the answer says so.
-ghost use Rattle.class_rows.specs.{Row.rows-pair, Operations.unary, Operations.binary, Checked.Decides, Checked.Divisor, Checked.Gives};
+ghost use Rattle.class_rows.specs.{Pair.rows-pair, Operations.unary, Operations.binary, Checked.Decides, Checked.Divisor, Checked.Gives};
 
 mod composition;
 mod divisor;

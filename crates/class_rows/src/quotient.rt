@@ -4,14 +4,14 @@ ghost use mathlib.Core.Path.{_≡_};
 ghost use lib.ListN.{getD};
 ghost use Rattle.binary_field_theory.specs.Element.{Accepted};
 ghost use Rattle.char2_algebra.specs.Lead.{Monic};
-ghost use Rattle.class_rows.specs.Field.{𝔸, poly};
-ghost use Rattle.class_rows.specs.Row.{Is, InRange, Stands};
+ghost use Rattle.row_theory.specs.{Field.𝔸, Field.poly, Row.Is, Row.InRange, Row.Stands};
 use crate::element::plus;
 use crate::element::times;
+use crate::row::Row;
 use crate::row::length;
 
 // The coefficient of x^k in q b, where q has no coefficient below x^from.
-fn product_at(d: u8, q: [u64; 12], b: [u64; 12], from: usize, k: usize) -> u64
+fn product_at(d: u8, q: Row, b: Row, from: usize, k: usize) -> u64
     requires { ⌜ Accepted d × InRange d q × InRange d b × (k < 12) × ((i : ℕ) → i < from → getD q i 0 ≡ 0) ⌝ }
     ensures { λ r. ⌜ Is d r (𝔸 d .coeff (𝔸 d .ring .mul (poly d q) (poly d b)) k) ⌝ }
 {
@@ -27,7 +27,7 @@ fn product_at(d: u8, q: [u64; 12], b: [u64; 12], from: usize, k: usize) -> u64
 }
 
 // The quotient of a by b, which is monic, the highest coefficient first.
-pub(crate) fn quotient(d: u8, a: [u64; 12], b: [u64; 12]) -> [u64; 12]
+pub(crate) fn quotient(d: u8, a: Row, b: Row) -> Row
     requires { ⌜ Accepted d × InRange d a × InRange d b × Monic (𝔸 d) (poly d b) ⌝ }
     ensures { λ r. ⌜ Stands d r (𝔸 d .quot (poly d a) (poly d b)) ⌝ }
 {

@@ -5,17 +5,19 @@ ghost use Rattle.binary_field_theory.specs.Element.{Accepted};
 ghost use Rattle.class_group.specs.Curve.{Curve as TheoryCurve};
 ghost use Rattle.class_group.specs.Reduction.{reduction-step, reduce};
 ghost use Rattle.class_group.specs.Operations.{counted-double};
-ghost use Rattle.class_rows.specs.Field.{𝔸};
-ghost use Rattle.class_rows.specs.Row.{StandsPair, rows-pair, row-len};
+ghost use Rattle.row_theory.specs.{Field.𝔸, Row.row-len};
+ghost use Rattle.class_rows.specs.{Pair.StandsPair, Pair.rows-pair, internal.Cofactor.CofactorRow, internal.Cofactor.SquaredRows};
 ghost use Rattle.class_rows.specs.Core.{OnCurve, ReducedRows, SemiReducedRows, StandsCounted};
-ghost use Rattle.class_rows.specs.Cofactor.{CofactorRow, SquaredRows};
+use crate::divisor::curve_value;
 use crate::quotient::quotient;
+use crate::row::Row;
 use crate::row::RowPair;
 use crate::row::add_rows;
 use crate::row::divide;
 use crate::row::length;
 use crate::row::monic;
 use crate::row::multiply;
+use crate::row::one;
 use crate::row::square_row;
 
 // A reduced pair, and how many reduction steps led to it.
@@ -26,40 +28,38 @@ pub struct CountedRows {
 
 // The composition of a double: u² with the remainder v of v² + f modulo u², and the quotient.
 struct Squared {
-    pub u: [u64; 12],
-    pub v: [u64; 12],
-    pub quotient: [u64; 12],
+    pub u: Row,
+    pub v: Row,
+    pub quotient: Row,
 }
 
 // (v² + v + f) / u.
-pub(crate) fn cofactor(d: u8, f: [u64; 12], a: RowPair) -> [u64; 12]
+pub(crate) fn cofactor(d: u8, f: Row, a: RowPair) -> Row
     requires { ⌜ Accepted d × SemiReducedRows d f a ⌝ }
     ensures { λ r. ⌜ CofactorRow d f a r ⌝ }
 {
     let u = a.u;
     let v = a.v;
-    let square = square_row(d, v);
-    let sum = add_rows(d, square, v);
-    let value = add_rows(d, sum, f);
+    let value = curve_value(d, f, v);
     quotient(d, value, u)
 }
 
 // One reduction step, with w at hand.
-fn step(d: u8, f: [u64; 12], a: RowPair, w: [u64; 12]) -> RowPair
+fn step(d: u8, f: Row, a: RowPair, w: Row) -> RowPair
     requires { ⌜ Accepted d × SemiReducedRows d f a × CofactorRow d f a w ⌝ }
     ensures { λ r. ⌜ ((C : TheoryCurve (𝔸 d)) → OnCurve d f C → StandsPair d r (reduction-step C (rows-pair d a))) ⌝ }
 {
     let v = a.v;
-    let one: [u64; 12] = [1, 0, 0, 0, 0, 0, 0, 0, 0, 0, 0, 0];
     let next = monic(d, w);
-    let other = add_rows(d, v, one);
+    let unit = one();
+    let other = add_rows(d, v, unit);
     let division = divide(d, other, next);
     let rest = division.remainder;
     RowPair { u: next, v: rest }
 }
 
 // The reduction of a pair of degree 4 to 6, with w at hand.
-fn reduce_with(d: u8, f: [u64; 12], a: RowPair, w: [u64; 12]) -> CountedRows
+fn reduce_with(d: u8, f: Row, a: RowPair, w: Row) -> CountedRows
     requires { ⌜ Accepted d × SemiReducedRows d f a × (4 < row-len d (a .u)) × CofactorRow d f a w ⌝ }
     ensures { λ r. ⌜ ((C : TheoryCurve (𝔸 d)) → OnCurve d f C → StandsCounted d r (reduce C (rows-pair d a))) ⌝ }
 {
@@ -81,7 +81,7 @@ fn reduce_with(d: u8, f: [u64; 12], a: RowPair, w: [u64; 12]) -> CountedRows
 }
 
 // The reduction of a pair of degree at most 6.
-pub(crate) fn reduce_rows(d: u8, f: [u64; 12], a: RowPair) -> CountedRows
+pub(crate) fn reduce_rows(d: u8, f: Row, a: RowPair) -> CountedRows
     requires { ⌜ Accepted d × SemiReducedRows d f a ⌝ }
     ensures { λ r. ⌜ ((C : TheoryCurve (𝔸 d)) → OnCurve d f C → StandsCounted d r (reduce C (rows-pair d a))) ⌝ }
 {
@@ -95,7 +95,7 @@ pub(crate) fn reduce_rows(d: u8, f: [u64; 12], a: RowPair) -> CountedRows
 }
 
 // u², and v² + f divided by it.
-fn squared_rows(d: u8, f: [u64; 12], a: RowPair) -> Squared
+fn squared_rows(d: u8, f: Row, a: RowPair) -> Squared
     requires { ⌜ Accepted d × ReducedRows d f a ⌝ }
     ensures { λ r. ⌜ SquaredRows d f a r ⌝ }
 {
@@ -115,7 +115,7 @@ fn squared_rows(d: u8, f: [u64; 12], a: RowPair) -> Squared
 }
 
 // The cofactor of the double's composition: with w that of the class and q the quotient, w² + q + q² u².
-fn squared_cofactor(d: u8, f: [u64; 12], a: RowPair, w: [u64; 12], s: Squared) -> [u64; 12]
+fn squared_cofactor(d: u8, f: Row, a: RowPair, w: Row, s: Squared) -> Row
     requires { ⌜ Accepted d × ReducedRows d f a × (2 < row-len d (a .u)) × SquaredRows d f a s × CofactorRow d f a w ⌝ }
     ensures { λ r. ⌜ CofactorRow d f (record { u = s .u; v = s .v }) r ⌝ }
 {
@@ -129,7 +129,7 @@ fn squared_cofactor(d: u8, f: [u64; 12], a: RowPair, w: [u64; 12], s: Squared) -
 }
 
 // The double of a reduced pair, with w at hand.
-pub(crate) fn double_of_reduced(d: u8, f: [u64; 12], a: RowPair, w: [u64; 12]) -> CountedRows
+pub(crate) fn double_of_reduced(d: u8, f: Row, a: RowPair, w: Row) -> CountedRows
     requires { ⌜ Accepted d × ReducedRows d f a × CofactorRow d f a w ⌝ }
     ensures { λ r. ⌜ ((C : TheoryCurve (𝔸 d)) → OnCurve d f C → StandsCounted d r (counted-double C (rows-pair d a))) ⌝ }
 {

@@ -1,29 +1,34 @@
 // Polynomials as rows of twelve coefficients by value, the lowest first.
-ghost use Prim.Native.Nat.{ℕ, _+_, _≤_, _<_, _^_};
+ghost use Prim.Native.Nat.{ℕ, suc, _+_, _≤_, _<_, _^_};
 ghost use mathlib.Core.Path.{_≡_};
 ghost use Rattle.binary_field_theory.specs.Element.{Accepted};
-ghost use Rattle.char2_algebra.specs.Lead.{monic-of};
-ghost use Rattle.char2_algebra.specs.Square.{sqrt};
-ghost use Rattle.class_rows.specs.Field.{degree-of, F, 𝔸, el, poly};
-ghost use Rattle.class_rows.specs.Row.{InRange, Stands, row-len, x-power};
+ghost use Rattle.char2_algebra.specs.{Lead.lead, Lead.monic-of, Square.sqrt};
+ghost use Rattle.row_theory.specs.{Field.degree-of, Field.F, Field.𝔸, Field.el, Field.poly, Row.Is, Row.InRange, Row.Stands, Row.places, Row.row-len, Row.x-power};
 use crate::element::inverted;
 use crate::element::plus;
 use crate::element::root_of;
 use crate::element::squared;
 use crate::element::times;
 
-pub(crate) type Row = [u64; 12];
+// The coefficients, the lowest first, and 0 after them.
+pub type Row = [u64; 12];
 
 // A Mumford pair as two rows.
 pub struct RowPair {
-    pub u: [u64; 12],
-    pub v: [u64; 12],
+    pub u: Row,
+    pub v: Row,
 }
 
 // Quotient and remainder.
 pub(crate) struct Division {
-    pub quotient: [u64; 12],
-    pub remainder: [u64; 12],
+    pub quotient: Row,
+    pub remainder: Row,
+}
+
+// Where the leading coefficient stands, and its inverse.
+pub(crate) struct Lead {
+    pub top: usize,
+    pub inverse: u64,
 }
 
 // 2 to the field's degree: every number of a row is below it.
@@ -36,9 +41,9 @@ pub fn bound(d: u8) -> u64
     0x20
 }
 
-// The degree plus one: one past the last number that is not 0.
-pub fn length(a: [u64; 12]) -> usize
-    ensures { λ r. ⌜ ((d : ℕ) → InRange d a → r ≡ row-len d a) ⌝ }
+// One past the last number that is not 0: the degree plus one.
+pub fn length(a: Row) -> usize
+    ensures { λ n. ⌜ n ≡ places a ⌝ }
 {
     let mut n: usize = 12;
     while n > 0 {
@@ -50,8 +55,25 @@ pub fn length(a: [u64; 12]) -> usize
     0
 }
 
+// The polynomial 1.
+pub(crate) fn one() -> Row
+    ensures { λ r. ⌜ ((d : ℕ) → Stands d r (𝔸 d .ring .one)) ⌝ }
+{
+    [1, 0, 0, 0, 0, 0, 0, 0, 0, 0, 0, 0]
+}
+
+// The leading coefficient's place and inverse. 1 is not inverted.
+pub(crate) fn leading(d: u8, a: Row) -> Lead
+    requires { ⌜ Accepted d × InRange d a × ¬ (poly d a ≡ 𝔸 d .ring .nought) ⌝ }
+    ensures { λ r. ⌜ (row-len d a ≡ suc (r .top)) × Is d (r .inverse) (F d .inverse (lead (𝔸 d) (poly d a))) ⌝ }
+{
+    let top = length(a) - 1;
+    let inverse = inverted(d, a[top]);
+    Lead { top, inverse }
+}
+
 // The sum.
-pub(crate) fn add_rows(d: u8, a: [u64; 12], b: [u64; 12]) -> [u64; 12]
+pub(crate) fn add_rows(d: u8, a: Row, b: Row) -> Row
     requires { ⌜ Accepted d × InRange d a × InRange d b ⌝ }
     ensures { λ r. ⌜ Stands d r (𝔸 d .ring .add (poly d a) (poly d b)) ⌝ }
 {
@@ -59,7 +81,7 @@ pub(crate) fn add_rows(d: u8, a: [u64; 12], b: [u64; 12]) -> [u64; 12]
 }
 
 // a + c x^shift b. No product where c is 0 or 1.
-pub(crate) fn add_multiple(d: u8, a: [u64; 12], c: u64, b: [u64; 12], shift: usize) -> [u64; 12]
+pub(crate) fn add_multiple(d: u8, a: Row, c: u64, b: Row, shift: usize) -> Row
     requires { ⌜ Accepted d × InRange d a × (c < 2 ^ degree-of d) × InRange d b × (row-len d b + shift ≤ 12) ⌝ }
     ensures { λ r. ⌜ Stands d r (𝔸 d .ring .add (poly d a) (𝔸 d .ring .mul (𝔸 d .con (el d c)) (𝔸 d .ring .mul (x-power d shift) (poly d b)))) ⌝ }
 {
@@ -78,22 +100,15 @@ pub(crate) fn add_multiple(d: u8, a: [u64; 12], c: u64, b: [u64; 12], shift: usi
 }
 
 // c a.
-pub(crate) fn scale(d: u8, c: u64, a: [u64; 12]) -> [u64; 12]
+pub(crate) fn scale(d: u8, c: u64, a: Row) -> Row
     requires { ⌜ Accepted d × (c < 2 ^ degree-of d) × InRange d a ⌝ }
     ensures { λ r. ⌜ Stands d r (𝔸 d .ring .mul (𝔸 d .con (el d c)) (poly d a)) ⌝ }
 {
-    let n = length(a);
-    let mut r = a;
-    let mut i = 0;
-    while i < n {
-        r[i] = times(d, c, a[i]);
-        i += 1;
-    }
-    r
+    add_multiple(d, [0; 12], c, a, 0)
 }
 
 // The square: the squares of the coefficients at the even powers.
-pub(crate) fn square_row(d: u8, a: [u64; 12]) -> [u64; 12]
+pub(crate) fn square_row(d: u8, a: Row) -> Row
     requires { ⌜ Accepted d × InRange d a × (row-len d a ≤ 6) ⌝ }
     ensures { λ r. ⌜ Stands d r (𝔸 d .ring .mul (poly d a) (poly d a)) ⌝ }
 {
@@ -108,7 +123,7 @@ pub(crate) fn square_row(d: u8, a: [u64; 12]) -> [u64; 12]
 }
 
 // The product.
-pub(crate) fn multiply(d: u8, a: [u64; 12], b: [u64; 12]) -> [u64; 12]
+pub(crate) fn multiply(d: u8, a: Row, b: Row) -> Row
     requires { ⌜ Accepted d × InRange d a × InRange d b × (row-len d a + row-len d b ≤ 13) ⌝ }
     ensures { λ r. ⌜ Stands d r (𝔸 d .ring .mul (poly d a) (poly d b)) ⌝ }
 {
@@ -124,12 +139,13 @@ pub(crate) fn multiply(d: u8, a: [u64; 12], b: [u64; 12]) -> [u64; 12]
 }
 
 // Quotient and remainder. The leading coefficient of b is inverted once, and not at all where it is 1.
-pub(crate) fn divide(d: u8, a: [u64; 12], b: [u64; 12]) -> Division
+pub(crate) fn divide(d: u8, a: Row, b: Row) -> Division
     requires { ⌜ Accepted d × InRange d a × InRange d b × ¬ (poly d b ≡ 𝔸 d .ring .nought) ⌝ }
     ensures { λ r. ⌜ Stands d (r .quotient) (𝔸 d .quot (poly d a) (poly d b)) × Stands d (r .remainder) (𝔸 d .rem (poly d a) (poly d b)) ⌝ }
 {
-    let top = length(b) - 1;
-    let inverse = inverted(d, b[top]);
+    let first = leading(d, b);
+    let top = first.top;
+    let inverse = first.inverse;
     let mut low = b;
     low[top] = 0;
     let mut q = [0; 12];
@@ -151,16 +167,16 @@ pub(crate) fn divide(d: u8, a: [u64; 12], b: [u64; 12]) -> Division
 }
 
 // a divided by its leading coefficient.
-pub(crate) fn monic(d: u8, a: [u64; 12]) -> [u64; 12]
+pub(crate) fn monic(d: u8, a: Row) -> Row
     requires { ⌜ Accepted d × InRange d a × ¬ (poly d a ≡ 𝔸 d .ring .nought) ⌝ }
     ensures { λ r. ⌜ Stands d r (monic-of (𝔸 d) (poly d a)) ⌝ }
 {
-    let top = length(a) - 1;
-    let lead = a[top];
-    if lead == 1 {
+    let first = leading(d, a);
+    let top = first.top;
+    let inverse = first.inverse;
+    if inverse == 1 {
         return a;
     }
-    let inverse = inverted(d, lead);
     let mut low = a;
     low[top] = 0;
     let mut r = scale(d, inverse, low);
@@ -169,7 +185,7 @@ pub(crate) fn monic(d: u8, a: [u64; 12]) -> [u64; 12]
 }
 
 // The square root of a polynomial without odd powers: the square roots of the even coefficients.
-pub(crate) fn root_row(d: u8, a: [u64; 12]) -> [u64; 12]
+pub(crate) fn root_row(d: u8, a: Row) -> Row
     requires { ⌜ Accepted d × InRange d a ⌝ }
     ensures { λ r. ⌜ Stands d r (sqrt (𝔸 d) (poly d a)) ⌝ }
 {

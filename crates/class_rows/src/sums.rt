@@ -2,10 +2,9 @@
 ghost use Rattle.binary_field_theory.specs.Element.{Accepted};
 ghost use Rattle.class_group.specs.Curve.{Curve as TheoryCurve};
 ghost use Rattle.class_group.specs.{Mumford.opposite, Operations.counted-sum, Moves.counted-double-and-add, Moves.counted-subtract-and-halve};
-ghost use Rattle.class_rows.specs.Field.{𝔸};
-ghost use Rattle.class_rows.specs.Row.{InRange, StandsPair, rows-pair};
+ghost use Rattle.row_theory.specs.{Field.𝔸, Row.InRange};
+ghost use Rattle.class_rows.specs.{Pair.StandsPair, Pair.rows-pair, internal.Cofactor.CofactorRow};
 ghost use Rattle.class_rows.specs.Core.{OnCurve, ReducedRows, StandsCounted};
-ghost use Rattle.class_rows.specs.Cofactor.{CofactorRow};
 ghost use Rattle.class_rows.specs.Operations.{unary, binary};
 use crate::Binary;
 use crate::Unary;

@@ -11,7 +11,7 @@ use Rattle.class_group.specs.{Mumford.Pair, Mumford.Reduced, Mumford.neutral, M
 use Rattle.class_group.proofs.{Closed.neutral-reduced, Closed.opposite-reduced, Closed.sum-reduced, Closed.double-reduced}
 use Rattle.class_group.proofs.{Group.sum-comm, Group.sum-assoc, Group.sum-neutral, Group.sum-opposite, Group.double-sum}
 use Rattle.class_group.proofs.Halving.{half-reduced, double-half, half-double, half-unique}
-use Rattle.class_rows.specs.{Field.Poly, Field.𝔸}
+use Rattle.row_theory.specs.Field.{Poly, 𝔸}
 use Rattle.jacobian.specs.{Curves.curve-refusal, Curves.curve, Classes.Three, Classes.pair, Classes.numbers, Classes.class-of, Classes.class-refusal}
 use Rattle.jacobian.specs.Answer.{accepted, Result, result, answered, refusal, refusal-of-two, neutral-class, opposite-answer, double-answer, half-answer, sum-answer}
 use Rattle.jacobian.specs.declared.{Curve.Curve, Class.Class}

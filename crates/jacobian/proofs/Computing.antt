@@ -12,7 +12,7 @@ use Rattle.class_group.specs.Composition.{composed, compose, compose-double}
 use Rattle.class_group.specs.Reduction.{reduction-step, reduce-to, reduce}
 use Rattle.class_group.specs.Operations.{counted-sum, counted-double, sum, double}
 use Rattle.class_group.specs.Half.{lift, step, halved, quadratic, half-of-degree-1, lifted-half-of-degree-2, half-of-degree-2, stepped-of-degree-3, lifted-half-of-degree-3, half-of-degree-3, triple, half-by, half}
-use Rattle.class_rows.specs.Field.{degree-of, accepted, F, 𝔸, el, poly}
+use Rattle.row_theory.specs.Field.{degree-of, accepted, F, 𝔸, el, poly}
 use Rattle.jacobian.specs.Curves.{coefficients, curve-with, f-row, degree-refusal, coefficient-refusal, curve-refusal, curve}
 use Rattle.jacobian.specs.Checks.{unless, _or-else_, below, blank}
 use Rattle.jacobian.specs.Classes.{u-row, pair, numbers, class-of, shape-refusal, range-refusal, class-refusal}

@@ -9,7 +9,7 @@ use Rattle.binary_field_theory.specs.Element.{Accepted}
 use Rattle.class_group.specs.Mumford.{Pair}
 use Rattle.class_group.specs.Operations.{double, sum}
 use Rattle.class_group.specs.Half.{half}
-use Rattle.class_rows.specs.Field.{Poly}
+use Rattle.row_theory.specs.Field.{Poly}
 use Rattle.jacobian.specs.declared.Curve.{Curve}
 use Rattle.jacobian.specs.declared.Class.{Class}
 use Rattle.jacobian.specs.Curves.{curve}

@@ -10,13 +10,12 @@ use Rattle.char2_algebra.proofs.Degree.{len-nought}
 use Rattle.char2_algebra.proofs.Lead.{monic-nonzero}
 use Rattle.char2_algebra.proofs.Division.{rem-of-divides}
 use Rattle.class_group.specs.Mumford.{Pair, Reduced, value}
-use Rattle.class_rows.specs.Field.{degree-of, Poly, 𝔸}
-use Rattle.class_rows.specs.Row.{InRange}
+use Rattle.row_theory.specs.{Field.degree-of, Field.Poly, Field.𝔸, Row.InRange}
+use Rattle.row_theory.proofs.Rows.Elements.{degree-is}
 use Rattle.jacobian.specs.declared.Curve.{Curve}
 use Rattle.jacobian.specs.declared.Class.{Class}
 use Rattle.jacobian.specs.Curves.{curve-refusal, curve}
 use Rattle.jacobian.specs.Classes.{Three, pair, class-of, class-refusal}
-use Rattle.class_rows.proofs.Rows.Elements.{degree-is}
 use Rattle.jacobian.proofs.ByValue.Checks.{curve-passes, class-passes}
 use Rattle.jacobian.proofs.Representation.Form.{Formed, passes-formed, formed-reduced, u-monic, class-of-formed, class-of-is-formed, pair-class-of}
 use Rattle.jacobian.proofs.Representation.Unrefused.{passes-unrefused}

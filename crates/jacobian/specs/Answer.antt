@@ -3,7 +3,8 @@ use Prim.Native.Nat.{ℕ, zero, suc}
 use mathlib.Core.Path.{_≡_}
 use mathlib.Core.List.{[], _∷_}
 use Rattle.class_group.specs.{Reduction.Counted, Operations.double}
-use Rattle.class_rows.specs.{Field.Poly, Operations.unary, Operations.binary, declared.Unary.Unary, declared.Binary.Binary}
+use Rattle.row_theory.specs.Field.{Poly}
+use Rattle.class_rows.specs.{Operations.unary, Operations.binary, declared.Unary.Unary, declared.Binary.Binary}
 use Rattle.class_rows.specs.declared.Unary.the-variants.{Opposite, Double, Half}
 use Rattle.class_rows.specs.declared.Binary.the-variants.{Sum, DoubleAndAdd, SubtractAndHalve}
 use Rattle.jacobian.specs.{Checks._or-else_, Curves.curve-refusal, Curves.curve, Classes.pair, Classes.class-of, Classes.class-refusal}

@@ -4,7 +4,7 @@ use mathlib.Core.Path.{_≡_}
 use mathlib.Core.{Bool.Bool, Bool.cond, Bool._&&_, List.List, List.[], List._∷_, List._++_}
 use lib.{Dec.eqb, Dec.ltb, Dec.leb, ListN.getD, ListN.length, ListN.take, ListN.drop}
 use Rattle.class_group.specs.Mumford.{Pair, value}
-use Rattle.class_rows.specs.{Field.Poly, Field.𝔸, Field.poly}
+use Rattle.row_theory.specs.Field.{Poly, 𝔸, poly}
 use Rattle.jacobian.specs.{Checks.unless, Checks._or-else_, Checks.below, Checks.blank, Curves.curve, declared.Curve.Curve, declared.Class.Class}
 
 -- u, the lowest coefficient first, with its leading 1, which is not in the row of the class

@@ -4,7 +4,7 @@ use Prim.Native.Nat.{ℕ, _^_}
 use mathlib.Core.{Bool._||_, List.List, List.[], List._∷_}
 use lib.{Dec.eqb, ListN.getD, ListN.replicate}
 use Rattle.class_group.specs.Coefficients.{curve-of}
-use Rattle.class_rows.specs.{Field.F, Field.𝔸, Field.el}
+use Rattle.row_theory.specs.Field.{F, 𝔸, el}
 use Rattle.jacobian.specs.{Checks.unless, Checks._or-else_, Checks.below, declared.Curve.Curve}
 use Rattle.class_group.specs.Curve as Theory
 

@@ -6,7 +6,7 @@ use mathlib.Core.List.{List, [], _∷_}
 use Rattle.class_group.specs.Mumford.{Pair}
 use Rattle.class_group.specs.Operations.{double, sum}
 use Rattle.class_group.specs.Half.{half}
-use Rattle.class_rows.specs.Field.{Poly}
+use Rattle.row_theory.specs.Field.{Poly}
 use Rattle.jacobian.specs.declared.Curve.{Curve}
 use Rattle.jacobian.specs.declared.Class.{Class}
 use Rattle.jacobian.specs.Curves.{curve, curve-with}

@@ -1,2 +1,2 @@
 -- Polynomials over the field of a degree, for those above.
-pub use Rattle.class_rows.specs.Field.{Poly}
+pub use Rattle.row_theory.specs.Field.{Poly}

@@ -2,7 +2,7 @@
 ghost use mathlib.Core.Path.{_≡_};
 ghost use Rattle.jacobian.specs.Checks.{unless, below};
 ghost use Rattle.jacobian.specs.Curves.{coefficients, curve-with, blank-curve, curve-refusal, f-row};
-ghost use Rattle.class_rows.specs.Row.{filled};
+ghost use Rattle.row_theory.specs.Row.{filled};
 use crate::Curve;
 
 // How many coefficients a curve has.

@@ -5,7 +5,8 @@ ghost use Prim.Native.Nat.{ℕ};
 ghost use mathlib.Core.Path.{_≡_};
 ghost use mathlib.Core.Bool.{true};
 ghost use Rattle.class_group.specs.Reduction.{Counted};
-ghost use Rattle.class_rows.specs.{Field.Poly, Core.StandsCounted};
+ghost use Rattle.row_theory.specs.Field.{Poly};
+ghost use Rattle.class_rows.specs.Core.{StandsCounted};
 ghost use Rattle.jacobian.specs.{Checks.unless, Checks._or-else_, Curves.curve-refusal, internal.Refusals.form-refusal, internal.Refusals.FormRefusalOfTwo, internal.Calls.OnOne};
 ghost use Rattle.jacobian.specs.Answer.{outcome-refusal, neutral-class, refusal, verdict, verdict-of, reply, answered, curve-answer, membership-answer, opposite-answer, double-answer, HalfAnswers, binary-answer, sum-answer, double-and-add-answer, subtract-and-halve-answer};
 

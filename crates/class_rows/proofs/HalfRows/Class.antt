@@ -8,9 +8,9 @@ use Rattle.char2_algebra.proofs.{Degree.nonzero-of-len, Division.len-quot-exact
 use Rattle.class_group.specs.Curve as Theory
 use Rattle.class_group.specs.{Mumford.value, Half.triple, Half.half, Half.half-by, Half.half-of-degree-1, Half.half-of-degree-2, Half.half-of-degree-3}
 use Rattle.class_group.proofs.HalfChain.{value-len, value-monic}
-use Rattle.class_rows.specs.{Field.𝔸, Field.poly, Row.Stands, Row.StandsPair, Row.row-len, Row.rows-pair, Core.OnCurve, Core.ReducedRows}
-use Rattle.class_rows.specs.{Cofactor.CofactorRow, declared.row.RowPair.RowPair, Halving.HalvingRows, Halving.rows-triple}
-use Rattle.class_rows.proofs.{DoubleRows.reduced-len, HalfRows.Rows.stands-pair-eq}
+use Rattle.row_theory.specs.{Field.𝔸, Field.poly, Row.Stands, Row.row-len, internal.Halving.HalvingRows, internal.Halving.rows-triple}
+use Rattle.class_rows.specs.{Pair.StandsPair, Pair.rows-pair, Core.OnCurve, Core.ReducedRows, internal.Cofactor.CofactorRow, declared.row.RowPair.RowPair}
+use Rattle.class_rows.proofs.{DoubleRows.reduced-len, ReductionRows.stands-pair-eq}
 
 -- a reduced class that is not neutral: w is its cofactor, n the length of u
 pub record NonNeutral (d : ℕ) (f : List ℕ) (a : RowPair) (w : List ℕ) (n : ℕ) : Type 0 where

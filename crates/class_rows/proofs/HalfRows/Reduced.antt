@@ -6,7 +6,8 @@ use Rattle.class_group.specs.Curve as Theory
 use Rattle.class_group.specs.{Operations.double, Half.half}
 use Rattle.class_group.proofs.Halving.{half-reduced, double-half}
 use Rattle.class_rows.proofs.ReductionRows.{pair-eq, reduced-on, reduced-rows}
-use Rattle.class_rows.specs.{Field.𝔸, Row.StandsPair, Row.rows-pair, Core.OnCurve, Core.ReducedRows, declared.row.RowPair.RowPair}
+use Rattle.row_theory.specs.Field.{𝔸}
+use Rattle.class_rows.specs.{Pair.StandsPair, Pair.rows-pair, Core.OnCurve, Core.ReducedRows, declared.row.RowPair.RowPair}
 
 module _
     (d : ℕ)

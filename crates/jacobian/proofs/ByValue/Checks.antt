@@ -7,7 +7,7 @@ use lib.{Dec.T, Dec.eqb, Dec.ltb, Dec.lit≤, ListN.getD, ListN.drop, Pow.pow-po
 use borrow.Author.Tests.{ltb-true, leb-true, eqb-true}
 use Rattle.binary_field_theory.specs.Element.{Accepted}
 use Rattle.class_group.specs.Mumford.{value}
-use Rattle.class_rows.specs.{Field.𝔸}
+use Rattle.row_theory.specs.Field.{𝔸}
 use Rattle.jacobian.specs.{Checks.unless, Checks._or-else_, Checks.below, Checks.blank, Curves.coefficients, Curves.degree-refusal, Curves.coefficient-refusal, Curves.curve-refusal, Curves.f-row, Curves.curve, Classes.pair, Classes.shape-refusal, Classes.range-refusal, Classes.class-refusal, declared.Curve.Curve, declared.Class.Class}
 use Rattle.jacobian.proofs.ByValue.Degrees.{by-degree}
 

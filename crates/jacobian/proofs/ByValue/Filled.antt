@@ -3,8 +3,8 @@ use Prim.Native.Nat.{ℕ, zero, suc, _-_}
 use mathlib.Core.Path.{_≡_, refl, sym, _∙_, ap}
 use mathlib.Core.List.{List, [], _∷_, _++_}
 use lib.ListN.{length, getD, replicate}
-use Rattle.class_rows.specs.{Field.el, Field.poly, Row.filled}
-use Rattle.class_rows.proofs.Rows.Coefficients.{coeff-poly, poly-is}
+use Rattle.row_theory.specs.{Field.el, Field.poly, Row.filled}
+use Rattle.row_theory.proofs.Rows.Coefficients.{coeff-poly, poly-is}
 
 getD-zeros : (n i : ℕ) → _≡_ {A = ℕ} (getD (replicate n 0) i 0) 0
 getD-zeros zero i = refl

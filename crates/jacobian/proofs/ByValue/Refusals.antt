@@ -4,7 +4,8 @@ use mathlib.Core.Path.{_≡_, refl, sym, _∙_, ap, ap₂}
 use mathlib.Core.{Bool.Bool, Bool.true, Bool.false, Bool._&&_, List.List}
 use lib.Dec.{eqb}
 use Rattle.class_group.specs.Mumford.{value}
-use Rattle.class_rows.specs.{Field.𝔸, Row.filled, Checked.Decides, Checked.Divisor, declared.row.RowPair.RowPair}
+use Rattle.row_theory.specs.{Field.𝔸, Row.filled}
+use Rattle.class_rows.specs.{Checked.Decides, Checked.Divisor, declared.row.RowPair.RowPair}
 use Rattle.jacobian.specs.{Checks.unless, Checks._or-else_, Curves.curve-refusal, Curves.f-row, Curves.curve, Classes.pair, Classes.shape-refusal, Classes.range-refusal, Classes.class-refusal, internal.ClassRows.RowsOf, internal.Refusals.form-refusal, Answer.refusal, Answer.refusal-of-two, declared.Curve.Curve, declared.Class.Class}
 use Rattle.jacobian.proofs.{ByValue.Checks.ShapePasses, ByValue.Checks.RangePasses, ByValue.Checks.then-zero, ByValue.Checks.first-due, ByValue.Checks.next-due, ByValue.Checks.curve-passes, ByValue.Checks.shape-passes, ByValue.Checks.range-passes, ByValue.Passing.divides-decides}
 

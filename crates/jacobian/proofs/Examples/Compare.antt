@@ -8,7 +8,7 @@ use mir.Facts.{and-yes}
 use Rattle.binary_field_theory.proofs.Elements.{element-path}
 use Rattle.char2_algebra.proofs.PolynomialRing.{eq-of-coefficients}
 use Rattle.class_group.specs.Mumford.{Pair}
-use Rattle.class_rows.specs.Field.{degree-of, K, Poly, F}
+use Rattle.row_theory.specs.Field.{degree-of, K, Poly, F}
 use Rattle.jacobian.specs.declared.Class.{Class}
 use Rattle.jacobian.specs.Answer.{Verdict, accepted, refused, Result}
 

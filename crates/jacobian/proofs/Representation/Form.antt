@@ -12,12 +12,11 @@ use Rattle.char2_algebra.specs.Lead.{Monic}
 use Rattle.char2_algebra.proofs.{Degree.len-zero, Division.divides-of-rem, Lead.len-by-top, Lead.monic-by-top, Lead.monic-top, Lead.monic-nonzero}
 use Rattle.class_group.specs.Curve as Theory
 use Rattle.class_group.specs.Mumford.{Pair, Reduced, value}
-use Rattle.class_rows.specs.Field.{degree-of, K, Poly, F, 𝔸, el}
-use Rattle.class_rows.specs.Row.{InRange}
+use Rattle.row_theory.specs.{Field.degree-of, Field.K, Field.Poly, Field.F, Field.𝔸, Field.el, Row.InRange}
+use Rattle.row_theory.proofs.Rows.Elements.{degree-is, el-number, el-of, el-zero, el-one}
+use Rattle.row_theory.proofs.{Rows.Elements.zero-lt, Rows.Elements.one-lt, Rows.Coefficients.coeff-poly, Rows.Coefficients.row-len-le}
 use Rattle.jacobian.specs.declared.Class.{Class}
 use Rattle.jacobian.specs.Classes.{Three, u-row, pair, numbers, class-of}
-use Rattle.class_rows.proofs.Rows.Elements.{degree-is, el-number, el-of, el-zero, el-one, zero-lt, one-lt}
-use Rattle.class_rows.proofs.Rows.Coefficients.{coeff-poly, row-len-le}
 use Rattle.jacobian.proofs.ByValue.Checks.{ShapePasses, RangePasses}
 use Rattle.binary_field_theory.specs.Element.{Accepted}
 

@@ -5,7 +5,8 @@ use mathlib.Core.Bool.{cond}
 use mathlib.Core.List.{List, [], _∷_, _++_}
 use lib.Dec.{ltb}
 use lib.ListN.{getD, length, take}
-use Rattle.class_rows.specs.{Row.filled, declared.row.RowPair.RowPair}
+use Rattle.row_theory.specs.Row.{filled}
+use Rattle.class_rows.specs.declared.row.RowPair.{RowPair}
 use Rattle.jacobian.specs.{Classes.u-row, Classes.Three, declared.Class.Class}
 
 -- the first n numbers of a row of three, then 1

@@ -3,6 +3,7 @@ use native.Mathlib.Omega.{arith}
 use borrow.Author.Needs.{needs}
 use Rattle.class_rows.proofs.DoubleRows.{reduced-len}
 use Rattle.class_rows.proofs.ComposeRows.{u-nonzero, u-short, sum-len, first-len, coprime-stands}
+use Rattle.row_theory.proofs.Rows.Length.{places-len}
 use Rattle.class_rows.proofs.composition.compose_rows.Statement.{statement}
 use Rattle.class_rows.proofs.composition.compose_rows.Tie as tie
 
@@ -45,7 +46,7 @@ returns-2 c =
     let s = e .before .before .before .before .before in
     let d = s .args .d in
     let I = e .bezout .ensures in
-    let n = c .before .before .before .before .before .length .ensures d (I .g-range) in
+    let n = places-len _ (c .before .before .before .before .before .length .ensures) d (I .g-range) in
     coprime-stands d (s .pre .1) (s .pre .2) I (c .before .before .add-rows .ensures) (omega (arith, n, c .before .before .before .before .if1 .left)) (c .before .multiply .ensures) (c .joined-rows .ensures)
 
 pub compose-rows-spec : {M : Type 1} → statement M

@@ -1,7 +1,7 @@
 -- `multiple_row`: three products and a sum, all of which fit a row.
 use native.Mathlib.Omega.{arith}
 use borrow.Author.Needs.{needs}
-use Rattle.class_rows.specs.Field.{poly}
+use Rattle.row_theory.specs.Field.{poly}
 use Rattle.class_rows.proofs.ComposeRows.{product-len, multiple-stands}
 use Rattle.class_rows.proofs.composition.multiple_row.Statement.{statement}
 use Rattle.class_rows.proofs.composition.multiple_row.Tie as tie
@@ -16,7 +16,7 @@ multiply-requires-2 c κs =
 returns : tie.Need-returns
 returns c =
     let a = c .before .before .before .before .before .before .before .args in
-    multiple-stands (a .d) (a .sum) (a .w) (a .first) (a .second) (c .before .before .before .multiply .ensures)
+    multiple-stands (a .d) (a .sum) (a .w) (a .first .s) (a .second .s) (a .second .t) (c .before .before .before .multiply .ensures)
     (c .before .before .multiply2 .ensures) (c .before .multiply3 .ensures) (c .add-rows .ensures)
 
 pub multiple-row-spec : {M : Type 1} → statement M

@@ -3,6 +3,7 @@ use mathlib.Core.Path.{refl, sym}
 use mathlib.Core.Bool.{true≢false}
 use borrow.Author.Tests.{not-true, not-false}
 use Rattle.class_rows.proofs.CheckRows.{denied, no-it-is-not, formed-divisor, division-decides}
+use Rattle.row_theory.proofs.Rows.Length.{places-len}
 use Rattle.class_rows.proofs.divisor.checked.Statement.{statement}
 use Rattle.class_rows.proofs.divisor.checked.Tie as tie
 
@@ -22,7 +23,7 @@ returns-2 c =
     let formed = after .before .before .in-form .ensures .0 (not-false _ (after .before .if1 .left)) in
     let rest = after .divided .ensures (formed .curve .0) (formed .curve .1) .1 in
     record {
-      decides = division-decides formed rest (c .length .ensures _ (rest .in-range));
+      decides = division-decides formed rest (places-len _ (c .length .ensures) _ (rest .in-range));
       cofactor = λ _ C on. after .divided .ensures C on .0;
     }
 

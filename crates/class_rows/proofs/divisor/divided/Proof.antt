@@ -2,35 +2,30 @@
 use mathlib.Core.Path.{ap}
 use native.Mathlib.Omega.{arith}
 use Rattle.char2_algebra.proofs.Lead.{monic-nonzero}
-use Rattle.class_rows.specs.{Field.𝔸, Field.poly}
-use Rattle.class_rows.proofs.{ReductionRows.value-stands, Rows.Coefficients.stands-eq}
+use Rattle.row_theory.specs.Field.{𝔸, poly}
+use Rattle.row_theory.proofs.Rows.Coefficients.{stands-eq}
+use Rattle.class_rows.proofs.ReductionRows.{value-stands}
 use Rattle.class_rows.proofs.divisor.divided.Statement.{statement}
 use Rattle.class_rows.proofs.divisor.divided.Tie as tie
 
-square-row-requires : tie.Need-square-row-requires
-square-row-requires c κs =
+curve-value-requires : tie.Need-curve-value-requires
+curve-value-requires c κs =
     let p = c .before .before .pre in
-    (p .degree, p .pair .v-range, omega (arith, p .pair .u-len, p .pair .v-len))
-
-add-rows-requires : tie.Need-add-rows-requires
-add-rows-requires c κs = let p = c .before .before .before .pre in (p .degree, c .square-row .ensures .in-range, p .pair .v-range)
-
-add-rows-requires-2 : tie.Need-add-rows-requires-2
-add-rows-requires-2 c κs = let p = c .before .before .before .before .pre in (p .degree, c .add-rows .ensures .in-range, p .curve .1 .in-range)
+    (p .degree, p .curve .1 .in-range, p .pair .v-range, omega (arith, p .pair .u-len, p .pair .v-len))
 
 divide-requires : tie.Need-divide-requires
 divide-requires c κs =
-    let p = c .before .before .before .before .before .pre in
-    (p .degree, c .add-rows2 .ensures .in-range, p .pair .u-range, monic-nonzero (𝔸 _) _ (p .pair .u-monic))
+    let p = c .before .before .before .pre in
+    (p .degree, c .curve-value .ensures .in-range, p .pair .u-range, monic-nonzero (𝔸 _) _ (p .pair .u-monic))
 
 returns : tie.Need-returns
 returns c =
     λ C on.
-    let s = c .before .before .before .before .before .before in
+    let s = c .before .before .before .before in
     let d = s .args .d in
     let u = poly d (s .args .a .u) in
-    let e = value-stands d (s .args .a .v) on (c .before .before .before .square-row .ensures) (c .before .before .add-rows .ensures) (c .before .add-rows2 .ensures) in
+    let e = value-stands d (s .args .a .v) on (c .before .curve-value .ensures) in
     (stands-eq d (ap (λ z. 𝔸 d .quot z u) e) (c .divide .ensures .0), stands-eq d (ap (λ z. 𝔸 d .rem z u) e) (c .divide .ensures .1))
 
 pub divided-spec : {M : Type 1} → statement M
-divided-spec = tie.close (tie.spec square-row-requires add-rows-requires add-rows-requires-2 divide-requires returns)
+divided-spec = tie.close (tie.spec curve-value-requires divide-requires returns)

@@ -1,6 +1,6 @@
 -- `element::inverted` meets its contract: the call is answered, with the inverse. Assumes nothing.
 use mathlib.Core.Path.{_∙_}
-use Rattle.class_rows.proofs.Rows.Answers.{inverse-one, inverse-answers, inverse-is}
+use Rattle.row_theory.proofs.Rows.Answers.{inverse-one, inverse-answers, inverse-is}
 use borrow.Author.Needs.{needs}
 use Rattle.class_rows.proofs.element.inverted.Statement.{statement}
 use Rattle.class_rows.proofs.element.inverted.Tie as tie

@@ -1,6 +1,6 @@
 -- `element::plus` meets its contract: the call is answered, with the sum. Assumes nothing.
 use mathlib.Core.Path.{_∙_}
-use Rattle.class_rows.proofs.Rows.Answers.{sum-answers, sum-is}
+use Rattle.row_theory.proofs.Rows.Answers.{sum-answers, sum-is}
 use borrow.Author.Needs.{needs}
 use Rattle.class_rows.proofs.element.plus.Statement.{statement}
 use Rattle.class_rows.proofs.element.plus.Tie as tie

@@ -1,6 +1,6 @@
 -- `element::root_of` meets its contract: the call is answered, with the square root. Assumes nothing.
 use mathlib.Core.Path.{_∙_}
-use Rattle.class_rows.proofs.Rows.Answers.{root-answers, root-is}
+use Rattle.row_theory.proofs.Rows.Answers.{root-answers, root-is}
 use borrow.Author.Needs.{needs}
 use Rattle.class_rows.proofs.element.root_of.Statement.{statement}
 use Rattle.class_rows.proofs.element.root_of.Tie as tie

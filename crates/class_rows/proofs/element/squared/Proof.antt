@@ -1,6 +1,6 @@
 -- `element::squared` meets its contract: the call is answered, with the square. Assumes nothing.
 use mathlib.Core.Path.{_∙_}
-use Rattle.class_rows.proofs.Rows.Answers.{square-answers, square-is}
+use Rattle.row_theory.proofs.Rows.Answers.{square-answers, square-is}
 use borrow.Author.Needs.{needs}
 use Rattle.class_rows.proofs.element.squared.Statement.{statement}
 use Rattle.class_rows.proofs.element.squared.Tie as tie

@@ -1,6 +1,7 @@
 -- `element::times` meets its contract: the call is answered, with the product. Assumes nothing.
 use mathlib.Core.Path.{_∙_}
-use Rattle.class_rows.proofs.Rows.Answers.{zero-times, times-zero, one-times, times-one, product-answers, product-is}
+use Rattle.row_theory.proofs.Rows.Answers.{zero-times, times-zero, one-times, times-one, product-answers}
+use Rattle.row_theory.proofs.Rows.Answers.{product-is}
 use borrow.Author.Needs.{needs}
 use Rattle.class_rows.proofs.element.times.Statement.{statement}
 use Rattle.class_rows.proofs.element.times.Tie as tie

@@ -3,9 +3,9 @@ use Prim.Native.Nat.{ℕ, _<_}
 use mathlib.Core.Path.{_≡_, sym, _∙_, subst}
 use native.Mathlib.Omega.{arith}
 use Rattle.char2_algebra.proofs.Degree.{nonzero-of-len}
-use Rattle.class_rows.specs.Field.{𝔸, poly}
-use Rattle.class_rows.specs.Row.{row-len}
-use Rattle.class_rows.proofs.Bezout.{remainder-less, quotient-le, step-rows}
+use Rattle.row_theory.specs.{Field.𝔸, Field.poly, Row.row-len}
+use Rattle.row_theory.proofs.Bezout.{remainder-less, quotient-le, step-rows}
+use Rattle.row_theory.proofs.Rows.Length.{places-len}
 use borrow.Fn.Kinds.{In}
 use borrow.Fn.PlainCycle.{Measures, is, falls, and}
 use Rattle.class_rows.proofs.euclid.bezout.Reads as bezout
@@ -50,7 +50,7 @@ length-requires t c κs = tt
 
 -- the length that was found is that of b
 found : (t : ℕ) (c : lts.After-length (callees t) (given t) bezout.Post) → c .length .result ≡ row-len (c .before .args .d) (c .before .args .b)
-found t c = c .length .ensures (c .before .args .d) (c .before .pre .1 .2)
+found t c = places-len _ (c .length .ensures) (c .before .args .d) (c .before .pre .1 .2)
 
 bezout-nought-requires : (t : ℕ) → lts.Need-bezout-nought-requires (callees t) (given t) bezout.Post
 bezout-nought-requires t c κs =
@@ -103,8 +103,9 @@ returns-3 : (t : ℕ) → lts.Need-returns-3 (callees t) (given t) bezout.Post
 returns-3 t c =
     let start = c .before .before .before .before .before .before .before .before in
     let q = c .before .before .before .before .divide .ensures in
-    step-rows (start .args .d) (start .args .a) (start .args .b) (b-nonzero t (c .before .before .before .before .before)) (q .0) (q .1)
-    (c .before .bezout .ensures) (c .substituted .ensures)
+    let e = c .substituted .ensures in
+    rw (e .0, e .1)
+    (step-rows (start .args .d) (start .args .a) (start .args .b) (b-nonzero t (c .before .before .before .before .before)) (q .0) (q .1) (c .before .bezout .ensures) (e .2))
 
 pub +bezout-spec : {M : Type 1} → statement M
 +bezout-spec = close μ

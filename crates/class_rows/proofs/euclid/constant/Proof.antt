@@ -1,5 +1,5 @@
 -- `constant`: the row of c and zeros stands for the constant.
-use Rattle.class_rows.proofs.Bezout.{constant-stands}
+use Rattle.row_theory.proofs.Rows.Constants.{constant-stands}
 use Rattle.class_rows.proofs.euclid.constant.Statement.{statement}
 use Rattle.class_rows.proofs.euclid.constant.Tie as tie
 

@@ -1,7 +1,7 @@
 -- `add_product` meets its contract: the sum of a and what the product stands for.
 use mathlib.Core.Path.{ap}
-use Rattle.class_rows.specs.Field.{𝔸, poly}
-use Rattle.class_rows.proofs.HalfRows.Rows.{stands-eq}
+use Rattle.row_theory.specs.Field.{𝔸, poly}
+use Rattle.row_theory.proofs.Rows.Coefficients.{stands-eq}
 use borrow.Author.Needs.{needs}
 use Rattle.class_rows.proofs.halving.add_product.Statement.{statement}
 use Rattle.class_rows.proofs.halving.add_product.Tie as tie

@@ -1,7 +1,5 @@
 -- `first_lift` meets its contract: the square of √w3 is w3, so no coefficient is squared.
-use Rattle.class_rows.proofs.Rows.Elements.{zero-lt}
-use Rattle.class_rows.proofs.HalfRows.Rows.{quartic-fits}
-use Rattle.class_rows.proofs.HalfRows.Parts3.{first-lift-stands}
+use Rattle.row_theory.proofs.{Rows.Elements.zero-lt, HalfRows.Rows.quartic-fits, HalfRows.Parts3.first-lift-stands}
 use borrow.Author.Needs.{needs}
 use Rattle.class_rows.proofs.halving.first_lift.Statement.{statement}
 use Rattle.class_rows.proofs.halving.first_lift.Tie as tie

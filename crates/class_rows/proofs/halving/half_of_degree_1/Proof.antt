@@ -1,33 +1,41 @@
--- `half_of_degree_1` meets its contract: its calls give the lift of the rule (proofs/Halving/Computed1.antt).
+-- `half_of_degree_1` meets its contract: its calls give the lift of the rule (row_theory, proofs/HalfRows/Computed1.antt).
 use native.Mathlib.Omega.{arith}
-use Rattle.class_rows.proofs.HalfRows.Rows.{quadratic-fits, quartic-fits}
-use Rattle.class_rows.proofs.HalfRows.Computed1.{Computed1, root-nonzero-1, result-1}
 use borrow.Author.Needs.{needs}
+use Rattle.row_theory.proofs.HalfRows.{Rows.quadratic-fits, Rows.quartic-fits, Computed1.Computed1, Computed1.root-nonzero-1, Computed1.result-1}
+use Rattle.class_rows.proofs.ReductionRows.{stands-pair-eq}
 use Rattle.class_rows.proofs.halving.half_of_degree_1.Statement.{statement}
 use Rattle.class_rows.proofs.halving.half_of_degree_1.Tie as tie
+
+-- the states after the roots, and at the entry
+abbrev roots : tie.After-stepped-row → tie.After-root-of3
+roots c = c .before .before .before .before
+
+abbrev start : tie.After-root-of3 → tie.Start
+start r = r .before .before .before .before
 
 -- what the calls before the last promise
 computed :
     (c : tie.After-stepped-row)
     → Computed1
-    (c .before .before .before .before .before .before .before .before .args .d)
-    (c .before .before .before .before .before .before .before .before .args .u)
-    (c .before .before .before .before .before .before .before .before .args .v)
-    (c .before .before .before .before .before .before .before .before .args .t4)
-    (c .before .before .before .before .before .before .before .root-of .result)
-    (c .before .before .before .before .before .before .root-of2 .result)
-    (c .before .before .before .before .before .plus .result)
-    (c .before .before .before .before .root-of3 .result)
+    (start (roots c) .args .d)
+    (start (roots c) .args .u)
+    (start (roots c) .args .v)
+    (start (roots c) .args .t4)
+    (roots c .before .before .before .root-of .result)
+    (roots c .before .before .root-of2 .result)
+    (roots c .before .plus .result)
+    (roots c .root-of3 .result)
     (c .before .before .before .quadratic-row .result)
     (c .before .before .quartic-row .result)
     (c .before .lifted-row .result)
     (c .stepped-row .result)
 computed c =
+    let r = roots c in
     record {
-      k2-is = c .before .before .before .before .before .before .before .root-of .ensures;
-      k1-is = c .before .before .before .before .before .before .root-of2 .ensures;
-      s-is = c .before .before .before .before .before .plus .ensures;
-      k0-is = c .before .before .before .before .root-of3 .ensures;
+      k2-is = r .before .before .before .root-of .ensures;
+      k1-is = r .before .before .root-of2 .ensures;
+      s-is = r .before .plus .ensures;
+      k0-is = r .root-of3 .ensures;
       k-is = c .before .before .before .quadratic-row .ensures;
       m-is = c .before .before .quartic-row .ensures;
       p-is = c .before .lifted-row .ensures;
@@ -38,29 +46,33 @@ root-of-requires : tie.Need-root-of-requires
 root-of-requires c κs = (c .pre .0, c .pre .1 .w-range 5)
 
 root-of-requires-2 : tie.Need-root-of-requires-2
-root-of-requires-2 c κs = (c .before .pre .0, c .before .pre .1 .w-range 3)
+root-of-requires-2 c κs = let p = c .before .pre in (p .0, p .1 .w-range 3)
 
 plus-requires : tie.Need-plus-requires
-plus-requires c κs = (c .before .before .pre .0, c .before .before .pre .1 .w-range 1, c .root-of2 .ensures .in-range)
+plus-requires c κs = let p = c .before .before .pre in (p .0, p .1 .w-range 1, c .root-of2 .ensures .in-range)
 
 quartic-row-requires : tie.Need-quartic-row-requires
-quartic-row-requires c κs = (c .before .before .before .before .before .pre .1 .w-range 5, c .before .before .before .before .before .pre .1 .w-range 3, c .before .before .plus .ensures .in-range)
+quartic-row-requires c κs = let h = start (c .before) .pre .1 in (h .w-range 5, h .w-range 3, c .before .before .plus .ensures .in-range)
 
 lifted-row-requires : tie.Need-lifted-row-requires
 lifted-row-requires c κs =
-    let h = c .before .before .before .before .before .before .pre .1 in
-    (c .before .before .before .before .before .before .pre .0, h .w-range, c .before .quadratic-row .ensures .in-range, c .quartic-row .ensures .in-range, h .u-range, quartic-fits _ _ _ _ _ (c .quartic-row .ensures) (omega (arith, h .u-len)))
+    let p = start (c .before .before) .pre in
+    let m = c .quartic-row .ensures in
+    (p .0, p .1 .w-range, c .before .quadratic-row .ensures .in-range, m .in-range, p .1 .u-range, quartic-fits _ _ _ _ _ m (omega (arith, p .1 .u-len)))
 
 stepped-row-requires : tie.Need-stepped-row-requires
 stepped-row-requires c κs =
-    let h = c .before .before .before .before .before .before .before .pre .1 in
-    (c .before .before .before .before .before .before .before .pre .0, h .v-range, c .before .before .quadratic-row .ensures .in-range, h .u-range, quadratic-fits _ _ _ _ _ (c .before .before .quadratic-row .ensures) (omega (arith, h .u-len)))
+    let p = start (c .before .before .before) .pre in
+    let k = c .before .before .quadratic-row .ensures in
+    (p .0, p .1 .v-range, k .in-range, p .1 .u-range, quadratic-fits _ _ _ _ _ k (omega (arith, p .1 .u-len)))
 
 root-pair-requires : tie.Need-root-pair-requires
-root-pair-requires c κs = (c .before .before .before .before .before .before .before .before .pre .0, c .before .lifted-row .ensures .in-range, c .stepped-row .ensures .in-range, root-nonzero-1 _ _ _ _ (computed c) (c .before .before .before .before .before .before .before .before .pre .1))
+root-pair-requires c κs =
+    let p = start (roots c) .pre in
+    (p .0, c .before .lifted-row .ensures .in-range, c .stepped-row .ensures .in-range, root-nonzero-1 _ _ _ _ (computed c) (p .1))
 
 returns : tie.Need-returns
-returns c = result-1 _ _ _ _ (computed (c .before)) (c .root-pair .ensures)
+returns c = stands-pair-eq _ (result-1 _ _ _ _ (computed (c .before))) (c .root-pair .ensures)
 
 pub half-of-degree-1-spec : {M : Type 1} → statement M
 half-of-degree-1-spec =

@@ -1,13 +1,14 @@
 -- `half_of_reduced` gives the half: the class itself where it is neutral, else what the row of the rule for its degree gives.
 use borrow.Author.Needs.{needs}
 use Rattle.class_rows.proofs.HalfRows.Class.{NonNeutral, half-neutral, halving-rows, degree-three, half-1, half-2, half-3}
+use Rattle.row_theory.proofs.Rows.Length.{places-len}
 use Rattle.class_rows.proofs.halving.half_of_reduced.Statement.{statement}
 use Rattle.class_rows.proofs.halving.half_of_reduced.Tie as tie
 
 returns : tie.Need-returns
 returns c =
     let start = c .before .before .before .before in
-    λ C _. half-neutral _ (start .pre .1) (c .before .length .ensures _ (start .pre .1 .u-range)) (c .if1 .taken) C
+    λ C _. half-neutral _ (start .pre .1) (places-len _ (c .before .length .ensures) _ (start .pre .1 .u-range)) (c .if1 .taken) C
 
 -- what is known where the class is not neutral
 known :
@@ -23,7 +24,7 @@ known c =
     record {
       reduced = p .1;
       cofactor = p .2;
-      length-is = c .before .length .ensures _ (p .1 .u-range);
+      length-is = places-len _ (c .before .length .ensures) _ (p .1 .u-range);
       more = c .if1 .left;
     }
 

@@ -1,7 +1,7 @@
 -- `lifted_row` meets its contract: w + k first, then the product.
 use mathlib.Core.Path.{ap}
-use Rattle.class_rows.specs.Field.{𝔸, poly}
-use Rattle.class_rows.proofs.HalfRows.Rows.{stands-eq}
+use Rattle.row_theory.specs.Field.{𝔸, poly}
+use Rattle.row_theory.proofs.Rows.Coefficients.{stands-eq}
 use borrow.Author.Needs.{needs}
 use Rattle.class_rows.proofs.halving.lifted_row.Statement.{statement}
 use Rattle.class_rows.proofs.halving.lifted_row.Tie as tie

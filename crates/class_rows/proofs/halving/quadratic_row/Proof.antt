@@ -1,5 +1,5 @@
 -- `quadratic_row` meets its contract: the row is written out.
-use Rattle.class_rows.proofs.HalfRows.Rows.{quadratic-stands}
+use Rattle.row_theory.proofs.HalfRows.Rows.{quadratic-stands}
 use Rattle.class_rows.proofs.halving.quadratic_row.Statement.{statement}
 use Rattle.class_rows.proofs.halving.quadratic_row.Tie as tie
 

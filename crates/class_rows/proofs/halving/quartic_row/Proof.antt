@@ -1,5 +1,5 @@
 -- `quartic_row` meets its contract: the row is written out.
-use Rattle.class_rows.proofs.HalfRows.Rows.{quartic-stands}
+use Rattle.row_theory.proofs.HalfRows.Rows.{quartic-stands}
 use Rattle.class_rows.proofs.halving.quartic_row.Statement.{statement}
 use Rattle.class_rows.proofs.halving.quartic_row.Tie as tie
 

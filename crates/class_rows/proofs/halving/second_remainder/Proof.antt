@@ -1,8 +1,7 @@
 -- `second_remainder` meets its contract: both remainders are by the same divisor of length 4.
 use native.Mathlib.Omega.{arith}
-use Rattle.class_rows.proofs.Rows.Elements.{zero-lt, one-lt}
-use Rattle.class_rows.proofs.HalfRows.Rows.{quadratic-fits}
-use Rattle.class_rows.proofs.HalfRows.Parts3.{divisor-nonzero, remainder-len, sum-len, second-remainder-stands}
+use Rattle.row_theory.proofs.{Rows.Elements.zero-lt, Rows.Elements.one-lt, HalfRows.Rows.quadratic-fits, HalfRows.Parts3.divisor-nonzero}
+use Rattle.row_theory.proofs.HalfRows.Parts3.{remainder-len, sum-len, second-remainder-stands}
 use borrow.Author.Needs.{needs}
 use Rattle.class_rows.proofs.halving.second_remainder.Statement.{statement}
 use Rattle.class_rows.proofs.halving.second_remainder.Tie as tie
@@ -33,7 +32,11 @@ add-multiple-requires-2 c κs =
     (p .0, c .add-multiple .ensures .in-range, p .6, z .in-range, omega (arith, remainder-len _ _ (p .9) _ z))
 
 returns : tie.Need-returns
-returns c = second-remainder-stands _ _ _ _ _ _ _ _ (c .before .before .before .before .before .before .before .before .divide .ensures .1) (c .before .before .before .before .before .before .quadratic-row .ensures) (c .before .before .before .before .before .multiply .ensures) (c .before .before .before .before .divide2 .ensures .1) (c .before .before .add-rows .ensures) (c .before .add-multiple .ensures) (c .add-multiple2 .ensures)
+returns c =
+    let z = c .before .before .before .before in
+    let y = z .before .before in
+    second-remainder-stands _ _ _ _ _ _ _ _ (y .before .before .divide .ensures .1) (y .quadratic-row .ensures) (z .before .multiply .ensures) (z .divide2 .ensures .1)
+    (c .before .before .add-rows .ensures) (c .before .add-multiple .ensures) (c .add-multiple2 .ensures)
 
 pub second-remainder-spec : {M : Type 1} → statement M
 second-remainder-spec =

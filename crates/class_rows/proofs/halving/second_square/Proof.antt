@@ -1,7 +1,5 @@
 -- `second_square` meets its contract: the summands as the rows stand for them.
-use Rattle.class_rows.proofs.Rows.Elements.{zero-lt, one-lt}
-use Rattle.class_rows.proofs.HalfRows.Rows.{quartic-fits}
-use Rattle.class_rows.proofs.HalfRows.Parts3.{second-square-stands}
+use Rattle.row_theory.proofs.{Rows.Elements.zero-lt, Rows.Elements.one-lt, HalfRows.Rows.quartic-fits, HalfRows.Parts3.second-square-stands}
 use borrow.Author.Needs.{needs}
 use Rattle.class_rows.proofs.halving.second_square.Statement.{statement}
 use Rattle.class_rows.proofs.halving.second_square.Tie as tie

@@ -1,7 +1,7 @@
 -- `quotient::product_at` meets its contract. The invariant: the sum is that of the terms from the coefficients of q below j.
 use Prim.Native.Nat.{_+_, _-_}
 use native.Mathlib.Omega.{arith}
-use Rattle.class_rows.proofs.QuotientRows.{Partial, partial-start, partial-turn, partial-end}
+use Rattle.row_theory.proofs.QuotientRows.{Partial, partial-start, partial-turn, partial-end}
 use Rattle.class_rows.proofs.quotient.product_at.Statement.{statement}
 use Rattle.class_rows.proofs.quotient.product_at.Tie as tie
 

@@ -3,9 +3,10 @@ use Prim.Native.Nat.{suc, _≤_}
 use mathlib.Core.Path.{_≡_}
 use native.Mathlib.Omega.{arith}
 use Rattle.char2_algebra.proofs.{Lead.monic-nonzero, Degree.len-nonzero}
-use Rattle.class_rows.specs.{Field.𝔸, Row.row-len}
-use Rattle.class_rows.proofs.Rows.Coefficients.{row-len-length}
-use Rattle.class_rows.proofs.QuotientRows.{Divided, divided-start, divided-turn, divided-end}
+use Rattle.row_theory.specs.{Field.𝔸, Row.row-len}
+use Rattle.row_theory.proofs.{Rows.Coefficients.row-len-length, QuotientRows.Divided, QuotientRows.divided-start, QuotientRows.divided-turn}
+use Rattle.row_theory.proofs.QuotientRows.{divided-end}
+use Rattle.row_theory.proofs.Rows.Length.{places-len}
 use Rattle.class_rows.proofs.quotient.quotient.Statement.{statement}
 use Rattle.class_rows.proofs.quotient.quotient.Tie as tie
 
@@ -18,15 +19,15 @@ abbrev μ-loop : tie.MeasureT-loop
 sub-top : tie.Need-sub-top Inv-loop μ-loop
 sub-top c =
     let p = c .before .pre in
-    let n = c .length .ensures _ (p .2) in
+    let n = places-len _ (c .length .ensures) _ (p .2) in
     let z = len-nonzero (𝔸 _) _ (monic-nonzero (𝔸 _) _ (p .3)) in
     omega arith
 
 loop-holds : tie.Need-loop-holds Inv-loop μ-loop
 loop-holds c =
     let p = c .before .before .pre in
-    let n = c .before .length .ensures _ (p .2) in
-    let m = c .length2 .ensures _ (p .1) in
+    let n = places-len _ (c .before .length .ensures) _ (p .2) in
+    let m = places-len _ (c .length2 .ensures) _ (p .1) in
     let l = row-len-length (c .before .before .args .d) (c .before .before .args .t2) 12 (c .before .before .good .1 .0 .1 .0 .1) in
     let z = len-nonzero (𝔸 _) _ (monic-nonzero (𝔸 _) _ (p .3)) in
     (omega arith, omega arith, divided-start _ m)

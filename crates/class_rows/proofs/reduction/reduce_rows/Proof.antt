@@ -1,13 +1,14 @@
 -- `reduce_rows` promises the definition's reduction: none where u is no longer than 4, and else what `reduce_with` promises.
 use native.Mathlib.Omega.{arith}
 use Rattle.class_rows.proofs.ReductionRows.{none-counted}
+use Rattle.row_theory.proofs.Rows.Length.{places-len}
 use Rattle.class_rows.proofs.reduction.reduce_rows.Statement.{statement}
 use Rattle.class_rows.proofs.reduction.reduce_rows.Tie as tie
 
 returns : tie.Need-returns
 returns c =
     let p = c .before .before .before .pre in
-    let n = c .before .length .ensures _ (p .1 .u-range) in
+    let n = places-len _ (c .before .length .ensures) _ (p .1 .u-range) in
     none-counted _ (p .1) (omega (arith, n, c .if1 .taken))
 
 cofactor-requires : tie.Need-cofactor-requires
@@ -16,7 +17,7 @@ cofactor-requires c κs = c .before .before .before .pre
 reduce-with-requires : tie.Need-reduce-with-requires
 reduce-with-requires c κs =
     let p = c .before .before .before .before .pre in
-    let n = c .before .before .length .ensures _ (p .1 .u-range) in
+    let n = places-len _ (c .before .before .length .ensures) _ (p .1 .u-range) in
     (p .0, p .1, omega (arith, n, c .before .if1 .left), c .cofactor .ensures)
 
 returns-2 : tie.Need-returns-2

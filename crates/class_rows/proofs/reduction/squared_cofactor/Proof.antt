@@ -27,17 +27,9 @@ add-rows-requires-2 c κs = let p = c .before .before .before .before .before .b
 
 returns : tie.Need-returns
 returns c =
-    let p = c .before .before .before .before .before .before .before .pre in
-    squared-cofactor
-    _
-    (p .1)
-    (p .3)
-    (p .4)
-    (c .before .before .before .before .square-row .ensures)
-    (c .before .before .before .square-row2 .ensures)
-    (c .before .before .multiply .ensures)
-    (c .before .add-rows .ensures)
-    (c .add-rows2 .ensures)
+    let q = c .before .before .before in
+    let p = q .before .before .before .before .pre in
+    squared-cofactor _ (p .1) (p .3) (p .4) (q .before .square-row .ensures) (q .square-row2 .ensures) (c .before .before .multiply .ensures) (c .before .add-rows .ensures) (c .add-rows2 .ensures)
 
 pub squared-cofactor-spec : {M : Type 1} → statement M
 squared-cofactor-spec =

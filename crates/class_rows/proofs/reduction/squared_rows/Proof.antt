@@ -21,13 +21,9 @@ divide-requires c κs =
 
 returns : tie.Need-returns
 returns c =
-    squared
-    _
-    (c .before .before .before .before .before .before .before .before .args .a)
-    (c .before .before .before .before .before .square-row .ensures)
-    (c .before .before .before .before .square-row2 .ensures)
-    (c .before .before .before .add-rows .ensures)
-    (c .before .before .divide .ensures)
+    let e = c .before .before in
+    let q = e .before .before in
+    squared _ (q .before .before .before .before .args .a) (q .before .square-row .ensures) (q .square-row2 .ensures) (e .before .add-rows .ensures) (e .divide .ensures)
 
 pub squared-rows-spec : {M : Type 1} → statement M
 squared-rows-spec = tie.close (tie.spec square-row-requires square-row-requires-2 add-rows-requires divide-requires returns)

@@ -2,11 +2,11 @@
 -- Assumes nothing.
 use Prim.Native.Nat.{_+_, _-_, _≤_}
 use native.Mathlib.Omega.{arith}
-use Rattle.class_rows.specs.Field.{𝔸, el, poly}
-use Rattle.class_rows.specs.Row.{x-power}
-use Rattle.class_rows.proofs.Rows.Fill.{Filled, filled-start, filled-turn, filled-to, filled-end}
-use Rattle.class_rows.proofs.Rows.Coefficients.{stands-eq, self-stands}
-use Rattle.class_rows.proofs.Rows.Sums.{multiple-nought, added-below, added-turn, added-past}
+use Rattle.row_theory.specs.{Field.𝔸, Field.el, Field.poly, Row.x-power}
+use Rattle.row_theory.proofs.Rows.Fill.{Filled, filled-start, filled-turn, filled-to, filled-end}
+use Rattle.row_theory.proofs.{Rows.Coefficients.stands-eq, Rows.Coefficients.self-stands, Rows.Sums.multiple-nought, Rows.Sums.added-below}
+use Rattle.row_theory.proofs.Rows.Sums.{added-turn, added-past}
+use Rattle.row_theory.proofs.Rows.Length.{places-len}
 use Rattle.class_rows.proofs.row.add_multiple.Statement.{statement}
 use Rattle.class_rows.proofs.row.add_multiple.Tie as tie
 
@@ -22,7 +22,7 @@ abbrev μ-loop : tie.MeasureT-loop
 loop-holds : tie.Need-loop-holds Inv-loop μ-loop
 loop-holds c =
     let pre = c .before .before .pre in
-    let len = c .length .ensures _ (pre .3) in
+    let len = places-len _ (c .length .ensures) _ (pre .3) in
     let room = pre .4 in
     (omega arith, omega arith, filled-start (c .before .before .good .1 .0 .1 .0 .1) (pre .1) (λ i h. added-below _ _ _ _ _ i (omega arith)))
 
@@ -45,7 +45,7 @@ returns c = let pre = c .before .pre in stands-eq _ (multiple-nought _ _ _ (c .i
 
 returns-2 : tie.Need-returns-2 Inv-loop μ-loop
 returns-2 c =
-    let len = c .before .before .length .ensures _ (c .before .before .before .before .pre .3) in
+    let len = places-len _ (c .before .before .length .ensures) _ (c .before .before .before .before .pre .3) in
     filled-end (c .before .loop .inv .2) (λ i h. added-past _ _ _ _ _ (c .before .before .length .result) i (omega arith) (omega arith))
 
 pub add-multiple-spec : {M : Type 1} → statement M

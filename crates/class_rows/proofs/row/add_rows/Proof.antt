@@ -1,8 +1,6 @@
 -- `row::add_rows` meets its contract: a sum is a multiple added with factor 1 and no shift. Assumes nothing.
 use native.Mathlib.Omega.{arith}
-use Rattle.class_rows.proofs.Rows.Elements.{one-lt}
-use Rattle.class_rows.proofs.Rows.Coefficients.{row-len-length, stands-eq}
-use Rattle.class_rows.proofs.Rows.Sums.{multiple-one}
+use Rattle.row_theory.proofs.{Rows.Elements.one-lt, Rows.Coefficients.row-len-length, Rows.Coefficients.stands-eq, Rows.Sums.multiple-one}
 use Rattle.class_rows.proofs.row.add_rows.Statement.{statement}
 use Rattle.class_rows.proofs.row.add_rows.Tie as tie
 

@@ -1,6 +1,6 @@
 -- `row::bound` meets its contract.
 use borrow.Author.Tests.{ne-eqb}
-use Rattle.class_rows.specs.Field.{degree-of}
+use Rattle.row_theory.specs.Field.{degree-of}
 use Rattle.class_rows.proofs.row.bound.Statement.{statement}
 use Rattle.class_rows.proofs.row.bound.Tie as tie
 

@@ -1,7 +1,8 @@
 -- `row::length` meets its contract. The invariant: the numbers from n on are 0. Assumes nothing.
 use Prim.Native.Nat.{_≤_}
+use mathlib.Core.Path.{_≡_, sym, _∙_}
 use native.Mathlib.Omega.{arith}
-use Rattle.class_rows.proofs.Rows.Length.{Blank, blank-start, blank-less, blank-length, blank-none}
+use Rattle.row_theory.proofs.Rows.Length.{Blank, blank-start, blank-less, places-is}
 use Rattle.class_rows.proofs.row.length.Statement.{statement}
 use Rattle.class_rows.proofs.row.length.Tie as tie
 
@@ -15,13 +16,16 @@ loop-holds : tie.Need-loop-holds Inv-loop μ-loop
 loop-holds c = (omega arith, blank-start (c .good .0 .1 .0 .1))
 
 returns : tie.Need-returns Inv-loop μ-loop
-returns c d h = blank-length d h (c .before .before .loop .inv .1) (omega arith) (c .if1 .taken)
+returns c = places-is (c .before .before .loop .inv .1) (λ _. c .if1 .taken)
 
 loop-again : tie.Need-loop-again Inv-loop μ-loop
 loop-again c = (omega arith, blank-less (c .before .before .loop .inv .1) (c .if1 .left))
 
 returns-2 : tie.Need-returns-2 Inv-loop μ-loop
-returns-2 c d h = blank-none d (c .before .loop .inv .1) (omega arith)
+returns-2 c =
+    let n : c .before .loop .n ≤ 0 = omega arith in
+    let z : c .before .loop .n ≡ 0 = omega arith in
+    sym z ∙ places-is (c .before .loop .inv .1) (λ h. absurd (omega arith))
 
 pub length-spec : {M : Type 1} → statement M
 length-spec = tie.close (tie.spec Inv-loop μ-loop loop-holds (λ c. omega arith) (λ c. omega arith) (λ c. omega arith) returns (λ c. omega arith) (λ c. omega arith) loop-again returns-2)

@@ -1,8 +1,8 @@
 -- `row::multiply` meets its contract. The invariant: the row stands for the part of a below x^i, times b. Assumes nothing.
 use Prim.Native.Nat.{_-_, _≤_}
 use native.Mathlib.Omega.{arith}
-use Rattle.class_rows.proofs.Rows.Length.{length-le}
-use Rattle.class_rows.proofs.Rows.Multiply.{Partial, partial-start, partial-turn, partial-end}
+use Rattle.row_theory.proofs.{Rows.Length.length-le, Rows.Multiply.Partial, Rows.Multiply.partial-start, Rows.Multiply.partial-turn, Rows.Multiply.partial-end}
+use Rattle.row_theory.proofs.Rows.Length.{places-len}
 use Rattle.class_rows.proofs.row.multiply.Statement.{statement}
 use Rattle.class_rows.proofs.row.multiply.Tie as tie
 
@@ -14,12 +14,12 @@ abbrev μ-loop : tie.MeasureT-loop
 
 loop-holds : tie.Need-loop-holds Inv-loop μ-loop
 loop-holds c =
-    (omega arith, length-le _ _ (c .length .ensures _ (c .before .pre .1)) (c .before .good .1 .0 .1 .0 .1), partial-start)
+    (omega arith, length-le _ _ (places-len _ (c .length .ensures) _ (c .before .pre .1)) (c .before .good .1 .0 .1 .0 .1), partial-start)
 
 add-multiple-requires : tie.Need-add-multiple-requires Inv-loop μ-loop
 add-multiple-requires c κs =
     let pre = c .before .before .before .pre in
-    let len = c .before .before .length .ensures _ (pre .1) in
+    let len = places-len _ (c .before .before .length .ensures) _ (pre .1) in
     let room = pre .3 in
     (pre .0, c .before .loop .inv .2 .range, pre .1 _, pre .2, omega arith)
 
@@ -28,7 +28,7 @@ loop-again c = (omega arith, omega arith, partial-turn (c .before .before .loop 
 
 returns : tie.Need-returns Inv-loop μ-loop
 returns c =
-    let len = c .before .before .length .ensures _ (c .before .before .before .pre .1) in
+    let len = places-len _ (c .before .before .length .ensures) _ (c .before .before .before .pre .1) in
     partial-end (c .before .loop .inv .2) (omega arith)
 
 pub multiply-spec : {M : Type 1} → statement M

@@ -4,10 +4,10 @@ use mathlib.Core.Path.{refl, sym, _∙_}
 use native.Mathlib.Omega.{arith}
 use lib.ListN.{replicate}
 use Rattle.char2_algebra.specs.Square.{sqrt}
-use Rattle.class_rows.specs.Field.{𝔸, poly}
-use Rattle.class_rows.proofs.Rows.Length.{length-le}
-use Rattle.class_rows.proofs.Rows.Fill.{Filled, zeros-range, coeff-zeros, filled-start, filled-turn, filled-end}
-use Rattle.class_rows.proofs.Rows.Squares.{root-at, root-past}
+use Rattle.row_theory.specs.Field.{𝔸, poly}
+use Rattle.row_theory.proofs.{Rows.Length.length-le, Rows.Fill.Filled, Rows.Fill.zeros-range, Rows.Fill.coeff-zeros, Rows.Fill.filled-start}
+use Rattle.row_theory.proofs.{Rows.Fill.filled-turn, Rows.Fill.filled-end, Rows.Squares.root-at, Rows.Squares.root-past}
+use Rattle.row_theory.proofs.Rows.Length.{places-len}
 use Rattle.class_rows.proofs.row.root_row.Statement.{statement}
 use Rattle.class_rows.proofs.row.root_row.Tie as tie
 
@@ -21,7 +21,7 @@ abbrev μ-loop : tie.MeasureT-loop
 loop-holds : tie.Need-loop-holds Inv-loop μ-loop
 loop-holds c = (
   omega arith,
-  length-le _ _ (c .length .ensures _ (c .before .pre .1)) (c .before .good .1 .0 .1 .0 .1),
+  length-le _ _ (places-len _ (c .length .ensures) _ (c .before .pre .1)) (c .before .good .1 .0 .1 .0 .1),
   filled-start refl (zeros-range _ 12) (λ i h. absurd (omega arith)),
 )
 
@@ -34,7 +34,7 @@ loop-again c =
 
 returns : tie.Need-returns Inv-loop μ-loop
 returns c =
-    let len = c .before .before .length .ensures _ (c .before .before .before .pre .1) in
+    let len = places-len _ (c .before .before .length .ensures) _ (c .before .before .before .pre .1) in
     filled-end (c .before .loop .inv .2) (λ i h. coeff-zeros _ 12 i ∙ sym (root-past _ _ i (omega arith)))
 
 pub root-row-spec : {M : Type 1} → statement M

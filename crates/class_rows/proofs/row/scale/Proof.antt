@@ -1,50 +1,16 @@
--- `row::scale` meets its contract. The invariant: the numbers below i are those of c a, the others those of a. Assumes nothing.
-use Prim.Native.Nat.{_-_, _≤_}
+-- `row::scale` meets its contract: a multiple added to 0 with no shift.
 use native.Mathlib.Omega.{arith}
-use Rattle.class_rows.specs.Field.{𝔸, el, poly}
-use Rattle.class_rows.proofs.Rows.Length.{length-le}
-use Rattle.class_rows.proofs.Rows.Fill.{Filled, filled-start, filled-turn, filled-end}
-use Rattle.class_rows.proofs.Rows.Sums.{scaled-at, scaled-past}
+use Rattle.row_theory.proofs.Rows.{Coefficients.row-len-length, Coefficients.stands-eq, Fill.zeros-range, Sums.multiple-alone}
 use Rattle.class_rows.proofs.row.scale.Statement.{statement}
 use Rattle.class_rows.proofs.row.scale.Tie as tie
 
-abbrev Inv-loop : tie.InvT-loop
-Inv-loop d c a n r₀ i₀ r i = (i ≤ n) × (n ≤ 12) × Filled d r i (𝔸 d .ring .mul (𝔸 d .con (el d c)) (poly d a)) (poly d a)
+add-multiple-requires : tie.Need-add-multiple-requires
+add-multiple-requires c κs =
+    let len = row-len-length (c .args .d) (c .args .a) 12 (c .good .1 .1 .0 .1 .0 .1) in
+    (c .pre .0, zeros-range _ 12, c .pre .1, c .pre .2, omega arith)
 
-abbrev μ-loop : tie.MeasureT-loop
-μ-loop d c a n r₀ i₀ r i = n - i
-
-loop-holds : tie.Need-loop-holds Inv-loop μ-loop
-loop-holds c =
-    let size = c .before .good .1 .1 .0 .1 .0 .1 in
-    (omega arith, length-le _ _ (c .length .ensures _ (c .before .pre .2)) size, filled-start size (c .before .pre .2) (λ i h. absurd (omega arith)))
-
-times-requires : tie.Need-times-requires Inv-loop μ-loop
-times-requires c κs = let pre = c .before .before .before .pre in (pre .0, pre .1, pre .2 (c .before .loop .i))
-
-loop-again : tie.Need-loop-again Inv-loop μ-loop
-loop-again c =
-    (omega arith, omega arith, filled-turn (c .before .before .loop .inv .2) (omega arith) (scaled-at _ _ _ _ (c .times .ensures)))
-
-returns : tie.Need-returns Inv-loop μ-loop
-returns c =
-    let len = c .before .before .length .ensures _ (c .before .before .before .pre .2) in
-    filled-end (c .before .loop .inv .2) (λ i h. scaled-past _ _ _ i (omega arith))
+returns : tie.Need-returns
+returns c = stands-eq _ (multiple-alone _ _ _) (c .add-multiple .ensures)
 
 pub scale-spec : {M : Type 1} → statement M
-scale-spec =
-    tie.close
-    (tie.spec
-    Inv-loop
-    μ-loop
-    (λ c κs. tt)
-    loop-holds
-    (λ c. omega arith)
-    (λ c. omega arith)
-    times-requires
-    (λ c. omega arith)
-    (λ c. omega arith)
-    (λ c. omega arith)
-    (λ c. omega arith)
-    loop-again
-    returns)
+scale-spec = tie.close (tie.spec add-multiple-requires returns)

@@ -3,9 +3,11 @@ use Prim.Native.Nat.{_+_, _-_, _≤_}
 use mathlib.Core.Path.{refl, sym, _∙_}
 use native.Mathlib.Omega.{arith}
 use lib.ListN.{replicate}
-use Rattle.class_rows.specs.Field.{𝔸, poly}
-use Rattle.class_rows.proofs.Rows.Fill.{Filled, zeros-range, coeff-zeros, filled-start, filled-turn, filled-skip, filled-to, filled-end}
-use Rattle.class_rows.proofs.Rows.Squares.{squared-at, squared-odd, squared-past}
+use Rattle.row_theory.specs.Field.{𝔸, poly}
+use Rattle.row_theory.proofs.Rows.Fill.{Filled, zeros-range, coeff-zeros, filled-start, filled-turn}
+use Rattle.row_theory.proofs.{Rows.Fill.filled-skip, Rows.Fill.filled-to, Rows.Fill.filled-end, Rows.Squares.squared-at, Rows.Squares.squared-odd}
+use Rattle.row_theory.proofs.Rows.Squares.{squared-past}
+use Rattle.row_theory.proofs.Rows.Length.{places-len}
 use Rattle.class_rows.proofs.row.square_row.Statement.{statement}
 use Rattle.class_rows.proofs.row.square_row.Tie as tie
 
@@ -18,7 +20,7 @@ abbrev μ-loop : tie.MeasureT-loop
 
 loop-holds : tie.Need-loop-holds Inv-loop μ-loop
 loop-holds c =
-    let len = c .length .ensures _ (c .before .pre .1) in
+    let len = places-len _ (c .length .ensures) _ (c .before .pre .1) in
     let room = c .before .pre .2 in
     (omega arith, omega arith, filled-start refl (zeros-range _ 12) (λ i h. absurd (omega arith)))
 
@@ -34,7 +36,7 @@ loop-again c = (
 
 returns : tie.Need-returns Inv-loop μ-loop
 returns c =
-    let len = c .before .before .length .ensures _ (c .before .before .before .pre .1) in
+    let len = places-len _ (c .before .before .length .ensures) _ (c .before .before .before .pre .1) in
     filled-end (c .before .loop .inv .2) (λ i h. coeff-zeros _ 12 i ∙ sym (squared-past _ _ (c .before .before .length .result) i (omega arith) (omega arith)))
 
 pub square-row-spec : {M : Type 1} → statement M

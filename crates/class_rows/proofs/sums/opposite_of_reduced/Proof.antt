@@ -1,8 +1,9 @@
 -- `opposite_of_reduced` meets its contract: the neutral class is its own opposite.
 use native.Mathlib.Omega.{arith}
-use Rattle.class_rows.proofs.ReductionRows.{one-stands}
+use Rattle.row_theory.proofs.Rows.Constants.{one-stands}
 use Rattle.class_rows.proofs.OppositeRows.{opposite-short, opposite-long}
 use borrow.Author.Needs.{needs}
+use Rattle.row_theory.proofs.Rows.Length.{places-len}
 use Rattle.class_rows.proofs.sums.opposite_of_reduced.Statement.{statement}
 use Rattle.class_rows.proofs.sums.opposite_of_reduced.Tie as tie
 
@@ -11,7 +12,7 @@ returns c =
     λ C.
     let s = c .before .before .before .before in
     let d = s .args .d in
-    let e = c .before .length .ensures d (s .pre .1) in
+    let e = places-len _ (c .before .length .ensures) d (s .pre .1) in
     opposite-short d C (s .args .a) (s .pre .1) (s .pre .2) (omega arith)
 
 add-rows-requires : tie.Need-add-rows-requires
@@ -24,7 +25,7 @@ returns-2 c =
     λ C.
     let s = c .before .before .before .before .before in
     let d = s .args .d in
-    let e = c .before .before .length .ensures d (s .pre .1) in
+    let e = places-len _ (c .before .before .length .ensures) d (s .pre .1) in
     opposite-long d C (s .args .a) (s .pre .1) (s .pre .2) (omega arith) (c .add-rows .ensures)
 
 pub opposite-of-reduced-spec : {M : Type 1} → statement M

@@ -3,6 +3,7 @@ use mathlib.Core.Path.{sym, _∙_, ap₂}
 use mathlib.Core.List.{List}
 use Prim.Native.Nat.{ℕ, _-_}
 use native.Mathlib.Omega.{arith}
+use Rattle.row_theory.proofs.Rows.Length.{places-len}
 use Rattle.jacobian.specs.Answer.{neutral-class}
 use Rattle.jacobian.proofs.ByValue.Pairs.{class-of-rows}
 use borrow.Author.Needs.{needs}
@@ -13,13 +14,13 @@ returns : tie.Need-returns
 unfolding neutral-class
 returns c =
     λ d hu hv.
-    let e = c .before .before .length .ensures d hu in
+    let e = places-len _ (c .before .before .length .ensures) d hu in
     c .neutral .ensures ∙ sym (class-of-rows d (c .before .before .before .before .before .args .a) hu hv 0 (omega arith))
 
 returns-2 : tie.Need-returns-2
 returns-2 c =
     λ d hu hv.
-    let e = c .before .before .before .length .ensures d hu in
+    let e = places-len _ (c .before .before .before .length .ensures) d hu in
     let n = c .before .before .before .length .result in
     ap₂ (λ (x y : List ℕ). record { degree = n - 1; u = x; v = y }) (c .before .narrowed .ensures) (c .narrowed2 .ensures)
     ∙ sym (class-of-rows d (c .before .before .before .before .before .before .args .a) hu hv (n - 1) (omega arith))

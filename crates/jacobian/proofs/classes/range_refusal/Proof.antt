@@ -2,7 +2,7 @@
 use Prim.Native.Nat.{_^_}
 use mathlib.Core.Path.{_≡_, sym, _∙_, ap}
 use borrow.Author.{Tests.not-true, Tests.not-false, Needs.needs}
-use Rattle.class_rows.proofs.Rows.Elements.{degree-is}
+use Rattle.row_theory.proofs.Rows.Elements.{degree-is}
 use Rattle.jacobian.specs.{Checks.unless, Classes.range-refusal}
 use Rattle.jacobian.proofs.classes.range_refusal.Statement.{statement}
 use Rattle.jacobian.proofs.classes.range_refusal.Tie as tie

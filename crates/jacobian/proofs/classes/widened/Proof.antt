@@ -2,7 +2,7 @@
 use mathlib.Core.Path.{refl}
 use mathlib.Core.List.{[], _∷_}
 use lib.ListN.{getD}
-use Rattle.class_rows.specs.{Row.filled}
+use Rattle.row_theory.specs.Row.{filled}
 use Rattle.jacobian.specs.{internal.ClassRows.Widened}
 use Rattle.jacobian.proofs.ByValue.Threes.{by-three}
 use borrow.Author.Needs.{needs}

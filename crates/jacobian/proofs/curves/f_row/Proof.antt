@@ -1,6 +1,6 @@
 -- `f_row` meets its contract.
 use mathlib.Core.Path.{refl}
-use Rattle.class_rows.specs.{Row.filled}
+use Rattle.row_theory.specs.Row.{filled}
 use Rattle.jacobian.specs.{Curves.f-row}
 use Rattle.jacobian.proofs.curves.f_row.Statement.{statement}
 use Rattle.jacobian.proofs.curves.f_row.Tie as tie

@@ -1,0 +1,25 @@
+-- What the functions of a reduction say of the cofactor w = (v² + v + f) / u, and of the composition of a double.
+use Prim.Native.Nat.{ℕ}
+use mathlib.Core.List.{List}
+use Rattle.field_laws.specs.Ring.{Ring2}
+use Rattle.class_group.specs.Curve as Theory
+use Rattle.class_group.specs.Mumford.{value}
+use Rattle.row_theory.specs.{Field.𝔸, Field.poly, Row.Stands}
+use Rattle.class_rows.specs.Core.{OnCurve}
+use Rattle.class_rows.specs.declared.row.RowPair.{RowPair}
+use Rattle.class_rows.specs.declared.reduction.Squared.{Squared}
+
+-- w is the cofactor of the pair
+abbrev pub CofactorRow : (d : ℕ) → List ℕ → RowPair → List ℕ → Type 0
+CofactorRow d f a w = (C : Theory.Curve (𝔸 d)) → OnCurve d f C → Stands d w (𝔸 d .quot (value C (poly d (a .v))) (poly d (a .u)))
+
+module _ (d : ℕ) where
+  open Ring2 (𝔸 d .ring) using (add as _+_, mul as _·_)
+
+  infixl 60 _+_
+  infixl 70 _·_
+  -- u², and quotient and remainder of v² + f by it
+  pub record SquaredRows (f : List ℕ) (a : RowPair) (r : Squared) : Type 0 where
+    pub u-stands : Stands d (r .u) (poly d (a .u) · poly d (a .u))
+    pub v-stands : Stands d (r .v) (𝔸 d .rem (poly d (a .v) · poly d (a .v) + poly d f) (poly d (a .u) · poly d (a .u)))
+    pub quotient-stands : Stands d (r .quotient) (𝔸 d .quot (poly d (a .v) · poly d (a .v) + poly d f) (poly d (a .u) · poly d (a .u)))

@@ -1,0 +1,46 @@
+-- Coefficients of the square and of the square root of a row's polynomial, in the words of the loops that compute them.
+use Prim.Native.Nat.{ℕ, zero, suc, _+_, _≤_}
+use mathlib.Core.Path.{_≡_, sym, _∙_, ap, ap₂}
+use mathlib.Core.List.{List}
+use native.Mathlib.Omega.{arith}
+use lib.ListN.{getD}
+use Rattle.field_laws.specs.Ring.{Ring2}
+use Rattle.char2_algebra.specs.Polynomials.{Polynomials}
+use Rattle.char2_algebra.proofs.Ring.{·-𝟘}
+use Rattle.char2_algebra.specs.Square.{sqrt}
+use Rattle.char2_algebra.proofs.Degree.{len-zero, len-nought}
+use Rattle.char2_algebra.proofs.Product.{len-mul-le}
+use Rattle.char2_algebra.proofs.Square.{coeff-square-even, coeff-square-odd}
+use Rattle.row_theory.specs.{Field.F, Field.Poly, Field.𝔸, Field.el, Field.poly, Row.Is}
+use Rattle.row_theory.proofs.{Rows.Elements.is-eq, Rows.Coefficients.coeff-poly, Rows.Roots.root-nought, Rows.Roots.coeff-of-sqrt}
+
+module _ (d : ℕ) where
+  open Polynomials (𝔸 d) using (ring, coeff, con, len)
+  open Ring2 (𝔸 d .ring) using (add as _⊞_, mul as _·_)
+  open Ring2 (F d .ring) using (add as _⊕_, mul as _⊙_, nought as 𝟎)
+
+  infixl 60 _⊞_
+  infixl 70 _·_
+  infixl 60 _⊕_
+  infixl 70 _⊙_
+  -- the square
+  pub squared-at : (r : List ℕ) (i : ℕ) {v : ℕ} → Is d v (el d (getD r i 0) ⊙ el d (getD r i 0)) → Is d v (coeff (poly d r · poly d r) (i + i))
+  squared-at r i = is-eq d (sym (coeff-square-even (𝔸 d) i (poly d r) ∙ ap₂ _⊙_ (coeff-poly d r i) (coeff-poly d r i)))
+
+  pub squared-odd : (p : Poly d) (i : ℕ) → coeff (p · p) (i + i + 1) ≡ 𝟎
+  squared-odd p i = let e : i + i + 1 ≡ suc (i + i) = omega arith in ap (coeff (p · p)) e ∙ coeff-square-odd (𝔸 d) i p
+
+  pub squared-past : (p : Poly d) (n i : ℕ) → len p ≤ n → n + n ≤ i → coeff (p · p) i ≡ 𝟎
+  squared-past p n i h k =
+      𝔸 d .len-past (p · p) i (go n h k)
+    where
+      go : (m : ℕ) → len p ≤ m → m + m ≤ i → len (p · p) ≤ i
+      go zero a b = let e : p ≡ 𝔸 d .ring .nought = len-zero (𝔸 d) p (omega arith) in let l : len (p · p) ≡ 0 = ap (λ z. len (z · z)) e ∙ ap len (·-𝟘 (𝔸 d .ring) (𝔸 d .ring .nought)) ∙ len-nought (𝔸 d) in omega arith
+      go (suc m) a b = let l : len (p · p) ≤ m + suc m = len-mul-le (𝔸 d) m (suc m) p p a a in omega arith
+
+  -- the square root
+  pub root-at : (r : List ℕ) (i : ℕ) {v : ℕ} → Is d v (F d .root (el d (getD r (i + i) 0))) → Is d v (coeff (sqrt (𝔸 d) (poly d r)) i)
+  root-at r i = is-eq d (sym (coeff-of-sqrt (𝔸 d) (poly d r) i ∙ ap (F d .root) (coeff-poly d r (i + i))))
+
+  pub root-past : (p : Poly d) (i : ℕ) → len p ≤ i + i → coeff (sqrt (𝔸 d) p) i ≡ 𝟎
+  root-past p i h = coeff-of-sqrt (𝔸 d) p i ∙ ap (F d .root) (𝔸 d .len-past p (i + i) h) ∙ root-nought (F d)

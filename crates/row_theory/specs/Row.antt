@@ -1,0 +1,43 @@
+-- What the functions on numbers and rows promise: numbers in range that stand for elements and polynomials.
+use Prim.Native.Nat.{ℕ, zero, suc, _-_, _≤_, _<_, _^_}
+use mathlib.Core.Path.{_≡_}
+use mathlib.Core.List.{List, [], _∷_, _++_}
+use lib.ListN.{length, getD, replicate}
+use Rattle.row_theory.specs.Field.{degree-of, K, Poly, 𝔸, el, poly}
+
+-- a number that stands for an element
+pub record Is (d : ℕ) (n : ℕ) (e : K d) : Type 0 where
+  pub in-range : n < 2 ^ degree-of d
+  pub stands : el d n ≡ e
+
+-- every number is an element of degree d
+abbrev pub InRange : ℕ → List ℕ → Type 0
+InRange d r = (i : ℕ) → getD r i 0 < 2 ^ degree-of d
+
+-- a row that stands for a polynomial
+pub record Stands (d : ℕ) (r : List ℕ) (p : Poly d) : Type 0 where
+  pub in-range : InRange d r
+  pub stands : poly d r ≡ p
+
+-- a row of twelve places: the numbers, and 0 after them
+unfoldable pub filled : List ℕ → List ℕ
+filled r = r ++ replicate (12 - length r) 0
+
+-- one past the last number that is not 0
+unfoldable pub after : ℕ → ℕ → ℕ
+after (suc k) n = suc (suc k)
+after zero zero = 0
+after zero (suc n) = 1
+
+unfoldable pub places : List ℕ → ℕ
+places [] = 0
+places (n ∷ r) = after (places r) n
+
+-- the degree plus one of the polynomial that a row stands for
+abbrev pub row-len : ℕ → List ℕ → ℕ
+row-len d r = 𝔸 d .len (poly d r)
+
+-- x to the power n
+unfoldable pub x-power : (d : ℕ) → ℕ → Poly d
+x-power d zero = 𝔸 d .ring .one
+x-power d (suc n) = 𝔸 d .ring .mul (𝔸 d .x) (x-power d n)
