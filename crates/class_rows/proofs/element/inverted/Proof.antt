@@ -1,6 +1,6 @@
 -- `element::inverted` meets its contract: the call is answered, with the inverse. Assumes nothing.
 use mathlib.Core.Path.{_∙_}
-use Rattle.row_theory.proofs.Rows.Answers.{inverse-one, inverse-answers, inverse-is}
+use Rattle.row_theory.proofs.Rows.Answers.{inverse-one, inverse-answers, number-is}
 use borrow.Author.Needs.{needs}
 use Rattle.class_rows.proofs.element.inverted.Statement.{statement}
 use Rattle.class_rows.proofs.element.inverted.Tie as tie
@@ -11,7 +11,7 @@ returns c = inverse-one _ _ (c .if1 .taken)
 returns-2 : tie.Need-returns-2
 returns-2 c =
     let pre = c .before .before .before .pre in
-    inverse-is _ (pre .0) _ (pre .1) (c .number .ensures _ (c .before .inverse .ensures ∙ inverse-answers _ (pre .0) _ (pre .1)))
+    number-is _ _ (c .number .ensures _ (c .before .inverse .ensures ∙ inverse-answers _ (pre .0) _ (pre .1)))
 
 pub inverted-spec : {M : Type 1} → statement M
 inverted-spec = tie.close (tie.spec returns (λ c κs. search needs) (λ c κs. search needs) returns-2)

@@ -1,6 +1,6 @@
 -- `element::plus` meets its contract: the call is answered, with the sum. Assumes nothing.
 use mathlib.Core.Path.{_∙_}
-use Rattle.row_theory.proofs.Rows.Answers.{sum-answers, sum-is}
+use Rattle.row_theory.proofs.Rows.Answers.{sum-answers, number-is}
 use borrow.Author.Needs.{needs}
 use Rattle.class_rows.proofs.element.plus.Statement.{statement}
 use Rattle.class_rows.proofs.element.plus.Tie as tie
@@ -8,7 +8,7 @@ use Rattle.class_rows.proofs.element.plus.Tie as tie
 returns : tie.Need-returns
 returns c =
     let pre = c .before .before .pre in
-    sum-is _ (pre .0) _ (pre .1) _ (pre .2) (c .number .ensures _ (c .before .sum .ensures ∙ sum-answers _ (pre .0) _ (pre .1) _ (pre .2)))
+    number-is _ _ (c .number .ensures _ (c .before .sum .ensures ∙ sum-answers _ (pre .0) _ (pre .1) _ (pre .2)))
 
 pub plus-spec : {M : Type 1} → statement M
 plus-spec = tie.close (tie.spec (λ c κs. search needs) (λ c κs. search needs) returns)

@@ -1,6 +1,6 @@
 -- `element::squared` meets its contract: the call is answered, with the square. Assumes nothing.
 use mathlib.Core.Path.{_∙_}
-use Rattle.row_theory.proofs.Rows.Answers.{square-answers, square-is}
+use Rattle.row_theory.proofs.Rows.Answers.{square-answers, number-is}
 use borrow.Author.Needs.{needs}
 use Rattle.class_rows.proofs.element.squared.Statement.{statement}
 use Rattle.class_rows.proofs.element.squared.Tie as tie
@@ -8,7 +8,7 @@ use Rattle.class_rows.proofs.element.squared.Tie as tie
 returns : tie.Need-returns
 returns c =
     let pre = c .before .before .pre in
-    square-is _ (pre .0) _ (pre .1) (c .number .ensures _ (c .before .square .ensures ∙ square-answers _ (pre .0) _ (pre .1)))
+    number-is _ _ (c .number .ensures _ (c .before .square .ensures ∙ square-answers _ (pre .0) _ (pre .1)))
 
 pub squared-spec : {M : Type 1} → statement M
 squared-spec = tie.close (tie.spec (λ c κs. search needs) (λ c κs. search needs) returns)

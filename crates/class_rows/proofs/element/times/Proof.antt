@@ -1,7 +1,6 @@
 -- `element::times` meets its contract: the call is answered, with the product. Assumes nothing.
 use mathlib.Core.Path.{_∙_}
-use Rattle.row_theory.proofs.Rows.Answers.{zero-times, times-zero, one-times, times-one, product-answers}
-use Rattle.row_theory.proofs.Rows.Answers.{product-is}
+use Rattle.row_theory.proofs.Rows.Answers.{zero-times, times-zero, one-times, times-one, product-answers, number-is}
 use borrow.Author.Needs.{needs}
 use Rattle.class_rows.proofs.element.times.Statement.{statement}
 use Rattle.class_rows.proofs.element.times.Tie as tie
@@ -21,7 +20,7 @@ returns-4 c = times-one _ _ _ (c .before .before .before .before .pre .1) (c .if
 returns-5 : tie.Need-returns-5
 returns-5 c =
     let pre = c .before .before .before .before .before .before .pre in
-    product-is _ (pre .0) _ (pre .1) _ (pre .2) (c .number .ensures _ (c .before .product .ensures ∙ product-answers _ (pre .0) _ (pre .1) _ (pre .2)))
+    number-is _ _ (c .number .ensures _ (c .before .product .ensures ∙ product-answers _ (pre .0) _ (pre .1) _ (pre .2)))
 
 pub times-spec : {M : Type 1} → statement M
 times-spec =
