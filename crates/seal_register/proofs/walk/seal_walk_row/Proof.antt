@@ -50,7 +50,8 @@ use denote.Triple.Table.{entered, cited}
 use denote.Triple.Walked.{says, Stays, stay-dropped, walkOf, AllGo, goes-dropped, Walks, ends-at, walked, walk-meets}
 use denote.Exit.{yes}
 use Rattle.class_group.specs.Walk.{after}
-use Rattle.jacobian.specs.Answer.{Reply, neutral-class, verdict-of}
+use Rattle.jacobian.specs.Answer.{neutral-class, verdict-of}
+use Rattle.history.specs.Register.{SealReply, sealed}
 use Rattle.jacobian.specs.declared.Curve.{Curve}
 use Rattle.jacobian.specs.declared.Class.{Class}
 use Rattle.jacobian.proofs.Representation.Form.{Three}
@@ -59,7 +60,7 @@ use Rattle.jacobian.proofs.Curve.Laws as C′
 use Rattle.jacobian.proofs.Class as K
 use Rattle.jacobian.proofs.Class.Laws as K′
 use Rattle.seal_register.specs.declared.walk.RowWalk.{RowWalk}
-use Rattle.seal_register.specs.RowWalk.{reached, replied, opening-refusal, turns-due, onward, row-walk-answer}
+use Rattle.seal_register.specs.RowWalk.{reached, opening-refusal, turns-due, onward, row-walk-answer}
 use Rattle.seal_register.proofs.RowSteps.{after-next, turns-few, row-walked}
 use Rattle.seal_register.proofs.walk.RowWalk as R
 use Rattle.seal_register.proofs.walk.RowWalk.Laws as R′
@@ -141,8 +142,8 @@ module _ {M : Type 1} (𝓤 : URA M) (H : Heap 𝓤) (A : Atoms 𝓤) (mem : Mem
   abbrev OpenedSays : Curve → Class → ℕ → RowWalk → SProp 𝓤
   OpenedSays c s n = ensured 𝓤 H A opened.ended (opened.clauses 𝓤 H A mem run) tt (c, (s, (n, tt))) tt
 
-  opened-of : (c : Curve) (s : Class) (n : ℕ) (w : RowWalk) → ent 𝓤 (OpenedSays c s n w) (fact 𝓤 (reached w ≡ replied (opening-refusal c s n) s))
-  opened-of c s n w = exE 𝓤 _ (λ ws. snd∗ 𝓤 (sem 𝓤 H A (lasts opened.ended tt (c, (s, (n, tt))) ws)) (fact 𝓤 (reached w ≡ replied (opening-refusal c s n) s)))
+  opened-of : (c : Curve) (s : Class) (n : ℕ) (w : RowWalk) → ent 𝓤 (OpenedSays c s n w) (fact 𝓤 (reached w ≡ sealed (opening-refusal c s n) s))
+  opened-of c s n w = exE 𝓤 _ (λ ws. snd∗ 𝓤 (sem 𝓤 H A (lasts opened.ended tt (c, (s, (n, tt))) ws)) (fact 𝓤 (reached w ≡ sealed (opening-refusal c s n) s)))
 
   abbrev TurnsSays : RowWalk → ℕ → ℕ → SProp 𝓤
   TurnsSays w n = ensured 𝓤 H A turns.ended (turns.clauses 𝓤 H A mem run) tt (w, (n, tt)) tt
@@ -169,7 +170,7 @@ hears {𝓤 = 𝓤} {H = H} {A = A} {W = W} z X P φ says v k =
     heard ! (φ r) (λ e. split ! $ drop ! $ facts ! X (Is X) (shows 𝓤 H A X) r (v ∷ []) (λ g. k r e g)))
 
 -- what stands at the loop's head
-record Head (c : Curve) (x : Reply) (ys : List Class) (n : ℕ) : Type 0 where
+record Head (c : Curve) (x : SealReply) (ys : List Class) (n : ℕ) : Type 0 where
   i : ℕ
   low : i ≤ n
   w : RowWalk
@@ -244,7 +245,7 @@ module _ {M : Type 1} (𝓤 : URA M) (H : Heap 𝓤) (A : Atoms 𝓤) (W : Given
   full τ l v Γ = ‵ (fat fullShare τ l 0 v) ∷ ‵ (fdies τ l) ∷ Γ
 
   -- the loop: x₀ is what the opening answers, and n the number of turns
-  module _ (x₀ : Reply) (n : ℕ) (few : n ≤ length ys)
+  module _ (x₀ : SealReply) (n : ℕ) (few : n ≤ length ys)
       (ends : (w : RowWalk) → reached w ≡ after (onward c) x₀ (take n ys) → ((j : ℕ) → j < n → Three (getD ys j neutral-class))
       → reached w ≡ row-walk-answer c s ys) where
     abbrev Here : Type 0
@@ -356,7 +357,7 @@ module _ {M : Type 1} (𝓤 : URA M) (H : Heap 𝓤) (A : Atoms 𝓤) (W : Given
   few : (w : RowWalk) (n : ℕ) → n ≡ turns-due (verdict-of (w .refusal)) (length ys) → n ≤ length ys
   few w n m = rw m (turns-few (verdict-of (w .refusal)) (length ys))
 
-  ends : (w : RowWalk) (n : ℕ) → reached w ≡ replied (opening-refusal c s (length ys)) s → n ≡ turns-due (verdict-of (w .refusal)) (length ys)
+  ends : (w : RowWalk) (n : ℕ) → reached w ≡ sealed (opening-refusal c s (length ys)) s → n ≡ turns-due (verdict-of (w .refusal)) (length ys)
       → (r : RowWalk) → reached r ≡ after (onward c) (reached w) (take n ys) → ((j : ℕ) → j < n → Three (getD ys j neutral-class))
       → reached r ≡ row-walk-answer c s ys
   ends w n e m r h t = h ∙ row-walked c s (three s _ is) ys (reached w) n neutral-class e m t
@@ -387,7 +388,7 @@ module _ {M : Type 1} (𝓤 : URA M) (H : Heap 𝓤) (A : Atoms 𝓤) (W : Given
         (and-then ! (load ! (from ! (stop !)) (look ! 25 refl))
         (and-then ! (load ! (from ! (stop !)) (look ! 23 refl)) (and-then ! (load ! (from ! (stop !)) (look ! 11 refl)) (no-more !)))) (λ v.
         use1 W (came 𝓤 R.the-row (OpenedSays 𝓤 H A mem run c s (length ys)) v) (id⊢ 𝓤 _) $
-        hears tt R.the-row (OpenedSays 𝓤 H A mem run c s (length ys)) (λ w. reached w ≡ replied (opening-refusal c s (length ys)) s)
+        hears tt R.the-row (OpenedSays 𝓤 H A mem run c s (length ys)) (λ w. reached w ≡ sealed (opening-refusal c s (length ys)) s)
         (opened-of 𝓤 H A mem run c s (length ys)) v (λ w e g.
         land ! (from ! (stop !)) (init ! 18 refl (typed-r w v g)) $
         assigns ! (of-opd ! (load ! (from ! (fld ! refl (stop !))) (look-in ! 20 (sub ! 1 refl (whole !)))))
@@ -435,6 +436,6 @@ seal-walk-row-spec 𝓤 H 𝓜 𝓖 𝓡 =
     entered 𝓤 H (tripleOf 𝓤 H (𝓖 .A) row.signature (row.spec 𝓤 H (𝓖 .A) (𝓜 .mem) (𝓡 .run)))
     (tables 𝓤 H 𝓜 𝓡 code.env .C) (tables 𝓤 H 𝓜 𝓡 code.env .Λ) #seal-walk-row code.function (code.unfolded 𝓤 H 𝓜 𝓡)
     (row-meets 𝓤 H (𝓖 .A) (givenOf 𝓤 H 𝓜 𝓖) (𝓜 .mem) (𝓡 .run) (tablesOf 𝓤 H 𝓜 (tables 𝓤 H 𝓜 𝓡 code.env))
-    (cited 𝓤 H (Opened 𝓤 H (𝓖 .A) (𝓜 .mem) (𝓡 .run)) 𝓜 𝓡 code.env #opened opened-def.routine code.calls-lent-history·walk·opened (opened-thm.met 𝓤 H 𝓜 𝓖 𝓡))
-    (cited 𝓤 H (Turns 𝓤 H (𝓖 .A) (𝓜 .mem) (𝓡 .run)) 𝓜 𝓡 code.env #turns turns-def.routine code.calls-lent-history·walk·turns (turns-thm.met 𝓤 H 𝓜 𝓖 𝓡))
-    (cited 𝓤 H (WalkedOn 𝓤 H (𝓖 .A) (𝓜 .mem) (𝓡 .run)) 𝓜 𝓡 code.env #walked-on walked-on-def.routine code.calls-lent-history·walk·walked-on (walked-on-thm.met 𝓤 H 𝓜 𝓖 𝓡)))
+    (cited 𝓤 H (Opened 𝓤 H (𝓖 .A) (𝓜 .mem) (𝓡 .run)) 𝓜 𝓡 code.env #opened opened-def.routine code.calls-seal-register·walk·opened (opened-thm.met 𝓤 H 𝓜 𝓖 𝓡))
+    (cited 𝓤 H (Turns 𝓤 H (𝓖 .A) (𝓜 .mem) (𝓡 .run)) 𝓜 𝓡 code.env #turns turns-def.routine code.calls-seal-register·walk·turns (turns-thm.met 𝓤 H 𝓜 𝓖 𝓡))
+    (cited 𝓤 H (WalkedOn 𝓤 H (𝓖 .A) (𝓜 .mem) (𝓡 .run)) 𝓜 𝓡 code.env #walked-on walked-on-def.routine code.calls-seal-register·walk·walked-on (walked-on-thm.met 𝓤 H 𝓜 𝓖 𝓡)))
