@@ -1,9 +1,9 @@
--- `undo_of_reduced` meets its contract.
+-- `subtract_and_halve_of_reduced` meets its contract.
 use Rattle.class_rows.specs.Core.{ReducedRows}
 use Rattle.class_rows.proofs.DoubleRows.{reduced-semi}
-use Rattle.class_rows.proofs.MoveRows.{opposed-reduced, summed-reduced, undo-stands}
-use Rattle.class_rows.proofs.sums.undo_of_reduced.Statement.{statement}
-use Rattle.class_rows.proofs.sums.undo_of_reduced.Tie as tie
+use Rattle.class_rows.proofs.MoveRows.{opposed-reduced, summed-reduced, subtract-and-halve-stands}
+use Rattle.class_rows.proofs.sums.subtract_and_halve_of_reduced.Statement.{statement}
+use Rattle.class_rows.proofs.sums.subtract_and_halve_of_reduced.Tie as tie
 
 opposite-of-reduced-requires : tie.Need-opposite-of-reduced-requires
 opposite-of-reduced-requires c κs = (c .pre .0, c .pre .2 .u-range, c .pre .2 .v-range)
@@ -34,11 +34,11 @@ returns : tie.Need-returns
 returns c =
     let s = c .before .before .before .before .before in
     λ C on.
-    undo-stands (s .args .d) (s .args .a) (s .args .b) C
+    subtract-and-halve-stands (s .args .d) (s .args .a) (s .args .b) C
     (c .before .before .before .before .opposite-of-reduced .ensures C) (c .before .before .before .sum-of-reduced .ensures C on) (c .half-of-reduced .ensures C on)
 
-pub undo-of-reduced-spec : {M : Type 1} → statement M
-undo-of-reduced-spec =
+pub subtract-and-halve-of-reduced-spec : {M : Type 1} → statement M
+subtract-and-halve-of-reduced-spec =
     tie.close
     (tie.spec
     opposite-of-reduced-requires

@@ -1,16 +1,15 @@
--- `counted_sum` meets its contract.
-use Rattle.jacobian.specs.{Curves.curve, Answer.counted-sum-answer}
-use Rattle.jacobian.proofs.{ByValue.Checks.curve-passes, ByValue.Passing.on-curve, ByValue.Passing.rows-pair-is, ByValue.Refusals.form-shape, ByValue.Refusals.two-due, ByValue.Answers.counted-at-refusal}
+-- `on_two` meets its contract: what no check before the divisions refuses goes through the rows, and the divisions settle it.
+use Rattle.jacobian.specs.Curves.{curve}
+use Rattle.jacobian.proofs.{ByValue.Checks.curve-passes, ByValue.Passing.on-curve, ByValue.Passing.rows-pair-is, ByValue.Refusals.form-shape, ByValue.Refusals.two-due, ByValue.Answers.at-refusal}
 use borrow.Author.Needs.{needs}
-use Rattle.jacobian.proofs.counted_sum.Statement.{statement}
-use Rattle.jacobian.proofs.counted_sum.Tie as tie
+use Rattle.jacobian.proofs.on_two.Statement.{statement}
+use Rattle.jacobian.proofs.on_two.Tie as tie
 
-counted-refused-requires : tie.Need-counted-refused-requires
-counted-refused-requires c κs = c .if1 .taken
+refused-requires : tie.Need-refused-requires
+refused-requires c κs = c .if1 .taken
 
 returns : tie.Need-returns
-unfolding counted-sum-answer
-returns c = counted-at-refusal _ _ (c .before .before .form-refusal-of-two .ensures .refused (c .before .if1 .taken)) (c .counted-refused .ensures _ _)
+returns c = at-refusal _ _ (c .before .before .form-refusal-of-two .ensures .refused (c .before .if1 .taken)) (c .refused .ensures _ _)
 
 to-rows-requires : tie.Need-to-rows-requires
 to-rows-requires c κs =
@@ -23,7 +22,6 @@ to-rows-requires-2 c κs =
     form-shape (s .args .curve) (s .args .b) (c .before .before .before .form-refusal-of-two .ensures .second-none (c .before .before .if1 .left)) .low
 
 returns-2 : tie.Need-returns-2
-unfolding counted-sum-answer
 returns-2 c =
     let after = c .before .before in
     let left = after .before .before .before .before in
@@ -34,11 +32,11 @@ returns-2 c =
     let f = after .before .before .before .f-row .ensures in
     let first = after .before .before .to-rows .ensures in
     let second = after .before .to-rows2 .ensures in
-    let gives = after .sum-rows .ensures in
-    counted-at-refusal d _
+    let gives = after .binary-rows .ensures in
+    at-refusal d _
     (two-due (s .args .curve) (s .args .a) (s .args .b) ok (due .first-none (left .if1 .left)) (due .second-none (left .if1 .left)) f first second (gives .decides))
-    (c .counted-settled .ensures d _
+    (c .settled .ensures d _
     (λ held. rw (rows-pair-is d first, rows-pair-is d second) at (gives .stands held (curve (s .args .curve)) (on-curve _ (curve-passes _ ok) f))))
 
-pub counted-sum-spec : {M : Type 1} → statement M
-counted-sum-spec = tie.close (tie.spec (λ c κs. search needs) counted-refused-requires returns (λ c κs. search needs) to-rows-requires to-rows-requires-2 (λ c κs. search needs) (λ c κs. search needs) returns-2)
+pub on-two-spec : {M : Type 1} → statement M
+on-two-spec = tie.close (tie.spec (λ c κs. search needs) refused-requires returns (λ c κs. search needs) to-rows-requires to-rows-requires-2 (λ c κs. search needs) (λ c κs. search needs) returns-2)
