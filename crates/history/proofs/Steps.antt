@@ -6,10 +6,10 @@ use mathlib.Core.List.{List, [], _∷_, map}
 use native.Mathlib.Omega.{arith}
 use lib.ListN.{length, take, getD}
 use Rattle.class_group.specs.Walk.{All, none, more, after, walk}
-use Rattle.jacobian.specs.{Answer.accepted, Answer.refusal, Answer.refusal-of-two, Answer.subtract-and-halve-answer}
+use Rattle.jacobian.specs.{Answer.accepted, Answer.Result, Answer.result, Answer.refusal, Answer.refusal-of-two, Answer.subtract-and-halve-answer}
 use Rattle.jacobian.specs.declared.{Curve.Curve, Class.Class}
 use Rattle.jacobian.proofs.Representation.Unrefused.{zero-then}
-use Rattle.history.specs.Register.{limit, RegisterReply, undo-seal, SealReply, seal-reply, sealed, edge, moved, stepped, step-answer, undo-answer}
+use Rattle.history.specs.Register.{limit, RegisterReply, undo-seal, sealed, edge, moved, stepped, step-answer, undo-answer}
 use Rattle.history.specs.Machine as definition
 use Rattle.history.specs.Calls.{undo, answer, run, steps-back}
 use Rattle.history.specs.declared.{Register.Register, Step.the-variants.Undo}
@@ -17,8 +17,8 @@ use Rattle.history.proofs.Registers.{Passing, step-passes, follows-acce
 use Rattle.history.proofs.Answers.{subtract-and-halve-sealed}
 
 -- a step back, as a walk makes it
-abbrev step-back : Curve → Class → Class → SealReply
-step-back c s a = seal-reply (subtract-and-halve-answer c s a)
+abbrev step-back : Curve → Class → Class → Result
+step-back c s a = result (subtract-and-halve-answer c s a)
 
 -- ---- an accepted undo is a step back that also counts
 module _ (r : Register) (a : Class) (e : undo-answer r a .outcome ≡ accepted) where
@@ -30,7 +30,7 @@ module _ (r : Register) (a : Class) (e : undo-answer r a .outcome ≡ accepted) 
   unfolding step-answer
   undo-hands = ap (λ (x : RegisterReply). x .register) (follows-zero _ r (stepped Undo r a) (follows-accepted _ r (stepped Undo r a) e))
 
-  step-of-undo : step-back (r .curve) (r .seal) a ≡ record { outcome = accepted; seal = undo-seal (r .curve) (r .seal) a }
+  step-of-undo : step-back (r .curve) (r .seal) a ≡ record { outcome = accepted; class = undo-seal (r .curve) (r .seal) a }
   unfolding refusal refusal-of-two sealed
   step-of-undo =
       subtract-and-halve-sealed (r .curve) (r .seal) a
@@ -38,13 +38,13 @@ module _ (r : Register) (a : Class) (e : undo-answer r a .outcome ≡ accepted) 
 
 -- a run of accepted undos is a walk
 pub undos-steps : (t : Register) (ops : List Class) → All (λ e. e .outcome ≡ accepted) (run t (map undo ops))
-    → steps-back (t .curve) (t .seal) ops ≡ map (λ e. record { outcome = accepted; seal = e .left .seal }) (run t (map undo ops))
+    → steps-back (t .curve) (t .seal) ops ≡ map (λ e. record { outcome = accepted; class = e .left .seal }) (run t (map undo ops))
 unfolding definition.run definition.event answer steps-back stepped moved
 undos-steps t [] none = refl
 undos-steps t (a ∷ ops) (more h hs) =
-    ap (λ (x : SealReply). x ∷ steps-back (t .curve) (x .seal) ops) (step-of-undo t a h)
-    ∙ ap (λ (x : Register). record { outcome = accepted; seal = x .seal } ∷ steps-back (x .curve) (x .seal) ops) (sym (undo-hands t a h))
-    ∙ ap (λ l. record { outcome = accepted; seal = answer t (undo a) .register .seal } ∷ l) (undos-steps (answer t (undo a) .register) ops hs)
+    ap (λ (x : Result). x ∷ steps-back (t .curve) (x .class) ops) (step-of-undo t a h)
+    ∙ ap (λ (x : Register). record { outcome = accepted; class = x .seal } ∷ steps-back (x .curve) (x .seal) ops) (sym (undo-hands t a h))
+    ∙ ap (λ l. record { outcome = accepted; class = answer t (undo a) .register .seal } ∷ l) (undos-steps (answer t (undo a) .register) ops hs)
 
 -- and takes as many counts
 undos-count : (t : Register) (ops : List Class) → All (λ e. e .outcome ≡ accepted) (run t (map undo ops)) → length ops ≤ t .count
@@ -65,23 +65,23 @@ undos-few t (a ∷ ops) (more h hs) =
     omega arith
 
 -- ---- a walk whose steps are not refused
-sealed-accepted : (n : ℕ) (s : Class) → sealed n s .outcome ≡ accepted → sealed n s .seal ≡ s
+sealed-accepted : (n : ℕ) (s : Class) → sealed n s .outcome ≡ accepted → sealed n s .class ≡ s
 unfolding sealed
 sealed-accepted zero s e = refl
 sealed-accepted (suc n) s e = let z : _≡_ {A = ℕ} 0 1 = cc in absurd (omega arith)
 
-step-accepted : (c : Curve) (s a : Class) → step-back c s a .outcome ≡ accepted → step-back c s a .seal ≡ undo-seal c s a
+step-accepted : (c : Curve) (s a : Class) → step-back c s a .outcome ≡ accepted → step-back c s a .class ≡ undo-seal c s a
 step-accepted c s a e =
     let p = subtract-and-halve-sealed c s a in
-    ap (λ (x : SealReply). x .seal) p ∙ sealed-accepted (refusal-of-two c s a) (undo-seal c s a) (sym (ap (λ (x : SealReply). x .outcome) p) ∙ e)
+    ap (λ (x : Result). x .class) p ∙ sealed-accepted (refusal-of-two c s a) (undo-seal c s a) (sym (ap (λ (x : Result). x .outcome) p) ∙ e)
 
 pub steps-walk : (c : Curve) (s : Class) (ops : List Class) → All (λ x. x .outcome ≡ accepted) (steps-back c s ops)
-    → walk (undo-seal c) s ops ≡ s ∷ map (λ x. x .seal) (steps-back c s ops)
+    → walk (undo-seal c) s ops ≡ s ∷ map (λ x. x .class) (steps-back c s ops)
 unfolding steps-back walk
 steps-walk c s [] none = refl
 steps-walk c s (a ∷ ops) (more h hs) =
     ap (λ x. s ∷ walk (undo-seal c) x ops) (sym (step-accepted c s a h))
-    ∙ ap (λ l. s ∷ l) (steps-walk c (step-back c s a .seal) ops hs)
+    ∙ ap (λ l. s ∷ l) (steps-walk c (step-back c s a .class) ops hs)
 
 -- ---- the first part of a walk
 pub walk-at : {X Y : Type 0} (rule : X → Y → X) (s : X) (l : List Y) (k : ℕ) (x : X) → k ≤ length l → after rule s (take k l) ≡ getD (walk rule s l) k x
@@ -96,4 +96,4 @@ unfolding steps-back
 steps-take c s [] zero = refl
 steps-take c s (a ∷ ops) zero = refl
 steps-take c s [] (suc k) = refl
-steps-take c s (a ∷ ops) (suc k) = ap (λ l. step-back c s a ∷ l) (steps-take c (step-back c s a .seal) ops k)
+steps-take c s (a ∷ ops) (suc k) = ap (λ l. step-back c s a ∷ l) (steps-take c (step-back c s a .class) ops k)

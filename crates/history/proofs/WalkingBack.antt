@@ -7,8 +7,8 @@ use mathlib.Core.Path.{_≡_, refl, sym, _∙_, ap, ap₂}
 use mathlib.Core.List.{List, [], _∷_, map, map-map}
 use lib.ListN.{length, take, getD, length-map}
 use Rattle.class_group.specs.Walk.{All, none, more, walk}
-use Rattle.jacobian.specs.Answer.{accepted}
-use Rattle.history.specs.Register.{limit, undo-seal, SealReply, other}
+use Rattle.jacobian.specs.Answer.{accepted, Result}
+use Rattle.history.specs.Register.{limit, undo-seal, other}
 use Rattle.history.specs.Machine as definition
 use Rattle.history.specs.Calls.{Call, undo, back, Fits, Event, run, last, newest, backs, taken-back, turned, classes, OnlyCommits, seals-back, walk-back, steps-back, met}
 use Rattle.history.specs.declared.Register.{Register}
@@ -37,16 +37,16 @@ module _ (r : Register) (cs : List Call) (fits : Fits r cs) (only : OnlyCommits 
   walk-steps =
       ap (λ c. steps-back c (last r cs .seal) (classes (newest r cs))) (sym (last-curve r cs))
       ∙ undos-steps (last r cs) (classes (newest r cs)) undos-accepted
-      ∙ ap (map (λ e. record { outcome = accepted; seal = e .left .seal })) (sym undos-are ∙ taken-back-turned r cs fits)
-      ∙ map-map (λ e. record { outcome = accepted; seal = e .left .seal }) turned (newest r cs)
+      ∙ ap (map (λ e. record { outcome = accepted; class = e .left .seal })) (sym undos-are ∙ taken-back-turned r cs fits)
+      ∙ map-map (λ e. record { outcome = accepted; class = e .left .seal }) turned (newest r cs)
 
   -- all seals of the walk, the last seal first
   pub walk-meets : walk (undo-seal (r .curve)) (last r cs .seal) (classes (newest r cs)) ≡ seals-back r cs
   unfolding seals-back met
   walk-meets =
       steps-walk (r .curve) (last r cs .seal) (classes (newest r cs)) (rw walk-steps (all-map met (λ e. refl) (newest r cs)))
-      ∙ ap (λ l. last r cs .seal ∷ map (λ x. x .seal) l) walk-steps
-      ∙ ap (λ l. last r cs .seal ∷ l) (map-map (λ (x : SealReply). x .seal) met (newest r cs))
+      ∙ ap (λ l. last r cs .seal ∷ map (λ x. x .class) l) walk-steps
+      ∙ ap (λ l. last r cs .seal ∷ l) (map-map (λ (x : Result). x .class) met (newest r cs))
 
   -- the walk over the k newest classes ends in the seal just before the k-th newest commit, and for k = 0 in the last seal
   pub walk-ends : (k : ℕ) → k ≤ length (newest r cs)

@@ -2,9 +2,9 @@
 use mathlib.Core.Path.{_≡_}
 use mathlib.Core.List.{List, [], _∷_, map}
 use Rattle.class_group.specs.Walk.{All, after}
-use Rattle.jacobian.specs.{Classes.Three, Answer.accepted, Answer.subtract-and-halve-answer}
+use Rattle.jacobian.specs.{Classes.Three, Answer.accepted, Answer.Result, Answer.result, Answer.subtract-and-halve-answer}
 use Rattle.jacobian.specs.declared.{Curve.Curve, Class.Class}
-use Rattle.history.specs.Register.{RegisterReply, step-answer, other, undo-seal, SealReply, seal-reply}
+use Rattle.history.specs.Register.{RegisterReply, step-answer, other, undo-seal}
 use Rattle.history.specs.Machine as machine
 use Rattle.history.specs.Machine.{Machine}
 use Rattle.history.specs.declared.{Register.Register, Step.Step, Step.the-variants.Commit, Step.the-variants.Undo}
@@ -77,10 +77,10 @@ unfoldable pub walk-back : Curve → Class → List Class → Class
 walk-back c seal ops = after (undo-seal c) seal ops
 
 -- what its steps answer as calls, each on the seal that the step before it answered
-unfoldable pub steps-back : Curve → Class → List Class → List SealReply
+unfoldable pub steps-back : Curve → Class → List Class → List Result
 steps-back c seal [] = []
-steps-back c seal (a ∷ ops) = let s = seal-reply (subtract-and-halve-answer c seal a) in s ∷ steps-back c (s .seal) ops
+steps-back c seal (a ∷ ops) = let s = result (subtract-and-halve-answer c seal a) in s ∷ steps-back c (s .class) ops
 
 -- the answer that the step back over a commit is to give: accepted, with the seal just before the commit
-unfoldable pub met : Event → SealReply
-met e = record { outcome = accepted; seal = e .before .seal }
+unfoldable pub met : Event → Result
+met e = record { outcome = accepted; class = e .before .seal }

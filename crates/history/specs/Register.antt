@@ -4,7 +4,7 @@ use mathlib.Core.{Path._≡_, Bool.cond}
 use lib.Dec.{eqb, leb}
 use Rattle.class_group.specs.Moves.{double-and-add, subtract-and-halve}
 use Rattle.jacobian.specs.{Checks.unless, Checks._or-else_, Curves.curve-refusal, Curves.curve, Classes.pair, Classes.class-of, Classes.class-refusal, Classes.Three}
-use Rattle.jacobian.specs.Answer.{Verdict, accepted, refused, verdict, neutral-class, Reply}
+use Rattle.jacobian.specs.Answer.{Verdict, accepted, refused, verdict, neutral-class, Result}
 use Rattle.jacobian.specs.declared.{Curve.Curve, Class.Class}
 use Rattle.stored_form.specs.Fields.{count-limit}
 use Rattle.history.specs.declared.{Register.Register, RegisterAnswer.RegisterAnswer, Step.Step, Step.the-variants.Commit, Step.the-variants.Undo}
@@ -27,19 +27,10 @@ pub record Sound (c : Curve) (a : Class) : Type 0 where
   pub three : Three a
   pub unrefused : class-refusal c a ≡ 0
 
--- what a step of a walk answers, or a whole walk: the seal that is reached, or a refusal
-pub record SealReply : Type 0 where
-  pub outcome : Verdict
-  pub seal : Class
-
--- of the answer of a call on classes
-abbrev pub seal-reply : Reply → SealReply
-seal-reply x = record { outcome = x .outcome; seal = x .class }
-
 -- the seal where no refusal is due, and else the refusal with the neutral class
-unfoldable pub sealed : ℕ → Class → SealReply
-sealed zero seal = record { outcome = accepted; seal = seal }
-sealed (suc n) seal = record { outcome = refused (suc n); seal = neutral-class }
+unfoldable pub sealed : ℕ → Class → Result
+sealed zero seal = record { outcome = accepted; class = seal }
+sealed (suc n) seal = record { outcome = refused (suc n); class = neutral-class }
 
 -- ---- checks, in the stored order; 0 where no refusal is due
 -- 106 or 107 of the curve, then 109 for a count above the limit, then 104, 110 or 111 of the seal

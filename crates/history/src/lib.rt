@@ -3,10 +3,10 @@
 // One step of a walk, which has no register, is jacobian::subtract_and_halve.
 ghost use Prim.Native.Nat.{ℕ};
 ghost use mathlib.Core.Path.{_≡_};
-ghost use Rattle.jacobian.specs.{Checks._or-else_, Curves.curve-refusal, Answer.refusal-of-two, Answer.reply};
+ghost use Rattle.jacobian.specs.{Checks._or-else_, Curves.curve-refusal, Answer.refusal-of-two, Answer.reply, Answer.result};
 ghost use Rattle.jacobian.specs.declared.Class.{Class as Seal};
 ghost use Rattle.history.specs.declared.Register.{Register as Value};
-ghost use Rattle.history.specs.Register.{edge, edge-refusal, moved, seal-reply, sealed, register-reply, follows, step-answer, commit-answer, undo-answer};
+ghost use Rattle.history.specs.Register.{edge, edge-refusal, moved, sealed, register-reply, follows, step-answer, commit-answer, undo-answer};
 use jacobian::Class;
 use jacobian::ClassAnswer;
 use jacobian::Curve;
@@ -87,7 +87,7 @@ fn kept(register: Register, n: u32) -> RegisterAnswer
 
 // The register with this count and the seal that was answered, or the refusal that was answered.
 fn followed(register: Register, count: u64, answer: ClassAnswer) -> RegisterAnswer
-    ensures { λ r. ⌜ ((n : ℕ) (seal : Seal) → seal-reply (reply answer) ≡ sealed n seal → register-reply r ≡ follows n register (moved count seal register)) ⌝ }
+    ensures { λ r. ⌜ ((n : ℕ) (seal : Seal) → result (reply answer) ≡ sealed n seal → register-reply r ≡ follows n register (moved count seal register)) ⌝ }
 {
     let outcome = answer.outcome;
     let n = jacobian::outcome_refusal(outcome);

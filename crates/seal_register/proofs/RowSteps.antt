@@ -7,10 +7,10 @@ use lib.{Dec.leb, ListN.length, ListN.take, ListN.getD, Seq.take-nil, Seq.take-l
 use borrow.Author.Tests.{leb-true, leb-false, lt-leb, le-leb}
 use Rattle.class_group.specs.Walk.{All, none, more, after}
 use Rattle.jacobian.specs.{Checks.unless, Checks._or-else_, Curves.curve-refusal, Classes.class-refusal, Classes.Three}
-use Rattle.jacobian.specs.Answer.{Verdict, accepted, refused, verdict-of, outcome-refusal, neutral-class, refusal, refusal-of-two, reply, subtract-and-halve-answer}
+use Rattle.jacobian.specs.Answer.{Verdict, accepted, refused, verdict-of, outcome-refusal, neutral-class, refusal, refusal-of-two, Result, reply, result, subtract-and-halve-answer}
 use Rattle.jacobian.specs.declared.{Curve.Curve, Class.Class, ClassAnswer.ClassAnswer}
 use Rattle.jacobian.proofs.ByValue.Checks.{then-zero}
-use Rattle.history.specs.Register.{limit, undo-seal, Sound, SealReply, seal-reply, sealed}
+use Rattle.history.specs.Register.{limit, undo-seal, Sound, sealed}
 use Rattle.history.specs.Calls.{walk-back}
 use Rattle.history.proofs.{Seals.undo-sound, Answers.sealed-outcome, Answers.answer-refusal, Answers.subtract-and-halve-sealed, Numbers.then-positive, Numbers.then-none}
 use Rattle.seal_register.specs.RowWalk.{classes-refusal, row-refusal, row-walk-answer, opening-refusal, turns-due, onward}
@@ -22,19 +22,19 @@ unfolding sealed
 sealed-refused zero s t h = absurd (h refl)
 sealed-refused (suc n) s t h = refl
 
-pub refused-is : (n : ℕ) (s : Class) → ¬ (n ≡ 0) → record { outcome = verdict-of n; seal = neutral-class } ≡ sealed n s
+pub refused-is : (n : ℕ) (s : Class) → ¬ (n ≡ 0) → record { outcome = verdict-of n; class = neutral-class } ≡ sealed n s
 unfolding sealed verdict-of
 refused-is zero s h = absurd (h refl)
 refused-is (suc n) s h = refl
 
-pub accepted-is : (n : ℕ) (s : Class) → n ≡ 0 → record { outcome = accepted; seal = s } ≡ sealed n s
+pub accepted-is : (n : ℕ) (s : Class) → n ≡ 0 → record { outcome = accepted; class = s } ≡ sealed n s
 unfolding sealed
 accepted-is n s e = rw e
 
 -- an answer by its number
-number-says : (x : ClassAnswer) (n : ℕ) (s : Class) → seal-reply (reply x) ≡ sealed n s → record { outcome = verdict-of (outcome-refusal (x .outcome)); seal = x .class } ≡ sealed n s
+number-says : (x : ClassAnswer) (n : ℕ) (s : Class) → result (reply x) ≡ sealed n s → record { outcome = verdict-of (outcome-refusal (x .outcome)); class = x .class } ≡ sealed n s
 number-says x n s e =
-    ap (λ v. record { outcome = v; seal = x .class }) (ap verdict-of (answer-refusal x n s e) ∙ sym (ap (λ (y : SealReply). y .outcome) e ∙ sealed-outcome n s)) ∙ e
+    ap (λ v. record { outcome = v; class = x .class }) (ap verdict-of (answer-refusal x n s e) ∙ sym (ap (λ (y : Result). y .outcome) e ∙ sealed-outcome n s)) ∙ e
 
 -- ---- the opening
 module _ (c : Curve) (s : Class) where
@@ -95,18 +95,18 @@ module _ {X Y : Type 0} (rule : X → Y → X) where
 
 -- ---- one step
 module _ (c : Curve) where
-  pub refused-stays : (n : ℕ) (s a : Class) → ¬ (n ≡ 0) → record { outcome = verdict-of n; seal = s } ≡ onward c (record { outcome = verdict-of n; seal = s }) a
+  pub refused-stays : (n : ℕ) (s a : Class) → ¬ (n ≡ 0) → record { outcome = verdict-of n; class = s } ≡ onward c (record { outcome = verdict-of n; class = s }) a
   unfolding onward verdict-of
   refused-stays zero s a h = absurd (h refl)
   refused-stays (suc n) s a h = refl
 
   -- the number and the class of the step's answer, where the walk stands at a seal
   pub stepped : (n : ℕ) (s a : Class) (x : ClassAnswer) → n ≡ 0 → reply x ≡ subtract-and-halve-answer c s a
-      → record { outcome = verdict-of (outcome-refusal (x .outcome)); seal = x .class } ≡ onward c (record { outcome = verdict-of n; seal = s }) a
+      → record { outcome = verdict-of (outcome-refusal (x .outcome)); class = x .class } ≡ onward c (record { outcome = verdict-of n; class = s }) a
   unfolding onward verdict-of
   stepped n s a x z e =
       let answers = subtract-and-halve-sealed c s a in
-      number-says x (refusal-of-two c s a) (undo-seal c s a) (ap seal-reply e ∙ answers) ∙ sym answers ∙ rw z
+      number-says x (refusal-of-two c s a) (undo-seal c s a) (ap result e ∙ answers) ∙ sym answers ∙ rw z
 
   step-sealed : (s a : Class) → onward c (sealed 0 s) a ≡ sealed (refusal-of-two c s a) (undo-seal c s a)
   unfolding onward sealed
@@ -164,14 +164,14 @@ module _ (c : Curve) where
       ∙ rw (lt-leb (length ops) limit h) (ap (λ n. sealed n (walk-back c s ops)) (then-above (curve-refusal c) 108 (class-refusal c s or-else classes-refusal c ops)))
 
   module _ (s : Class) (h : Three s) where
-    by-length : (a : Class) (ops : List Class) (x : SealReply) (n : ℕ) (d : Class) (b : Bool) → leb (length (a ∷ ops)) limit ≡ b
+    by-length : (a : Class) (ops : List Class) (x : Result) (n : ℕ) (d : Class) (b : Bool) → leb (length (a ∷ ops)) limit ≡ b
         → x ≡ sealed (opening-refusal c s (length (a ∷ ops))) s → n ≡ turns-due (x .outcome) (length (a ∷ ops))
         → ((j : ℕ) → j < n → Three (getD (a ∷ ops) j d)) → after (onward c) x (take n (a ∷ ops)) ≡ row-walk-answer c s (a ∷ ops)
     unfolding turns-due sealed after
     by-length a ops x n d true l e m ts =
         let within = leb-true _ _ l in
         let start : x ≡ sealed 0 s = e ∙ ap (λ k. sealed k s) (sym (opening-within c s (length (a ∷ ops)) (λ z. omega arith) within)) in
-        let all : n ≡ length (a ∷ ops) = m ∙ ap (λ (y : SealReply). turns-due (y .outcome) (length (a ∷ ops))) start in
+        let all : n ≡ length (a ∷ ops) = m ∙ ap (λ (y : Result). turns-due (y .outcome) (length (a ∷ ops))) start in
         ap₂ (after (onward c)) start (ap (λ k. take k (a ∷ ops)) all ∙ take-length (a ∷ ops))
         ∙ opens-sound (refusal c s) s a ops refl h (all-three (a ∷ ops) d (λ j k. ts j (omega arith)))
         ∙ row-within s (a ∷ ops) within
@@ -180,13 +180,13 @@ module _ (c : Curve) where
         let k = curve-refusal c or-else 109 in
         let start : x ≡ sealed k s = e ∙ ap (λ k. sealed k s) (sym (opening-above c s (length (a ∷ ops)) above)) in
         let still : n ≡ 0 =
-        m ∙ ap (λ (y : SealReply). turns-due (y .outcome) (length (a ∷ ops))) start
+        m ∙ ap (λ (y : Result). turns-due (y .outcome) (length (a ∷ ops))) start
         ∙ ap (λ v. turns-due v (length (a ∷ ops))) (sealed-outcome k s)
         ∙ sym (turns-none k (length (a ∷ ops)) (then-positive (curve-refusal c) 109 (λ z. omega arith))) in
-        ap₂ (λ (y : SealReply) (j : ℕ). after (onward c) y (take j (a ∷ ops))) start still ∙ row-above s (a ∷ ops) above
+        ap₂ (λ (y : Result) (j : ℕ). after (onward c) y (take j (a ∷ ops))) start still ∙ row-above s (a ∷ ops) above
 
     -- the steps that are due after the opening x answer the walk over the row
-    pub row-walked : (ops : List Class) (x : SealReply) (n : ℕ) (d : Class) → x ≡ sealed (opening-refusal c s (length ops)) s → n ≡ turns-due (x .outcome) (length ops)
+    pub row-walked : (ops : List Class) (x : Result) (n : ℕ) (d : Class) → x ≡ sealed (opening-refusal c s (length ops)) s → n ≡ turns-due (x .outcome) (length ops)
         → ((j : ℕ) → j < n → Three (getD ops j d)) → after (onward c) x (take n ops) ≡ row-walk-answer c s ops
     unfolding after opening-refusal classes-refusal walk-back
     row-walked [] x n d e m ts = ap (after (onward c) x) (take-nil n) ∙ e ∙ ap (λ k. sealed k s) (sym (then-none (refusal c s))) ∙ row-within s [] (omega arith)

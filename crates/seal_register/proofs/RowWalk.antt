@@ -8,9 +8,9 @@ use native.Mathlib.Omega.{arith}
 use lib.{ListN.length, ListN.take, ListN.getD, ListN.length-map, Seq.length-take-le}
 use borrow.Author.Tests.{le-leb}
 use Rattle.class_group.specs.Walk.{All, none, more}
-use Rattle.jacobian.specs.{Checks.unless, Checks._or-else_, Curves.curve-refusal, Classes.class-refusal, Answer.accepted, Answer.verdict-of}
+use Rattle.jacobian.specs.{Checks.unless, Checks._or-else_, Curves.curve-refusal, Classes.class-refusal, Answer.accepted, Answer.verdict-of, Answer.Result}
 use Rattle.jacobian.specs.declared.{Curve.Curve, Class.Class}
-use Rattle.history.specs.Register.{limit, register-refusal, SealReply, sealed}
+use Rattle.history.specs.Register.{limit, register-refusal, sealed}
 use Rattle.history.specs.Calls.{Call, Fits, Event, last, newest, classes, OnlyCommits, seals-back, walk-back}
 use Rattle.history.specs.declared.Register.{Register}
 use Rattle.history.proofs.{Registers.Passes, Registers.register-passes, TakingBack.last-curve, Preserved.last-passes, Preserved.accepted-classes, WalkingBack.walk-ends, WalkingBack.accepted-few}
@@ -27,7 +27,7 @@ unrefused c (e ∷ es) (suc k) (more h hs) = rw h (unrefused c es k hs)
 
 -- what is answered where no check fails
 row-answered : (c : Curve) (s : Class) (ops : List Class) → curve-refusal c ≡ 0 → class-refusal c s ≡ 0 → length ops ≤ limit → classes-refusal c ops ≡ 0
-    → row-walk-answer c s ops ≡ record { outcome = accepted; seal = walk-back c s ops }
+    → row-walk-answer c s ops ≡ record { outcome = accepted; class = walk-back c s ops }
 unfolding row-walk-answer row-refusal sealed unless _or-else_
 row-answered c s ops hc hs hl ho = rw (hc, le-leb (length ops) limit hl, hs, ho)
 
@@ -48,17 +48,17 @@ module _ (r : Register) (cs : List Call) (fits : Fits r cs) (only : OnlyCommits 
       omega arith
 
   pub row-walk-meets : (k : ℕ) → k ≤ length (newest r cs)
-      → row-walk-answer (r .curve) (last r cs .seal) (take k (classes (newest r cs))) ≡ record { outcome = accepted; seal = getD (seals-back r cs) k (last r cs .seal) }
+      → row-walk-answer (r .curve) (last r cs .seal) (take k (classes (newest r cs))) ≡ record { outcome = accepted; class = getD (seals-back r cs) k (last r cs .seal) }
   row-walk-meets k h =
       row-answered (r .curve) (last r cs .seal) (take k (classes (newest r cs)))
       (subst (λ c. curve-refusal c ≡ 0) (last-curve r cs) (passes .curve-passes))
       (subst (λ c. class-refusal c (last r cs .seal) ≡ 0) (last-curve r cs) (passes .seal-passes))
       (within k h)
       (unrefused (r .curve) (newest r cs) k (accepted-classes r cs))
-      ∙ ap (λ a. record { outcome = accepted; seal = a }) (walk-ends r cs fits only k h)
+      ∙ ap (λ a. record { outcome = accepted; class = a }) (walk-ends r cs fits only k h)
 
   pub row-walk-answers : (k : ℕ) → k ≤ length (newest r cs) → (w : RowWalk) → reached w ≡ row-walk-answer (r .curve) (last r cs .seal) (take k (classes (newest r cs)))
       → (w .refusal ≡ 0) × (w .seal ≡ getD (seals-back r cs) k (last r cs .seal))
   row-walk-answers k h w e =
       let m = e ∙ row-walk-meets k h in
-      (accepted-zero (w .refusal) (ap (λ (x : SealReply). x .outcome) m), ap (λ (x : SealReply). x .seal) m)
+      (accepted-zero (w .refusal) (ap (λ (x : Result). x .outcome) m), ap (λ (x : Result). x .class) m)

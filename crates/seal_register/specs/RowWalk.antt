@@ -4,9 +4,9 @@ use mathlib.Core.List.{List, [], _∷_}
 use lib.Dec.{leb}
 use lib.ListN.{length}
 use Rattle.jacobian.specs.{Checks.unless, Checks._or-else_, Curves.curve-refusal, Classes.class-refusal}
-use Rattle.jacobian.specs.Answer.{Verdict, accepted, refused, verdict-of, refusal, subtract-and-halve-answer}
+use Rattle.jacobian.specs.Answer.{Verdict, accepted, refused, verdict-of, refusal, Result, result, subtract-and-halve-answer}
 use Rattle.jacobian.specs.declared.{Curve.Curve, Class.Class}
-use Rattle.history.specs.Register.{limit, SealReply, seal-reply, sealed}
+use Rattle.history.specs.Register.{limit, sealed}
 use Rattle.history.specs.Calls.{walk-back}
 use Rattle.seal_register.specs.declared.walk.RowWalk.{RowWalk}
 
@@ -24,13 +24,13 @@ row-refusal c last ops =
     or-else classes-refusal c ops
 
 -- the walk answers the earliest seal
-unfoldable pub row-walk-answer : Curve → Class → List Class → SealReply
+unfoldable pub row-walk-answer : Curve → Class → List Class → Result
 row-walk-answer c last ops = sealed (row-refusal c last ops) (walk-back c last ops)
 
 -- ---- the walk on its way
 -- what the code's walk says: 0 is no refusal
-abbrev pub reached : RowWalk → SealReply
-reached w = record { outcome = verdict-of (w .refusal); seal = w .seal }
+abbrev pub reached : RowWalk → Result
+reached w = record { outcome = verdict-of (w .refusal); class = w .seal }
 
 -- what is checked before the first step over so many classes: where there is a class, the step over it checks the curve and the last seal
 unfoldable pub opening-refusal : Curve → Class → ℕ → ℕ
@@ -43,5 +43,5 @@ turns-due accepted n = n
 turns-due (refused k) n = 0
 
 -- one step back, unless the walk was refused before
-unfoldable pub onward : Curve → SealReply → Class → SealReply
-onward c x a = elim (x .outcome) [ accepted ↦ seal-reply (subtract-and-halve-answer c (x .seal) a) | refused n ↦ x ]
+unfoldable pub onward : Curve → Result → Class → Result
+onward c x a = elim (x .outcome) [ accepted ↦ result (subtract-and-halve-answer c (x .class) a) | refused n ↦ x ]

@@ -2,8 +2,9 @@
 use Prim.Native.Nat.{_≤_}
 use native.Mathlib.Omega.{arith}
 use mathlib.Core.Path.{sym, _∙_, ap}
+use Rattle.jacobian.specs.Answer.{result}
 use Rattle.stored_form.specs.Fields.{count-limit}
-use Rattle.history.specs.Register.{limit, seal-reply, edge, stepped, step-answer}
+use Rattle.history.specs.Register.{limit, edge, stepped, step-answer}
 use Rattle.history.proofs.Registers.{at-number, edge-positive}
 use Rattle.history.proofs.Numbers.{then-positive, step-above, step-at, step-follows}
 use Rattle.history.proofs.Answers.{double-and-add-sealed, subtract-and-halve-sealed}
@@ -48,7 +49,7 @@ returns-3 c =
     let within : s .args .self .count ≤ limit = omega arith in
     step-follows (s .args .step) (s .args .self) (s .args .class) within (λ e. m .if2 .left (e ∙ sym (m .before .edge-count .ensures)))
     (sym (ap (λ k. stepped k (s .args .self) (s .args .class)) (c .before .before .enum-told .given .1)))
-    (c .followed .ensures _ _ (ap seal-reply (c .before .double-and-add .ensures) ∙ double-and-add-sealed _ _ _))
+    (c .followed .ensures _ _ (ap result (c .before .double-and-add .ensures) ∙ double-and-add-sealed _ _ _))
 
 returns-4 : tie.Need-returns-4
 unfolding stepped count-limit
@@ -59,7 +60,7 @@ returns-4 c =
     let within : s .args .self .count ≤ limit = omega arith in
     step-follows (s .args .step) (s .args .self) (s .args .class) within (λ e. m .if2 .left (e ∙ sym (m .before .edge-count .ensures)))
     (sym (ap (λ k. stepped k (s .args .self) (s .args .class)) (c .before .before .enum-told2 .given .1)))
-    (c .followed2 .ensures _ _ (ap seal-reply (c .before .subtract-and-halve .ensures) ∙ subtract-and-halve-sealed _ _ _))
+    (c .followed2 .ensures _ _ (ap result (c .before .subtract-and-halve .ensures) ∙ subtract-and-halve-sealed _ _ _))
 
 pub step-spec : {M : Type 1} → statement M
 step-spec =

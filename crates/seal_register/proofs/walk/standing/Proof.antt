@@ -9,7 +9,7 @@ use Rattle.seal_register.proofs.walk.standing.Tie as tie
 returns : tie.Need-returns
 returns c =
     let s = c .before .before in
-    ap (λ a. record { outcome = verdict-of (s .args .n); seal = a }) (c .neutral .ensures) ∙ refused-is (s .args .n) (s .args .seal) (c .before .if1 .taken)
+    ap (λ a. record { outcome = verdict-of (s .args .n); class = a }) (c .neutral .ensures) ∙ refused-is (s .args .n) (s .args .seal) (c .before .if1 .taken)
 
 returns-2 : tie.Need-returns-2
 unfolding verdict-of
