@@ -54,7 +54,8 @@ module _ {State Call : Type 0} (M : Machine State Call) (back : Call → Call) w
   unfoldable pub taken-back : State → List Call → List (Event State Call)
   taken-back s cs = run M (last M s cs) (backs back (newest M s cs))
 
-  -- accepted calls that keep an invariant of states can each be taken back where it holds; refused ones leave the state as it was
+  -- a refused call leaves the state as it was; an accepted one that fits, where the invariant of states holds, keeps it and returns: the call that takes
+  -- it back, made just after it, is accepted and brings back the state just before it
   pub record Reversible (Holds : State → Type 0) (Fits : Call → Type 0) : Type 0 where
     pub stays : (s : State) (c : Call) (n : ℕ) → M .outcome s c ≡ refused n → M .next s c ≡ s
     pub keeps : (s : State) (c : Call) → Holds s → Fits c → M .outcome s c ≡ accepted → Holds (M .next s c)
