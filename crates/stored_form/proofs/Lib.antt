@@ -8,6 +8,7 @@ pub mod Bodies
 pub mod Stores
 pub mod DrawingBytes
 pub mod Readers
+pub mod FieldReadings
 pub mod RoundTrips
 pub mod Items
 pub mod ElementBytes
