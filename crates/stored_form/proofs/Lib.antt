@@ -15,3 +15,5 @@ pub mod ElementBytes
 pub mod ClassBytes
 pub mod CurveRoundTrips
 pub mod ClassRoundTrips
+pub mod RecordRoundTrips
+pub mod RecordValues
