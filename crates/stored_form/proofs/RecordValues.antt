@@ -2,17 +2,17 @@
 use Prim.Native.Nat.{ℕ, _≤_}
 use mathlib.Core.Path.{_≡_, refl, sym, ap, _∙_, subst}
 use mathlib.Core.Bool.{true, _||_}
-use mathlib.Core.List.{List}
+use mathlib.Core.List.{List, _∷_, _++_, append-assoc}
 use lib.Dec.{eqb, lit<}
 use lib.ListN.{length}
 use borrow.Author.Tests.{leb-true, le-leb}
 use Rattle.jacobian.specs.{Checks.unless, Curves.coefficients, Curves.curve-with, Curves.degree-refusal, Curves.curve-refusal, Answer.refusal, Classes.Three, declared.Curve.Curve, declared.Class.Class}
-use Rattle.stored_form.specs.{Head.degree-length, Head.count-length, Head.drawing-limit, Head.allowed, Elements.element-bytes, Fields.count-limit, Fields.count-refusal, Fields.printable, Fields.drawing-refusal, Classes.curve-said, Classes.class-said}
-use Rattle.stored_form.specs.Held.{drawing-said, drawing-name, curve-of-degree, with-curve, with-drawing, with-count, with-class, with-operation, hold, field-refusal}
+use Rattle.stored_form.specs.{Head.degree-length, Head.count-length, Head.drawing-limit, Head.allowed, Elements.element-bytes, Fields.degree-field, Fields.count-limit, Fields.count-refusal, Fields.printable, Fields.drawing-refusal, Classes.curve-said, Classes.curve-field, Classes.curve-first-fields, Classes.class-said}
+use Rattle.stored_form.specs.Held.{drawing-said, drawing-name, nothing-held, curve-of-degree, with-curve, with-drawing, with-count, with-class, with-operation, hold, field-refusal}
 use Rattle.stored_form.specs.declared.Held.{Held}
 use Rattle.stored_form.proofs.{Digits.length-bytes, Digits.number-bytes-small, ElementBytes.length-element-bytes, Readings.test-passed, FieldReadings.name-said, RoundTrips.degree-small, RoundTrips.count-small}
 use Rattle.stored_form.proofs.{Lengths.class-lengths, Lengths.operation-lengths, CurveRoundTrips.degree-passes, CurveRoundTrips.curve-said-field, ClassRoundTrips.body-of, ClassRoundTrips.body-said, ClassRoundTrips.body-allowed, ClassRoundTrips.said-three}
-use Rattle.stored_form.proofs.RecordRoundTrips.{field-body, Says}
+use Rattle.stored_form.proofs.RecordRoundTrips.{field-body, field-bytes, Says, Run, more}
 
 module _ (h : Held) where
   -- ---- values are said
@@ -110,3 +110,28 @@ module _ (h : Held) where
       subst Three (sym (ap (λ (k : Held). k .operation) (says .kept))) (said-three _),
       ap (λ (c : Curve). refusal c (m .operation)) (sym (ap (λ (k : Held). k .curve) (says .kept))) ∙ says .passes,
     )
+
+-- ---- the degree and the curve, with which every record begins
+
+pub says-first : (c : Curve) → curve-refusal c ≡ 0 → {tags bytes : List ℕ} {last : Held} → Run (with-curve c nothing-held) tags last bytes →
+    Run nothing-held (0x40 ∷ 0x41 ∷ tags) last (curve-first-fields c ++ bytes)
+unfolding curve-first-fields degree-field curve-field field-bytes field-body curve-of-degree curve-with
+says-first c ok {tags} {bytes} {last} run =
+    subst (Run nothing-held (0x40 ∷ 0x41 ∷ tags) last) (sym (append-assoc (degree-field (c .degree)) (curve-field c) bytes))
+    (more (says-degree nothing-held c ok) (more (says-curve (with-curve (curve-of-degree (c .degree)) nothing-held) c refl ok) run))
+
+-- what the first two fields say
+pub record First (m : Held) (bytes : List ℕ) : Type 0 where
+  pub holds : m ≡ with-curve (m .curve) nothing-held
+  pub passes : curve-refusal (m .curve) ≡ 0
+  pub stored : bytes ≡ curve-first-fields (m .curve)
+
+pub said-first : {d m : Held} → Says 0x40 nothing-held d → Says 0x41 d m → First m (field-bytes 0x40 d ++ field-bytes 0x41 m)
+unfolding curve-first-fields degree-field curve-field field-bytes field-body
+said-first {d} {m} says-d says-c =
+    let c = said-curve d says-c in
+    record {
+      holds = c .0 ∙ ap (with-curve (m .curve)) (said-degree nothing-held says-d);
+      passes = c .2;
+      stored = ap (λ (n : ℕ). degree-field n ++ curve-field (m .curve)) (sym (c .1));
+    }
