@@ -9,10 +9,10 @@ use lib.ListN.{length, getD, take, drop, length-append, length-take, length-drop
 use lib.Seq.{take-at, drop-at}
 use Rattle.jacobian.specs.{Answer.refusal, declared.Curve.Curve, declared.Class.Class}
 use Rattle.jacobian.proofs.{ByValue.Degrees.by-degree, ByValue.Threes.by-three, ByValue.Answers.passes, Representation.Form.Three}
-use Rattle.stored_form.specs.{Number.Bytes, Reading.found, Head.allowed, Head.class-length, Head.body-at, Head.stored, Head.Stands}
+use Rattle.stored_form.specs.{Number.Bytes, Reading.found, Head.class-room, Head.class-limit, Head.allowed, Head.class-length, Head.body-at, Head.stored, Head.Stands}
 use Rattle.stored_form.specs.{Elements.elements, Elements.element-bytes}
 use Rattle.stored_form.specs.Classes.{row-said, class-said, class-at, row-written, class-field}
-use Rattle.stored_form.proofs.{Readings.then-found, Readings.both-found, Readings.due-found, Readings.due-none, Readings.same-found}
+use Rattle.stored_form.proofs.{Readings.then-found, Readings.both-found, Readings.checked-found, Readings.checked-none, Readings.same-found}
 use Rattle.stored_form.proofs.{Lengths.class-length-le, Lengths.class-length-even, Items.length-elements, ClassBytes.length-row}
 use Rattle.stored_form.proofs.ElementBytes.{Small, small-of, small-take, small-append, small-reversed, elements-bytes, bytes-elements, fits, length-element-bytes, element-bytes-append}
 use Rattle.stored_form.proofs.{Bodies.length-stored, Bodies.body-written, Bodies.body-read, RoundTrips.Field}
@@ -42,12 +42,16 @@ row-ahead n r long le =
 
 -- ---- a class
 
-class-field-said : (tag : ℕ) (body : List ℕ) → class-length (length body) ≡ true → Bytes body → class-field tag (class-said body) ≡ stored tag body
-unfolding class-field class-said
-class-field-said tag body ok b =
+-- the body of a class
+abbrev pub body-of : Class → List ℕ
+body-of a = element-bytes (row-written (a .degree) (a .u)) ++ element-bytes (row-written (a .degree) (a .v))
+
+pub class-body-said : (body : List ℕ) → class-length (length body) ≡ true → Bytes body → body-of (class-said body) ≡ body
+unfolding class-said
+class-body-said body ok b =
     let n = length body / 16 in
     let es = elements (n + n) body in
-    let low : length body ≤ 48 = class-length-le (length body) ok in
+    let low : length body ≤ class-limit = class-length-le (length body) ok in
     let even : 16 * n ≡ length body = class-length-even (length body) ok in
     let all : length es ≡ n + n = length-elements (n + n) body in
     let first : length (take n es) ≡ n = length-take n es ∙ omega arith in
@@ -56,11 +60,10 @@ class-field-said tag body ok b =
     ap (λ (k : ℕ). row-written k (row-said (take n es))) (sym first) ∙ row-back (take n es) (omega arith) in
     let v : row-written n (row-said (drop n es)) ≡ drop n es =
     ap (λ (k : ℕ). row-written k (row-said (drop n es))) (sym second) ∙ row-back (drop n es) (omega arith) in
-    ap (stored tag)
-    (ap₂ (λ (xs ys : List ℕ). element-bytes xs ++ element-bytes ys) u v
+    ap₂ (λ (xs ys : List ℕ). element-bytes xs ++ element-bytes ys) u v
     ∙ sym (element-bytes-append (take n es) (drop n es))
     ∙ ap element-bytes (take-append-drop n es)
-    ∙ bytes-elements (n + n) body (omega arith) b)
+    ∙ bytes-elements (n + n) body (omega arith) b
 
 -- a class by value whose coefficients fit, three places to a row and 0 past the degree
 record Shaped (a : Class) : Type 0 where
@@ -83,10 +86,6 @@ shaped c a three ok =
       u-fits = small-of (a .u) (λ i. fits (c .degree) small (p .1 .range .u-below i));
       v-fits = small-of (a .v) (λ i. fits (c .degree) small (p .1 .range .v-below i));
     }
-
--- its body
-abbrev body-of : Class → List ℕ
-body-of a = element-bytes (row-written (a .degree) (a .u)) ++ element-bytes (row-written (a .degree) (a .v))
 
 length-body : (a : Class) → Shaped a → length (body-of a) ≡ 16 * a .degree
 length-body a h =
@@ -146,8 +145,20 @@ row-three es =
     let long : length all ≡ length (reverse es) + 3 = length-append (reverse es) (0 ∷ 0 ∷ 0 ∷ []) in
     length-take 3 all ∙ omega arith
 
--- the field of a class that is not refused has at most 51 bytes
-pub class-short : (tag : ℕ) (c : Curve) (a : Class) → Three a → refusal c a ≡ 0 → length (class-field tag a) ≤ 51
+-- what the body of a class that is not refused says is the class
+module _ (c : Curve) (a : Class) (three : Three a) (ok : refusal c a ≡ 0) where
+  pub body-said : class-said (body-of a) ≡ a
+  body-said = class-said-field a (shaped c a three ok)
+
+  pub body-allowed : class-length (length (body-of a)) ≡ true
+  body-allowed = let k = shaped c a three ok in ap class-length (length-body a k) ∙ class-length-of (a .degree) (k .low)
+
+pub said-three : (body : List ℕ) → Three (class-said body)
+unfolding class-said
+said-three body = record { u-three = row-three _; v-three = row-three _ }
+
+-- the field of a class that is not refused has room in a row
+pub class-short : (tag : ℕ) (c : Curve) (a : Class) → Three a → refusal c a ≡ 0 → length (class-field tag a) ≤ class-room
 unfolding class-field
 class-short tag c a three ok =
     let k = shaped c a three ok in
@@ -158,21 +169,21 @@ class-short tag c a three ok =
 
 -- a class that is read has three numbers in each row
 pub class-three : (tag : ℕ) (c : Curve) (s : List ℕ) (at : ℕ) {a : Class} {next : ℕ} → class-at tag c s at ≡ found a next → Three a
-unfolding class-at class-said
+unfolding class-at
 class-three tag c s at h =
     let p = both-found _ (body-at tag s at) h in
-    let q = due-found (refusal c (class-said (p .0))) (found (class-said (p .0)) (p .1)) (p .3) in
-    subst Three (same-found (q .1) .0) (record { u-three = row-three _; v-three = row-three _ })
+    let q = checked-found (refusal c (class-said (p .0))) (found (class-said (p .0)) (p .1)) (p .3) in
+    subst Three (same-found (q .1) .0) (said-three (p .0))
 
 module _ (tag : ℕ) (lengths : (n : ℕ) → allowed tag n ≡ class-length n) (c : Curve) (s : List ℕ) (at : ℕ) where
   pub class-written : {a : Class} {next : ℕ} → Bytes s → class-at tag c s at ≡ found a next → (refusal c a ≡ 0) × Field s at (class-field tag a) next
-  unfolding class-at
+  unfolding class-at class-field
   class-written {a} {next} b h =
       let p = both-found _ (body-at tag s at) h in
-      let q = due-found (refusal c (class-said (p .0))) (found (class-said (p .0)) (p .1)) (p .3) in
+      let q = checked-found (refusal c (class-said (p .0))) (found (class-said (p .0)) (p .1)) (p .3) in
       let e = same-found (q .1) in
       let w = body-written tag s at b (p .2) in
-      let said = class-field-said tag (p .0) (sym (lengths (length (p .0))) ∙ w .allows) (w .bytes) in (
+      let said = ap (stored tag) (class-body-said (p .0) (sym (lengths (length (p .0))) ∙ w .allows) (w .bytes)) in (
         ap (refusal c) (sym (e .0)) ∙ q .0,
         subst₂ (λ (a : Class) (n : ℕ). Field s at (class-field tag a) n) (e .0) (e .1)
             (subst (λ (bs : List ℕ). Field s at bs (p .1)) (sym said) (record { stands = w .stands; ends = w .ends })),
@@ -181,10 +192,6 @@ module _ (tag : ℕ) (lengths : (n : ℕ) → allowed tag n ≡ class-length n) 
   pub class-read-back : (a : Class) → Three a → refusal c a ≡ 0 → Stands s at (class-field tag a) → class-at tag c s at ≡ found a (at + length (class-field tag a))
   unfolding class-at class-field
   class-read-back a three ok h =
-      let k = shaped c a three ok in
-      let len : length (body-of a) ≡ 16 * a .degree = length-body a k in
-      let allows : allowed tag (length (body-of a)) ≡ true =
-      lengths (length (body-of a)) ∙ ap class-length len ∙ class-length-of (a .degree) (k .low) in
-      let low : a .degree ≤ 3 = k .low in
-      then-found _ (body-read tag s at (body-of a) allows (omega arith) h)
-      ∙ rw (class-said-field a k) (due-none _ _ ok)
+      let fits = body-allowed c a three ok in
+      then-found _ (body-read tag s at (body-of a) (lengths (length (body-of a)) ∙ fits) (omega (arith, class-length-le (length (body-of a)) fits)) h)
+      ∙ rw (body-said c a three ok) (checked-none _ _ ok)

@@ -5,3 +5,4 @@ pub mod Head
 pub mod Fields
 pub mod Elements
 pub mod Classes
+pub mod Held

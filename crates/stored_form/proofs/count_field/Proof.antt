@@ -12,7 +12,7 @@ use Rattle.stored_form.proofs.count_field.Tie as tie
 
 returns : tie.Need-returns
 unfolding count-field stored head-bytes bytes-of
-returns c = ap (λ (bs : List ℕ). 0x42 ∷ 0 ∷ 2 ∷ bs) (two-bytes _ (c .fits .n .fits))
+returns c = ap (λ (bs : List ℕ). 0x42 ∷ 0 ∷ 2 ∷ bs) (two-bytes _)
 
 pub count-field-spec : {M : Type 1} → statement M
 count-field-spec = tie.close (tie.spec (λ c. search needs) (λ c. search needs) returns)
