@@ -3,7 +3,7 @@
 use mathlib.Core.Path.{_≡_, _∙_, ap}
 use Rattle.class_group.specs.Mumford.{Reduced}
 use Rattle.class_group.specs.Moves.{double-and-add, subtract-and-halve}
-use Rattle.class_group.proofs.Register.{commit-reduced, undo-reduced, undo-commit, commit-undo}
+use Rattle.class_group.proofs.Moves.{double-and-add-reduced, subtract-and-halve-reduced, subtract-double-and-add, double-subtract-and-halve}
 use Rattle.jacobian.specs.{Curves.curve-refusal, Curves.curve, Classes.pair, Classes.class-of, Classes.Three}
 use Rattle.jacobian.specs.declared.{Curve.Curve, Class.Class}
 use Rattle.jacobian.proofs.Representation.{accepted-reduced, class-of-accepted, class-of-pair}
@@ -29,24 +29,24 @@ module _ {c : Curve} (ok : curve-refusal c ≡ 0) {s a : Class} (hs : Sound c s)
 
   pub commit-sound : Sound c (commit-seal c s a)
   unfolding commit-seal
-  commit-sound = record { three = commit-three c s a; unrefused = class-of-accepted c ok _ (commit-reduced (curve c) seal operation) }
+  commit-sound = record { three = commit-three c s a; unrefused = class-of-accepted c ok _ (double-and-add-reduced (curve c) seal operation) }
 
   pub undo-sound : Sound c (undo-seal c s a)
   unfolding undo-seal
-  undo-sound = record { three = undo-three c s a; unrefused = class-of-accepted c ok _ (undo-reduced (curve c) seal operation) }
+  undo-sound = record { three = undo-three c s a; unrefused = class-of-accepted c ok _ (subtract-and-halve-reduced (curve c) seal operation) }
 
   -- demand 3: half of (2 S + C) - C is S
   pub undo-of-commit : undo-seal c (commit-seal c s a) a ≡ s
   unfolding commit-seal undo-seal
   undo-of-commit =
-      ap (λ D. class-of (c .degree) (subtract-and-halve (curve c) D (pair (c .degree) a))) (pair-class-of (c .degree) (curve c) _ (commit-reduced (curve c) seal operation))
-      ∙ ap (class-of (c .degree)) (undo-commit (curve c) seal operation)
+      ap (λ D. class-of (c .degree) (subtract-and-halve (curve c) D (pair (c .degree) a))) (pair-class-of (c .degree) (curve c) _ (double-and-add-reduced (curve c) seal operation))
+      ∙ ap (class-of (c .degree)) (subtract-double-and-add (curve c) seal operation)
       ∙ class-of-pair c ok s (hs .three) (hs .unrefused)
 
   -- demand 3: twice the half of S - C, plus C, is S
   pub commit-of-undo : commit-seal c (undo-seal c s a) a ≡ s
   unfolding commit-seal undo-seal
   commit-of-undo =
-      ap (λ D. class-of (c .degree) (double-and-add (curve c) D (pair (c .degree) a))) (pair-class-of (c .degree) (curve c) _ (undo-reduced (curve c) seal operation))
-      ∙ ap (class-of (c .degree)) (commit-undo (curve c) seal operation)
+      ap (λ D. class-of (c .degree) (double-and-add (curve c) D (pair (c .degree) a))) (pair-class-of (c .degree) (curve c) _ (subtract-and-halve-reduced (curve c) seal operation))
+      ∙ ap (class-of (c .degree)) (double-subtract-and-halve (curve c) seal operation)
       ∙ class-of-pair c ok s (hs .three) (hs .unrefused)

@@ -8,7 +8,8 @@ use lib.Dec.{lit≤}
 use lib.ListN.{length, getD, take, drop, length-append, length-take, length-drop, take-append-drop}
 use lib.Seq.{take-at, drop-at}
 use Rattle.jacobian.specs.{Answer.refusal, declared.Curve.Curve, declared.Class.Class}
-use Rattle.jacobian.proofs.{ByValue.Degrees.by-degree, ByValue.Threes.by-three, ByValue.Answers.passes, Representation.Form.Three}
+use Rattle.jacobian.proofs.{ByValue.Degrees.by-degree, ByValue.Threes.by-three, ByValue.Answers.passes}
+use Rattle.jacobian.specs.Classes.{Three}
 use Rattle.stored_form.specs.{Number.Bytes, Reading.found, Head.class-room, Head.class-limit, Head.allowed, Head.class-length, Head.body-at, Head.stored, Head.Stands}
 use Rattle.stored_form.specs.{Elements.elements, Elements.element-bytes}
 use Rattle.stored_form.specs.Classes.{row-said, class-said, class-at, row-written, class-field}
