@@ -82,7 +82,7 @@ unfolding row-written
 length-row n r h le = length-reverse (take n r) ∙ length-take n r ∙ omega arith
 
 -- a row of three has no more coefficients than three
-below-three : (r : List ℕ) (n : ℕ) → length r ≡ 3 → row-written (min n 3) r ≡ row-written n r
+pub below-three : (r : List ℕ) (n : ℕ) → length r ≡ 3 → row-written (min n 3) r ≡ row-written n r
 unfolding row-written
 below-three r n h = ap reverse (firsts (decLe n 3))
   where

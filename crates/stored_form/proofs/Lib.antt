@@ -16,3 +16,5 @@ pub mod ElementBytes
 pub mod ClassBytes
 pub mod CurveRoundTrips
 pub mod ClassRoundTrips
+pub mod Effects
+pub mod Rows

@@ -5,3 +5,5 @@ pub mod Head
 pub mod Fields
 pub mod Elements
 pub mod Classes
+pub mod Effect
+pub mod internal

@@ -9,7 +9,9 @@ ghost use Rattle.stored_form.specs.Head.{head-at, head-read, head-bytes,
 ghost use Rattle.stored_form.specs.Fields.{degree-at, degree-read, count-at, count-read, degree-field, count-field, drawing-place, drawing-read, printable, end-due};
 
 pub mod classes;
+pub mod effect;
 mod numbers;
+pub mod writing;
 
 // The tags.
 pub const DEGREE: u8 = 0x40;

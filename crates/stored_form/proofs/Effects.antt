@@ -1,0 +1,84 @@
+-- What a call on byte areas answers by its checks, and the copy of what it hands over.
+use Prim.Native.Nat.{ℕ, _+_, _≤_, _<_, min}
+use mathlib.Core.Path.{_≡_, refl, sym, ap, ap₂, _∙_}
+use mathlib.Core.List.{List, [], _∷_, _++_}
+use native.Mathlib.Nat.{zero-add}
+use native.Mathlib.Numerals.{add-one}
+use native.Mathlib.Omega.{arith}
+use lib.ListN.{length, getD, take, drop, set, length-take}
+use lib.Seq.{sets, sets-eq, take-suc, take-all, length-take-le, getD-take}
+use borrow.Author.Tests.{lt-ltb, le-ltb}
+use Rattle.stored_form.specs.Reading.{Reading, found, refused}
+use Rattle.stored_form.specs.Effect.{Effect, Handed, effect, refuse, lent, hand, refusal, for, put, byte-call, room}
+use Rattle.stored_form.proofs.Stores.{sets-append}
+
+-- ---- the output's length
+
+module _ (least : ℕ) (out : List ℕ) (e : Effect) where
+  pub lent-short : length out < least → effect 101 out ≡ lent least out e
+  unfolding lent refuse
+  lent-short h = simp (lt-ltb _ _ h)
+
+  pub lent-long : least ≤ length out → lent least out e ≡ e
+  unfolding lent
+  lent-long h = simp (le-ltb _ _ h)
+
+-- ---- the copy
+
+-- one byte more
+pub copy-more : (d : List ℕ) (at : ℕ) (xs : List ℕ) (i : ℕ) {r : List ℕ} {y : ℕ} → i < length xs → y ≡ getD xs i 0 → r ≡ sets d at (take i xs) →
+    set r (at + i) y ≡ sets d at (take (i + 1) xs)
+copy-more d at xs i h f e =
+    let len : length (take i xs) ≡ i = length-take-le i xs (omega arith) in
+    let more : take (i + 1) xs ≡ take i xs ++ getD xs i 0 ∷ [] = ap (λ (k : ℕ). take k xs) (add-one i) ∙ take-suc xs i 0 h in
+    ap₂ (λ (l : List ℕ) (x : ℕ). set l (at + i) x) e f
+    ∙ ap (λ (k : ℕ). sets (sets d at (take i xs)) (at + k) (getD xs i 0 ∷ [])) (sym len)
+    ∙ sets-append d at (take i xs) (getD xs i 0 ∷ [])
+    ∙ ap (sets d at) (sym more)
+
+-- the first bytes of a row, by the number of them that it has
+module _ (answer len : ℕ) (row out : List ℕ) (long : length row ≡ room) {n : ℕ} (e : n ≡ min len room) where
+  pub first-length : length (take len row) ≡ n
+  first-length = length-take len row ∙ ap (min len) long ∙ sym e
+
+  pub put-short : length out < n → effect 101 out ≡ put (hand answer (take len row)) out
+  unfolding put
+  put-short h = lent-short _ out _ (let l : length (take len row) ≡ n = first-length in omega arith)
+
+  pub put-more : {i : ℕ} {after : List ℕ} → i < n → after ≡ sets out 0 (take i (take len row)) → set after i (getD row i 0) ≡ sets out 0 (take (i + 1) (take len row))
+  put-more {i} {after} h f =
+      let l : length (take len row) ≡ n = first-length in
+      ap (λ (k : ℕ). set after k (getD row i 0)) (sym (zero-add i))
+      ∙ copy-more out 0 (take len row) i (omega arith) (sym (getD-take len row i 0 (omega arith))) f
+
+  pub put-all : n ≤ length out → {i : ℕ} {after : List ℕ} → n ≤ i → after ≡ sets out 0 (take i (take len row)) → effect answer after ≡ put (hand answer (take len row)) out
+  unfolding put
+  put-all fits {i} h f =
+      let xs = take len row in
+      let l : length xs ≡ n = first-length in
+      ap (effect answer)
+      (f
+      ∙ ap (sets out 0) (take-all i xs (omega arith))
+      ∙ sets-eq xs out 0 (omega arith)
+      ∙ ap (λ (k : ℕ). xs ++ drop k out) (zero-add (length xs)))
+      ∙ sym (lent-long _ out _ (omega arith))
+
+-- ---- a call
+
+module _ {A : Type 0} (least : ℕ) (reading : Reading A) (answer : A → Handed) (out : List ℕ) where
+  pub call-short : length out < least → effect 101 out ≡ byte-call least reading answer out
+  unfolding byte-call
+  call-short h = lent-short _ out _ h
+
+  module _ (fits : least ≤ length out) where
+    pub call-puts : {x : Handed} {e : Effect} → x ≡ for reading answer → e ≡ put x out → e ≡ byte-call least reading answer out
+    unfolding byte-call
+    call-puts f g = g ∙ ap (λ (y : Handed). put y out) f ∙ sym (lent-long _ out _ fits)
+
+    pub call-found : {a : A} {end : ℕ} → reading ≡ found a end → byte-call least reading answer out ≡ put (answer a) out
+    unfolding for
+    call-found e = sym (call-puts (sym (ap (λ (r : Reading A). for r answer) e)) refl)
+
+    pub call-refused : {n : ℕ} → reading ≡ refused n → byte-call least reading answer out ≡ refuse n out
+    unfolding for refuse put
+    call-refused {n} e = sym (call-puts (sym (ap (λ (r : Reading A). for r answer) e)) (sym (lent-long 0 out _ (omega arith))))
