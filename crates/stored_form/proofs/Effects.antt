@@ -9,7 +9,7 @@ use lib.ListN.{length, getD, take, drop, set, length-take}
 use lib.Seq.{sets, sets-eq, take-suc, take-all, length-take-le, getD-take}
 use borrow.Author.Tests.{lt-ltb, le-ltb}
 use Rattle.stored_form.specs.Reading.{Reading, found, refused}
-use Rattle.stored_form.specs.Effect.{Effect, Handed, effect, refuse, lent, hand, refusal, for, put, byte-call, room}
+use Rattle.stored_form.specs.Effect.{Effect, Handed, effect, refuse, write, lent, hand, refusal, written, for, put, byte-call, room}
 use Rattle.stored_form.proofs.Stores.{sets-append}
 
 -- ---- the output's length
@@ -22,6 +22,11 @@ module _ (least : ℕ) (out : List ℕ) (e : Effect) where
   pub lent-long : least ≤ length out → lent least out e ≡ e
   unfolding lent
   lent-long h = simp (le-ltb _ _ h)
+
+-- bytes for which there is room
+pub put-written : (bytes out : List ℕ) → length bytes ≤ length out → put (written bytes) out ≡ write bytes out
+unfolding put write
+put-written bytes out h = lent-long _ out _ h
 
 -- ---- the copy
 

@@ -4,8 +4,9 @@ use mathlib.Core.Bool.{cond}
 use mathlib.Core.List.{List, [], _++_}
 use lib.ListN.{length, take, drop}
 use lib.Dec.{ltb}
-use Rattle.jacobian.specs.Answer.{Verdict, accepted, refused as said-no}
+use Rattle.jacobian.specs.Answer.{Verdict, Reply, accepted, refused as said-no}
 use Rattle.stored_form.specs.Reading.{Reading, found, refused}
+use Rattle.stored_form.specs.Classes.{class-field}
 use Rattle.stored_form.specs.declared.effect.Output.{Output}
 
 -- ---- the answer, and the lent output afterwards
@@ -20,6 +21,10 @@ effect n out = record { answer = n; after = out }
 -- a refusal is the whole answer, and no lent byte changes
 unfoldable pub refuse : ℕ → List ℕ → Effect
 refuse n out = effect n out
+
+-- the answer is the length written; bytes after that are untouched
+unfoldable pub write : List ℕ → List ℕ → Effect
+write bytes out = effect (length bytes) (bytes ++ drop (length bytes) out)
 
 -- 101 where the output is shorter than it must be, before any byte of the input is looked at
 unfoldable pub lent : ℕ → List ℕ → Effect → Effect
@@ -47,6 +52,10 @@ written bytes = hand (length bytes) bytes
 unfoldable pub on : Verdict → List ℕ → Handed
 on accepted bytes = written bytes
 on (said-no n) bytes = refusal n
+
+-- a class is one 0x43 field
+unfoldable pub class-handed : Reply → Handed
+class-handed r = on (r .outcome) (class-field 0x43 (r .class))
 
 -- a reading's refusal, else what is answered for what was found
 unfoldable pub for : {A : Type 0} → Reading A → (A → Handed) → Handed

@@ -4,17 +4,18 @@ ghost use mathlib.Core.List.{_++_};
 ghost use Prim.Native.Nat.{_+_, _*_, _≤_, _<_, min};
 ghost use lib.ListN.{length, getD};
 ghost use lib.Seq.{sets};
-ghost use Rattle.jacobian.specs.Answer.{verdict};
+ghost use Rattle.jacobian.specs.Answer.{verdict, reply};
 ghost use Rattle.stored_form.specs.Number.{bytes-of};
 ghost use Rattle.stored_form.specs.Head.{stored};
 ghost use Rattle.stored_form.specs.Elements.{element-bytes};
 ghost use Rattle.stored_form.specs.Fields.{count-field};
 ghost use Rattle.stored_form.specs.Classes.{row-written, class-field};
-ghost use Rattle.stored_form.specs.Effect.{room, count-room, class-room, on, handed};
+ghost use Rattle.stored_form.specs.Effect.{room, count-room, class-room, on, class-handed, handed};
 ghost use Rattle.stored_form.specs.internal.Rows.{filled};
 use crate::effect;
 use crate::effect::Output;
 use jacobian::Class;
+use jacobian::ClassAnswer;
 use jacobian::Outcome;
 
 // The byte of an element at a place of its eight, high byte first.
@@ -109,17 +110,19 @@ fn with_count(row: [u8; effect::ROOM], at: usize, tag: u8, n: u64) -> [u8; effec
     r
 }
 
-// The field of a class, unless a call refused it.
-pub fn class_output(o: Outcome, class: Class) -> Output
-    ensures { λ r. ⌜ handed r ≡ on (verdict o) (class-field 0x43 class) ⌝ }
+// The field of a class, unless the call refused.
+pub fn class_output(a: ClassAnswer) -> Output
+    ensures { λ r. ⌜ handed r ≡ class-handed (reply a) ⌝ }
 {
+    let o = a.outcome;
+    let class = a.class;
     match o {
         Outcome::Refused(n) => effect::refusal(n),
         Outcome::Accepted => with_class([0u8; effect::ROOM], 0, class),
     }
 }
 
-// The fields of a count and a seal, unless a call refused them.
+// The fields of a count and a seal, unless the call refused.
 pub fn register_output(o: Outcome, count: u64, seal: Class) -> Output
     ensures { λ r. ⌜ handed r ≡ on (verdict o) (count-field count ++ class-field 0x43 seal) ⌝ }
 {

@@ -3,14 +3,17 @@ use borrow.Author.Needs.{needs}
 use mathlib.Core.Path.{refl}
 use mathlib.Core.List.{[]}
 use native.Mathlib.Omega.{arith}
+use Rattle.stored_form.specs.Effect.{class-handed}
 use Rattle.stored_form.proofs.Rows.{filled-hands, refuses, writes}
 use Rattle.stored_form.proofs.writing.class_output.Statement.{statement}
 use Rattle.stored_form.proofs.writing.class_output.Tie as tie
 
 returns : tie.Need-returns
+unfolding class-handed
 returns c = refuses _ (c .before .before .o .given .1) (c .refusal .ensures)
 
 returns-2 : tie.Need-returns-2
+unfolding class-handed
 returns-2 c =
     let field = c .with-class .ensures in
     writes _ (c .before .enum-told .given .1) (filled-hands [] _ (omega arith) refl refl (field .0))
