@@ -2,9 +2,11 @@
 pub mod Threes
 pub mod Degrees
 pub mod Checks
+pub mod Below
+pub mod Curves
 pub mod Filled
 pub mod Pairs
 pub mod Passing
 pub mod Answers
-pub mod Due
+pub mod Refusals
 pub mod Halved

@@ -16,6 +16,11 @@ abbrev pub verdict : Outcome → Verdict
 verdict Accepted = accepted
 verdict (Refused n) = refused n
 
+-- the number of a refusal, and 0 for an acceptance
+abbrev pub outcome-refusal : Outcome → ℕ
+outcome-refusal Accepted = 0
+outcome-refusal (Refused n) = n
+
 -- the refusal that is due to a call on one class, and to a call on two: 0 where none is
 unfoldable pub refusal : Curve → Class → ℕ
 refusal c a = curve-refusal c or-else class-refusal c a

@@ -1,8 +1,8 @@
 -- A class by value, and the pair that it stands for (document 01, 'Curves and classes', 'The register', 'In checking order').
 use Prim.Native.Nat.{ℕ, _-_, _^_}
 use mathlib.Core.Path.{_≡_}
-use mathlib.Core.{Bool.cond, Bool._&&_, List.List, List.[], List._∷_, List._++_}
-use lib.{Dec.eqb, Dec.ltb, Dec.leb, ListN.length, ListN.take, ListN.drop}
+use mathlib.Core.{Bool.Bool, Bool.cond, Bool._&&_, List.List, List.[], List._∷_, List._++_}
+use lib.{Dec.eqb, Dec.ltb, Dec.leb, ListN.getD, ListN.length, ListN.take, ListN.drop}
 use Rattle.class_group.specs.Mumford.{Pair, value}
 use Rattle.class_rows.specs.{Field.Poly, Field.𝔸, Field.poly}
 use Rattle.jacobian.specs.{Checks.unless, Checks._or-else_, Checks.below, Checks.blank, Curves.curve, declared.Curve.Curve, declared.Class.Class}
@@ -27,6 +27,13 @@ unfoldable pub class-of : (d : ℕ) → Pair (Poly d) → Class
 class-of d D =
     let n = 𝔸 d .len (D .u) - 1 in
     record { degree = n; u = numbers d n (D .u); v = numbers d n (D .v) }
+
+-- three numbers agree
+unfoldable pub same-row : List ℕ → List ℕ → Bool
+same-row r s = eqb (getD r 0 0) (getD s 0 0) && (eqb (getD r 1 0) (getD s 1 0) && eqb (getD r 2 0) (getD s 2 0))
+
+unfoldable pub same-class : Class → Class → Bool
+same-class a b = eqb (a .degree) (b .degree) && (same-row (a .u) (b .u) && same-row (a .v) (b .v))
 
 -- 104 for a degree above 3 or a number other than 0 at or past the degree
 unfoldable pub shape-refusal : Class → ℕ

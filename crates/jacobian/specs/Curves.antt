@@ -1,12 +1,32 @@
 -- A curve by value: which are refused, and the f of those that are not (document 01, 'Curves and classes', 'In checking order').
--- No other definition or theorem of classes or registers names the coefficients f3, f1 and f0; the stored form's curve field does, to read and to write them.
+-- Only `coefficients`, `curve-with` and `f-row` name the coefficients f3, f1 and f0.
 use Prim.Native.Nat.{ℕ, _^_}
 use mathlib.Core.{Bool._||_, List.List, List.[], List._∷_}
-use lib.{Dec.eqb, ListN.getD}
+use lib.{Dec.eqb, ListN.getD, ListN.replicate}
 use Rattle.class_group.specs.Coefficients.{curve-of}
 use Rattle.class_rows.specs.{Field.F, Field.𝔸, Field.el}
 use Rattle.jacobian.specs.{Checks.unless, Checks._or-else_, Checks.below, declared.Curve.Curve}
 use Rattle.class_group.specs.Curve as Theory
+
+-- how many coefficients a curve has
+abbrev pub coefficient-count : ℕ
+coefficient-count = 3
+
+-- the coefficients in the stored order, the highest power first
+unfoldable pub coefficients : Curve → List ℕ
+coefficients c = c .f3 ∷ c .f1 ∷ c .f0 ∷ []
+
+-- the curve over the field of degree d with these coefficients
+unfoldable pub curve-with : ℕ → List ℕ → Curve
+curve-with d cs = record { degree = d; f3 = getD cs 0 0; f1 = getD cs 1 0; f0 = getD cs 2 0 }
+
+-- f, the lowest coefficient first: f0 + f1 x + f3 x^3 + x^7
+unfoldable pub f-row : Curve → List ℕ
+f-row c = c .f0 ∷ c .f1 ∷ 0 ∷ c .f3 ∷ 0 ∷ 0 ∷ 0 ∷ 1 ∷ []
+
+-- the curve that a refused reading holds
+unfoldable pub blank-curve : Curve
+blank-curve = curve-with 5 (replicate coefficient-count 0)
 
 -- 106 for a degree other than 5 and 61
 unfoldable pub degree-refusal : Curve → ℕ
@@ -14,15 +34,11 @@ degree-refusal c = unless (eqb (c .degree) 5 || eqb (c .degree) 61) 106
 
 -- 107 for a coefficient of 2^d or more
 unfoldable pub coefficient-refusal : Curve → ℕ
-coefficient-refusal c = unless (below (2 ^ c .degree) (c .f3 ∷ c .f1 ∷ c .f0 ∷ [])) 107
+coefficient-refusal c = unless (below (2 ^ c .degree) (coefficients c)) 107
 
 -- 106, then 107; 0 where the curve is accepted
 unfoldable pub curve-refusal : Curve → ℕ
 curve-refusal c = degree-refusal c or-else coefficient-refusal c
-
--- f, the lowest coefficient first: f0 + f1 x + f3 x^3 + x^7
-unfoldable pub f-row : Curve → List ℕ
-f-row c = c .f0 ∷ c .f1 ∷ 0 ∷ c .f3 ∷ 0 ∷ 0 ∷ 0 ∷ 1 ∷ []
 
 -- the curve of the theory: y² + y = f
 unfoldable pub curve : (c : Curve) → Theory.Curve (𝔸 (c .degree))

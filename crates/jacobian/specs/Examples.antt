@@ -9,7 +9,7 @@ use Rattle.class_group.specs.Half.{half}
 use Rattle.class_rows.specs.Field.{Poly}
 use Rattle.jacobian.specs.declared.Curve.{Curve}
 use Rattle.jacobian.specs.declared.Class.{Class}
-use Rattle.jacobian.specs.Curves.{curve}
+use Rattle.jacobian.specs.Curves.{curve, curve-with}
 use Rattle.jacobian.specs.Classes.{pair}
 use Rattle.jacobian.specs.Answer.{Reply, accepted, refused, membership-answer, double-answer, half-answer, sum-answer}
 
@@ -38,10 +38,10 @@ All-hold (e ∷ es) = Holds e × All-hold es
 
 -- f = x^7, and f = x^7 + 1
 abbrev pub A : ℕ → Curve
-A d = record { degree = d; f3 = 0; f1 = 0; f0 = 0 }
+A d = curve-with d (0 ∷ 0 ∷ 0 ∷ [])
 
 abbrev pub B : ℕ → Curve
-B d = record { degree = d; f3 = 0; f1 = 0; f0 = 1 }
+B d = curve-with d (0 ∷ 0 ∷ 1 ∷ [])
 
 -- The classes [u, v] by value: the degree of u, the coefficients of u below its leading term and those of v, the lowest power first.
 abbrev pub [1|0] : Class

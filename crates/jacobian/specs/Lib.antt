@@ -3,7 +3,6 @@ pub mod Field
 pub mod Checks
 pub mod Curves
 pub mod Classes
-pub mod ClassRows
 pub mod Examples
 pub mod Answer
-pub mod Due
+pub mod internal

@@ -4,8 +4,8 @@ ghost use mathlib.Core.Path.{_≡_};
 ghost use lib.ListN.{drop};
 ghost use Rattle.binary_field.specs.Element.{Accepted};
 ghost use Rattle.class_rows.specs.{Row.InRange, Row.rows-pair};
-ghost use Rattle.jacobian.specs.{Checks.below, Checks.blank, Curves.curve-refusal, Due.form-refusal};
-ghost use Rattle.jacobian.specs.{Classes.class-of, Classes.shape-refusal, Classes.range-refusal, Classes.class-refusal, ClassRows.Led, ClassRows.Widened, ClassRows.RowsOf, ClassRows.first};
+ghost use Rattle.jacobian.specs.{Checks.below, Checks.blank, Curves.curve-refusal, internal.Refusals.form-refusal};
+ghost use Rattle.jacobian.specs.{Classes.same-row, Classes.same-class, Classes.class-of, Classes.shape-refusal, Classes.range-refusal, Classes.class-refusal, internal.ClassRows.Led, internal.ClassRows.Widened, internal.ClassRows.RowsOf, internal.ClassRows.first};
 use crate::Class;
 use crate::Curve;
 use crate::curves;
@@ -46,6 +46,36 @@ fn all_below(m: u64, r: [u64; 3]) -> bool
         return false;
     }
     r[2] < m
+}
+
+// Do three numbers agree?
+pub fn same_row(r: [u64; 3], s: [u64; 3]) -> bool
+    ensures { λ x. ⌜ x ≡ same-row r s ⌝ }
+{
+    if r[0] != s[0] {
+        return false;
+    }
+    if r[1] != s[1] {
+        return false;
+    }
+    r[2] == s[2]
+}
+
+// Are two classes the same?
+pub fn same_class(a: Class, b: Class) -> bool
+    ensures { λ r. ⌜ r ≡ same-class a b ⌝ }
+{
+    if a.degree != b.degree {
+        return false;
+    }
+    let u = a.u;
+    let w = b.u;
+    if !same_row(u, w) {
+        return false;
+    }
+    let v = a.v;
+    let z = b.v;
+    same_row(v, z)
 }
 
 // The first n numbers, then 1.
@@ -123,7 +153,7 @@ pub(crate) fn from_rows(a: RowPair) -> Class
 }
 
 // 104 for a degree above 3 or a number other than 0 at or past the degree, else 0.
-fn shape_due(a: Class) -> u32
+fn shape_refusal(a: Class) -> u32
     ensures { λ r. ⌜ r ≡ shape-refusal a ⌝ }
 {
     let u = a.u;
@@ -141,7 +171,7 @@ fn shape_due(a: Class) -> u32
 }
 
 // 110 for a number of 2^d or more, else 0.
-fn range_due(d: u8, a: Class) -> u32
+fn range_refusal(d: u8, a: Class) -> u32
     requires { ⌜ Accepted d ⌝ }
     ensures { λ r. ⌜ r ≡ range-refusal d a ⌝ }
 {
@@ -158,19 +188,19 @@ fn range_due(d: u8, a: Class) -> u32
 }
 
 // What is due to a class before a division: 104, then 110, else 0.
-pub(crate) fn form_due(d: u8, a: Class) -> u32
+pub(crate) fn form_refusal(d: u8, a: Class) -> u32
     requires { ⌜ Accepted d ⌝ }
     ensures { λ r. ⌜ r ≡ form-refusal d a ⌝ }
 {
-    let shape = shape_due(a);
+    let shape = shape_refusal(a);
     if shape != 0 {
         return shape;
     }
-    range_due(d, a)
+    range_refusal(d, a)
 }
 
 // The refusal that is due to a class in form: 111 where u does not divide v² + v + f, else 0.
-pub(crate) fn divisor_due(c: Curve, a: Class) -> u32
+pub(crate) fn divisor_refusal(c: Curve, a: Class) -> u32
     requires { ⌜ (curve-refusal c ≡ 0) × (form-refusal (c .degree) a ≡ 0) ⌝ }
     ensures { λ r. ⌜ r ≡ class-refusal c a ⌝ }
 {

@@ -1,38 +1,30 @@
-// A curve by value: its checks, and its f as a row. Nothing else names f3, f1 and f0.
+// A curve by value: its coefficients, its checks, and its f as a row. Only `coefficients`, `curve_with` and `f_row` name f3, f1 and f0.
 ghost use mathlib.Core.Path.{_≡_};
-ghost use mathlib.Core.List.{[], _∷_};
 ghost use Rattle.jacobian.specs.Checks.{unless, below};
-ghost use Rattle.jacobian.specs.Curves.{curve-refusal, f-row};
+ghost use Rattle.jacobian.specs.Curves.{coefficients, curve-with, blank-curve, curve-refusal, f-row};
 ghost use Rattle.class_rows.specs.Row.{filled};
 use crate::Curve;
 
-// 107 where a coefficient is m or more, else 0.
-fn coefficients_due(m: u64, c: Curve) -> u32
-    ensures { λ r. ⌜ r ≡ unless (below m (c .f3 ∷ c .f1 ∷ c .f0 ∷ [])) 107 ⌝ }
+// How many coefficients a curve has.
+pub const COEFFICIENTS: usize = 3;
+
+// The coefficients in the stored order, the highest power first.
+pub fn coefficients(c: Curve) -> [u64; COEFFICIENTS]
+    ensures { λ r. ⌜ r ≡ coefficients c ⌝ }
 {
-    if c.f3 >= m {
-        return 107;
-    }
-    if c.f1 >= m {
-        return 107;
-    }
-    if c.f0 >= m {
-        return 107;
-    }
-    0
+    [c.f3, c.f1, c.f0]
 }
 
-// The refusal that is due to a curve, and 0 where none is.
-pub(crate) fn curve_due(c: Curve) -> u32
-    ensures { λ r. ⌜ r ≡ curve-refusal c ⌝ }
+// The curve over the field of degree d with these coefficients.
+pub fn curve_with(d: u8, cs: [u64; COEFFICIENTS]) -> Curve
+    ensures { λ r. ⌜ r ≡ curve-with d cs ⌝ }
 {
-    if c.degree == 5 {
-        return coefficients_due(0x20, c);
+    Curve {
+        degree: d,
+        f3: cs[0],
+        f1: cs[1],
+        f0: cs[2],
     }
-    if c.degree == 61 {
-        return coefficients_due(0x2000_0000_0000_0000, c);
-    }
-    106
 }
 
 // The coefficients of f, the lowest first.
@@ -40,4 +32,39 @@ pub(crate) fn f_row(c: Curve) -> [u64; 12]
     ensures { λ r. ⌜ r ≡ filled (f-row c) ⌝ }
 {
     [c.f0, c.f1, 0, c.f3, 0, 0, 0, 1, 0, 0, 0, 0]
+}
+
+// The curve that a refused reading holds.
+pub fn blank_curve() -> Curve
+    ensures { λ r. ⌜ r ≡ blank-curve ⌝ }
+{
+    curve_with(5, [0; COEFFICIENTS])
+}
+
+// 107 where a coefficient is m or more, else 0.
+fn coefficients_refusal(m: u64, c: Curve) -> u32
+    ensures { λ r. ⌜ r ≡ unless (below m (coefficients c)) 107 ⌝ }
+{
+    let cs = coefficients(c);
+    let mut i = 0;
+    while i < COEFFICIENTS {
+        if cs[i] >= m {
+            return 107;
+        }
+        i += 1;
+    }
+    0
+}
+
+// The refusal that is due to a curve, and 0 where none is.
+pub fn curve_refusal(c: Curve) -> u32
+    ensures { λ r. ⌜ r ≡ curve-refusal c ⌝ }
+{
+    if c.degree == 5 {
+        return coefficients_refusal(0x20, c);
+    }
+    if c.degree == 61 {
+        return coefficients_refusal(0x2000_0000_0000_0000, c);
+    }
+    106
 }

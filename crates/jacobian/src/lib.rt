@@ -9,11 +9,11 @@ ghost use Rattle.class_group.specs.Reduction.{Counted};
 ghost use Rattle.class_rows.specs.Field.{Poly};
 ghost use Rattle.class_rows.specs.Row.{StandsPair};
 ghost use Rattle.class_rows.specs.Core.{StandsCounted};
-ghost use Rattle.jacobian.specs.{Checks.unless, Checks._or-else_, Curves.curve-refusal, Due.form-refusal, Due.FormDueOfTwo};
-ghost use Rattle.jacobian.specs.Answer.{neutral-class, refusal, verdict, reply, answered, counted-reply, counted-answered, membership-answer, opposite-answer, double-answer, HalfAnswers, sum-answer, counted-double-answer, counted-sum-answer, double-and-add-answer, subtract-and-halve-answer, curve-answer};
+ghost use Rattle.jacobian.specs.{Checks.unless, Checks._or-else_, Curves.curve-refusal, internal.Refusals.form-refusal, internal.Refusals.FormRefusalOfTwo};
+ghost use Rattle.jacobian.specs.Answer.{outcome-refusal, neutral-class, refusal, verdict, reply, answered, counted-reply, counted-answered, membership-answer, opposite-answer, double-answer, HalfAnswers, sum-answer, counted-double-answer, counted-sum-answer, double-and-add-answer, subtract-and-halve-answer, curve-answer};
 
-mod classes;
-mod curves;
+pub mod classes;
+pub mod curves;
 
 use class_rows::commit_rows;
 use class_rows::double_rows;
@@ -57,6 +57,16 @@ pub struct CountedAnswer {
     pub steps: u32,
 }
 
+// The number of a refusal, and 0 for an acceptance.
+pub fn outcome_refusal(o: Outcome) -> u32
+    ensures { λ r. ⌜ r ≡ outcome-refusal o ⌝ }
+{
+    match o {
+        Outcome::Accepted => 0,
+        Outcome::Refused(n) => n,
+    }
+}
+
 // The neutral class [1, 0].
 pub fn neutral() -> Class
     ensures { λ r. ⌜ r ≡ neutral-class ⌝ }
@@ -69,41 +79,41 @@ pub fn neutral() -> Class
 }
 
 // What is due to a call on one class before a division, and 0 where nothing is.
-fn curve_and_form_due(c: Curve, a: Class) -> u32
+fn curve_and_form_refusal(c: Curve, a: Class) -> u32
     ensures { λ r. ⌜ r ≡ (curve-refusal c or-else form-refusal (c .degree) a) ⌝ }
 {
-    let n = curves::curve_due(c);
+    let n = curves::curve_refusal(c);
     if n != 0 {
         return n;
     }
-    classes::form_due(c.degree, a)
+    classes::form_refusal(c.degree, a)
 }
 
 // The refusal that is due to a call on one class, and 0 where none is.
-fn due(c: Curve, a: Class) -> u32
+pub fn class_refusal(c: Curve, a: Class) -> u32
     ensures { λ r. ⌜ r ≡ refusal c a ⌝ }
 {
-    let n = curve_and_form_due(c, a);
+    let n = curve_and_form_refusal(c, a);
     if n != 0 {
         return n;
     }
-    classes::divisor_due(c, a)
+    classes::divisor_refusal(c, a)
 }
 
 // The refusal that is due to a call on two classes, and 0 where both are in form, divisors or not. The first class's 111 comes before the
 // second's 104 and 110.
-fn form_due_of_two(c: Curve, a: Class, b: Class) -> u32
-    ensures { λ r. ⌜ FormDueOfTwo c a b r ⌝ }
+fn form_refusal_of_two(c: Curve, a: Class, b: Class) -> u32
+    ensures { λ r. ⌜ FormRefusalOfTwo c a b r ⌝ }
 {
-    let n = curve_and_form_due(c, a);
+    let n = curve_and_form_refusal(c, a);
     if n != 0 {
         return n;
     }
-    let m = classes::form_due(c.degree, b);
+    let m = classes::form_refusal(c.degree, b);
     if m == 0 {
         return 0;
     }
-    let k = classes::divisor_due(c, a);
+    let k = classes::divisor_refusal(c, a);
     if k != 0 {
         return k;
     }
@@ -183,7 +193,7 @@ fn counted_settled(divisor: bool, rows: CountedRows) -> CountedAnswer
 pub fn membership(curve: Curve, a: Class) -> Outcome
     ensures { λ r. ⌜ verdict r ≡ membership-answer curve a ⌝ }
 {
-    let n = due(curve, a);
+    let n = class_refusal(curve, a);
     if n != 0 {
         return Outcome::Refused(n);
     }
@@ -194,7 +204,7 @@ pub fn membership(curve: Curve, a: Class) -> Outcome
 pub fn opposite(curve: Curve, a: Class) -> ClassAnswer
     ensures { λ r. ⌜ reply r ≡ opposite-answer curve a ⌝ }
 {
-    let n = curve_and_form_due(curve, a);
+    let n = curve_and_form_refusal(curve, a);
     if n != 0 {
         return refused(n);
     }
@@ -209,7 +219,7 @@ pub fn opposite(curve: Curve, a: Class) -> ClassAnswer
 pub fn half(curve: Curve, a: Class) -> ClassAnswer
     ensures { λ r. ⌜ HalfAnswers curve a (reply r) ⌝ }
 {
-    let n = curve_and_form_due(curve, a);
+    let n = curve_and_form_refusal(curve, a);
     if n != 0 {
         return refused(n);
     }
@@ -224,7 +234,7 @@ pub fn half(curve: Curve, a: Class) -> ClassAnswer
 pub fn counted_double(curve: Curve, a: Class) -> CountedAnswer
     ensures { λ r. ⌜ counted-reply r ≡ counted-double-answer curve a ⌝ }
 {
-    let n = curve_and_form_due(curve, a);
+    let n = curve_and_form_refusal(curve, a);
     if n != 0 {
         return counted_refused(n);
     }
@@ -239,7 +249,7 @@ pub fn counted_double(curve: Curve, a: Class) -> CountedAnswer
 pub fn counted_sum(curve: Curve, a: Class, b: Class) -> CountedAnswer
     ensures { λ r. ⌜ counted-reply r ≡ counted-sum-answer curve a b ⌝ }
 {
-    let n = form_due_of_two(curve, a, b);
+    let n = form_refusal_of_two(curve, a, b);
     if n != 0 {
         return counted_refused(n);
     }
@@ -281,7 +291,7 @@ pub fn sum(curve: Curve, a: Class, b: Class) -> ClassAnswer
 pub fn double_and_add(curve: Curve, a: Class, b: Class) -> ClassAnswer
     ensures { λ r. ⌜ reply r ≡ double-and-add-answer curve a b ⌝ }
 {
-    let n = form_due_of_two(curve, a, b);
+    let n = form_refusal_of_two(curve, a, b);
     if n != 0 {
         return refused(n);
     }
@@ -297,7 +307,7 @@ pub fn double_and_add(curve: Curve, a: Class, b: Class) -> ClassAnswer
 pub fn subtract_and_halve(curve: Curve, a: Class, b: Class) -> ClassAnswer
     ensures { λ r. ⌜ reply r ≡ subtract-and-halve-answer curve a b ⌝ }
 {
-    let n = form_due_of_two(curve, a, b);
+    let n = form_refusal_of_two(curve, a, b);
     if n != 0 {
         return refused(n);
     }
@@ -313,7 +323,7 @@ pub fn subtract_and_halve(curve: Curve, a: Class, b: Class) -> ClassAnswer
 pub fn accepts_curve(curve: Curve) -> Outcome
     ensures { λ r. ⌜ verdict r ≡ curve-answer curve ⌝ }
 {
-    let n = curves::curve_due(curve);
+    let n = curves::curve_refusal(curve);
     if n != 0 {
         return Outcome::Refused(n);
     }

@@ -1,10 +1,19 @@
 -- What the answers of the calls come to: the refusal where one is due, and else the class.
 use Prim.Native.Nat.{ℕ, zero, suc}
 use mathlib.Core.Path.{_≡_, refl, sym, _∙_, ap}
+use native.Mathlib.Omega.{arith}
 use Rattle.class_group.specs.{Mumford.Pair, Reduction.Counted}
 use Rattle.class_rows.specs.{Field.Poly}
-use Rattle.jacobian.specs.{Answer.accepted, Answer.refused, Answer.verdict-of, Answer.refusal, Answer.neutral-class, Answer.Reply, Answer.answered, Answer.CountedReply, Answer.counted-answered, declared.Curve.Curve, declared.Class.Class}
+use Rattle.jacobian.specs.{Answer.accepted, Answer.refused, Answer.verdict, Answer.verdict-of, Answer.outcome-refusal, Answer.refusal, Answer.neutral-class, Answer.Reply, Answer.answered, Answer.CountedReply, Answer.counted-answered, declared.Curve.Curve, declared.Class.Class, declared.Outcome.Outcome, declared.Outcome.the-variants.Accepted, declared.Outcome.the-variants.Refused}
 use Rattle.jacobian.proofs.ByValue.Checks.{CurvePasses, ClassPasses, then-zero, curve-passes, class-passes}
+
+-- the number of an outcome is the refusal that was due
+pub outcome-refusal-is : (o : Outcome) (n : ℕ) → verdict o ≡ verdict-of n → outcome-refusal o ≡ n
+unfolding verdict-of
+outcome-refusal-is Accepted zero e = refl
+outcome-refusal-is Accepted (suc n) e = let z : _≡_ {A = ℕ} 0 1 = cc in absurd (omega arith)
+outcome-refusal-is (Refused m) zero e = let z : _≡_ {A = ℕ} 0 1 = cc in absurd (omega arith)
+outcome-refusal-is (Refused m) (suc n) e = cc
 
 pub refused-verdict : {n m : ℕ} → n ≡ m → ¬ (n ≡ 0) → refused n ≡ verdict-of m
 unfolding verdict-of

@@ -8,7 +8,7 @@ use borrow.Author.Tests.{ltb-true, leb-true, eqb-true}
 use Rattle.binary_field.specs.Element.{Accepted}
 use Rattle.class_group.specs.Mumford.{value}
 use Rattle.class_rows.specs.{Field.𝔸}
-use Rattle.jacobian.specs.{Checks.unless, Checks._or-else_, Checks.below, Checks.blank, Curves.degree-refusal, Curves.coefficient-refusal, Curves.curve-refusal, Curves.f-row, Curves.curve, Classes.pair, Classes.shape-refusal, Classes.range-refusal, Classes.class-refusal, declared.Curve.Curve, declared.Class.Class}
+use Rattle.jacobian.specs.{Checks.unless, Checks._or-else_, Checks.below, Checks.blank, Curves.coefficients, Curves.degree-refusal, Curves.coefficient-refusal, Curves.curve-refusal, Curves.f-row, Curves.curve, Classes.pair, Classes.shape-refusal, Classes.range-refusal, Classes.class-refusal, declared.Curve.Curve, declared.Class.Class}
 use Rattle.jacobian.proofs.ByValue.Degrees.{by-degree}
 
 -- ---- one check, and one after the other
@@ -77,7 +77,7 @@ pub record CurvePasses (c : Curve) : Type 0 where
   pub f-below : (i : ℕ) → getD (f-row c) i 0 < 2 ^ c .degree
 
 pub curve-passes : (c : Curve) → curve-refusal c ≡ 0 → CurvePasses c
-unfolding curve-refusal degree-refusal coefficient-refusal f-row
+unfolding curve-refusal degree-refusal coefficients coefficient-refusal f-row
 curve-passes c e =
     let h = then-zero _ _ e in
     let of-degree : degree-refusal c ≡ 0 = search in

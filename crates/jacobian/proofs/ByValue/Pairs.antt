@@ -7,7 +7,7 @@ use lib.ListN.{getD}
 use borrow.Author.Tests.{lt-ltb}
 use Rattle.class_group.specs.Mumford.{Pair}
 use Rattle.class_rows.specs.{Field.Poly, Field.𝔸, Field.poly, Row.InRange, Row.StandsPair, Row.row-len, Row.rows-pair, declared.row.RowPair.RowPair}
-use Rattle.jacobian.specs.{Classes.numbers, Classes.class-of, ClassRows.first, declared.Class.Class}
+use Rattle.jacobian.specs.{Classes.numbers, Classes.class-of, internal.ClassRows.first, declared.Class.Class}
 use Rattle.class_rows.proofs.{Rows.Elements.el-number, Rows.Coefficients.coeff-poly}
 
 pub first-one : {n : ℕ} (r : List ℕ) → n ≡ 1 → getD r 0 0 ∷ 0 ∷ 0 ∷ [] ≡ first n r

@@ -7,7 +7,7 @@ use Rattle.char2_algebra.proofs.{Degree.len-nought, Division.rem-of-divides, Le
 use Rattle.class_group.specs.{Mumford.value, Mumford.Reduced, Coefficients.monic-7, Coefficients.curve-of}
 use Rattle.class_rows.specs.{Field.𝔸, Field.Poly, Field.poly, Row.InRange, Row.filled, Row.rows-pair, Core.OnCurve, Core.ReducedRows, Checked.Decides, Checked.Divisor, declared.row.RowPair.RowPair}
 use Rattle.class_rows.proofs.{CheckRows.by-number, ReductionRows.reduced-on}
-use Rattle.jacobian.specs.{Curves.f-row, Curves.curve, Classes.Three, ClassRows.RowsOf, Classes.u-row, Classes.pair, declared.Curve.Curve, declared.Class.Class}
+use Rattle.jacobian.specs.{Curves.f-row, Curves.curve, Classes.Three, internal.ClassRows.RowsOf, Classes.u-row, Classes.pair, declared.Curve.Curve, declared.Class.Class}
 use Rattle.class_rows.proofs.{Rows.Elements.degree-is, Rows.Elements.el-one}
 use Rattle.jacobian.proofs.{ByValue.Checks.CurvePasses, ByValue.Checks.ShapePasses, ByValue.Checks.RangePasses, ByValue.Checks.ClassPasses, ByValue.Filled.getD-filled, ByValue.Filled.poly-filled, Representation.Form.Formed, Representation.Form.passes-formed, Representation.Form.formed-reduced, Representation.Form.u-row-range, Representation.Form.u-monic}
 

@@ -7,11 +7,11 @@ use Rattle.jacobian.proofs.accepts_curve.Tie as tie
 
 returns : tie.Need-returns
 unfolding curve-answer
-returns c = refused-verdict (c .before .curve-due .ensures) (c .if1 .taken)
+returns c = refused-verdict (c .before .curve-refusal .ensures) (c .if1 .taken)
 
 returns-2 : tie.Need-returns-2
 unfolding curve-answer
-returns-2 c = accepted-verdict (c .before .curve-due .ensures) (c .if1 .left)
+returns-2 c = accepted-verdict (c .before .curve-refusal .ensures) (c .if1 .left)
 
 pub accepts-curve-spec : {M : Type 1} → statement M
 accepts-curve-spec = tie.close (tie.spec (λ c κs. search needs) returns returns-2)

@@ -1,19 +1,19 @@
 -- `counted_double` meets its contract.
 use mathlib.Core.Path.{sym, _∙_}
 use Rattle.jacobian.specs.{Curves.curve, Answer.counted-double-answer}
-use Rattle.jacobian.proofs.{ByValue.Checks.then-zero, ByValue.Checks.curve-passes, ByValue.Passing.on-curve, ByValue.Passing.rows-pair-is, ByValue.Due.form-first, ByValue.Due.form-shape, ByValue.Due.one-due, ByValue.Answers.counted-at-refusal}
+use Rattle.jacobian.proofs.{ByValue.Checks.then-zero, ByValue.Checks.curve-passes, ByValue.Passing.on-curve, ByValue.Passing.rows-pair-is, ByValue.Refusals.form-first, ByValue.Refusals.form-shape, ByValue.Refusals.one-due, ByValue.Answers.counted-at-refusal}
 use borrow.Author.Needs.{needs}
 use Rattle.jacobian.proofs.counted_double.Statement.{statement}
 use Rattle.jacobian.proofs.counted_double.Tie as tie
 
 returns : tie.Need-returns
 unfolding counted-double-answer
-returns c = counted-at-refusal _ _ (form-first _ _ (c .before .before .curve-and-form-due .ensures) (c .before .if1 .taken)) (c .counted-refused .ensures _ _)
+returns c = counted-at-refusal _ _ (form-first _ _ (c .before .before .curve-and-form-refusal .ensures) (c .before .if1 .taken)) (c .counted-refused .ensures _ _)
 
 to-rows-requires : tie.Need-to-rows-requires
 to-rows-requires c κs =
     let s = c .before .before .before in
-    form-shape (s .args .curve) (s .args .a) (then-zero _ _ (sym (c .before .before .curve-and-form-due .ensures) ∙ c .before .if1 .left) .1) .low
+    form-shape (s .args .curve) (s .args .a) (then-zero _ _ (sym (c .before .before .curve-and-form-refusal .ensures) ∙ c .before .if1 .left) .1) .low
 
 returns-2 : tie.Need-returns-2
 unfolding counted-double-answer
@@ -22,7 +22,7 @@ returns-2 c =
     let left = after .before .before .before in
     let s = left .before .before in
     let d = s .args .curve .degree in
-    let z = then-zero _ _ (sym (left .before .curve-and-form-due .ensures) ∙ left .if1 .left) in
+    let z = then-zero _ _ (sym (left .before .curve-and-form-refusal .ensures) ∙ left .if1 .left) in
     let f = after .before .before .f-row .ensures in
     let rows = after .before .to-rows .ensures in
     let gives = after .double-rows .ensures in

@@ -1,6 +1,6 @@
 -- `double_and_add` meets its contract.
 use Rattle.jacobian.specs.{Curves.curve, Answer.double-and-add-answer}
-use Rattle.jacobian.proofs.{ByValue.Checks.curve-passes, ByValue.Passing.on-curve, ByValue.Passing.rows-pair-is, ByValue.Due.form-shape, ByValue.Due.two-due, ByValue.Answers.at-refusal}
+use Rattle.jacobian.proofs.{ByValue.Checks.curve-passes, ByValue.Passing.on-curve, ByValue.Passing.rows-pair-is, ByValue.Refusals.form-shape, ByValue.Refusals.two-due, ByValue.Answers.at-refusal}
 use borrow.Author.Needs.{needs}
 use Rattle.jacobian.proofs.double_and_add.Statement.{statement}
 use Rattle.jacobian.proofs.double_and_add.Tie as tie
@@ -10,17 +10,17 @@ refused-requires c κs = c .if1 .taken
 
 returns : tie.Need-returns
 unfolding double-and-add-answer
-returns c = at-refusal _ _ (c .before .before .form-due-of-two .ensures .refused (c .before .if1 .taken)) (c .refused .ensures _ _)
+returns c = at-refusal _ _ (c .before .before .form-refusal-of-two .ensures .refused (c .before .if1 .taken)) (c .refused .ensures _ _)
 
 to-rows-requires : tie.Need-to-rows-requires
 to-rows-requires c κs =
     let s = c .before .before .before in
-    form-shape (s .args .curve) (s .args .a) (c .before .before .form-due-of-two .ensures .first-none (c .before .if1 .left)) .low
+    form-shape (s .args .curve) (s .args .a) (c .before .before .form-refusal-of-two .ensures .first-none (c .before .if1 .left)) .low
 
 to-rows-requires-2 : tie.Need-to-rows-requires-2
 to-rows-requires-2 c κs =
     let s = c .before .before .before .before in
-    form-shape (s .args .curve) (s .args .b) (c .before .before .before .form-due-of-two .ensures .second-none (c .before .before .if1 .left)) .low
+    form-shape (s .args .curve) (s .args .b) (c .before .before .before .form-refusal-of-two .ensures .second-none (c .before .before .if1 .left)) .low
 
 returns-2 : tie.Need-returns-2
 unfolding double-and-add-answer
@@ -29,7 +29,7 @@ returns-2 c =
     let left = after .before .before .before .before in
     let s = left .before .before in
     let d = s .args .curve .degree in
-    let due = left .before .form-due-of-two .ensures in
+    let due = left .before .form-refusal-of-two .ensures in
     let ok = due .curve-none (left .if1 .left) in
     let f = after .before .before .before .f-row .ensures in
     let first = after .before .before .to-rows .ensures in

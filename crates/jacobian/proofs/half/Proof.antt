@@ -2,7 +2,7 @@
 use mathlib.Core.Path.{refl, sym, _∙_, ap}
 use Rattle.class_group.specs.Half.{half}
 use Rattle.jacobian.specs.{Curves.curve, Classes.pair, Answer.half-answer, Answer.answered}
-use Rattle.jacobian.proofs.{ByValue.Checks.then-zero, ByValue.Checks.curve-passes, ByValue.Passing.on-curve, ByValue.Passing.rows-pair-is, ByValue.Due.form-first, ByValue.Due.form-shape, ByValue.Due.one-due, ByValue.Answers.at-refusal, ByValue.Answers.passes, ByValue.Halved.half-doubled}
+use Rattle.jacobian.proofs.{ByValue.Checks.then-zero, ByValue.Checks.curve-passes, ByValue.Passing.on-curve, ByValue.Passing.rows-pair-is, ByValue.Refusals.form-first, ByValue.Refusals.form-shape, ByValue.Refusals.one-due, ByValue.Answers.at-refusal, ByValue.Answers.passes, ByValue.Halved.half-doubled}
 use borrow.Author.Needs.{needs}
 use Rattle.jacobian.proofs.half.Statement.{statement}
 use Rattle.jacobian.proofs.half.Tie as tie
@@ -10,13 +10,13 @@ use Rattle.jacobian.proofs.half.Tie as tie
 returns : tie.Need-returns
 unfolding half-answer
 returns c =
-    let e = form-first _ _ (c .before .before .curve-and-form-due .ensures) (c .before .if1 .taken) in
+    let e = form-first _ _ (c .before .before .curve-and-form-refusal .ensures) (c .before .if1 .taken) in
     record { answer = at-refusal _ _ e (c .refused .ensures _ _); doubled = λ z. absurd (c .before .if1 .taken (e ∙ z)) }
 
 to-rows-requires : tie.Need-to-rows-requires
 to-rows-requires c κs =
     let s = c .before .before .before in
-    form-shape (s .args .curve) (s .args .a) (then-zero _ _ (sym (c .before .before .curve-and-form-due .ensures) ∙ c .before .if1 .left) .1) .low
+    form-shape (s .args .curve) (s .args .a) (then-zero _ _ (sym (c .before .before .curve-and-form-refusal .ensures) ∙ c .before .if1 .left) .1) .low
 
 returns-2 : tie.Need-returns-2
 unfolding half-answer
@@ -25,7 +25,7 @@ returns-2 c =
     let left = after .before .before .before in
     let s = left .before .before in
     let d = s .args .curve .degree in
-    let z = then-zero _ _ (sym (left .before .curve-and-form-due .ensures) ∙ left .if1 .left) in
+    let z = then-zero _ _ (sym (left .before .curve-and-form-refusal .ensures) ∙ left .if1 .left) in
     let f = after .before .before .f-row .ensures in
     let rows = after .before .to-rows .ensures in
     let gives = after .half-rows .ensures in

@@ -7,11 +7,11 @@ use Rattle.jacobian.proofs.membership.Tie as tie
 
 returns : tie.Need-returns
 unfolding membership-answer
-returns c = refused-verdict (c .before .due .ensures) (c .if1 .taken)
+returns c = refused-verdict (c .before .class-refusal .ensures) (c .if1 .taken)
 
 returns-2 : tie.Need-returns-2
 unfolding membership-answer
-returns-2 c = accepted-verdict (c .before .due .ensures) (c .if1 .left)
+returns-2 c = accepted-verdict (c .before .class-refusal .ensures) (c .if1 .left)
 
 pub membership-spec : {M : Type 1} → statement M
 membership-spec = tie.close (tie.spec (λ c κs. search needs) returns returns-2)

@@ -3,7 +3,7 @@ use mathlib.Core.Path.{_≡_, refl}
 use mathlib.Core.List.{[], _∷_}
 use lib.ListN.{getD}
 use Rattle.class_rows.specs.{Row.filled}
-use Rattle.jacobian.specs.{ClassRows.Led}
+use Rattle.jacobian.specs.{internal.ClassRows.Led}
 use Rattle.jacobian.proofs.ByValue.Threes.{by-three, is-three}
 use borrow.Author.Needs.{needs}
 use Rattle.jacobian.proofs.classes.leading_one.Statement.{statement}

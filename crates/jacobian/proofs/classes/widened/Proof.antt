@@ -3,7 +3,7 @@ use mathlib.Core.Path.{refl}
 use mathlib.Core.List.{[], _∷_}
 use lib.ListN.{getD}
 use Rattle.class_rows.specs.{Row.filled}
-use Rattle.jacobian.specs.{ClassRows.Widened}
+use Rattle.jacobian.specs.{internal.ClassRows.Widened}
 use Rattle.jacobian.proofs.ByValue.Threes.{by-three}
 use borrow.Author.Needs.{needs}
 use Rattle.jacobian.proofs.classes.widened.Statement.{statement}

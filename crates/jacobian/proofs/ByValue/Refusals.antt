@@ -5,7 +5,7 @@ use mathlib.Core.{Bool.Bool, Bool.true, Bool.false, Bool._&&_, List.List}
 use lib.Dec.{eqb}
 use Rattle.class_group.specs.Mumford.{value}
 use Rattle.class_rows.specs.{Field.𝔸, Row.filled, Checked.Decides, Checked.Divisor, declared.row.RowPair.RowPair}
-use Rattle.jacobian.specs.{Checks.unless, Checks._or-else_, Curves.curve-refusal, Curves.f-row, Curves.curve, Classes.pair, Classes.shape-refusal, Classes.range-refusal, Classes.class-refusal, ClassRows.RowsOf, Due.form-refusal, Answer.refusal, Answer.refusal-of-two, declared.Curve.Curve, declared.Class.Class}
+use Rattle.jacobian.specs.{Checks.unless, Checks._or-else_, Curves.curve-refusal, Curves.f-row, Curves.curve, Classes.pair, Classes.shape-refusal, Classes.range-refusal, Classes.class-refusal, internal.ClassRows.RowsOf, internal.Refusals.form-refusal, Answer.refusal, Answer.refusal-of-two, declared.Curve.Curve, declared.Class.Class}
 use Rattle.jacobian.proofs.{ByValue.Checks.ShapePasses, ByValue.Checks.RangePasses, ByValue.Checks.then-zero, ByValue.Checks.first-due, ByValue.Checks.next-due, ByValue.Checks.curve-passes, ByValue.Checks.shape-passes, ByValue.Checks.range-passes, ByValue.Passing.divides-decides}
 
 then-assoc : (m n k : ℕ) → (m or-else n) or-else k ≡ m or-else (n or-else k)

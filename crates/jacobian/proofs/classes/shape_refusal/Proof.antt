@@ -1,9 +1,9 @@
--- `shape_due` meets its contract: each return by the tests that led to it.
+-- `shape_refusal` meets its contract: each return by the tests that led to it.
 use mathlib.Core.Path.{sym, _∙_}
 use borrow.Author.{Tests.le-leb, Tests.lt-leb, Tests.not-true, Tests.not-false, Needs.needs}
 use Rattle.jacobian.specs.{Checks.unless, Classes.shape-refusal}
-use Rattle.jacobian.proofs.classes.shape_due.Statement.{statement}
-use Rattle.jacobian.proofs.classes.shape_due.Tie as tie
+use Rattle.jacobian.proofs.classes.shape_refusal.Statement.{statement}
+use Rattle.jacobian.proofs.classes.shape_refusal.Tie as tie
 
 returns : tie.Need-returns
 unfolding shape-refusal unless
@@ -32,7 +32,7 @@ returns-4 c =
       sym (c .before .blank-from2 .ensures) ∙ not-false _ (c .if3 .left),
     )
 
-pub shape-due-spec : {M : Type 1} → statement M
-shape-due-spec =
+pub shape-refusal-spec : {M : Type 1} → statement M
+shape-refusal-spec =
     tie.close
     (tie.spec returns (λ c κs. search needs) returns-2 (λ c κs. search needs) returns-3 returns-4)

@@ -8,7 +8,7 @@ unfoldable pub form-refusal : ℕ → Class → ℕ
 form-refusal d a = shape-refusal a or-else range-refusal d a
 
 -- the refusal of a call on two classes, or 0 where the curve is accepted and both are in form
-pub record FormDueOfTwo (c : Curve) (a b : Class) (n : ℕ) : Type 0 where
+pub record FormRefusalOfTwo (c : Curve) (a b : Class) (n : ℕ) : Type 0 where
   pub refused : ¬ (n ≡ 0) → n ≡ refusal-of-two c a b
   pub curve-none : n ≡ 0 → curve-refusal c ≡ 0
   pub first-none : n ≡ 0 → form-refusal (c .degree) a ≡ 0

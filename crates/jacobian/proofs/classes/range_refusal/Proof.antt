@@ -1,11 +1,11 @@
--- `range_due` meets its contract: each return by the tests that led to it.
+-- `range_refusal` meets its contract: each return by the tests that led to it.
 use Prim.Native.Nat.{_^_}
 use mathlib.Core.Path.{_≡_, sym, _∙_, ap}
 use borrow.Author.{Tests.not-true, Tests.not-false, Needs.needs}
 use Rattle.class_rows.proofs.Rows.Elements.{degree-is}
 use Rattle.jacobian.specs.{Checks.unless, Classes.range-refusal}
-use Rattle.jacobian.proofs.classes.range_due.Statement.{statement}
-use Rattle.jacobian.proofs.classes.range_due.Tie as tie
+use Rattle.jacobian.proofs.classes.range_refusal.Statement.{statement}
+use Rattle.jacobian.proofs.classes.range_refusal.Tie as tie
 
 -- the field's degree is d
 bound-is : (s : tie.After-bound) → s .bound .result ≡ 2 ^ s .before .before .before .args .d
@@ -34,7 +34,7 @@ returns-3 c =
       sym (c .before .all-below2 .ensures) ∙ not-false _ (c .if2 .left),
     )
 
-pub range-due-spec : {M : Type 1} → statement M
-range-due-spec =
+pub range-refusal-spec : {M : Type 1} → statement M
+range-refusal-spec =
     tie.close
     (tie.spec (λ c κs. search needs) (λ c κs. search needs) returns (λ c κs. search needs) returns-2 returns-3)
