@@ -9,10 +9,10 @@ use lib.ListN.{length, getD, take, drop, length-append, length-take, length-drop
 use lib.Seq.{take-at, drop-at}
 use Rattle.jacobian.specs.{Answer.refusal, declared.Curve.Curve, declared.Class.Class}
 use Rattle.jacobian.proofs.{ByValue.Degrees.by-degree, ByValue.Threes.by-three, ByValue.Answers.passes, Representation.Form.Three}
-use Rattle.stored_form.specs.{Number.Bytes, Reading.found, Head.allowed, Head.class-length, Head.body-at, Head.stored, Head.Stands}
+use Rattle.stored_form.specs.{Number.Bytes, Reading.found, Head.class-room, Head.class-limit, Head.allowed, Head.class-length, Head.body-at, Head.stored, Head.Stands}
 use Rattle.stored_form.specs.{Elements.elements, Elements.element-bytes}
 use Rattle.stored_form.specs.Classes.{row-said, class-said, class-at, row-written, class-field}
-use Rattle.stored_form.proofs.{Readings.then-found, Readings.both-found, Readings.due-found, Readings.due-none, Readings.same-found}
+use Rattle.stored_form.proofs.{Readings.then-found, Readings.both-found, Readings.checked-found, Readings.checked-none, Readings.same-found}
 use Rattle.stored_form.proofs.{Lengths.class-length-le, Lengths.class-length-even, Items.length-elements, ClassBytes.length-row}
 use Rattle.stored_form.proofs.ElementBytes.{Small, small-of, small-take, small-append, small-reversed, elements-bytes, bytes-elements, fits, length-element-bytes, element-bytes-append}
 use Rattle.stored_form.proofs.{Bodies.length-stored, Bodies.body-written, Bodies.body-read, RoundTrips.Field}
@@ -47,7 +47,7 @@ unfolding class-field class-said
 class-field-said tag body ok b =
     let n = length body / 16 in
     let es = elements (n + n) body in
-    let low : length body ≤ 48 = class-length-le (length body) ok in
+    let low : length body ≤ class-limit = class-length-le (length body) ok in
     let even : 16 * n ≡ length body = class-length-even (length body) ok in
     let all : length es ≡ n + n = length-elements (n + n) body in
     let first : length (take n es) ≡ n = length-take n es ∙ omega arith in
@@ -146,8 +146,8 @@ row-three es =
     let long : length all ≡ length (reverse es) + 3 = length-append (reverse es) (0 ∷ 0 ∷ 0 ∷ []) in
     length-take 3 all ∙ omega arith
 
--- the field of a class that is not refused has at most 51 bytes
-pub class-short : (tag : ℕ) (c : Curve) (a : Class) → Three a → refusal c a ≡ 0 → length (class-field tag a) ≤ 51
+-- the field of a class that is not refused has room in a row
+pub class-short : (tag : ℕ) (c : Curve) (a : Class) → Three a → refusal c a ≡ 0 → length (class-field tag a) ≤ class-room
 unfolding class-field
 class-short tag c a three ok =
     let k = shaped c a three ok in
@@ -161,7 +161,7 @@ pub class-three : (tag : ℕ) (c : Curve) (s : List ℕ) (at : ℕ) {a : Class} 
 unfolding class-at class-said
 class-three tag c s at h =
     let p = both-found _ (body-at tag s at) h in
-    let q = due-found (refusal c (class-said (p .0))) (found (class-said (p .0)) (p .1)) (p .3) in
+    let q = checked-found (refusal c (class-said (p .0))) (found (class-said (p .0)) (p .1)) (p .3) in
     subst Three (same-found (q .1) .0) (record { u-three = row-three _; v-three = row-three _ })
 
 module _ (tag : ℕ) (lengths : (n : ℕ) → allowed tag n ≡ class-length n) (c : Curve) (s : List ℕ) (at : ℕ) where
@@ -169,7 +169,7 @@ module _ (tag : ℕ) (lengths : (n : ℕ) → allowed tag n ≡ class-length n) 
   unfolding class-at
   class-written {a} {next} b h =
       let p = both-found _ (body-at tag s at) h in
-      let q = due-found (refusal c (class-said (p .0))) (found (class-said (p .0)) (p .1)) (p .3) in
+      let q = checked-found (refusal c (class-said (p .0))) (found (class-said (p .0)) (p .1)) (p .3) in
       let e = same-found (q .1) in
       let w = body-written tag s at b (p .2) in
       let said = class-field-said tag (p .0) (sym (lengths (length (p .0))) ∙ w .allows) (w .bytes) in (
@@ -187,4 +187,4 @@ module _ (tag : ℕ) (lengths : (n : ℕ) → allowed tag n ≡ class-length n) 
       lengths (length (body-of a)) ∙ ap class-length len ∙ class-length-of (a .degree) (k .low) in
       let low : a .degree ≤ 3 = k .low in
       then-found _ (body-read tag s at (body-of a) allows (omega arith) h)
-      ∙ rw (class-said-field a k) (due-none _ _ ok)
+      ∙ rw (class-said-field a k) (checked-none _ _ ok)

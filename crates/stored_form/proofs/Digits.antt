@@ -91,6 +91,13 @@ number-fits s h at k le =
     lt-of-lt-of-le (number-lt (part s at k) (part-bytes s h at k))
     (pow-le-pow-right {n = 256} (lit< tt) {j = 8} (rw length-take (omega arith)))
 
+-- and one byte fits 8
+pub byte-fits : (s : List ℕ) → Bytes s → (at : ℕ) {n x : ℕ} → n ≡ 1 → x ≡ number-of (part s at n) → x < 2 ^ 8
+byte-fits s h at {n} e f =
+    let low : length (part s at n) ≤ 1 = rw length-take (omega arith) in
+    let most : 256 ^ length (part s at n) ≤ 256 ^ 1 = pow-le-pow-right {n = 256} (lit< tt) {j = 1} low in
+    rw f (lt-of-lt-of-le (number-lt (part s at n) (part-bytes s h at n)) most)
+
 -- a turn of the loop that reads k bytes: the next number fits, and is the number of one more byte
 pub turn-fits : (s : List ℕ) → Bytes s → (at k i n : ℕ) → k ≤ 8 → at + k ≤ length s → i < k → n ≡ number-of (part s at i) →
     n * 256 + getD s (at + i) 0 < 2 ^ 64
@@ -101,14 +108,11 @@ pub turn : (s : List ℕ) (at k i n b : ℕ) → at + k ≤ length s → i < k �
     n * 256 + b ≡ number-of (part s at (i + 1))
 turn s at k i n b fits lt e f = rw (e, f) (sym (number-more s at i (omega arith)))
 
--- ---- one byte and two bytes, as the code writes them
+-- ---- two bytes, as the code writes them
 
-pub one-byte : (n : ℕ) → n < 256 → n ≡ n / 256 ^ 0 % 256
-one-byte n h = omega arith
-
-pub two-bytes : (n : ℕ) → n < 256 ^ 2 → n / 256 ∷ n % 256 ∷ [] ≡ bytes-of 2 n
+pub two-bytes : (n : ℕ) → n / 256 % 256 ∷ n % 256 ∷ [] ≡ bytes-of 2 n
 unfolding bytes-of
-two-bytes n h = ap₂ (λ (x y : ℕ). x ∷ y ∷ []) (omega arith) (omega arith)
+two-bytes n = ap₂ (λ (x y : ℕ). x ∷ y ∷ []) (omega arith) (omega arith)
 
 pub two-bytes-small : (n : ℕ) → n < 256 → 0 ∷ n ∷ [] ≡ bytes-of 2 n
 unfolding bytes-of

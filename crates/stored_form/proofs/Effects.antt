@@ -1,16 +1,17 @@
 -- What a call on byte areas answers by its checks, and the copy of what it hands over.
 use Prim.Native.Nat.{ℕ, _+_, _≤_, _<_, min}
-use mathlib.Core.Path.{_≡_, refl, sym, ap, ap₂, _∙_}
-use mathlib.Core.List.{List, [], _∷_, _++_}
+use mathlib.Core.Path.{_≡_, sym, ap, _∙_}
+use mathlib.Core.List.{List, _++_}
 use native.Mathlib.Nat.{zero-add}
-use native.Mathlib.Numerals.{add-one}
 use native.Mathlib.Omega.{arith}
 use lib.ListN.{length, getD, take, drop, set, length-take}
-use lib.Seq.{sets, sets-eq, take-suc, take-all, length-take-le, getD-take}
+use lib.Seq.{sets, sets-eq, take-all, getD-take}
 use borrow.Author.Tests.{lt-ltb, le-ltb}
 use Rattle.stored_form.specs.Reading.{Reading, found, refused}
 use Rattle.stored_form.specs.Effect.{Effect, Handed, effect, refuse, write, lent, hand, refusal, written, for, put, byte-call, room}
-use Rattle.stored_form.proofs.Stores.{sets-append}
+use Rattle.stored_form.specs.Held.{read-record}
+use Rattle.stored_form.specs.declared.Held.{Held}
+use Rattle.stored_form.proofs.Stores.{store-more}
 
 -- ---- the output's length
 
@@ -30,17 +31,6 @@ put-written bytes out h = lent-long _ out _ h
 
 -- ---- the copy
 
--- one byte more
-pub copy-more : (d : List ℕ) (at : ℕ) (xs : List ℕ) (i : ℕ) {r : List ℕ} {y : ℕ} → i < length xs → y ≡ getD xs i 0 → r ≡ sets d at (take i xs) →
-    set r (at + i) y ≡ sets d at (take (i + 1) xs)
-copy-more d at xs i h f e =
-    let len : length (take i xs) ≡ i = length-take-le i xs (omega arith) in
-    let more : take (i + 1) xs ≡ take i xs ++ getD xs i 0 ∷ [] = ap (λ (k : ℕ). take k xs) (add-one i) ∙ take-suc xs i 0 h in
-    ap₂ (λ (l : List ℕ) (x : ℕ). set l (at + i) x) e f
-    ∙ ap (λ (k : ℕ). sets (sets d at (take i xs)) (at + k) (getD xs i 0 ∷ [])) (sym len)
-    ∙ sets-append d at (take i xs) (getD xs i 0 ∷ [])
-    ∙ ap (sets d at) (sym more)
-
 -- the first bytes of a row, by the number of them that it has
 module _ (answer len : ℕ) (row out : List ℕ) (long : length row ≡ room) {n : ℕ} (e : n ≡ min len room) where
   pub first-length : length (take len row) ≡ n
@@ -54,7 +44,7 @@ module _ (answer len : ℕ) (row out : List ℕ) (long : length row ≡ room) {n
   put-more {i} {after} h f =
       let l : length (take len row) ≡ n = first-length in
       ap (λ (k : ℕ). set after k (getD row i 0)) (sym (zero-add i))
-      ∙ copy-more out 0 (take len row) i (omega arith) (sym (getD-take len row i 0 (omega arith))) f
+      ∙ store-more out 0 (take len row) i (omega arith) (sym (getD-take len row i 0 (omega arith))) f
 
   pub put-all : n ≤ length out → {i : ℕ} {after : List ℕ} → n ≤ i → after ≡ sets out 0 (take i (take len row)) → effect answer after ≡ put (hand answer (take len row)) out
   unfolding put
@@ -70,20 +60,20 @@ module _ (answer len : ℕ) (row out : List ℕ) (long : length row ≡ room) {n
 
 -- ---- a call
 
-module _ {A : Type 0} (least : ℕ) (reading : Reading A) (answer : A → Handed) (out : List ℕ) where
-  pub call-short : length out < least → effect 101 out ≡ byte-call least reading answer out
+module _ (least : ℕ) (tags : List ℕ) (answer : Held → Handed) (s out : List ℕ) where
+  pub call-short : length out < least → effect 101 out ≡ byte-call least tags answer s out
   unfolding byte-call
   call-short h = lent-short _ out _ h
 
   module _ (fits : least ≤ length out) where
-    pub call-puts : {x : Handed} {e : Effect} → x ≡ for reading answer → e ≡ put x out → e ≡ byte-call least reading answer out
+    answered-for : {x : Reading Held} → read-record tags s ≡ x → byte-call least tags answer s out ≡ put (for x answer) out
     unfolding byte-call
-    call-puts f g = g ∙ ap (λ (y : Handed). put y out) f ∙ sym (lent-long _ out _ fits)
+    answered-for e = lent-long _ out _ fits ∙ ap (λ (r : Reading Held). put (for r answer) out) e
 
-    pub call-found : {a : A} {end : ℕ} → reading ≡ found a end → byte-call least reading answer out ≡ put (answer a) out
-    unfolding for
-    call-found e = sym (call-puts (sym (ap (λ (r : Reading A). for r answer) e)) refl)
-
-    pub call-refused : {n : ℕ} → reading ≡ refused n → byte-call least reading answer out ≡ refuse n out
+    pub call-refused : {n : ℕ} → read-record tags s ≡ refused n → byte-call least tags answer s out ≡ refuse n out
     unfolding for refuse put
-    call-refused {n} e = sym (call-puts (sym (ap (λ (r : Reading A). for r answer) e)) (sym (lent-long 0 out _ (omega arith))))
+    call-refused e = answered-for e ∙ lent-long 0 out _ (omega arith)
+
+    pub call-found : {h : Held} {end : ℕ} → read-record tags s ≡ found h end → byte-call least tags answer s out ≡ put (answer h) out
+    unfolding for
+    call-found e = answered-for e

@@ -1,17 +1,17 @@
 -- Elements as bytes: those of a part, of two parts, and the rows of coefficients that the code reads.
 use Prim.Native.Nat.{ℕ, zero, suc, _+_, _*_, _-_, _/_, _≤_}
 use mathlib.Core.Path.{_≡_, refl, sym, ap, ap₂, _∙_}
-use mathlib.Core.List.{List, [], _∷_, _++_}
+use mathlib.Core.List.{List, [], _∷_, _++_, append-nil}
 use native.Mathlib.Nat.{suc-add}
 use native.Mathlib.Omega.{arith}
 use mathlib.Core.Bool.{true}
 use lib.Dec.{lit≤}
-use lib.ListN.{length, take, drop}
-use lib.Seq.{take-take, drop-drop, take-at, drop-at}
-use Rattle.stored_form.specs.{Number.number-of, Number.part, Elements.elements, Classes.curve-said, Classes.row-said, Classes.class-said}
-use Rattle.stored_form.specs.{Head.class-length}
-use Rattle.jacobian.specs.{declared.Class.Class, declared.Curve.Curve}
-use Rattle.stored_form.proofs.{Parts.drop-take, Parts.length-part, Lengths.class-length-le}
+use lib.ListN.{length, take, drop, set, replicate}
+use lib.Seq.{sets, take-take, drop-drop, take-at, drop-at}
+use Rattle.stored_form.specs.{Number.number-of, Number.part, Elements.element-length, Elements.elements, Classes.curve-said, Classes.row-said, Classes.class-said}
+use Rattle.stored_form.specs.{Head.class-length, Head.class-limit, Head.curve-length}
+use Rattle.jacobian.specs.{Curves.coefficient-count, Curves.curve-with, declared.Class.Class}
+use Rattle.stored_form.proofs.{Parts.drop-take, Parts.length-part, Lengths.class-length-le, Stores.store-next, Stores.filled}
 
 pub length-elements : (k : ℕ) (s : List ℕ) → length (elements k s) ≡ k
 unfolding elements
@@ -63,10 +63,30 @@ module _ (s : List ℕ) (at : ℕ) {a : ℕ} (e : a ≡ number-of (part s at 8))
           ∙ ap₂ (λ (x : ℕ) (xs : List ℕ). x ∷ xs) (sym e)
           (ap₂ (λ (x y : ℕ). x ∷ y ∷ []) (sym f) (sym (g ∙ ap (λ (j : ℕ). number-of (part s j 8)) i)))
 
-      -- three elements are a curve's
-      pub curve-is : (d : ℕ) → _≡_ {A = Curve} (record { degree = d; f3 = a; f1 = b; f0 = c }) (curve-said d (part s at 24))
-      unfolding curve-said
-      curve-is d = rw (elements-take 3 24 (drop at s) (lit≤ tt), three-elements)
+-- a turn of the loop that reads a curve's coefficients, and its end
+pub element-more : (s : List ℕ) (at i x : ℕ) (d : List ℕ) {r : List ℕ} → r ≡ sets d 0 (elements i (drop at s)) → x ≡ number-of (part s (at + element-length * i) element-length) →
+    set r i x ≡ sets d 0 (elements (i + 1) (drop at s))
+unfolding elements
+element-more s at i x d {r} e f =
+    store-next d (elements i (drop at s)) i x (length-elements i (drop at s)) e
+    ∙ ap (sets d 0)
+    (ap (λ (y : ℕ). elements i (drop at s) ++ y ∷ []) (f ∙ ap (λ (t : List ℕ). number-of (take element-length t)) (sym (drop-drop (element-length * i) at s)))
+    ∙ sym (elements-add i 1 (drop at s)))
+
+pub curve-is : (s : List ℕ) (at d i : ℕ) {r : List ℕ} → coefficient-count ≤ i → i ≤ coefficient-count → r ≡ sets (replicate coefficient-count 0) 0 (elements i (drop at s)) →
+    curve-with d r ≡ curve-said d (part s at curve-length)
+unfolding curve-said
+curve-is s at d i {r} h₁ h₂ e =
+    let z : i ≡ coefficient-count = omega arith in
+    let es = elements coefficient-count (drop at s) in
+    let long : length es ≡ coefficient-count = length-elements coefficient-count (drop at s) in
+    let none : coefficient-count - length es ≡ 0 = omega arith in
+    ap (curve-with d)
+    (e ∙ ap (λ (k : ℕ). sets (replicate coefficient-count 0) 0 (elements k (drop at s))) z
+    ∙ filled es coefficient-count (omega arith)
+    ∙ ap (λ (k : ℕ). es ++ replicate k 0) none
+    ∙ append-nil es
+    ∙ sym (elements-take coefficient-count curve-length (drop at s) (lit≤ tt)))
 
 -- the rows of up to three elements
 module _ (s : List ℕ) (at : ℕ) {n : ℕ} where
@@ -91,10 +111,10 @@ module _ (s : List ℕ) (at : ℕ) {n : ℕ} where
 -- two rows are a class's
 module _ (s : List ℕ) (at len : ℕ) (ok : class-length len ≡ true) (within : at + len ≤ length s) where
   pub row-asks : (len / 16 ≤ 3) × (at + 8 * (len / 16) ≤ length s)
-  row-asks = let h : len ≤ 48 = class-length-le len ok in omega arith
+  row-asks = let h : len ≤ class-limit = class-length-le len ok in omega arith
 
   pub row-asks-2 : (len / 16 ≤ 3) × (at + 8 * (len / 16) + 8 * (len / 16) ≤ length s)
-  row-asks-2 = let h : len ≤ 48 = class-length-le len ok in omega arith
+  row-asks-2 = let h : len ≤ class-limit = class-length-le len ok in omega arith
 
   -- the elements of the body
   body-elements : elements (len / 16 + len / 16) (part s at len) ≡ elements (len / 16) (drop at s) ++ elements (len / 16) (drop (at + 8 * (len / 16)) s)

@@ -1,11 +1,12 @@
 -- The lengths that a tag allows, where no test before the last one held.
-use Prim.Native.Nat.{ℕ, _*_, _/_, _≤_}
+use Prim.Native.Nat.{ℕ, _*_, _/_, _≤_, _^_, _<_}
 use mathlib.Core.Path.{_≡_, refl, sym, subst, _∙_}
 use native.Mathlib.Decide.{ℕ-discrete}
-use mathlib.Core.Bool.{true, false}
+use mathlib.Core.Bool.{Bool, true, false, cond, _||_, false≢true}
+use native.Mathlib.Omega.{arith}
 use lib.Dec.{eqb, lit≤}
 use borrow.Author.Tests.{ne-eqb, eqb-true, leb-true}
-use Rattle.stored_form.specs.Head.{allowed, class-length, drawing-limit}
+use Rattle.stored_form.specs.Head.{degree-length, curve-length, count-length, drawing-limit, class-length, class-limit, longest-body, allowed}
 
 pub class-length-last : (n : ℕ) → (n ≡ 0 → ⊥) → (n ≡ 16 → ⊥) → (n ≡ 32 → ⊥) → class-length n ≡ eqb n 48
 unfolding class-length
@@ -19,21 +20,21 @@ allowed-none t n h₀ h₁ h₆ h₂ h₃ h₄ =
 
 -- ---- what a length that is allowed is
 
-pub degree-length : {n : ℕ} → allowed 0x40 n ≡ true → n ≡ 1
+pub is-degree-length : {n : ℕ} → allowed 0x40 n ≡ true → n ≡ degree-length
 unfolding allowed
-degree-length h = eqb-true _ _ h
+is-degree-length h = eqb-true _ _ h
 
-pub count-length : {n : ℕ} → allowed 0x42 n ≡ true → n ≡ 2
+pub is-count-length : {n : ℕ} → allowed 0x42 n ≡ true → n ≡ count-length
 unfolding allowed
-count-length h = eqb-true _ _ h
+is-count-length h = eqb-true _ _ h
 
-pub drawing-length : {n : ℕ} → allowed 0x46 n ≡ true → n ≤ drawing-limit
+pub is-drawing-length : {n : ℕ} → allowed 0x46 n ≡ true → n ≤ drawing-limit
 unfolding allowed
-drawing-length h = leb-true _ _ h
+is-drawing-length h = leb-true _ _ h
 
-pub curve-length : {n : ℕ} → allowed 0x41 n ≡ true → n ≡ 24
+pub is-curve-length : {n : ℕ} → allowed 0x41 n ≡ true → n ≡ curve-length
 unfolding allowed
-curve-length h = eqb-true _ _ h
+is-curve-length h = eqb-true _ _ h
 
 pub class-lengths : (n : ℕ) → allowed 0x43 n ≡ class-length n
 unfolding allowed
@@ -57,8 +58,51 @@ by-class-length P p₀ p₁ p₂ p₃ n h =
       ]
     ]
 
-pub class-length-le : (n : ℕ) → class-length n ≡ true → n ≤ 48
-class-length-le = by-class-length (λ n. n ≤ 48) (lit≤ tt) (lit≤ tt) (lit≤ tt) (lit≤ tt)
+pub class-length-le : (n : ℕ) → class-length n ≡ true → n ≤ class-limit
+class-length-le = by-class-length (λ n. n ≤ class-limit) (lit≤ tt) (lit≤ tt) (lit≤ tt) (lit≤ tt)
 
 pub class-length-even : (n : ℕ) → class-length n ≡ true → 16 * (n / 16) ≡ n
 class-length-even = by-class-length (λ n. 16 * (n / 16) ≡ n) refl refl refl refl
+
+-- a length that is allowed where no tag but those of a class is left is a class's
+pub class-left : (t n : ℕ) → (t ≡ 0x40 → ⊥) → (t ≡ 0x41 → ⊥) → (t ≡ 0x46 → ⊥) → (t ≡ 0x42 → ⊥) → allowed t n ≡ true → class-length n ≡ true
+unfolding allowed
+class-left t n h₀ h₁ h₆ h₂ a = go (eqb t 0x43 || eqb t 0x44) (sym (rw (ne-eqb t 0x40 h₀, ne-eqb t 0x41 h₁, ne-eqb t 0x46 h₆, ne-eqb t 0x42 h₂)) ∙ a)
+  where
+    go : (b : Bool) → cond b (class-length n) false ≡ true → class-length n ≡ true
+    go true e = e
+    go false e = absurd (false≢true e)
+
+-- no body is longer than the longest
+pub by-tag : (P : ℕ → Type 0) → P 0x40 → P 0x41 → P 0x46 → P 0x42 → P 0x43 → P 0x44 → (t n : ℕ) → allowed t n ≡ true → P t
+by-tag P p₀ p₁ p₆ p₂ p₃ p₄ t n h =
+    elim (ℕ-discrete t 0x40) [
+      | yes e ↦ subst P (sym e) p₀
+      | no a₀ ↦ elim (ℕ-discrete t 0x41) [
+        | yes e ↦ subst P (sym e) p₁
+        | no a₁ ↦ elim (ℕ-discrete t 0x46) [
+          | yes e ↦ subst P (sym e) p₆
+          | no a₆ ↦ elim (ℕ-discrete t 0x42) [
+            | yes e ↦ subst P (sym e) p₂
+            | no a₂ ↦ elim (ℕ-discrete t 0x43) [
+              | yes e ↦ subst P (sym e) p₃
+              | no a₃ ↦ elim (ℕ-discrete t 0x44) [
+                | yes e ↦ subst P (sym e) p₄
+                | no a₄ ↦ absurd (false≢true (sym (allowed-none t n a₀ a₁ a₆ a₂ a₃ a₄) ∙ h))
+              ]
+            ]
+          ]
+        ]
+      ]
+    ]
+
+pub allowed-short : (t n : ℕ) → allowed t n ≡ true → n ≤ longest-body
+allowed-short t n h =
+    by-tag (λ t. allowed t n ≡ true → n ≤ longest-body)
+    (λ e. omega (arith, is-degree-length e))
+    (λ e. omega (arith, is-curve-length e))
+    (λ e. omega (arith, is-drawing-length e))
+    (λ e. omega (arith, is-count-length e))
+    (λ e. omega (arith, class-length-le n (sym (class-lengths n) ∙ e)))
+    (λ e. omega (arith, class-length-le n (sym (operation-lengths n) ∙ e)))
+    t n h h

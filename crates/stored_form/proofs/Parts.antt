@@ -2,9 +2,10 @@
 use Prim.Native.Nat.{ℕ, zero, suc, _+_, _-_, _≤_, _<_}
 use mathlib.Core.Path.{_≡_, sym, ap}
 use mathlib.Core.List.{List, [], _∷_, _++_}
+use native.Mathlib.Numerals.{add-one}
 use native.Mathlib.Omega.{arith}
 use lib.ListN.{length, getD, take, drop, length-take, length-drop}
-use lib.Seq.{take-nil, take-take, drop-drop, take-add, drop-cons, getD-take, getD-drop}
+use lib.Seq.{take-nil, take-take, drop-drop, take-add, take-suc, drop-cons, getD-take, getD-drop}
 use Rattle.stored_form.specs.Number.{part}
 use Rattle.stored_form.specs.Head.{Stands}
 
@@ -27,6 +28,10 @@ part-cons s at k h = let e : suc at ≡ at + 1 = omega arith in rw (drop-cons s 
 
 pub length-part : (s : List ℕ) (at k : ℕ) → at + k ≤ length s → length (part s at k) ≡ k
 length-part s at k h = rw (length-take, length-drop) (omega arith)
+
+-- one more
+pub part-more : (s : List ℕ) (at i : ℕ) → at + i < length s → part s at (i + 1) ≡ part s at i ++ getD s (at + i) 0 ∷ []
+part-more s at i h = rw (add-one, take-suc (drop at s) i 0 (rw length-drop (omega arith)), getD-drop)
 
 pub getD-part : (s : List ℕ) (at k i : ℕ) → i < k → getD (part s at k) i 0 ≡ getD s (at + i) 0
 getD-part s at k i h = rw (getD-take, getD-drop)

@@ -1,107 +1,113 @@
--- The readers of degree, count and drawing number: what each answers where its head was refused, and after a head that was found.
-use Prim.Native.Nat.{ℕ, suc, _+_, _-_, _≤_, _<_}
-use mathlib.Core.Path.{_≡_, ap, _∙_}
-use mathlib.Core.Bool.{true, false}
-use mathlib.Core.List.{List, _∷_}
+-- What is held: as the code makes it by tags, as a reader answers it, and as a record's fields give it one after the other.
+use Prim.Native.Nat.{ℕ, zero, suc, _+_, _≤_, _<_}
+use mathlib.Core.Path.{_≡_, refl, sym, ap, _∙_}
+use mathlib.Core.Bool.{true}
+use mathlib.Core.List.{List, [], _∷_}
 use native.Mathlib.Omega.{arith}
-use lib.ListN.{length, getD}
+use lib.ListN.{length, getD, drop}
 use lib.Seq.{drop-cons}
-use borrow.Author.Tests.{lt-ltb, le-ltb, lt-leb, le-leb, ne-eqb}
-use Rattle.stored_form.specs.{Number.number-of, Number.part, Reading.found, Reading.refused, Head.head-at, Head.body-at, Fields.degree-at}
-use Rattle.stored_form.specs.{Fields.count-at, Fields.count-limit, Fields.printable, Fields.drawing-place}
-use Rattle.stored_form.proofs.{Readings.then-found, Readings.then-refused, Lengths.degree-length, Lengths.count-length, Heads.head-found}
+use borrow.Author.Tests.{ne-eqb}
+use Rattle.jacobian.specs.Answer.{refusal}
+use Rattle.stored_form.specs.{Number.part, Reading.Reading, Reading.found, Reading.refused, Reading.checked, Reading._then_, Classes.class-said}
+use Rattle.stored_form.specs.Head.{drawing-limit, allowed, head-at, body-at}
+use Rattle.stored_form.specs.Held.{drawing-said, with-operation, hold, field-refusal, read-field, read-fields, ended, read-record, read-of, nothing-held}
+use Rattle.stored_form.specs.declared.{Held.Held, Read.Read, Place.Place, Cursor.Cursor}
+use Rattle.stored_form.specs.declared.Place.the-variants.{Next, Refused}
+use Rattle.stored_form.proofs.Readings.{then-found, then-refused, then-assoc}
+use Rattle.stored_form.proofs.{Heads.head-found, Lengths.is-drawing-length, Parts.length-part}
 
--- the bytes of a part that are left decide whether all are printable
-module _ (s : List ℕ) (at k i : ℕ) (within : at + k ≤ length s) (lt : i < k) where
-  part-cons : part s (at + i) (k - i) ≡ getD s (at + i) 0 ∷ part s (at + (i + 1)) (k - (i + 1))
-  part-cons =
-      let e : k - i ≡ suc (k - (i + 1)) = omega arith in
-      let f : suc (at + i) ≡ at + (i + 1) = omega arith in
-      rw (e, drop-cons s (at + i) 0 (omega arith), f)
+-- where no tag but the operation's is left
+module _ (t : ℕ) (h₀ : t ≡ 0x40 → ⊥) (h₁ : t ≡ 0x41 → ⊥) (h₆ : t ≡ 0x46 → ⊥) (h₂ : t ≡ 0x42 → ⊥) (h₃ : t ≡ 0x43 → ⊥) where
+  pub operation-held : (body : List ℕ) (h : Held) → hold t body h ≡ with-operation (class-said body) h
+  unfolding hold
+  operation-held body h = rw (ne-eqb t 0x40 h₀, ne-eqb t 0x41 h₁, ne-eqb t 0x46 h₆, ne-eqb t 0x42 h₂, ne-eqb t 0x43 h₃)
 
-  pub too-low : getD s (at + i) 0 < 0x20 → printable (part s (at + i) (k - i)) ≡ false
-  unfolding printable
-  too-low h = ap printable part-cons ∙ rw (lt-leb 0x20 (getD s (at + i) 0) h)
+  pub operation-refusal : (h : Held) → field-refusal t h ≡ refusal (h .curve) (h .operation)
+  unfolding field-refusal
+  operation-refusal h = rw (ne-eqb t 0x40 h₀, ne-eqb t 0x41 h₁, ne-eqb t 0x46 h₆, ne-eqb t 0x42 h₂, ne-eqb t 0x43 h₃)
 
-  pub too-high : 0x20 ≤ getD s (at + i) 0 → 0x7E < getD s (at + i) 0 → printable (part s (at + i) (k - i)) ≡ false
-  unfolding printable
-  too-high g h = ap printable part-cons ∙ rw (le-leb 0x20 (getD s (at + i) 0) g, lt-leb (getD s (at + i) 0) 0x7E h)
+-- ---- one field
 
-  pub one-more : 0x20 ≤ getD s (at + i) 0 → getD s (at + i) 0 ≤ 0x7E →
-      printable (part s (at + i) (k - i)) ≡ printable (part s (at + (i + 1)) (k - (i + 1)))
-  unfolding printable
-  one-more g h = ap printable part-cons ∙ rw (le-leb 0x20 (getD s (at + i) 0) g, le-leb (getD s (at + i) 0) 0x7E h)
+module _ (tag : ℕ) (h : Held) (s : List ℕ) (at : ℕ) where
+  pub field-refused : {k : ℕ} → head-at tag s at ≡ refused k → read-field tag h s at ≡ refused k
+  unfolding read-field body-at
+  field-refused e = then-refused _ (then-refused _ e)
 
-pub none-left : (s : List ℕ) (at k i : ℕ) → k ≤ i → printable (part s (at + i) (k - i)) ≡ true
-unfolding printable
-none-left s at k i h = let e : k - i ≡ 0 = omega arith in rw e
+  module _ {n next : ℕ} (e : head-at tag s at ≡ found n next) where
+    pub field-asks : (allowed tag n ≡ true) × (at + 3 + n ≤ length s)
+    field-asks = let w = head-found tag s at e in (w .allows, omega arith)
 
--- a body of at most eight bytes can be read as a number
-pub record Readable (s : List ℕ) (at n : ℕ) : Type 0 where
-  pub short : n ≤ 8
-  pub within : at + 3 + n ≤ length s
+    module _ {more : Held} (f : more ≡ hold tag (part s (at + 3) n) h) where
+      pub field-read : {k : ℕ} → k ≡ field-refusal tag more → checked k (found more next) ≡ read-field tag h s at
+      unfolding read-field body-at
+      field-read g =
+          ap (λ (j : ℕ). checked j (found more next)) g
+          ∙ ap (λ (m : Held). checked (field-refusal tag m) (found m next)) f
+          ∙ sym (then-found _ (then-found _ e))
 
-module _ (s : List ℕ) (at : ℕ) where
-  -- ---- the degree
+      -- a drawing number that was read has room
+      pub drawing-held : tag ≡ 0x46 → more .drawing .len ≤ drawing-limit
+      unfolding hold drawing-said
+      drawing-held q =
+          let w = head-found tag s at e in
+          let len : length (part s (at + 3) n) ≡ n = length-part s (at + 3) n (omega arith) in
+          let said : more .drawing .len ≡ length (part s (at + 3) n) =
+          ap (λ (m : Held). m .drawing .len) (f ∙ ap (λ (t : ℕ). hold t (part s (at + 3) n) h) q) in
+          omega (arith, is-drawing-length (ap (λ (t : ℕ). allowed t n) (sym q) ∙ w .allows))
 
-  pub degree-refused : {k : ℕ} → head-at 0x40 s at ≡ refused k → degree-at s at ≡ refused k
-  unfolding degree-at body-at
-  degree-refused e = then-refused _ (then-refused _ e)
+-- ---- what a reader's answer says of the reading
 
-  module _ {n next : ℕ} (h : head-at 0x40 s at ≡ found n next) where
-    pub degree-readable : Readable s at n
-    degree-readable =
-        let w = head-found 0x40 s at h in
-        record { short = omega (arith, degree-length (w .allows)); within = omega arith }
+-- what stands beside a place was found there
+pub placed : {A : Type 0} → Place → A → Reading A
+placed (Next next) a = found a (next .at)
+placed (Refused n) a = refused n
 
-    module _ {d : ℕ} (e : d ≡ number-of (part s (at + 3) n)) where
-      pub degree-5 : d ≡ 5 → degree-at s at ≡ found 5 next
-      unfolding degree-at body-at
-      degree-5 f = then-found _ (then-found _ h) ∙ rw (← e, f)
+said-back : (x : Reading Held) → placed (read-of x .place) (read-of x .held) ≡ x
+unfolding read-of placed
+said-back (found h n) = refl
+said-back (refused n) = refl
 
-      pub degree-61 : d ≡ 61 → degree-at s at ≡ found 61 next
-      unfolding degree-at body-at
-      degree-61 f = then-found _ (then-found _ h) ∙ rw (← e, f)
+module _ (r : Read) {x : Reading Held} (e : r ≡ read-of x) where
+  said : x ≡ placed (r .place) (r .held)
+  said = sym (ap (λ (q : Read). placed (q .place) (q .held)) e ∙ said-back x)
 
-      pub degree-106 : (d ≡ 5 → ⊥) → (d ≡ 61 → ⊥) → degree-at s at ≡ refused 106
-      unfolding degree-at body-at
-      degree-106 f g = then-found _ (then-found _ h) ∙ rw (← e, ne-eqb d 5 f, ne-eqb d 61 g)
+  pub place-found : {next : Cursor} → r .place ≡ Next next → x ≡ found (r .held) (next .at)
+  unfolding placed
+  place-found f = said ∙ ap (λ (p : Place). placed p (r .held)) f
 
-  -- ---- the count
+  pub place-refused : {n : ℕ} → r .place ≡ Refused n → x ≡ refused n
+  unfolding placed
+  place-refused f = said ∙ ap (λ (p : Place). placed p (r .held)) f
 
-  pub count-refused : {k : ℕ} → head-at 0x42 s at ≡ refused k → count-at s at ≡ refused k
-  unfolding count-at body-at
-  count-refused e = then-refused _ (then-refused _ e)
+drop-all : (i : ℕ) (l : List ℕ) → length l ≤ i → drop i l ≡ []
+drop-all zero [] h = refl
+drop-all zero (x ∷ l) h = absurd (omega arith)
+drop-all (suc i) [] h = refl
+drop-all (suc i) (x ∷ l) h = drop-all i l (omega arith)
 
-  module _ {n next : ℕ} (h : head-at 0x42 s at ≡ found n next) where
-    pub count-readable : Readable s at n
-    count-readable =
-        let w = head-found 0x42 s at h in
-        record { short = omega (arith, count-length (w .allows)); within = omega arith }
+-- ---- a record: its fields from the i-th on, and the end
 
-    module _ {k : ℕ} (e : k ≡ number-of (part s (at + 3) n)) where
-      pub count-109 : 1024 < k → count-at s at ≡ refused 109
-      unfolding count-at body-at count-limit
-      count-109 f = then-found _ (then-found _ h) ∙ rw (← e, lt-ltb 1024 k f)
+pub rest : List ℕ → List ℕ → Held → ℕ → ℕ → Reading Held
+rest tags s h at i = read-fields (drop i tags) h s at then ended s
 
-      pub count-within : k ≤ 1024 → count-at s at ≡ found k next
-      unfolding count-at body-at count-limit
-      count-within f = then-found _ (then-found _ h) ∙ rw (← e, le-ltb 1024 k f)
+pub record-begun : (tags s : List ℕ) {h : Held} → h ≡ nothing-held → read-record tags s ≡ rest tags s h 0 0
+unfolding read-record rest
+record-begun tags s e = sym (ap (λ (h : Held). read-fields tags h s 0 then ended s) e)
 
-  -- ---- the drawing number
+module _ (tags s : List ℕ) (h : Held) (at i : ℕ) where
+  next-field : i < length tags → rest tags s h at i ≡ (read-field (getD tags i 0) h s at then λ more next. rest tags s more next (i + 1))
+  unfolding rest read-fields
+  next-field lt =
+      let e : suc i ≡ i + 1 = omega arith in
+      ap (λ (l : List ℕ). read-fields l h s at then ended s) (drop-cons tags i 0 lt ∙ ap (λ (j : ℕ). getD tags i 0 ∷ drop j tags) e)
+      ∙ then-assoc (read-field (getD tags i 0) h s at) _ _
 
-  pub drawing-refused : {k : ℕ} → head-at 0x46 s at ≡ refused k → drawing-place s at ≡ refused k
-  unfolding drawing-place
-  drawing-refused e = then-refused _ e
+  pub record-more : {more : Held} {next : ℕ} → i < length tags → read-field (getD tags i 0) h s at ≡ found more next → rest tags s h at i ≡ rest tags s more next (i + 1)
+  record-more lt e = next-field lt ∙ then-found _ e
 
-  module _ {n next : ℕ} (h : head-at 0x46 s at ≡ found n next) where
-    pub drawing-within : at + 3 + n ≤ length s
-    drawing-within = let w = head-found 0x46 s at h in omega arith
+  pub record-refused : {k : ℕ} → i < length tags → read-field (getD tags i 0) h s at ≡ refused k → rest tags s h at i ≡ refused k
+  record-refused lt e = next-field lt ∙ then-refused _ e
 
-    pub drawing-108 : printable (part s (at + 3) n) ≡ false → drawing-place s at ≡ refused 108
-    unfolding drawing-place
-    drawing-108 e = then-found _ h ∙ rw e
-
-    pub drawing-whole : printable (part s (at + 3) n) ≡ true → drawing-place s at ≡ found (record { start = at + 3; len = n }) next
-    unfolding drawing-place
-    drawing-whole e = then-found _ h ∙ rw e
+  pub record-ended : length tags ≤ i → rest tags s h at i ≡ ended s h at
+  unfolding rest read-fields _then_
+  record-ended le = rw (drop-all i tags le)

@@ -1,28 +1,35 @@
 -- Readings one after the other: what a check or a field that was passed says.
-use Prim.Native.Nat.{ℕ, zero, suc}
+use Prim.Native.Nat.{ℕ, zero, suc, _<_}
 use mathlib.Core.Path.{_≡_, refl, sym, ap, _∙_}
 use mathlib.Core.Bool.{Bool, true, false}
 use native.Mathlib.Omega.{arith}
-use Rattle.stored_form.specs.Reading.{Reading, found, refused, refuse, due, _then_, number}
+use Rattle.jacobian.specs.Checks.{unless}
+use Rattle.stored_form.specs.Reading.{Reading, found, refused, refuse, checked, _then_, reading-refusal}
+
+-- a test that was passed
+pub test-passed : (b : Bool) {n : ℕ} → 0 < n → unless b n ≡ 0 → b ≡ true
+unfolding unless
+test-passed true some e = refl
+test-passed false some e = absurd (omega arith)
 
 module _ {A : Type 0} where
   pub found-not-refused : {k next : ℕ} {a : A} → _≡_ {A = Reading A} (refused k) (found a next) → ⊥
   found-not-refused h = let z : _≡_ {A = ℕ} 0 1 = cc in omega arith
 
   -- checks made elsewhere
-  pub due-some : (n : ℕ) (r : Reading A) → (n ≡ 0 → ⊥) → due n r ≡ refused n
-  unfolding due
-  due-some zero r h = absurd (h refl)
-  due-some (suc n) r h = refl
+  pub checked-some : (n : ℕ) (r : Reading A) → (n ≡ 0 → ⊥) → checked n r ≡ refused n
+  unfolding checked
+  checked-some zero r h = absurd (h refl)
+  checked-some (suc n) r h = refl
 
-  pub due-none : (n : ℕ) (r : Reading A) → n ≡ 0 → due n r ≡ r
-  unfolding due
-  due-none n r e = rw e
+  pub checked-none : (n : ℕ) (r : Reading A) → n ≡ 0 → checked n r ≡ r
+  unfolding checked
+  checked-none n r e = rw e
 
-  pub due-found : (n : ℕ) (r : Reading A) {a : A} {next : ℕ} → due n r ≡ found a next → (n ≡ 0) × (r ≡ found a next)
-  unfolding due
-  due-found zero r h = (refl, h)
-  due-found (suc n) r h = absurd (found-not-refused h)
+  pub checked-found : (n : ℕ) (r : Reading A) {a : A} {next : ℕ} → checked n r ≡ found a next → (n ≡ 0) × (r ≡ found a next)
+  unfolding checked
+  checked-found zero r h = (refl, h)
+  checked-found (suc n) r h = absurd (found-not-refused h)
 
   pub same-found : {a b : A} {m n : ℕ} → found a m ≡ found b n → (a ≡ b) × (m ≡ n)
   same-found h = (cc, cc)
@@ -47,16 +54,16 @@ module _ {A B : Type 0} (f : A → ℕ → Reading B) where
   both-found (found a n) h = (a, n, refl, h)
   both-found (refused k) h = absurd (found-not-refused h)
 
-  -- a check goes before what follows it
-  pub then-refuse : (k : ℕ) (b : Bool) (a : A) (next : ℕ) → (refuse k b (found a next) then f) ≡ refuse k b (f a next)
-  unfolding _then_
-  then-refuse k true a next = refl
-  then-refuse k false a next = refl
-
   pub then-same : (x : Reading A) {g : A → ℕ → Reading B} → ((a : A) (n : ℕ) → f a n ≡ g a n) → (x then f) ≡ (x then g)
   unfolding _then_
   then-same (found a n) e = e a n
   then-same (refused k) e = refl
+
+-- a check goes before what follows it
+pub checked-then : {A B : Type 0} (n : ℕ) (a : A) (next : ℕ) (f : A → ℕ → Reading B) → (checked n (found a next) then f) ≡ checked n (f a next)
+unfolding checked _then_
+checked-then zero a next f = refl
+checked-then (suc n) a next f = refl
 
 pub then-assoc : {A B C : Type 0} (x : Reading A) (f : A → ℕ → Reading B) (g : B → ℕ → Reading C) →
     (x then f then g) ≡ (x then λ a n. f a n then g)
@@ -65,5 +72,5 @@ then-assoc (found a n) f g = refl
 then-assoc (refused k) f g = refl
 
 -- a refusal and its number
-pub refused-number : {A : Type 0} {x : Reading A} {n k : ℕ} → x ≡ refused n → k ≡ number x → x ≡ refused k
-refused-number e q = e ∙ sym (ap refused (q ∙ ap number e))
+pub refused-number : {A : Type 0} {x : Reading A} {n k : ℕ} → x ≡ refused n → k ≡ reading-refusal x → x ≡ refused k
+refused-number e q = e ∙ sym (ap refused (q ∙ ap reading-refusal e))

@@ -1,22 +1,22 @@
 -- A field's stored form and its value determine each other: what is read was written so, and what is written is read so.
 -- For degree, count and drawing number, each way; for fields one behind the other, and for the end.
-use Prim.Native.Nat.{ℕ, _+_, _≤_, _<_}
+use Prim.Native.Nat.{ℕ, _+_, _^_, _≤_, _<_}
 use mathlib.Core.Path.{_≡_, refl, sym, ap, ap₂, _∙_, subst, subst₂}
-use mathlib.Core.Bool.{Bool, true, false, not, cond, _||_}
+use mathlib.Core.Bool.{Bool, true, false, cond, _||_}
 use mathlib.Core.List.{List, _++_}
 use native.Mathlib.Nat.{zero-add}
 use native.Mathlib.Omega.{arith}
 use lib.Dec.{eqb, ltb, lit<}
 use lib.ListN.{length, take, drop, length-append}
 use lib.Seq.{take-take, take-length, take-all, take-append-seam, drop-append-seam}
-use borrow.Author.Tests.{eqb-true, ltb-false, le-ltb, le-leb, not-false}
-use Rattle.stored_form.specs.{Number.number-of, Number.bytes-of, Number.Bytes, Number.part, Reading.Reading, Reading.found, Reading.refuse, Reading._then_}
-use Rattle.stored_form.specs.{Head.allowed, Head.drawing-limit, Head.head-at, Head.body-at, Head.stored, Head.Stands, Fields.degree-at, Fields.degree-field}
-use Rattle.stored_form.specs.{Fields.count-limit, Fields.count-at, Fields.count-field, Fields.printable, Fields.drawing-place, Fields.drawing-at}
-use Rattle.stored_form.specs.{Fields.drawing-field, Fields.end-due}
-use Rattle.stored_form.proofs.{Digits.bytes-number, Digits.number-bytes-small, Digits.length-bytes, Readings.then-found, Readings.both-found}
-use Rattle.stored_form.proofs.{Readings.then-refuse, Readings.then-same, Readings.then-assoc, Readings.same-found, Readings.refuse-found}
-use Rattle.stored_form.proofs.{Parts.part-part, Parts.part-add, Lengths.degree-length, Lengths.count-length, Bodies.Written, Bodies.body-written, Bodies.body-read}
+use borrow.Author.Tests.{eqb-true, ltb-false, le-ltb, leb-true, le-leb}
+use Rattle.jacobian.specs.Checks.{unless}
+use Rattle.stored_form.specs.{Number.number-of, Number.bytes-of, Number.Bytes, Number.part, Reading.Reading, Reading.found, Reading.checked}
+use Rattle.stored_form.specs.Head.{degree-length, count-length, drawing-limit, allowed, body-at, stored, Stands}
+use Rattle.stored_form.specs.Fields.{degree-at, degree-field, count-limit, count-refusal, count-at, count-field, printable, drawing-refusal, drawing-at, drawing-field, end-refusal}
+use Rattle.stored_form.proofs.{Digits.bytes-number, Digits.number-bytes-small, Digits.length-bytes, Parts.part-part, Parts.part-add}
+use Rattle.stored_form.proofs.Readings.{test-passed, then-found, both-found, checked-found, same-found}
+use Rattle.stored_form.proofs.{Lengths.is-degree-length, Lengths.is-count-length, Lengths.is-drawing-length, Bodies.Written, Bodies.body-written, Bodies.body-read}
 
 -- a field that stands at a place, and ends at the next
 pub record Field (s : List ℕ) (at : ℕ) (bytes : List ℕ) (next : ℕ) : Type 0 where
@@ -72,16 +72,16 @@ module _ (s : List ℕ) where
       (e, h .ends ∙ zero-add (length bytes) ∙ ap length (sym e))
 
   module _ (at : ℕ) where
-    pub end-written : end-due s at ≡ 0 → length s ≤ at
-    unfolding end-due
+    pub end-written : end-refusal s at ≡ 0 → length s ≤ at
+    unfolding end-refusal
     end-written h = go (ltb at (length s)) refl h
       where
         go : (b : Bool) → ltb at (length s) ≡ b → _≡_ {A = ℕ} (cond b 112 0) 0 → length s ≤ at
         go true e f = absurd (omega arith)
         go false e f = ltb-false _ _ e
 
-    pub end-read-back : length s ≤ at → end-due s at ≡ 0
-    unfolding end-due
+    pub end-read-back : length s ≤ at → end-refusal s at ≡ 0
+    unfolding end-refusal
     end-read-back h = simp (le-ltb at (length s) h)
 
 -- ---- the fields
@@ -92,6 +92,10 @@ degree-small d h = go (eqb d 5) refl h
     go : (b : Bool) → eqb d 5 ≡ b → (b || eqb d 61) ≡ true → d < 256
     go true e f = omega (arith, eqb-true d 5 e)
     go false e f = omega (arith, eqb-true d 61 f)
+
+count-small : (n : ℕ) → n ≤ count-limit → n < 256 ^ count-length
+unfolding count-limit
+count-small n h = omega arith
 
 -- the field of a number of k bytes
 number-field : (tag : ℕ) (s : List ℕ) (at k n next : ℕ) {body : List ℕ} → Written tag s at body next → length body ≡ k → number-of body ≡ n →
@@ -108,57 +112,52 @@ module _ (s : List ℕ) (at : ℕ) where
   unfolding degree-at degree-field
   degree-written {d} {next} b h =
       let p = both-found _ (body-at 0x40 s at) h in
-      let q = refuse-found 106 (not (eqb (number-of (p .0)) 5 || eqb (number-of (p .0)) 61)) (found (number-of (p .0)) (p .1)) (p .3) in
+      let q = checked-found (unless (eqb (number-of (p .0)) 5 || eqb (number-of (p .0)) 61) 106) (found (number-of (p .0)) (p .1)) (p .3) in
       let e = same-found (q .1) in
       let w = body-written 0x40 s at b (p .2) in
-      (rw (← (e .0)) (not-false _ (q .0)), rw (← (e .1)) (number-field 0x40 s at 1 d (p .1) w (degree-length (w .allows)) (e .0)))
+      (rw (← (e .0)) (test-passed _ (lit< tt) (q .0)), rw (← (e .1)) (number-field 0x40 s at degree-length d (p .1) w (is-degree-length (w .allows)) (e .0)))
 
   pub degree-read-back : (d : ℕ) → (eqb d 5 || eqb d 61) ≡ true → Stands s at (degree-field d) → degree-at s at ≡ found d (at + length (degree-field d))
-  unfolding degree-at degree-field allowed
+  unfolding degree-at degree-field allowed unless checked
   degree-read-back d ok h =
-      then-found _ (body-read 0x40 s at (bytes-of 1 d) (rw (length-bytes 1 d) refl) (rw (length-bytes 1 d) (lit< tt)) h)
-      ∙ rw (number-bytes-small 1 d (degree-small d ok), ok)
+      then-found _ (body-read 0x40 s at (bytes-of degree-length d) (rw (length-bytes degree-length d) refl) (rw (length-bytes degree-length d) (lit< tt)) h)
+      ∙ rw (number-bytes-small degree-length d (degree-small d ok), ok)
 
   -- ---- the count
 
   pub count-written : {n next : ℕ} → Bytes s → count-at s at ≡ found n next → (n ≤ count-limit) × Field s at (count-field n) next
-  unfolding count-at count-field
+  unfolding count-at count-field count-refusal
   count-written {n} {next} b h =
       let p = both-found _ (body-at 0x42 s at) h in
-      let q = refuse-found 109 (ltb count-limit (number-of (p .0))) (found (number-of (p .0)) (p .1)) (p .3) in
+      let q = checked-found (count-refusal (number-of (p .0))) (found (number-of (p .0)) (p .1)) (p .3) in
       let e = same-found (q .1) in
       let w = body-written 0x42 s at b (p .2) in
-      (rw (← (e .0)) (ltb-false _ _ (q .0)), rw (← (e .1)) (number-field 0x42 s at 2 n (p .1) w (count-length (w .allows)) (e .0)))
+      (rw (← (e .0)) (leb-true _ _ (test-passed _ (lit< tt) (q .0))), rw (← (e .1)) (number-field 0x42 s at count-length n (p .1) w (is-count-length (w .allows)) (e .0)))
 
   pub count-read-back : (n : ℕ) → n ≤ count-limit → Stands s at (count-field n) → count-at s at ≡ found n (at + length (count-field n))
-  unfolding count-at count-field allowed count-limit
+  unfolding count-at count-field allowed count-refusal unless checked
   count-read-back n ok h =
-      then-found _ (body-read 0x42 s at (bytes-of 2 n) (rw (length-bytes 2 n) refl) (rw (length-bytes 2 n) (lit< tt)) h)
-      ∙ rw (number-bytes-small 2 n (omega arith), le-ltb 1024 n ok)
+      then-found _ (body-read 0x42 s at (bytes-of count-length n) (rw (length-bytes count-length n) refl) (rw (length-bytes count-length n) (lit< tt)) h)
+      ∙ rw (number-bytes-small count-length n (count-small n ok), le-leb n count-limit ok)
 
   -- ---- the drawing number
 
-  -- its bytes, checked, are what the place of the bytes says
-  drawing-body : drawing-at s at ≡ (body-at 0x46 s at then λ body next. refuse 108 (not (printable body)) (found body next))
-  unfolding drawing-at drawing-place body-at
-  drawing-body =
-      then-assoc (head-at 0x46 s at) _ _
-      ∙ then-same _ (head-at 0x46 s at) (λ n next. then-refuse _ 108 (not (printable (part s (at + 3) n))) _ next)
-      ∙ sym (then-assoc (head-at 0x46 s at) _ _ ∙ then-same _ (head-at 0x46 s at) (λ n next. then-found _ refl))
-
-  pub drawing-written : {xs : List ℕ} {next : ℕ} → Bytes s → drawing-at s at ≡ found xs next → (printable xs ≡ true) × Field s at (drawing-field xs) next
-  unfolding drawing-field
+  pub drawing-written : {xs : List ℕ} {next : ℕ} → Bytes s → drawing-at s at ≡ found xs next →
+      (printable xs ≡ true) × (length xs ≤ drawing-limit) × Field s at (drawing-field xs) next
+  unfolding drawing-at drawing-field drawing-refusal
   drawing-written {xs} {next} b h =
-      let p = both-found _ (body-at 0x46 s at) (sym drawing-body ∙ h) in
-      let q = refuse-found 108 (not (printable (p .0))) (found (p .0) (p .1)) (p .3) in
+      let p = both-found _ (body-at 0x46 s at) h in
+      let q = checked-found (drawing-refusal (p .0)) (found (p .0) (p .1)) (p .3) in
       let e = same-found (q .1) in
-      let w = body-written 0x46 s at b (p .2) in
-      (rw (← (e .0)) (not-false _ (q .0)), subst₂ (λ (x : List ℕ) (n : ℕ). Field s at (stored 0x46 x) n) (e .0) (e .1) (record { stands = w .stands; ends = w .ends }))
+      let w = body-written 0x46 s at b (p .2) in (
+        rw (← (e .0)) (test-passed _ (lit< tt) (q .0)),
+        rw (← (e .0)) (is-drawing-length (w .allows)),
+        subst₂ (λ (x : List ℕ) (n : ℕ). Field s at (stored 0x46 x) n) (e .0) (e .1) (record { stands = w .stands; ends = w .ends }),
+      )
 
   pub drawing-read-back : (xs : List ℕ) → printable xs ≡ true → length xs ≤ drawing-limit → Stands s at (drawing-field xs) →
       drawing-at s at ≡ found xs (at + length (drawing-field xs))
-  unfolding drawing-field allowed
+  unfolding drawing-at drawing-field drawing-refusal allowed unless checked
   drawing-read-back xs ok short h =
-      drawing-body
-      ∙ then-found _ (body-read 0x46 s at xs (le-leb (length xs) drawing-limit short) (omega arith) h)
+      then-found _ (body-read 0x46 s at xs (le-leb (length xs) drawing-limit short) (omega arith) h)
       ∙ rw ok

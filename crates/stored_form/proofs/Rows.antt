@@ -1,17 +1,17 @@
 -- Fields laid out in a row of bytes, as the code fills it, and what the row hands over.
-use Prim.Native.Nat.{ℕ, zero, suc, _+_, _*_, _/_, _%_, _≤_, min}
+use Prim.Native.Nat.{ℕ, suc, _+_, _*_, _/_, _%_, _≤_, min}
 use mathlib.Core.Path.{_≡_, refl, sym, ap, ap₂, _∙_}
 use mathlib.Core.List.{List, [], _∷_, _++_}
 use native.Mathlib.Nat.{zero-add}
 use native.Mathlib.Omega.{arith}
-use lib.ListN.{length, take, drop, set, replicate, length-append}
+use lib.ListN.{length, take, drop, set, replicate, length-append, length-replicate}
 use lib.Seq.{sets, sets-eq, take-append-seam, length-sets}
 use Rattle.jacobian.specs.Answer.{verdict}
 use Rattle.jacobian.specs.declared.Class.{Class}
 use Rattle.jacobian.specs.declared.Outcome.{Outcome}
 use Rattle.jacobian.specs.declared.Outcome.the-variants.{Accepted, Refused}
 use Rattle.stored_form.specs.{Number.bytes-of, Head.head-bytes, Head.stored, Elements.element-bytes, Fields.count-field, Classes.row-written, Classes.class-field}
-use Rattle.stored_form.specs.{Effect.Handed, Effect.hand, Effect.written, Effect.refusal, Effect.on, Effect.handed, Effect.room, Effect.count-room, Effect.class-room, internal.Rows.filled, declared.effect.Output.Output}
+use Rattle.stored_form.specs.{Effect.Handed, Effect.hand, Effect.written, Effect.refusal, Effect.on, Effect.handed, Effect.room, Effect.count-room, Head.class-room, Head.count-length, internal.Rows.filled, declared.effect.Output.Output}
 use Rattle.stored_form.proofs.{Digits.two-bytes-small, ElementBytes.length-element-bytes, Stores.sets-append, Bodies.length-stored, ClassBytes.length-row, ClassBytes.below-three}
 
 -- three bytes stored one after the other
@@ -24,7 +24,7 @@ three-set d at x y z =
 -- ---- the field of a count
 
 module _ (d : List ℕ) (at tag n : ℕ) where
-  pub count-filled : set (set (set (set (set d at tag) (at + 1) 0) (at + 2) 2) (at + 3) (n / 256 % 256)) (at + 4) (n % 256) ≡ sets d at (stored tag (bytes-of 2 n))
+  pub count-filled : set (set (set (set (set d at tag) (at + 1) 0) (at + 2) 2) (at + 3) (n / 256 % 256)) (at + 4) (n % 256) ≡ sets d at (stored tag (bytes-of count-length n))
   unfolding stored head-bytes bytes-of
   count-filled =
       let one : at + 1 ≡ suc at = omega arith in
@@ -89,10 +89,6 @@ module _ (row : List ℕ) (at : ℕ) (a : Class) (n : ℕ) (low : n ≡ min (a .
 
 -- ---- what a filled row hands over
 
-length-zeros : (n : ℕ) → length {A = ℕ} (replicate n 0) ≡ n
-length-zeros zero = refl
-length-zeros (suc n) = ap suc (length-zeros n)
-
 module _ (xs ys : List ℕ) (fits : length xs + length ys ≤ room) {k : ℕ} (e : k ≡ length xs) where
   pub filled-hands : {row : List ℕ} {o : Output} → row ≡ sets (replicate room 0) 0 xs → o ≡ filled row k ys → handed o ≡ written (xs ++ ys)
   filled-hands f g =
@@ -102,7 +98,7 @@ module _ (xs ys : List ℕ) (fits : length xs + length ys ≤ room) {k : ℕ} (e
       let front : sets (sets zeros 0 xs) k ys ≡ (xs ++ ys) ++ drop (length (xs ++ ys)) zeros =
       ap (λ (i : ℕ). sets (sets zeros 0 xs) i ys) (e ∙ sym (zero-add (length xs)))
       ∙ sets-append zeros 0 xs ys
-      ∙ sets-eq (xs ++ ys) zeros 0 (omega (arith, length-zeros room))
+      ∙ sets-eq (xs ++ ys) zeros 0 (omega (arith, length-replicate {A = ℕ} room 0))
       ∙ ap (λ (i : ℕ). (xs ++ ys) ++ drop i zeros) (zero-add (length (xs ++ ys))) in
       ap handed (g ∙ ap (λ (l : List ℕ). filled l k ys) f) ∙ ap₂ hand long (ap₂ take long front ∙ take-append-seam (xs ++ ys) _)
 

@@ -1,39 +1,29 @@
 -- The fields of a curve and of a class, as they are read and as they are written (document 01, 'Stored form' and
 -- 'In checking order').
-use Prim.Native.Nat.{ℕ, _+_, _-_, _/_}
+use Prim.Native.Nat.{ℕ, _+_, _/_}
 use mathlib.Core.List.{List, [], _∷_, _++_, reverse}
-use lib.ListN.{length, getD, take, drop, replicate}
-use Rattle.stored_form.specs.Reading.{Reading, found, refused, due, _then_}
+use lib.ListN.{length, take, drop}
+use Rattle.jacobian.specs.{Curves.coefficient-count, Curves.coefficients, Curves.curve-with, Curves.curve-refusal, Answer.refusal}
+use Rattle.jacobian.specs.declared.{Curve.Curve, Class.Class}
+use Rattle.stored_form.specs.Reading.{Reading, found, checked, _then_}
 use Rattle.stored_form.specs.Head.{body-at, stored}
 use Rattle.stored_form.specs.Fields.{degree-at, degree-field}
 use Rattle.stored_form.specs.Elements.{elements, element-bytes}
-use Rattle.jacobian.specs.Curves.{curve-refusal}
-use Rattle.jacobian.specs.Answer.{refusal, neutral-class}
-use Rattle.jacobian.specs.declared.Curve.{Curve}
-use Rattle.jacobian.specs.declared.Class.{Class}
-use Rattle.stored_form.specs.declared.classes.CurveRead.{CurveRead}
-use Rattle.stored_form.specs.declared.classes.CurveRead.the-variants as curve
-use Rattle.stored_form.specs.declared.classes.Place.{Place}
-use Rattle.stored_form.specs.declared.classes.Place.the-variants as place
-use Rattle.stored_form.specs.declared.classes.ClassRead.{ClassRead}
-use Rattle.stored_form.specs.declared.classes.ClassField.{ClassField}
 
 -- ---- the curve: f3, f1, f0
 
 unfoldable pub curve-said : ℕ → List ℕ → Curve
-curve-said d body =
-    let es = elements 3 body in
-    record { degree = d; f3 = getD es 0 0; f1 = getD es 1 0; f0 = getD es 2 0 }
+curve-said d body = curve-with d (elements coefficient-count body)
 
 -- the curve over the field of degree d that the field at a place says
 unfoldable pub curve-at : ℕ → List ℕ → ℕ → Reading Curve
 curve-at d s at =
     body-at 0x41 s at then λ body next.
     let c = curve-said d body in
-    due (curve-refusal c) (found c next)
+    checked (curve-refusal c) (found c next)
 
 unfoldable pub curve-field : Curve → List ℕ
-curve-field c = stored 0x41 (element-bytes (c .f3 ∷ c .f1 ∷ c .f0 ∷ []))
+curve-field c = stored 0x41 (element-bytes (coefficients c))
 
 -- the degree and the curve, with which every record begins
 unfoldable pub curve-first : List ℕ → ℕ → Reading Curve
@@ -59,7 +49,7 @@ unfoldable pub class-at : ℕ → Curve → List ℕ → ℕ → Reading Class
 class-at tag c s at =
     body-at tag s at then λ body next.
     let a = class-said body in
-    due (refusal c a) (found a next)
+    checked (refusal c a) (found a next)
 
 -- the coefficients below the degree of a row, highest power first
 unfoldable pub row-written : ℕ → List ℕ → List ℕ
@@ -69,35 +59,3 @@ unfoldable pub class-field : ℕ → Class → List ℕ
 class-field tag a =
     let n = a .degree in
     stored tag (element-bytes (row-written n (a .u)) ++ element-bytes (row-written n (a .v)))
-
--- ---- what each case of the code's answers says
-
-abbrev pub curve-read : CurveRead → Reading Curve
-curve-read (curve.Read c next) = found c (next .at)
-curve-read (curve.Refused n) = refused n
-
--- what stands beside a place was found there
-abbrev pub placed : {A : Type 0} → Place → A → Reading A
-placed (place.Next next) a = found a (next .at)
-placed (place.Refused n) a = refused n
-
--- the number of a refusal, and 0 where there is none
-abbrev pub place-number : Place → ℕ
-place-number (place.Next next) = 0
-place-number (place.Refused n) = n
-
--- a class is read beside its place; on a refusal it is the neutral one
-pub record ClassReading : Type 0 where
-  pub reading : Reading Class
-  pub class : Class
-
-abbrev pub class-read : ClassRead → ClassReading
-class-read r = record { reading = placed (r .place) (r .class); class = r .class }
-
-unfoldable pub class-answer : Reading Class → ClassReading
-class-answer (found a next) = record { reading = found a next; class = a }
-class-answer (refused n) = record { reading = refused n; class = neutral-class }
-
--- bytes as the first of a row of 51
-unfoldable pub in-row : List ℕ → ClassField
-in-row xs = record { len = length xs; bytes = xs ++ replicate (51 - length xs) 0 }

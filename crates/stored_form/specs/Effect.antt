@@ -6,7 +6,10 @@ use lib.ListN.{length, take, drop}
 use lib.Dec.{ltb}
 use Rattle.jacobian.specs.Answer.{Verdict, Reply, accepted, refused as said-no}
 use Rattle.stored_form.specs.Reading.{Reading, found, refused}
+use Rattle.stored_form.specs.Head.{count-length, class-room}
 use Rattle.stored_form.specs.Classes.{class-field}
+use Rattle.stored_form.specs.Held.{read-record}
+use Rattle.stored_form.specs.declared.Held.{Held}
 use Rattle.stored_form.specs.declared.effect.Output.{Output}
 
 -- ---- the answer, and the lent output afterwards
@@ -66,18 +69,15 @@ for (refused n) answer = refusal n
 unfoldable pub put : Handed → List ℕ → Effect
 put o out = let n = length (o .bytes) in lent n out (effect (o .answer) (o .bytes ++ drop n out))
 
--- what was read is answered into an output that is of at least that length
-unfoldable pub byte-call : {A : Type 0} → ℕ → Reading A → (A → Handed) → List ℕ → Effect
-byte-call least reading answer out = lent least out (put (for reading answer) out)
+-- a call: the record of these tags is read and answered into an output of at least that length
+unfoldable pub byte-call : ℕ → List ℕ → (Held → Handed) → List ℕ → List ℕ → Effect
+byte-call least tags answer s out = lent least out (put (for (read-record tags s) answer) out)
 
 -- ---- the room
 
--- a field is a head of three bytes and a body of two for a count, of up to 48 for a class
+-- a count's field
 abbrev pub count-room : ℕ
-count-room = 3 + 2
-
-abbrev pub class-room : ℕ
-class-room = 3 + 48
+count-room = 3 + count-length
 
 -- the count's field before the seal's
 abbrev pub register-room : ℕ

@@ -1,32 +1,63 @@
 -- Tags, the lengths that each allows, and the head of a field (document 01, 'Stored form' and 'In checking order').
-use Prim.Native.Nat.{ℕ, _+_}
+use Prim.Native.Nat.{ℕ, _+_, _*_, max}
 use mathlib.Core.Path.{_≡_}
 use mathlib.Core.Bool.{Bool, false, not, cond, _||_}
 use mathlib.Core.List.{List, _∷_, _++_}
 use lib.ListN.{length, getD}
 use lib.Dec.{eqb, leb, ltb}
+use Rattle.jacobian.specs.Curves.{coefficient-count}
 use Rattle.stored_form.specs.Number.{number-of, bytes-of, part}
 use Rattle.stored_form.specs.Reading.{Reading, found, refused, refuse, _then_}
-use Rattle.stored_form.specs.declared.Head.{Head}
-use Rattle.stored_form.specs.declared.Head.the-variants.{Body, Refused}
+use Rattle.stored_form.specs.Elements.{element-length}
+use Rattle.stored_form.specs.declared.head.Head.{Head}
+use Rattle.stored_form.specs.declared.head.Head.the-variants.{Body, Refused}
 
--- the lengths of a class of degree 0 to 3
-unfoldable pub class-length : ℕ → Bool
-class-length n = eqb n 0 || eqb n 16 || eqb n 32 || eqb n 48
+-- ---- lengths
+
+-- the bodies of 0x40, 0x41 and 0x42
+abbrev pub degree-length : ℕ
+degree-length = 1
+
+abbrev pub curve-length : ℕ
+curve-length = coefficient-count * element-length
+
+abbrev pub count-length : ℕ
+count-length = 2
 
 -- the longest drawing number
 abbrev pub drawing-limit : ℕ
 drawing-limit = 255
 
+-- the lengths of a class of degree 0 to 3
+unfoldable pub class-length : ℕ → Bool
+class-length n = eqb n 0 || eqb n 16 || eqb n 32 || eqb n 48
+
+-- the longest body of a class, and the room for its field
+abbrev pub class-limit : ℕ
+class-limit = 48
+
+abbrev pub class-room : ℕ
+class-room = 3 + class-limit
+
+-- 0x40 and 0x41 together
+abbrev pub first-fields-length : ℕ
+first-fields-length = 3 + degree-length + (3 + curve-length)
+
+-- the longest body that any tag allows
+abbrev pub longest-body : ℕ
+longest-body = max drawing-limit class-limit
+
 -- which lengths a tag allows
 unfoldable pub allowed : ℕ → ℕ → Bool
 allowed tag n =
-    cond (eqb tag 0x40) (eqb n 1)
-    (cond (eqb tag 0x41) (eqb n 24)
+    cond (eqb tag 0x40) (eqb n degree-length)
+    (cond (eqb tag 0x41) (eqb n curve-length)
     (cond (eqb tag 0x46) (leb n drawing-limit)
-    (cond (eqb tag 0x42) (eqb n 2)
+    (cond (eqb tag 0x42) (eqb n count-length)
     (cond (eqb tag 0x43 || eqb tag 0x44) (class-length n)
     false))))
+
+-- ---- the head
 
 -- the length that the head at a place says
 unfoldable pub body-length : List ℕ → ℕ → ℕ

@@ -5,5 +5,6 @@ pub mod Head
 pub mod Fields
 pub mod Elements
 pub mod Classes
+pub mod Held
 pub mod Effect
 pub mod internal

@@ -12,9 +12,9 @@ abbrev pub refuse : {A : Type 0} → ℕ → Bool → Reading A → Reading A
 refuse n b r = cond b (refused n) r
 
 -- checks made elsewhere: the number of the refusal that is due, where 0 is none, else what follows
-unfoldable pub due : {A : Type 0} → ℕ → Reading A → Reading A
-due zero r = r
-due (suc n) r = refused (suc n)
+unfoldable pub checked : {A : Type 0} → ℕ → Reading A → Reading A
+checked zero r = r
+checked (suc n) r = refused (suc n)
 
 infixl 20 _then_
 -- a field is begun only where the one before it was found
@@ -23,6 +23,6 @@ found a next then f = f a next
 refused n then f = refused n
 
 -- the number of a refusal, and 0 where none is
-abbrev pub number : {A : Type 0} → Reading A → ℕ
-number (found a next) = 0
-number (refused n) = n
+abbrev pub reading-refusal : {A : Type 0} → Reading A → ℕ
+reading-refusal (found a next) = 0
+reading-refusal (refused n) = n

@@ -4,15 +4,10 @@ ghost use Rattle.stored_form.specs.Effect.{room, effect, hand, refusal, 
 ghost use Prim.Native.Nat.{min};
 ghost use lib.ListN.{take};
 
-// The lengths of fields: a head of three bytes and a body of two for a count, of up to 48 for a class.
-const HEAD: usize = 3;
+// A count's field, and the seal's behind it.
+pub const COUNT_ROOM: usize = 3 + crate::COUNT_LENGTH;
 
-pub const COUNT_ROOM: usize = HEAD + 2;
-
-pub const CLASS_ROOM: usize = HEAD + 48;
-
-// The count's field before the seal's.
-pub const REGISTER_ROOM: usize = COUNT_ROOM + CLASS_ROOM;
+pub const REGISTER_ROOM: usize = COUNT_ROOM + crate::CLASS_ROOM;
 
 // The most bytes that a call hands over.
 pub const ROOM: usize = REGISTER_ROOM;

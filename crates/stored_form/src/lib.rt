@@ -1,17 +1,27 @@
-// The stored form of fields: one reader and one writer for each. A field is a one-byte tag, a two-byte length and a body, high byte first.
-// A reader answers the field's value and the place where the next field begins, or the number of the refusal.
+// The stored form of fields. A field is a one-byte tag, a two-byte length and a body, high byte first; a record is a list of the tags that are due.
+// A reader answers what the fields say beside the place where the next field begins, or the number of the refusal with nothing held.
 ghost use mathlib.Core.Path.{_≡_};
-ghost use Prim.Native.Nat.{_-_, _+_, _≤_};
+ghost use mathlib.Core.Bool.{true};
+ghost use Prim.Native.Nat.{_+_, _≤_};
 ghost use lib.ListN.{length};
+ghost use Rattle.jacobian.specs.Curves.{degree-refusal};
 ghost use Rattle.stored_form.specs.Number.{part};
-ghost use Rattle.stored_form.specs.Reading.{number};
-ghost use Rattle.stored_form.specs.Head.{head-at, head-read, head-bytes, class-length, allowed};
-ghost use Rattle.stored_form.specs.Fields.{degree-at, degree-read, count-at, count-read, degree-field, count-field, drawing-place, drawing-read, printable, end-due};
+ghost use Rattle.stored_form.specs.Reading.{found, refused, checked};
+ghost use Rattle.stored_form.specs.Head.{allowed, drawing-limit};
+ghost use Rattle.stored_form.specs.Fields.{count-refusal, end-refusal};
+ghost use Rattle.stored_form.specs.Held.{nothing-held, curve-of-degree, hold, field-refusal, read-field, read-record, read-of, place-refusal};
 
 pub mod classes;
+mod drawings;
 pub mod effect;
+mod head;
 mod numbers;
 pub mod writing;
+
+use head::Head;
+use jacobian::Class;
+use jacobian::Curve;
+use jacobian::curves::COEFFICIENTS;
 
 // The tags.
 pub const DEGREE: u8 = 0x40;
@@ -26,217 +36,83 @@ pub const OPERATION: u8 = 0x44;
 
 pub const DRAWING: u8 = 0x46;
 
-// The most operations that a count may say.
-pub const COUNT_LIMIT: u64 = 1024;
+// The records: the tags that are due, in order.
+pub const CLASS_RECORD: [u8; 3] = [DEGREE, CURVE, CLASS];
+
+pub const SUM_RECORD: [u8; 4] = [DEGREE, CURVE, CLASS, CLASS];
+
+pub const REGISTER_RECORD: [u8; 5] = [DEGREE, CURVE, COUNT, CLASS, OPERATION];
+
+// What an archive holds before its operations.
+pub const ARCHIVE_OPENING: [u8; 5] = [DEGREE, CURVE, DRAWING, COUNT, CLASS];
+
+// An element's bytes.
+pub const ELEMENT_LENGTH: usize = 8;
+
+// The bodies of the degree, of the curve and of the count.
+pub const DEGREE_LENGTH: usize = 1;
+
+pub const CURVE_LENGTH: usize = COEFFICIENTS * ELEMENT_LENGTH;
+
+pub const COUNT_LENGTH: usize = 2;
 
 // The longest drawing number.
 pub const DRAWING_LIMIT: usize = 255;
+
+// The longest body of a class, and its field.
+pub const CLASS_LIMIT: usize = 6 * ELEMENT_LENGTH;
+
+pub const CLASS_ROOM: usize = 3 + CLASS_LIMIT;
+
+// The most operations that a count may say.
+pub const COUNT_LIMIT: u64 = 1024;
 
 // A place in the input.
 pub struct Cursor {
     pub at: usize,
 }
 
-// Some bytes of the input: len bytes from start on.
-pub struct Part {
-    pub start: usize,
+// Where the next field begins, or the number of the refusal.
+pub enum Place {
+    Next(Cursor),
+    Refused(u32),
+}
+
+// A drawing number: len bytes, and 0 after them.
+pub struct Drawing {
     pub len: usize,
+    pub bytes: [u8; DRAWING_LIMIT],
 }
 
-// What reading a field's head finds: the body's length and the place after the body.
-pub enum Head {
-    Body { len: usize, next: Cursor },
-    Refused(u32),
+// What the fields read so far say: of two classes the first is the previous one.
+pub struct Held {
+    pub curve: Curve,
+    pub drawing: Drawing,
+    pub count: u64,
+    pub previous: Class,
+    pub class: Class,
+    pub operation: Class,
 }
 
-pub enum Degree {
-    Read { degree: u8, next: Cursor },
-    Refused(u32),
+// What is held beside its place; nothing on a refusal.
+pub struct Read {
+    pub place: Place,
+    pub held: Held,
 }
 
-pub enum Count {
-    Read { count: u16, next: Cursor },
-    Refused(u32),
-}
-
-pub enum Drawing {
-    Read { part: Part, next: Cursor },
-    Refused(u32),
-}
-
-// Is this the length of a class of degree 0 to 3?
-fn class_allows(len: usize) -> bool
-    ensures { λ r. ⌜ r ≡ class-length len ⌝ }
+// The number of a refusal, and 0 where there is none.
+pub fn place_refusal(p: Place) -> u32
+    ensures { λ r. ⌜ r ≡ place-refusal p ⌝ }
 {
-    if len == 0 {
-        return true;
-    }
-    if len == 16 {
-        return true;
-    }
-    if len == 32 {
-        return true;
-    }
-    len == 48
-}
-
-// Does a tag allow this length?
-fn allows(tag: u8, len: usize) -> bool
-    ensures { λ r. ⌜ r ≡ allowed tag len ⌝ }
-{
-    if tag == DEGREE {
-        return len == 1;
-    }
-    if tag == CURVE {
-        return len == 24;
-    }
-    if tag == DRAWING {
-        return len <= DRAWING_LIMIT;
-    }
-    if tag == COUNT {
-        return len == 2;
-    }
-    if tag == CLASS {
-        return class_allows(len);
-    }
-    if tag == OPERATION {
-        return class_allows(len);
-    }
-    false
-}
-
-// How many bytes stand at a place and after it.
-fn left(s: &[u8], at: usize) -> usize
-    ensures { λ r. ⌜ r ≡ length (now (s .entry)) - at ⌝ }
-{
-    if s.len() < at {
-        return 0;
-    }
-    s.len() - at
-}
-
-// The head of the field at a place, where a tag is due.
-pub fn head_at(s: &[u8], at: Cursor, tag: u8) -> Head
-    ensures { λ r. ⌜ head-read r ≡ head-at tag (now (s .entry)) (at .at) ⌝ }
-{
-    let i = at.at;
-    let n = left(s, i);
-    if n < 3 {
-        return Head::Refused(102);
-    }
-    if s[i] != tag {
-        return Head::Refused(103);
-    }
-    let len = numbers::number_at(s, i + 1, 2) as usize;
-    if !allows(tag, len) {
-        return Head::Refused(104);
-    }
-    if n - 3 < len {
-        return Head::Refused(105);
-    }
-    Head::Body {
-        len: len,
-        next: Cursor { at: i + 3 + len },
-    }
-}
-
-// The number of a head's refusal, and 0 where a head was found.
-pub(crate) fn head_refusal(h: Head) -> u32
-    ensures { λ r. ⌜ r ≡ number (head-read h) ⌝ }
-{
-    match h {
-        Head::Body { len: _, next: _ } => 0,
-        Head::Refused(n) => n,
-    }
-}
-
-// The degree that the field at a place says.
-pub fn degree_at(s: &[u8], at: Cursor) -> Degree
-    ensures { λ r. ⌜ degree-read r ≡ degree-at (now (s .entry)) (at .at) ⌝ }
-{
-    let i = at.at;
-    let h = head_at(s, at, DEGREE);
-    let Head::Body { len, next } = h else {
-        return Degree::Refused(head_refusal(h));
-    };
-    let d = numbers::number_at(s, i + 3, len);
-    if d == 5 {
-        return Degree::Read {
-            degree: 5,
-            next: next,
-        };
-    }
-    if d == 61 {
-        return Degree::Read {
-            degree: 61,
-            next: next,
-        };
-    }
-    Degree::Refused(106)
-}
-
-// The count that the field at a place says.
-pub fn count_at(s: &[u8], at: Cursor) -> Count
-    ensures { λ r. ⌜ count-read r ≡ count-at (now (s .entry)) (at .at) ⌝ }
-{
-    let i = at.at;
-    let h = head_at(s, at, COUNT);
-    let Head::Body { len, next } = h else {
-        return Count::Refused(head_refusal(h));
-    };
-    let n = numbers::number_at(s, i + 3, len);
-    if COUNT_LIMIT < n {
-        return Count::Refused(109);
-    }
-    Count::Read {
-        count: n as u16,
-        next: next,
-    }
-}
-
-// Does every byte of a part lie in 0x20 to 0x7E?
-fn all_printable(s: &[u8], at: usize, k: usize) -> bool
-    requires { ⌜ at + k ≤ length (now s) ⌝ }
-    ensures { λ r. ⌜ r ≡ printable (part (now (s .entry)) at k) ⌝ }
-{
-    let mut i = 0;
-    while i < k {
-        let b = s[at + i];
-        if b < 0x20 {
-            return false;
-        }
-        if 0x7E < b {
-            return false;
-        }
-        i += 1;
-    }
-    true
-}
-
-// Where the drawing number of the field at a place stands.
-pub fn drawing_at(s: &[u8], at: Cursor) -> Drawing
-    ensures { λ r. ⌜ drawing-read r ≡ drawing-place (now (s .entry)) (at .at) ⌝ }
-{
-    let i = at.at;
-    let h = head_at(s, at, DRAWING);
-    let Head::Body { len, next } = h else {
-        return Drawing::Refused(head_refusal(h));
-    };
-    if !all_printable(s, i + 3, len) {
-        return Drawing::Refused(108);
-    }
-    Drawing::Read {
-        part: Part {
-            start: i + 3,
-            len: len,
-        },
-        next: next,
+    match p {
+        Place::Next(_) => 0,
+        Place::Refused(n) => n,
     }
 }
 
 // 112 where bytes remain at a place, else 0.
-pub fn end_at(s: &[u8], at: Cursor) -> u32
-    ensures { λ r. ⌜ r ≡ end-due (now (s .entry)) (at .at) ⌝ }
+pub fn end_refusal(s: &[u8], at: Cursor) -> u32
+    ensures { λ r. ⌜ r ≡ end-refusal (now (s .entry)) (at .at) ⌝ }
 {
     if at.at < s.len() {
         return 112;
@@ -244,23 +120,173 @@ pub fn end_at(s: &[u8], at: Cursor) -> u32
     0
 }
 
-// The field of a degree.
-pub fn degree_field(d: u8) -> [u8; 4]
-    ensures { λ r. ⌜ r ≡ degree-field d ⌝ }
+// What a reading starts from, and what a refused reading holds.
+pub fn nothing_held() -> Held
+    ensures { λ r. ⌜ r ≡ nothing-held ⌝ }
 {
-    [DEGREE, 0, 1, d]
+    let curve = jacobian::curves::blank_curve();
+    let neutral = jacobian::neutral();
+    let bytes = [0u8; DRAWING_LIMIT];
+    Held {
+        curve,
+        drawing: Drawing { len: 0, bytes },
+        count: 0,
+        previous: neutral,
+        class: neutral,
+        operation: neutral,
+    }
 }
 
-// The field of a count.
-pub fn count_field(n: u16) -> [u8; 5]
-    ensures { λ r. ⌜ r ≡ count-field n ⌝ }
+// A reading that was refused.
+pub fn refused(n: u32) -> Read
+    ensures { λ r. ⌜ r ≡ read-of (refused n) ⌝ }
 {
-    [COUNT, 0, 2, (n / 256) as u8, (n % 256) as u8]
+    let held = nothing_held();
+    Read {
+        place: Place::Refused(n),
+        held,
+    }
 }
 
-// The head of a drawing number's field; its bytes follow as they are.
-pub fn drawing_head(len: u8) -> [u8; 3]
-    ensures { λ r. ⌜ r ≡ head-bytes 0x46 len ⌝ }
+// What is held, with the next field at a place, where no refusal is due.
+pub fn settled(n: u32, held: Held, next: Cursor) -> Read
+    ensures { λ r. ⌜ r ≡ read-of (checked n (found held (next .at))) ⌝ }
 {
-    [DRAWING, 0, len]
+    if n != 0 {
+        return refused(n);
+    }
+    Read {
+        place: Place::Next(next),
+        held,
+    }
+}
+
+// 106 for a degree other than 5 and 61, else 0.
+fn degree_refusal(c: Curve) -> u32
+    ensures { λ r. ⌜ r ≡ degree-refusal c ⌝ }
+{
+    if c.degree == 5 {
+        return 0;
+    }
+    if c.degree == 61 {
+        return 0;
+    }
+    106
+}
+
+// 109 for a count above the limit, else 0.
+fn count_refusal(n: u64) -> u32
+    ensures { λ r. ⌜ r ≡ count-refusal n ⌝ }
+{
+    if COUNT_LIMIT < n {
+        return 109;
+    }
+    0
+}
+
+// The curve over the field of degree d with all coefficients 0.
+fn curve_of_degree(d: u8) -> Curve
+    ensures { λ r. ⌜ r ≡ curve-of-degree d ⌝ }
+{
+    jacobian::curves::curve_with(d, [0; COEFFICIENTS])
+}
+
+// What is held once the body of len bytes from a place on is read, where a tag was due.
+fn hold(tag: u8, h: Held, s: &[u8], at: usize, len: usize) -> Held
+    requires { ⌜ (allowed tag len ≡ true) × (at + len ≤ length (now s)) ⌝ }
+    ensures { λ r. ⌜ r ≡ hold tag (part (now (s .entry)) at len) h ⌝ }
+{
+    let mut more = h;
+    if tag == DEGREE {
+        let curve = curve_of_degree(numbers::number_at(s, at, len) as u8);
+        more.curve = curve;
+        return more;
+    }
+    if tag == CURVE {
+        let before = h.curve;
+        let curve = classes::curve_of(s, at, before.degree);
+        more.curve = curve;
+        return more;
+    }
+    if tag == DRAWING {
+        let drawing = drawings::drawing_of(s, at, len);
+        more.drawing = drawing;
+        return more;
+    }
+    if tag == COUNT {
+        let count = numbers::number_at(s, at, len);
+        more.count = count;
+        return more;
+    }
+    let class = classes::class_of(s, at, len);
+    if tag == CLASS {
+        let previous = h.class;
+        more.previous = previous;
+        more.class = class;
+        return more;
+    }
+    more.operation = class;
+    more
+}
+
+// The refusal that is due to the field that was just read, and 0 where none is.
+fn field_refusal(tag: u8, h: Held) -> u32
+    requires { ⌜ (tag ≡ 0x46 → h .drawing .len ≤ drawing-limit) ⌝ }
+    ensures { λ r. ⌜ r ≡ field-refusal tag h ⌝ }
+{
+    let curve = h.curve;
+    if tag == DEGREE {
+        return degree_refusal(curve);
+    }
+    if tag == CURVE {
+        return jacobian::curves::curve_refusal(curve);
+    }
+    if tag == DRAWING {
+        let drawing = h.drawing;
+        return drawings::drawing_refusal(drawing);
+    }
+    if tag == COUNT {
+        return count_refusal(h.count);
+    }
+    if tag == CLASS {
+        let class = h.class;
+        return jacobian::class_refusal(curve, class);
+    }
+    let operation = h.operation;
+    jacobian::class_refusal(curve, operation)
+}
+
+// Reads the field at a place, where a tag is due.
+pub fn read_field(tag: u8, h: Held, s: &[u8], at: Cursor) -> Read
+    ensures { λ r. ⌜ r ≡ read-of (read-field tag h (now (s .entry)) (at .at)) ⌝ }
+{
+    let i = at.at;
+    let f = head::head_at(s, at, tag);
+    let Head::Body { len, next } = f else {
+        return refused(head::head_refusal(f));
+    };
+    let more = hold(tag, h, s, i + 3, len);
+    settled(field_refusal(tag, more), more, next)
+}
+
+// Reads a record: the fields with these tags, one after the other, and nothing after them.
+pub fn read_record(tags: &[u8], s: &[u8]) -> Read
+    ensures { λ r. ⌜ r ≡ read-of (read-record (now (tags .entry)) (now (s .entry))) ⌝ }
+{
+    let mut held = nothing_held();
+    let mut at = 0;
+    let mut i = 0;
+    while i < tags.len() {
+        let r = read_field(tags[i], held, s, Cursor { at });
+        let place = r.place;
+        let Place::Next(next) = place else {
+            return r;
+        };
+        let more = r.held;
+        held = more;
+        at = next.at;
+        i += 1;
+    }
+    let n = end_refusal(s, Cursor { at });
+    settled(n, held, Cursor { at })
 }

@@ -6,34 +6,37 @@ ghost use lib.ListN.{length, getD};
 ghost use lib.Seq.{sets};
 ghost use Rattle.jacobian.specs.Answer.{verdict, reply};
 ghost use Rattle.stored_form.specs.Number.{bytes-of};
-ghost use Rattle.stored_form.specs.Head.{stored};
-ghost use Rattle.stored_form.specs.Elements.{element-bytes};
+ghost use Rattle.stored_form.specs.Head.{class-room, count-length, stored};
+ghost use Rattle.stored_form.specs.Elements.{element-length, element-bytes};
 ghost use Rattle.stored_form.specs.Fields.{count-field};
 ghost use Rattle.stored_form.specs.Classes.{row-written, class-field};
-ghost use Rattle.stored_form.specs.Effect.{room, count-room, class-room, on, class-handed, handed};
+ghost use Rattle.stored_form.specs.Effect.{room, count-room, on, class-handed, handed};
 ghost use Rattle.stored_form.specs.internal.Rows.{filled};
-use crate::effect;
+use crate::ELEMENT_LENGTH;
+use crate::effect::COUNT_ROOM;
 use crate::effect::Output;
+use crate::effect::ROOM;
+use crate::effect::refusal;
 use jacobian::Class;
 use jacobian::ClassAnswer;
 use jacobian::Outcome;
 
 // The byte of an element at a place of its eight, high byte first.
 fn byte_of(x: u64, i: usize) -> u8
-    requires { ⌜ i < 8 ⌝ }
-    ensures { λ r. ⌜ r ≡ getD (bytes-of 8 x) i 0 ⌝ }
+    requires { ⌜ i < element-length ⌝ }
+    ensures { λ r. ⌜ r ≡ getD (bytes-of element-length x) i 0 ⌝ }
 {
-    ((x >> (56 - 8 * i)) % 256) as u8
+    ((x >> (8 * (7 - i))) % 256) as u8
 }
 
 // A row with an element stored from a place on.
-fn with_element(row: [u8; effect::ROOM], at: usize, x: u64) -> [u8; effect::ROOM]
-    requires { ⌜ at + 8 ≤ room ⌝ }
-    ensures { λ r. ⌜ r ≡ sets row at (bytes-of 8 x) ⌝ }
+fn with_element(row: [u8; ROOM], at: usize, x: u64) -> [u8; ROOM]
+    requires { ⌜ at + element-length ≤ room ⌝ }
+    ensures { λ r. ⌜ r ≡ sets row at (bytes-of element-length x) ⌝ }
 {
     let mut r = row;
     let mut i = 0;
-    while i < 8 {
+    while i < ELEMENT_LENGTH {
         r[at + i] = byte_of(x, i);
         i += 1;
     }
@@ -42,12 +45,12 @@ fn with_element(row: [u8; effect::ROOM], at: usize, x: u64) -> [u8; effect::ROOM
 
 // A row with the coefficients below the degree n stored from a place on, highest power first.
 fn with_coefficients(
-    row: [u8; effect::ROOM],
+    row: [u8; ROOM],
     at: usize,
     n: usize,
     r: [u64; 3],
-) -> [u8; effect::ROOM]
-    requires { ⌜ (n ≤ 3) × (at + 8 * n ≤ room) ⌝ }
+) -> [u8; ROOM]
+    requires { ⌜ (n ≤ 3) × (at + element-length * n ≤ room) ⌝ }
     ensures { λ t. ⌜ (t ≡ sets row at (element-bytes (row-written n r))) × (length r ≡ 3) ⌝ }
 {
     if n == 0 {
@@ -75,7 +78,7 @@ fn below(degree: u64) -> usize
 }
 
 // A row with the field of a class behind what stands before a place.
-fn with_class(row: [u8; effect::ROOM], at: usize, a: Class) -> Output
+fn with_class(row: [u8; ROOM], at: usize, a: Class) -> Output
     requires { ⌜ at + class-room ≤ room ⌝ }
     ensures { λ r. ⌜ (r ≡ filled row at (class-field 0x43 a)) × (length (class-field 0x43 a) ≤ class-room) ⌝ }
 {
@@ -97,9 +100,9 @@ fn with_class(row: [u8; effect::ROOM], at: usize, a: Class) -> Output
 }
 
 // A row with the field of a count stored from a place on.
-fn with_count(row: [u8; effect::ROOM], at: usize, tag: u8, n: u64) -> [u8; effect::ROOM]
+fn with_count(row: [u8; ROOM], at: usize, tag: u8, n: u64) -> [u8; ROOM]
     requires { ⌜ at + count-room ≤ room ⌝ }
-    ensures { λ r. ⌜ r ≡ sets row at (stored tag (bytes-of 2 n)) ⌝ }
+    ensures { λ r. ⌜ r ≡ sets row at (stored tag (bytes-of count-length n)) ⌝ }
 {
     let mut r = row;
     r[at] = tag;
@@ -117,8 +120,8 @@ pub fn class_output(a: ClassAnswer) -> Output
     let o = a.outcome;
     let class = a.class;
     match o {
-        Outcome::Refused(n) => effect::refusal(n),
-        Outcome::Accepted => with_class([0u8; effect::ROOM], 0, class),
+        Outcome::Refused(n) => refusal(n),
+        Outcome::Accepted => with_class([0u8; ROOM], 0, class),
     }
 }
 
@@ -127,10 +130,10 @@ pub fn register_output(o: Outcome, count: u64, seal: Class) -> Output
     ensures { λ r. ⌜ handed r ≡ on (verdict o) (count-field count ++ class-field 0x43 seal) ⌝ }
 {
     match o {
-        Outcome::Refused(n) => effect::refusal(n),
+        Outcome::Refused(n) => refusal(n),
         Outcome::Accepted => {
-            let counted = with_count([0u8; effect::ROOM], 0, crate::COUNT, count);
-            with_class(counted, effect::COUNT_ROOM, seal)
+            let counted = with_count([0u8; ROOM], 0, crate::COUNT, count);
+            with_class(counted, COUNT_ROOM, seal)
         }
     }
 }

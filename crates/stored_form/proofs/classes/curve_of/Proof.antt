@@ -1,21 +1,50 @@
--- `classes::curve_of` meets its contract.
+-- `classes::curve_of` meets its contract: after i turns i coefficients are read.
 use borrow.Author.Needs.{needs}
-use Rattle.stored_form.proofs.Items.{curve-is}
+use Prim.Native.Nat.{_-_, _≤_}
+use mathlib.Core.Path.{_≡_, refl, _∙_}
+use lib.ListN.{drop, replicate}
+use lib.Seq.{sets}
+use Rattle.jacobian.specs.Curves.{coefficient-count}
+use Rattle.stored_form.specs.Elements.{elements}
+use Rattle.stored_form.proofs.Items.{element-more, curve-is}
 use Rattle.stored_form.proofs.classes.curve_of.Statement.{statement}
 use Rattle.stored_form.proofs.classes.curve_of.Tie as tie
 
-returns : tie.Need-returns
+abbrev Inv-loop : tie.InvT-loop
+Inv-loop s at d cs₀ i₀ cs i = (i ≤ coefficient-count) × (cs ≡ sets (replicate coefficient-count 0) 0 (elements i (drop at s)))
+
+abbrev μ-loop : tie.MeasureT-loop
+μ-loop s at d cs₀ i₀ cs i = coefficient-count - i
+
+loop-holds : tie.Need-loop-holds Inv-loop μ-loop
+unfolding elements
+loop-holds c = (search needs, refl)
+
+loop-again : tie.Need-loop-again Inv-loop μ-loop
+loop-again c =
+    let head = c .before .before in
+    (search needs, element-more _ _ _ _ (replicate coefficient-count 0) (head .loop .inv .1) (c .number-at .ensures))
+
+returns : tie.Need-returns Inv-loop μ-loop
 returns c =
-    let a = c .before .before .before .before .args in
-    curve-is (a .s .now) (a .at) (c .before .before .number-at .ensures) (c .before .number-at2 .ensures) (c .number-at3 .ensures) (a .d)
+    let head = c .before .before in
+    let a = head .before .before .args in
+    c .curve-with .ensures ∙ curve-is (a .s .now) (a .at) (a .d) _ (c .before .loop-test .left) (head .loop .inv .0) (head .loop .inv .1)
 
 pub curve-of-spec : {M : Type 1} → statement M
 curve-of-spec =
     tie.close
     (tie.spec
-    (λ c κs. search needs)
+    Inv-loop
+    μ-loop
+    loop-holds
+    (λ c. search needs)
     (λ c. search needs)
     (λ c κs. search needs)
     (λ c. search needs)
+    (λ c. search needs)
+    (λ c. search needs)
+    (λ c. search needs)
+    loop-again
     (λ c κs. search needs)
     returns)

@@ -5,6 +5,8 @@ use mathlib.Core.Path.{_≡_, refl}
 use lib.ListN.{take}
 use lib.Seq.{sets}
 use Rattle.stored_form.specs.Number.{bytes-of}
+use native.Mathlib.Omega.{arith}
+use Rattle.stored_form.proofs.Digits.{length-bytes}
 use Rattle.stored_form.proofs.Stores.{store-more, store-all}
 use Rattle.stored_form.proofs.writing.with_element.Statement.{statement}
 use Rattle.stored_form.proofs.writing.with_element.Tie as tie
@@ -19,7 +21,7 @@ loop-holds : tie.Need-loop-holds Inv-loop μ-loop
 loop-holds c = (search needs, refl)
 
 loop-again : tie.Need-loop-again Inv-loop μ-loop
-loop-again c = (search needs, store-more _ _ _ _ _ (c .before .loop-test .taken) (c .before .before .loop .inv .1) (c .byte-of .ensures))
+loop-again c = (search needs, store-more _ _ _ _ (omega (arith, length-bytes 8 (c .before .before .before .args .x))) (c .byte-of .ensures) (c .before .before .loop .inv .1))
 
 returns : tie.Need-returns Inv-loop μ-loop
 returns c = store-all _ _ _ _ (c .loop-test .left) (c .before .loop .inv .0) (c .before .loop .inv .1)

@@ -1,0 +1,19 @@
+-- `nothing_held` meets its contract.
+use borrow.Author.Needs.{needs}
+use mathlib.Core.Path.{ap₂}
+use lib.ListN.{replicate}
+use Rattle.jacobian.specs.declared.{Curve.Curve, Class.Class}
+use Rattle.stored_form.specs.{Head.drawing-limit, Held.drawing-said, Held.nothing-held}
+use Rattle.stored_form.proofs.nothing_held.Statement.{statement}
+use Rattle.stored_form.proofs.nothing_held.Tie as tie
+
+returns : tie.Need-returns
+unfolding nothing-held drawing-said
+returns c =
+    ap₂
+    (λ (k : Curve) (n : Class). record { curve = k; drawing = record { len = 0; bytes = replicate drawing-limit 0 }; count = 0; previous = n; class = n; operation = n })
+    (c .before .blank-curve .ensures)
+    (c .neutral .ensures)
+
+pub nothing-held-spec : {M : Type 1} → statement M
+nothing-held-spec = tie.close (tie.spec (λ c κs. search needs) (λ c κs. search needs) returns)

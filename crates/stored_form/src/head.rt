@@ -1,0 +1,100 @@
+// The head of a field: its tag and the length of its body.
+ghost use mathlib.Core.Path.{_≡_};
+ghost use Prim.Native.Nat.{_-_};
+ghost use lib.ListN.{length};
+ghost use Rattle.stored_form.specs.Reading.{reading-refusal};
+ghost use Rattle.stored_form.specs.Head.{head-at, head-read, class-length, allowed};
+use crate::Cursor;
+use crate::numbers;
+
+// What reading a field's head finds: the body's length and the place after the body.
+pub enum Head {
+    Body { len: usize, next: Cursor },
+    Refused(u32),
+}
+
+// Is this the length of a class of degree 0 to 3?
+fn class_allows(len: usize) -> bool
+    ensures { λ r. ⌜ r ≡ class-length len ⌝ }
+{
+    if len == 0 {
+        return true;
+    }
+    if len == 16 {
+        return true;
+    }
+    if len == 32 {
+        return true;
+    }
+    len == 48
+}
+
+// Does a tag allow this length?
+fn allows(tag: u8, len: usize) -> bool
+    ensures { λ r. ⌜ r ≡ allowed tag len ⌝ }
+{
+    if tag == crate::DEGREE {
+        return len == crate::DEGREE_LENGTH;
+    }
+    if tag == crate::CURVE {
+        return len == crate::CURVE_LENGTH;
+    }
+    if tag == crate::DRAWING {
+        return len <= crate::DRAWING_LIMIT;
+    }
+    if tag == crate::COUNT {
+        return len == crate::COUNT_LENGTH;
+    }
+    if tag == crate::CLASS {
+        return class_allows(len);
+    }
+    if tag == crate::OPERATION {
+        return class_allows(len);
+    }
+    false
+}
+
+// How many bytes stand at a place and after it.
+fn left(s: &[u8], at: usize) -> usize
+    ensures { λ r. ⌜ r ≡ length (now (s .entry)) - at ⌝ }
+{
+    if s.len() < at {
+        return 0;
+    }
+    s.len() - at
+}
+
+// The head of the field at a place, where a tag is due.
+pub(crate) fn head_at(s: &[u8], at: Cursor, tag: u8) -> Head
+    ensures { λ r. ⌜ head-read r ≡ head-at tag (now (s .entry)) (at .at) ⌝ }
+{
+    let i = at.at;
+    let n = left(s, i);
+    if n < 3 {
+        return Head::Refused(102);
+    }
+    if s[i] != tag {
+        return Head::Refused(103);
+    }
+    let len = numbers::number_at(s, i + 1, 2) as usize;
+    if !allows(tag, len) {
+        return Head::Refused(104);
+    }
+    if n - 3 < len {
+        return Head::Refused(105);
+    }
+    Head::Body {
+        len,
+        next: Cursor { at: i + 3 + len },
+    }
+}
+
+// The number of a head's refusal, and 0 where a head was found.
+pub(crate) fn head_refusal(h: Head) -> u32
+    ensures { λ r. ⌜ r ≡ reading-refusal (head-read h) ⌝ }
+{
+    match h {
+        Head::Body { len: _, next: _ } => 0,
+        Head::Refused(n) => n,
+    }
+}
