@@ -1,3 +1,2 @@
--- The records that the byte calls take, and what each call answers and leaves in the lent output.
-pub mod Records
+-- What each byte call answers and leaves in the lent output.
 pub mod Calls

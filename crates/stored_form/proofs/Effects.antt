@@ -7,10 +7,12 @@ use native.Mathlib.Omega.{arith}
 use lib.ListN.{length, getD, take, drop, set, length-take}
 use lib.Seq.{sets, sets-eq, take-all, getD-take}
 use borrow.Author.Tests.{lt-ltb, le-ltb}
-use Rattle.stored_form.specs.Reading.{Reading, found, refused}
+use Rattle.stored_form.specs.Reading.{Reading, found, refused, reading-refusal}
 use Rattle.stored_form.specs.Effect.{Effect, Handed, effect, refuse, write, lent, hand, refusal, written, for, put, byte-call, room}
-use Rattle.stored_form.specs.Held.{read-record}
-use Rattle.stored_form.specs.declared.Held.{Held}
+use Rattle.stored_form.specs.Held.{read-record, read-of, place-refusal}
+use Rattle.stored_form.specs.declared.{Held.Held, Read.Read, Cursor.Cursor}
+use Rattle.stored_form.specs.declared.Place.the-variants.{Next, Refused}
+use Rattle.stored_form.proofs.Readers.{place-found, place-refused}
 use Rattle.stored_form.proofs.Stores.{store-more}
 
 -- ---- the output's length
@@ -77,3 +79,17 @@ module _ (least : ℕ) (tags : List ℕ) (answer : Held → Handed) (s out : Lis
     pub call-found : {h : Held} {end : ℕ} → read-record tags s ≡ found h end → byte-call least tags answer s out ≡ put (answer h) out
     unfolding for
     call-found e = answered-for e
+
+    -- as the code tells them apart
+    module _ (r : Read) (e : r ≡ read-of (read-record tags s)) where
+      pub call-unread : {n k : ℕ} → r .place ≡ Refused n → k ≡ place-refusal (r .place) → effect k out ≡ byte-call least tags answer s out
+      unfolding refuse
+      call-unread f h = ap (λ (m : ℕ). effect m out) (h ∙ ap place-refusal f) ∙ sym (call-refused (place-refused r e f))
+
+      pub call-read : {next : Cursor} {x : Handed} {y : Effect} → r .place ≡ Next next → x ≡ answer (r .held) → y ≡ put x out → y ≡ byte-call least tags answer s out
+      call-read f g h = h ∙ ap (λ (z : Handed). put z out) g ∙ sym (call-found (place-found r e f))
+
+pub unread-number : (r : Read) (x : Reading Held) → r ≡ read-of x → place-refusal (r .place) ≡ reading-refusal x
+unfolding read-of
+unread-number r (found h next) e = ap (λ (q : Read). place-refusal (q .place)) e
+unread-number r (refused n) e = ap (λ (q : Read). place-refusal (q .place)) e

@@ -44,12 +44,7 @@ fn with_element(row: [u8; ROOM], at: usize, x: u64) -> [u8; ROOM]
 }
 
 // A row with the coefficients below the degree n stored from a place on, highest power first.
-fn with_coefficients(
-    row: [u8; ROOM],
-    at: usize,
-    n: usize,
-    r: [u64; 3],
-) -> [u8; ROOM]
+fn with_coefficients(row: [u8; ROOM], at: usize, n: usize, r: [u64; 3]) -> [u8; ROOM]
     requires { ⌜ (n ≤ 3) × (at + element-length * n ≤ room) ⌝ }
     ensures { λ t. ⌜ (t ≡ sets row at (element-bytes (row-written n r))) × (length r ≡ 3) ⌝ }
 {
