@@ -1,1 +1,2 @@
--- Laws of the byte calls.
+-- Laws of the records and of the byte calls.
+pub mod Written

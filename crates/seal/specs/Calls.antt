@@ -1,16 +1,15 @@
 -- What each byte call answers and leaves in the lent output (document 01, 'Stored form' and 'In checking order').
 use Prim.Native.Nat.{ℕ}
-use mathlib.Core.List.{List, _++_}
+use mathlib.Core.List.{List}
 use Rattle.jacobian.specs.Answer.{opposite-answer, double-answer, half-answer, sum-answer}
 use Rattle.history.specs.declared.Register.{Register}
 use Rattle.history.specs.Register.{RegisterReply, commit-answer, undo-answer}
 use Rattle.stored_form.specs.Reading.{reading-refusal}
 use Rattle.stored_form.specs.Head.{class-room}
-use Rattle.stored_form.specs.Fields.{count-field}
-use Rattle.stored_form.specs.Classes.{class-field}
 use Rattle.stored_form.specs.Held.{read-record, class-record, sum-record, register-record}
 use Rattle.stored_form.specs.Effect.{Effect, Handed, register-room, on, class-handed, byte-call}
 use Rattle.stored_form.specs.declared.Held.{Held}
+use Rattle.seal.specs.Records.{register-fields}
 use Rattle.seal.specs.declared.calls.Call.{Call}
 use Rattle.seal.specs.declared.calls.Call.the-variants.{Opposite, Double, Half, Sum, Commit, Undo}
 
@@ -19,9 +18,6 @@ abbrev pub register : Held → Register
 register h = record { curve = h .curve; count = h .count; seal = h .class }
 
 -- 0x42, then 0x43
-abbrev pub register-fields : Register → List ℕ
-register-fields g = count-field (g .count) ++ class-field 0x43 (g .seal)
-
 unfoldable pub register-handed : RegisterReply → Handed
 register-handed r = on (r .outcome) (register-fields (r .register))
 

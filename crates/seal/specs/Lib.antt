@@ -1,2 +1,3 @@
--- What each byte call answers and leaves in the lent output.
+-- The records that the byte calls take, and what each call answers and leaves in the lent output.
+pub mod Records
 pub mod Calls

@@ -8,11 +8,13 @@ pub mod Bodies
 pub mod Stores
 pub mod DrawingBytes
 pub mod Readers
+pub mod FieldReadings
 pub mod RoundTrips
 pub mod Items
 pub mod ElementBytes
 pub mod ClassBytes
 pub mod CurveRoundTrips
 pub mod ClassRoundTrips
+pub mod RecordRoundTrips
 pub mod Effects
 pub mod Rows

@@ -10,10 +10,10 @@ use borrow.Author.Tests.{ne-eqb}
 use Rattle.jacobian.specs.Answer.{refusal}
 use Rattle.stored_form.specs.{Number.part, Reading.Reading, Reading.found, Reading.refused, Reading.checked, Reading._then_, Classes.class-said}
 use Rattle.stored_form.specs.Head.{drawing-limit, allowed, head-at, body-at}
-use Rattle.stored_form.specs.Held.{drawing-said, with-operation, hold, field-refusal, read-field, read-fields, ended, read-record, read-of, nothing-held}
+use Rattle.stored_form.specs.Held.{drawing-said, with-operation, hold, field-refusal, read-field, read-fields, read-of}
 use Rattle.stored_form.specs.declared.{Held.Held, Read.Read, Place.Place, Cursor.Cursor}
 use Rattle.stored_form.specs.declared.Place.the-variants.{Next, Refused}
-use Rattle.stored_form.proofs.Readings.{then-found, then-refused, then-assoc}
+use Rattle.stored_form.proofs.Readings.{then-found, then-refused}
 use Rattle.stored_form.proofs.{Heads.head-found, Lengths.is-drawing-length, Parts.length-part}
 
 -- where no tag but the operation's is left
@@ -85,29 +85,22 @@ drop-all zero (x ∷ l) h = absurd (omega arith)
 drop-all (suc i) [] h = refl
 drop-all (suc i) (x ∷ l) h = drop-all i l (omega arith)
 
--- ---- a record: its fields from the i-th on, and the end
-
-pub rest : List ℕ → List ℕ → Held → ℕ → ℕ → Reading Held
-rest tags s h at i = read-fields (drop i tags) h s at then ended s
-
-pub record-begun : (tags s : List ℕ) {h : Held} → h ≡ nothing-held → read-record tags s ≡ rest tags s h 0 0
-unfolding read-record rest
-record-begun tags s e = sym (ap (λ (h : Held). read-fields tags h s 0 then ended s) e)
+-- ---- fields one after the other: those from the i-th on
 
 module _ (tags s : List ℕ) (h : Held) (at i : ℕ) where
-  next-field : i < length tags → rest tags s h at i ≡ (read-field (getD tags i 0) h s at then λ more next. rest tags s more next (i + 1))
-  unfolding rest read-fields
+  next-field : i < length tags → read-fields (drop i tags) h s at ≡ (read-field (getD tags i 0) h s at then λ more next. read-fields (drop (i + 1) tags) more s next)
+  unfolding read-fields
   next-field lt =
       let e : suc i ≡ i + 1 = omega arith in
-      ap (λ (l : List ℕ). read-fields l h s at then ended s) (drop-cons tags i 0 lt ∙ ap (λ (j : ℕ). getD tags i 0 ∷ drop j tags) e)
-      ∙ then-assoc (read-field (getD tags i 0) h s at) _ _
+      ap (λ (l : List ℕ). read-fields l h s at) (drop-cons tags i 0 lt ∙ ap (λ (j : ℕ). getD tags i 0 ∷ drop j tags) e)
 
-  pub record-more : {more : Held} {next : ℕ} → i < length tags → read-field (getD tags i 0) h s at ≡ found more next → rest tags s h at i ≡ rest tags s more next (i + 1)
-  record-more lt e = next-field lt ∙ then-found _ e
+  pub fields-more : {more : Held} {next : ℕ} → i < length tags → read-field (getD tags i 0) h s at ≡ found more next →
+      read-fields (drop i tags) h s at ≡ read-fields (drop (i + 1) tags) more s next
+  fields-more lt e = next-field lt ∙ then-found _ e
 
-  pub record-refused : {k : ℕ} → i < length tags → read-field (getD tags i 0) h s at ≡ refused k → rest tags s h at i ≡ refused k
-  record-refused lt e = next-field lt ∙ then-refused _ e
+  pub fields-refused : {k : ℕ} → i < length tags → read-field (getD tags i 0) h s at ≡ refused k → read-fields (drop i tags) h s at ≡ refused k
+  fields-refused lt e = next-field lt ∙ then-refused _ e
 
-  pub record-ended : length tags ≤ i → rest tags s h at i ≡ ended s h at
-  unfolding rest read-fields _then_
-  record-ended le = rw (drop-all i tags le)
+  pub fields-ended : length tags ≤ i → read-fields (drop i tags) h s at ≡ found h at
+  unfolding read-fields
+  fields-ended le = ap (λ (l : List ℕ). read-fields l h s at) (drop-all i tags le)

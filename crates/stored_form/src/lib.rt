@@ -9,7 +9,7 @@ ghost use Rattle.stored_form.specs.Number.{part};
 ghost use Rattle.stored_form.specs.Reading.{found, refused, checked};
 ghost use Rattle.stored_form.specs.Head.{allowed, drawing-limit};
 ghost use Rattle.stored_form.specs.Fields.{count-refusal, end-refusal};
-ghost use Rattle.stored_form.specs.Held.{nothing-held, curve-of-degree, hold, field-refusal, read-field, read-record, read-of, place-refusal};
+ghost use Rattle.stored_form.specs.Held.{nothing-held, curve-of-degree, hold, field-refusal, read-field, read-fields, read-record, read-of, place-refusal};
 
 pub mod classes;
 mod drawings;
@@ -269,12 +269,12 @@ pub fn read_field(tag: u8, h: Held, s: &[u8], at: Cursor) -> Read
     settled(field_refusal(tag, more), more, next)
 }
 
-// Reads a record: the fields with these tags, one after the other, and nothing after them.
-pub fn read_record(tags: &[u8], s: &[u8]) -> Read
-    ensures { λ r. ⌜ r ≡ read-of (read-record (now (tags .entry)) (now (s .entry))) ⌝ }
+// Reads the fields with these tags, one after the other, from a place on.
+pub fn read_fields(tags: &[u8], h: Held, s: &[u8], start: Cursor) -> Read
+    ensures { λ r. ⌜ r ≡ read-of (read-fields (now (tags .entry)) h (now (s .entry)) (start .at)) ⌝ }
 {
-    let mut held = nothing_held();
-    let mut at = 0;
+    let mut held = h;
+    let mut at = start.at;
     let mut i = 0;
     while i < tags.len() {
         let r = read_field(tags[i], held, s, Cursor { at });
@@ -287,6 +287,21 @@ pub fn read_record(tags: &[u8], s: &[u8]) -> Read
         at = next.at;
         i += 1;
     }
-    let n = end_refusal(s, Cursor { at });
-    settled(n, held, Cursor { at })
+    Read {
+        place: Place::Next(Cursor { at }),
+        held,
+    }
+}
+
+// Reads a record: the fields with these tags, and nothing after them.
+pub fn read_record(tags: &[u8], s: &[u8]) -> Read
+    ensures { λ r. ⌜ r ≡ read-of (read-record (now (tags .entry)) (now (s .entry))) ⌝ }
+{
+    let r = read_fields(tags, nothing_held(), s, Cursor { at: 0 });
+    let place = r.place;
+    let Place::Next(end) = place else {
+        return r;
+    };
+    let held = r.held;
+    settled(end_refusal(s, end), held, end)
 }

@@ -1,0 +1,62 @@
+-- The records that the byte calls take: what they hold and how they are written (document 01, 'Stored form').
+use Prim.Native.Nat.{ℕ}
+use mathlib.Core.Path.{_≡_}
+use mathlib.Core.List.{List, _++_}
+use Rattle.jacobian.specs.declared.{Curve.Curve, Class.Class}
+use Rattle.history.specs.declared.Register.{Register}
+use Rattle.stored_form.specs.{Passing.CountPasses, Passing.ClassPasses, Fields.count-field, Classes.curve-first-fields, Classes.class-field}
+use Rattle.stored_form.specs.Held.{nothing-held, with-curve, with-count, with-class, with-operation}
+use Rattle.stored_form.specs.declared.Held.{Held}
+
+-- ---- what is held once a record is read, and nothing else
+
+abbrev pub class-held : Curve → Class → Held
+class-held c a = with-class a (with-curve c nothing-held)
+
+abbrev pub sum-held : Curve → Class → Class → Held
+sum-held c a b = with-class b (with-class a (with-curve c nothing-held))
+
+abbrev pub register-held : Register → Class → Held
+register-held g a = with-operation a (with-class (g .seal) (with-count (g .count) (with-curve (g .curve) nothing-held)))
+
+-- ---- the records as they are written
+
+-- 0x42, then 0x43
+abbrev pub register-fields : Register → List ℕ
+register-fields g = count-field (g .count) ++ class-field 0x43 (g .seal)
+
+unfoldable pub class-record-bytes : Curve → Class → List ℕ
+class-record-bytes c a = curve-first-fields c ++ class-field 0x43 a
+
+unfoldable pub sum-record-bytes : Curve → Class → Class → List ℕ
+sum-record-bytes c a b = curve-first-fields c ++ class-field 0x43 a ++ class-field 0x43 b
+
+unfoldable pub register-record-bytes : Register → Class → List ℕ
+register-record-bytes g a = curve-first-fields (g .curve) ++ register-fields g ++ class-field 0x44 a
+
+-- ---- bytes that are the record of values which no check refuses
+
+pub record ClassStored (s : List ℕ) (h : Held) : Type 0 where
+  pub curve : Curve
+  pub class : Class
+  pub held : h ≡ class-held curve class
+  pub bytes : s ≡ class-record-bytes curve class
+  pub passes : ClassPasses curve class
+
+pub record SumStored (s : List ℕ) (h : Held) : Type 0 where
+  pub curve : Curve
+  pub first : Class
+  pub second : Class
+  pub held : h ≡ sum-held curve first second
+  pub bytes : s ≡ sum-record-bytes curve first second
+  pub first-passes : ClassPasses curve first
+  pub second-passes : ClassPasses curve second
+
+pub record RegisterStored (s : List ℕ) (h : Held) : Type 0 where
+  pub register : Register
+  pub class : Class
+  pub held : h ≡ register-held register class
+  pub bytes : s ≡ register-record-bytes register class
+  pub count-passes : CountPasses (register .count)
+  pub seal-passes : ClassPasses (register .curve) (register .seal)
+  pub class-passes : ClassPasses (register .curve) class
