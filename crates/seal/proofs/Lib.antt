@@ -1,2 +1,4 @@
 -- Laws of the records and of the byte calls.
 pub mod Written
+pub mod ByteRegister
+pub mod ByteHalving

@@ -31,6 +31,11 @@ pub put-written : (bytes out : List ℕ) → length bytes ≤ length out → put
 unfolding put write
 put-written bytes out h = lent-long _ out _ h
 
+-- a refusal writes nothing
+pub put-refusal : (n : ℕ) (out : List ℕ) → put (refusal n) out ≡ refuse n out
+unfolding put refuse
+put-refusal n out = lent-long 0 out _ (omega arith)
+
 -- ---- the copy
 
 -- the first bytes of a row, by the number of them that it has
@@ -73,8 +78,8 @@ module _ (least : ℕ) (tags : List ℕ) (answer : Held → Handed) (s out : Lis
     answered-for e = lent-long _ out _ fits ∙ ap (λ (r : Reading Held). put (for r answer) out) e
 
     pub call-refused : {n : ℕ} → read-record tags s ≡ refused n → byte-call least tags answer s out ≡ refuse n out
-    unfolding for refuse put
-    call-refused e = answered-for e ∙ lent-long 0 out _ (omega arith)
+    unfolding for
+    call-refused {n} e = answered-for e ∙ put-refusal n out
 
     pub call-found : {h : Held} {end : ℕ} → read-record tags s ≡ found h end → byte-call least tags answer s out ≡ put (answer h) out
     unfolding for
