@@ -2,8 +2,8 @@
 use Prim.Native.Nat.{ℕ}
 use mathlib.Core.Path.{_≡_, _∙_, subst₂}
 use mathlib.Core.List.{List}
-use Rattle.stored_form.specs.{Reading.found, Fields.drawing-at, Fields.count-at, Fields.end-due, Classes.curve-first, Classes.class-at}
-use Rattle.stored_form.proofs.Readings.{then-found, both-found, due-found, due-none, same-found}
+use Rattle.stored_form.specs.{Reading.found, Fields.drawing-at, Fields.count-at, Fields.end-refusal, Classes.curve-first, Classes.class-at}
+use Rattle.stored_form.proofs.Readings.{then-found, both-found, checked-found, checked-none, same-found}
 use Rattle.archive.specs.Archive.{Archive, operations-at, read-archive}
 
 -- the fields of an archive that ends at a place
@@ -18,7 +18,7 @@ pub record Fields (s : List ℕ) (a : Archive) (end : ℕ) : Type 0 where
   pub count-found : count-at s after-drawing ≡ found count after-count
   pub seal-found : class-at 0x43 (a .curve) s after-count ≡ found (a .seal) after-seal
   pub operations-found : operations-at count (a .curve) s after-seal ≡ found (a .operations) end
-  pub end-found : end-due s end ≡ 0
+  pub end-found : end-refusal s end ≡ 0
 
 module _ (s : List ℕ) {a : Archive} {end : ℕ} where
   pub fields-found : Fields s a end → read-archive s ≡ found a end
@@ -29,7 +29,7 @@ module _ (s : List ℕ) {a : Archive} {end : ℕ} where
       ∙ then-found _ (f .count-found)
       ∙ then-found _ (f .seal-found)
       ∙ then-found _ (f .operations-found)
-      ∙ due-none _ _ (f .end-found)
+      ∙ checked-none _ _ (f .end-found)
 
   pub found-fields : read-archive s ≡ found a end → Fields s a end
   unfolding read-archive
@@ -39,7 +39,7 @@ module _ (s : List ℕ) {a : Archive} {end : ℕ} where
       let count = both-found _ (count-at s (name .1)) (name .3) in
       let seal = both-found _ (class-at 0x43 (first .0) s (count .1)) (count .3) in
       let ops = both-found _ (operations-at (count .0) (first .0) s (seal .1)) (seal .3) in
-      let ended = due-found (end-due s (ops .1)) _ (ops .3) in
+      let ended = checked-found (end-refusal s (ops .1)) _ (ops .3) in
       let e = same-found (ended .1) in
       subst₂ (Fields s) (e .0) (e .1)
       (record {

@@ -1,26 +1,25 @@
--- Every accepted archive is shorter than 65,536 bytes (document 01, 'The walk report'): at most 31 bytes for degree and curve, 258 for the drawing number,
--- 5 for the count and 51 for each class.
-use Prim.Native.Nat.{ℕ, _*_, _≤_, _<_}
+-- Every accepted archive is shorter than 65,536 bytes (document 01, 'The walk report'): the first fields, the drawing number, the count, and the room of each class.
+use Prim.Native.Nat.{ℕ, _+_, _*_, _≤_, _<_}
 use mathlib.Core.Path.{_≡_, refl, ap}
 use mathlib.Core.List.{List, [], _∷_, _++_}
 use native.Mathlib.Omega.{arith}
 use lib.ListN.{length, take, length-append, length-take, length-reverse}
 use Rattle.class_group.specs.Walk.{All, none, more}
-use Rattle.jacobian.specs.{Classes.Three, declared.Curve.Curve, declared.Class.Class}
-use Rattle.stored_form.specs.{Number.bytes-of, Number.Bytes, Reading.found, Head.head-bytes, Head.stored, Elements.element-bytes, Fields.degree-field, Fields.count-limit}
+use Rattle.jacobian.specs.{Classes.Three, Curves.coefficients, declared.Curve.Curve, declared.Class.Class}
+use Rattle.stored_form.specs.{Number.bytes-of, Number.Bytes, Reading.found, Head.class-room, Head.count-length, Head.first-fields-length, Head.head-bytes, Head.stored, Elements.element-length, Elements.element-bytes, Fields.degree-field, Fields.count-limit}
 use Rattle.stored_form.specs.{Fields.drawing-field, Fields.count-field, Classes.curve-field, Classes.curve-first-fields, Classes.row-written, Classes.class-field}
 use Rattle.stored_form.proofs.{Bodies.length-stored, ElementBytes.length-element-bytes}
 use Rattle.archive.specs.Archive.{Archive, read-archive}
 use Rattle.archive.specs.Written.{operation-fields, archive-bytes, Allowed, Storable}
 use Rattle.archive.proofs.ArchiveRoundTrips.{archive-written}
 
-row-short : (n : ℕ) (r : List ℕ) → length r ≡ 3 → length (element-bytes (row-written n r)) ≤ 24
+row-short : (n : ℕ) (r : List ℕ) → length r ≡ 3 → length (element-bytes (row-written n r)) ≤ 3 * element-length
 unfolding row-written
 row-short n r h =
     let e : length (row-written n r) ≡ length (take n r) = length-reverse (take n r) in
     omega (arith, length-element-bytes (row-written n r), length-take n r)
 
-class-short : (tag : ℕ) (a : Class) → Three a → length (class-field tag a) ≤ 51
+class-short : (tag : ℕ) (a : Class) → Three a → length (class-field tag a) ≤ class-room
 unfolding class-field
 class-short tag a h =
     let us : List ℕ = element-bytes (row-written (a .degree) (a .u)) in
@@ -33,19 +32,19 @@ class-short tag a h =
       row-short (a .degree) (a .v) (h .v-three),
     )
 
-operations-short : {c : Curve} (ops : List Class) → All (Allowed c) ops → length (operation-fields ops) ≤ 51 * length ops
+operations-short : {c : Curve} (ops : List Class) → All (Allowed c) ops → length (operation-fields ops) ≤ class-room * length ops
 unfolding operation-fields
 operations-short [] none = omega arith
 operations-short (a ∷ older) (more h hs) =
     omega (arith, length-append (class-field 0x44 a) (operation-fields older), class-short 0x44 a (h .three), operations-short older hs)
 
-first-length : (c : Curve) → length (curve-first-fields c) ≡ 31
-unfolding curve-first-fields degree-field curve-field stored head-bytes element-bytes bytes-of
+first-length : (c : Curve) → length (curve-first-fields c) ≡ first-fields-length
+unfolding curve-first-fields degree-field curve-field coefficients stored head-bytes element-bytes bytes-of
 first-length c = refl
 
-count-length : (n : ℕ) → length (count-field n) ≡ 5
+count-field-length : (n : ℕ) → length (count-field n) ≡ 3 + count-length
 unfolding count-field stored head-bytes bytes-of
-count-length n = refl
+count-field-length n = refl
 
 stored-short : (a : Archive) → Storable a → length (archive-bytes a) < 65536
 unfolding archive-bytes drawing-field count-limit
@@ -63,7 +62,7 @@ stored-short a ok =
       length-append (first ++ name ++ count ++ seal) ops,
       first-length (a .curve),
       length-stored 0x46 (a .drawing),
-      count-length (length (a .operations)),
+      count-field-length (length (a .operations)),
       class-short 0x43 (a .seal) (ok .seal-allowed .three),
       operations-short (a .operations) (ok .operations-allowed),
     )

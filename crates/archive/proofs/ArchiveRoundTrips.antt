@@ -7,15 +7,15 @@ use native.Mathlib.Omega.{arith}
 use lib.ListN.{length, drop, length-take}
 use Rattle.class_group.specs.Walk.{All, none, more}
 use Rattle.jacobian.specs.{Answer.refusal, declared.Curve.Curve, declared.Class.Class}
-use Rattle.stored_form.specs.{Number.Bytes, Number.part, Reading.found, Head.drawing-limit, Fields.drawing-place, Fields.drawing-at}
-use Rattle.stored_form.specs.{Fields.drawing-field, Fields.count-limit, Fields.count-field, Classes.curve-first-fields, Classes.class-at, Classes.class-field}
+use Rattle.stored_form.specs.{Number.Bytes, Number.part, Reading.found, Fields.drawing-field}
+use Rattle.stored_form.specs.{Fields.count-limit, Fields.count-field, Classes.curve-first-fields, Classes.class-at, Classes.class-field}
 use Rattle.stored_form.proofs.{Readings.then-found, Readings.both-found, Readings.same-found, Lengths.class-lengths, Lengths.operation-lengths}
 use Rattle.stored_form.proofs.RoundTrips.{Field, behind, apart, up-to, whole, is-whole, end-written, end-read-back, count-written, count-read-back, drawing-written, drawing-read-back}
 use Rattle.stored_form.proofs.CurveRoundTrips.{curve-first-written, curve-first-read-back}
 use Rattle.stored_form.proofs.ClassRoundTrips.{class-three, class-written, class-read-back}
 use Rattle.archive.specs.Archive.{Archive, operations-at, read-archive}
 use Rattle.archive.specs.Written.{operation-fields, archive-bytes, Allowed, Storable}
-use Rattle.archive.proofs.{Readings.newest, ReaderSteps.drawing-bounded}
+use Rattle.archive.proofs.Operations.{newest}
 use Rattle.archive.proofs.ArchiveFields.{fields-found, found-fields}
 
 -- ---- one class
@@ -57,15 +57,6 @@ module _ (c : Curve) (s : List ℕ) where
         field = behind (class-field 0x44 (m .class)) (operation-fields (m .older)) (this .1) (rest .field);
       })
 
--- ---- the drawing number
-
-drawing-small : (s : List ℕ) (at : ℕ) {xs : List ℕ} {next : ℕ} → drawing-at s at ≡ found xs next → length xs ≤ drawing-limit
-unfolding drawing-at
-drawing-small s at {xs} h =
-    let p = both-found _ (drawing-place s at) h in
-    let long : length (part s (p .0 .start) (p .0 .len)) ≡ length xs = ap length (same-found (p .3) .0) in
-    omega (arith, drawing-bounded s at (p .2) .0, length-take (p .0 .len) (drop (p .0 .start) s))
-
 -- ---- the archive
 
 pub archive-read-back : (a : Archive) → Storable a → read-archive (archive-bytes a) ≡ found a (length (archive-bytes a))
@@ -104,14 +95,14 @@ archive-written s {a} {end} b h =
     let ops = operations-written (a .curve) s (f .count) (f .after-seal) b (f .operations-found) in
     let counted = subst (λ (n : ℕ). Field s (f .after-drawing) (count-field n) (f .after-count)) (sym (ops .counted)) (count .1) in
     let all : Field s 0 (archive-bytes a) end =
-    behind _ _ (behind _ _ (behind _ _ (behind _ _ (first .1) (name .1)) counted) (seal .1)) (ops .field) in
+    behind _ _ (behind _ _ (behind _ _ (behind _ _ (first .1) (name .2)) counted) (seal .1)) (ops .field) in
     let ends = is-whole s all (end-written s end (f .end-found)) in (
       ends .0,
       ends .1,
       record {
         curve-allowed = first .0;
         drawing-printable = name .0;
-        drawing-short = drawing-small s (f .after-curve) (f .drawing-found);
+        drawing-short = name .1;
         count-within = subst (λ (n : ℕ). n ≤ count-limit) (sym (ops .counted)) (count .0);
         seal-allowed = class-allowed 0x43 (a .curve) s (f .after-count) (f .seal-found) (seal .0);
         operations-allowed = ops .each;

@@ -1,8 +1,9 @@
--- Laws of readings one after the other; reading by steps agrees with the reading in one piece; an archive's bytes and its values determine each other.
-pub mod Readings
+-- Reading an archive by steps is reading it in one piece; its bytes and its values determine each other; its length; reading it through a part that moves on.
+pub mod Operations
 pub mod ReaderSteps
-pub mod Windows
+pub mod Agreement
 pub mod ArchiveFields
 pub mod ArchiveRoundTrips
 pub mod ArchiveBytes
 pub mod ArchiveLength
+pub mod Windows

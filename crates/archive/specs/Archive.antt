@@ -1,8 +1,8 @@
 -- An archive and how it is read (document 01, 'Stored form', 'In checking order').
 use Prim.Native.Nat.{ℕ, zero, suc}
 use mathlib.Core.List.{List, [], _∷_}
-use Rattle.stored_form.specs.Reading.{Reading, found, due, _then_, number}
-use Rattle.stored_form.specs.Fields.{drawing-at, count-at, end-due}
+use Rattle.stored_form.specs.Reading.{Reading, found, checked, _then_, reading-refusal}
+use Rattle.stored_form.specs.Fields.{drawing-at, count-at, end-refusal}
 use Rattle.stored_form.specs.Classes.{curve-first, class-at}
 use Rattle.jacobian.specs.declared.Curve.{Curve}
 use Rattle.jacobian.specs.declared.Class.{Class}
@@ -30,8 +30,8 @@ read-archive s =
     count-at s next then λ n next.
     class-at 0x43 c s next then λ seal next.
     operations-at n c s next then λ ops next.
-    due (end-due s next) (found (record { curve = c; drawing = name; seal = seal; operations = ops }) next)
+    checked (end-refusal s next) (found (record { curve = c; drawing = name; seal = seal; operations = ops }) next)
 
 -- the number of an archive's refusal, and 0 where it is accepted
 unfoldable pub archive-refusal : List ℕ → ℕ
-archive-refusal s = number (read-archive s)
+archive-refusal s = reading-refusal (read-archive s)

@@ -1,95 +1,100 @@
 -- The reader of an archive: a state, and one step for each field (document 01, 'Stored form', 'In checking order').
-use Prim.Native.Nat.{ℕ, zero, suc, _+_, _≤_}
-use mathlib.Core.Path.{_≡_}
-use mathlib.Core.Bool.{Bool, true, false}
-use mathlib.Core.List.{List}
-use lib.ListN.{length}
-use Rattle.stored_form.specs.Number.{part}
-use Rattle.stored_form.specs.Reading.{Reading, found, refused, due, _then_}
-use Rattle.stored_form.specs.Head.{drawing-limit}
-use Rattle.stored_form.specs.Fields.{degree-at, drawing-place, count-at, count-limit, end-due}
-use Rattle.stored_form.specs.Classes.{curve-at, class-at, placed}
-use Rattle.jacobian.specs.declared.Curve.{Curve}
+use Prim.Native.Nat.{ℕ, zero, suc, _-_}
+use mathlib.Core.Bool.{Bool, true, false, cond}
+use mathlib.Core.List.{List, [], _∷_}
+use lib.Dec.{ltb}
+use lib.ListN.{length, getD, replicate}
+use Rattle.stored_form.specs.{Reading.Reading, Reading.found, Reading.refused, Reading.checked, Reading._then_, Fields.end-refusal}
+use Rattle.stored_form.specs.Held.{drawing-name, nothing-held, with-operation, read-field, read-fields, archive-opening}
+use Rattle.stored_form.specs.declared.Held.{Held}
+use Rattle.stored_form.specs.declared.Place.the-variants.{Next, Refused}
 use Rattle.jacobian.specs.declared.Class.{Class}
-use Rattle.stored_form.specs.declared.Part.{Part}
-use Rattle.archive.specs.declared.Due.{Due}
-use Rattle.archive.specs.declared.Due.the-variants as awaits
-use Rattle.archive.specs.declared.Opening.{Opening}
-use Rattle.archive.specs.declared.Reader.{Reader}
-use Rattle.archive.specs.declared.Advance.{Advance}
 use Rattle.archive.specs.Archive.{Archive, operations-at}
+use Rattle.archive.specs.declared.{Due.Due, Reader.Reader, Advance.Advance}
+use Rattle.archive.specs.declared.Due.the-variants.{Opening, Operations, End, Nothing}
 
-abbrev pub reader : Due → Opening → Reader
-reader d o = record { due = d; opening = o }
+abbrev pub reader : Due → Held → Reader
+reader d h = record { due = d; held = h }
 
--- ---- what was read, with one field more
+-- before the first field
+unfoldable pub start : Reader
+start = reader (Opening 0) nothing-held
 
-abbrev pub with-curve : Curve → Opening → Opening
-with-curve c o = record { curve = c; drawing = o .drawing; count = o .count; seal = o .seal; first = o .first }
+-- ---- what is due
 
-abbrev pub with-drawing : Part → Opening → Opening
-with-drawing p o = record { curve = o .curve; drawing = p; count = o .count; seal = o .seal; first = o .first }
+-- where this many operations are left: the next one, or the end
+unfoldable pub operations-due : ℕ → Due
+operations-due zero = End
+operations-due (suc n) = Operations (suc n)
 
-abbrev pub with-count : ℕ → Opening → Opening
-with-count n o = record { curve = o .curve; drawing = o .drawing; count = n; seal = o .seal; first = o .first }
-
--- the seal, and the place after it, where the first operation stands
-abbrev pub with-seal : Class → ℕ → Opening → Opening
-with-seal a next o = record { curve = o .curve; drawing = o .drawing; count = o .count; seal = a; first = record { at = next } }
+-- after the field at a place of the opening: the next field of it, or the operations
+unfoldable pub after-opening : ℕ → ℕ → Due
+after-opening i count = cond (ltb (suc i) (length archive-opening)) (Opening (suc i)) (operations-due count)
 
 -- ---- one step
 
--- the field that is due is read at a place, and the next one is due
-unfoldable pub read-at : Due → Opening → List ℕ → ℕ → Reading Reader
-read-at awaits.Degree o s at = degree-at s at then λ d next. found (reader (awaits.Curve d) o) next
-read-at (awaits.Curve d) o s at = curve-at d s at then λ c next. found (reader awaits.Drawing (with-curve c o)) next
-read-at awaits.Drawing o s at = drawing-place s at then λ p next. found (reader awaits.Count (with-drawing p o)) next
-read-at awaits.Count o s at = count-at s at then λ n next. found (reader awaits.Seal (with-count n o)) next
-read-at awaits.Seal o s at = class-at 0x43 (o .curve) s at then λ a next. found (reader (awaits.Operations (o .count)) (with-seal a next o)) next
-read-at (awaits.Operations (suc n)) o s at = class-at 0x44 (o .curve) s at then λ a next. found (reader (awaits.Operations n) o) next
-read-at (awaits.Operations zero) o s at = due (end-due s at) (found (reader awaits.Nothing o) at)
-read-at awaits.Nothing o s at = found (reader awaits.Nothing o) at
+unfoldable pub read-opening : ℕ → Held → List ℕ → ℕ → Reading Reader
+read-opening i h s at = read-field (getD archive-opening i 0) h s at then λ more next. found (reader (after-opening i (more .count)) more) next
+
+unfoldable pub read-operation : ℕ → Held → List ℕ → ℕ → Reading Reader
+read-operation n h s at = read-field 0x44 h s at then λ more next. found (reader (operations-due (n - 1)) more) next
+
+unfoldable pub read-end : Held → List ℕ → ℕ → Reading Reader
+read-end h s at = checked (end-refusal s at) (found (reader Nothing h) at)
+
+-- what is due is read at a place
+abbrev pub read-due : Due → Held → List ℕ → ℕ → Reading Reader
+read-due (Opening i) h s at = read-opening i h s at
+read-due (Operations n) h s at = read-operation n h s at
+read-due End h s at = read-end h s at
+read-due Nothing h s at = found (reader Nothing h) at
 
 unfoldable pub step : Reader → List ℕ → ℕ → Reading Reader
-step r s at = read-at (r .due) (r .opening) s at
+step r s at = read-due (r .due) (r .held) s at
 
--- is a field due?
+-- is a field or the end due?
 unfoldable pub pending : Due → Bool
-pending awaits.Degree = true
-pending (awaits.Curve d) = true
-pending awaits.Drawing = true
-pending awaits.Count = true
-pending awaits.Seal = true
-pending (awaits.Operations n) = true
-pending awaits.Nothing = false
+pending (Opening i) = true
+pending (Operations n) = true
+pending End = true
+pending Nothing = false
 
--- ---- what the code's answer says
+-- ---- all steps: the opening, as many 0x44 as the count says, and nothing after them
 
-abbrev pub advance-read : Advance → Reading Reader
-advance-read t = placed (t .place) (t .reader)
+unfoldable pub read-steps : List ℕ → Reading Reader
+read-steps s =
+    read-fields archive-opening nothing-held s 0 then λ h next.
+    read-fields (replicate (h .count) 0x44) h s next then λ h end.
+    read-end h s end
 
--- ---- a whole archive
+-- ---- the code's answer: the state beside its place, the start on a refusal
 
--- an opening within the limits: the count, and the drawing number's length and place
-pub record Bounded (s : List ℕ) (o : Opening) : Type 0 where
-  pub count : o .count ≤ count-limit
-  pub name : o .drawing .len ≤ drawing-limit
-  pub within : o .drawing .start + o .drawing .len ≤ length s
+unfoldable pub advance-of : Reading Reader → Advance
+advance-of (found r next) = record { place = Next (record { at = next }); reader = r }
+advance-of (refused n) = record { place = Refused n; reader = start }
 
--- the archive that an opening and its operations make
-unfoldable pub archive-of : List ℕ → Opening → List Class → Archive
-archive-of s o ops =
-    let p = o .drawing in
-    record { curve = o .curve; drawing = part s (p .start) (p .len); seal = o .seal; operations = ops }
+-- ---- an archive by its opening and its operations: what the steps hold at the end, and the archive's value, say of it
 
--- the opening, and the operations from its place on, make the archive
-pub record Accepted (s : List ℕ) (o : Opening) (end : ℕ) (a : Reading Archive) : Type 0 where
-  pub bounded : Bounded s o
-  pub ops : List Class
-  pub stand : operations-at (o .count) (o .curve) s (o .first .at) ≡ found ops end
-  pub archive : a ≡ found (archive-of s o ops) end
+pub record Opened : Type 0 where
+  pub held : Held
+  pub first : ℕ
+  pub operations : List Class
 
--- reading by steps finds or refuses what the reading of the archive does
-abbrev pub Agrees : List ℕ → Reading Reader → Reading Archive → Type 0
-Agrees s (found r end) a = Accepted s (r .opening) end a
-Agrees s (refused n) a = a ≡ refused n
+unfoldable pub read-opened : List ℕ → Reading Opened
+read-opened s =
+    read-fields archive-opening nothing-held s 0 then λ h first.
+    operations-at (h .count) (h .curve) s first then λ ops end.
+    checked (end-refusal s end) (found (record { held = h; first = first; operations = ops }) end)
+
+-- every operation was held in its turn
+unfoldable pub with-operations : List Class → Held → Held
+with-operations [] h = h
+with-operations (a ∷ older) h = with-operations older (with-operation a h)
+
+unfoldable pub last-state : Opened → Reader
+last-state o = reader Nothing (with-operations (o .operations) (o .held))
+
+unfoldable pub archive-of : Opened → Archive
+archive-of o =
+    let h = o .held in
+    record { curve = h .curve; drawing = drawing-name (h .drawing); seal = h .class; operations = o .operations }

@@ -10,7 +10,7 @@ use borrow.Author.Tests.{ne-eqb}
 use Rattle.jacobian.specs.Answer.{refusal}
 use Rattle.stored_form.specs.{Number.part, Reading.Reading, Reading.found, Reading.refused, Reading.checked, Reading._then_, Classes.class-said}
 use Rattle.stored_form.specs.Head.{drawing-limit, allowed, head-at, body-at}
-use Rattle.stored_form.specs.Held.{drawing-said, with-operation, hold, field-refusal, read-field, read-fields, read-of}
+use Rattle.stored_form.specs.Held.{drawing-said, with-operation, hold, field-refusal, read-field, read-fields, read-of, place-refusal}
 use Rattle.stored_form.specs.declared.{Held.Held, Read.Read, Place.Place, Cursor.Cursor}
 use Rattle.stored_form.specs.declared.Place.the-variants.{Next, Refused}
 use Rattle.stored_form.proofs.Readings.{then-found, then-refused}
@@ -58,7 +58,7 @@ module _ (tag : ℕ) (h : Held) (s : List ℕ) (at : ℕ) where
 -- ---- what a reader's answer says of the reading
 
 -- what stands beside a place was found there
-pub placed : {A : Type 0} → Place → A → Reading A
+unfoldable pub placed : {A : Type 0} → Place → A → Reading A
 placed (Next next) a = found a (next .at)
 placed (Refused n) a = refused n
 
@@ -79,7 +79,11 @@ module _ (r : Read) {x : Reading Held} (e : r ≡ read-of x) where
   unfolding placed
   place-refused f = said ∙ ap (λ (p : Place). placed p (r .held)) f
 
-drop-all : (i : ℕ) (l : List ℕ) → length l ≤ i → drop i l ≡ []
+  -- with the number that the code makes of it
+  pub place-refused-as : {n k : ℕ} → r .place ≡ Refused n → k ≡ place-refusal (r .place) → x ≡ refused k
+  place-refused-as f g = place-refused f ∙ ap refused (sym (g ∙ ap place-refusal f))
+
+pub drop-all : (i : ℕ) (l : List ℕ) → length l ≤ i → drop i l ≡ []
 drop-all zero [] h = refl
 drop-all zero (x ∷ l) h = absurd (omega arith)
 drop-all (suc i) [] h = refl

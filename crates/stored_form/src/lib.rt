@@ -44,7 +44,9 @@ pub const SUM_RECORD: [u8; 4] = [DEGREE, CURVE, CLASS, CLASS];
 pub const REGISTER_RECORD: [u8; 5] = [DEGREE, CURVE, COUNT, CLASS, OPERATION];
 
 // What an archive holds before its operations.
-pub const ARCHIVE_OPENING: [u8; 5] = [DEGREE, CURVE, DRAWING, COUNT, CLASS];
+pub const OPENING_FIELDS: usize = 5;
+
+pub const ARCHIVE_OPENING: [u8; OPENING_FIELDS] = [DEGREE, CURVE, DRAWING, COUNT, CLASS];
 
 // An element's bytes.
 pub const ELEMENT_LENGTH: usize = 8;

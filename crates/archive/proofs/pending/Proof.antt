@@ -1,6 +1,6 @@
 -- `pending` meets its contract.
-use Rattle.archive.specs.Reader.{pending}
 use borrow.Author.Needs.{needs}
+use Rattle.archive.specs.Reader.{pending}
 use Rattle.archive.proofs.pending.Statement.{statement}
 use Rattle.archive.proofs.pending.Tie as tie
 
@@ -20,33 +20,5 @@ returns-4 : tie.Need-returns-4
 unfolding pending
 returns-4 c = search needs
 
-returns-5 : tie.Need-returns-5
-unfolding pending
-returns-5 c = search needs
-
-returns-6 : tie.Need-returns-6
-unfolding pending
-returns-6 c = search needs
-
-returns-7 : tie.Need-returns-7
-unfolding pending
-returns-7 c = search needs
-
 pub pending-spec : {M : Type 1} → statement M
-pending-spec =
-    tie.close
-    (tie.spec
-    (λ c. search needs)
-    (λ c. search needs)
-    (λ c. search needs)
-    (λ c. search needs)
-    (λ c. search needs)
-    (λ c. search needs)
-    (λ c. search needs)
-    returns
-    returns-2
-    returns-3
-    returns-4
-    returns-5
-    returns-6
-    returns-7)
+pending-spec = tie.close (tie.spec (λ c. search needs) (λ c. search needs) (λ c. search needs) (λ c. search needs) returns returns-2 returns-3 returns-4)

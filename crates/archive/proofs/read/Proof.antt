@@ -1,44 +1,51 @@
--- `read` meets its contract: what is left to read agrees with the reading of the archive.
-use mathlib.Core.Path.{sym, _∙_}
-use Rattle.archive.specs.Archive.{read-archive}
-use Rattle.archive.specs.Reader.{Agrees}
-use Rattle.archive.proofs.ReaderSteps.{left, fields-left, begun, ended, stopped-there, moved-there, less-there}
+-- `read` meets its contract: what is left to read is what the steps read.
 use borrow.Author.Needs.{needs}
+use mathlib.Core.Path.{_≡_, sym, ap, _∙_}
+use Rattle.stored_form.proofs.Readings.{then-found, then-refused}
+use Rattle.archive.specs.Reader.{step, read-steps, advance-of}
+use Rattle.archive.proofs.ReaderSteps.{left, one-step, begun, nothing-left, rank, less-left, advance-found, advance-refused}
 use Rattle.archive.proofs.read.Statement.{statement}
 use Rattle.archive.proofs.read.Tie as tie
 
 abbrev Inv-loop : tie.InvT-loop
-Inv-loop s r₀ at₀ r at = Agrees s (left s (r .due) (r .opening) at) (read-archive s)
+Inv-loop s r₀ at₀ r at = read-steps s ≡ left s (r .due) (r .held) at
 
 abbrev μ-loop : tie.MeasureT-loop
-μ-loop s r₀ at₀ r at = fields-left (r .due) (r .opening)
+μ-loop s r₀ at₀ r at = rank s (r .due) at
 
 loop-holds : tie.Need-loop-holds Inv-loop μ-loop
-loop-holds c = begun _ (c .start .result) (c .start .ensures)
+loop-holds c = begun _ (c .start .ensures)
 
 returns : tie.Need-returns Inv-loop μ-loop
+unfolding step
 returns c =
     let t = c .before .before in
     let head = t .before .before .before .loop in
-    stopped-there _ (head .r) (head .at) (head .inv) (t .step .result) (t .step .ensures) (c .enum-told .given .1)
+    let x = advance-refused (t .step .result) (t .step .ensures) (c .enum-told .given .1) in
+    t .step .ensures ∙ ap advance-of (x ∙ sym (head .inv ∙ one-step _ (head .r .due) (head .r .held) (head .at) ∙ then-refused _ x))
 
 loop-less : tie.Need-loop-less Inv-loop μ-loop
+unfolding step
 loop-less c =
     let t = c .before .before .before .before in
     let test = t .before .before in
     let head = test .before .loop in
-    less-there _ (head .r) (head .at) (head .inv) (t .step .result) (t .step .ensures) (c .before .before .p .given .1) (sym (test .pending .ensures) ∙ t .before .if1 .taken)
+    less-left _ (head .r .held) (head .at) (head .r .due) (sym (test .pending .ensures) ∙ t .before .if1 .taken)
+    (advance-found (t .step .result) (t .step .ensures) (c .before .before .place .given .1))
 
 loop-again : tie.Need-loop-again Inv-loop μ-loop
+unfolding step
 loop-again c =
     let t = c .before .before .before .before in
     let head = t .before .before .before .loop in
-    moved-there _ (head .r) (head .at) (head .inv) (t .step .result) (t .step .ensures) (c .before .before .p .given .1)
+    head .inv ∙ one-step _ (head .r .due) (head .r .held) (head .at)
+    ∙ then-found _ (advance-found (t .step .result) (t .step .ensures) (c .before .before .place .given .1))
 
 returns-2 : tie.Need-returns-2 Inv-loop μ-loop
+unfolding advance-of
 returns-2 c =
     let head = c .before .before .loop in
-    ended _ (head .r) (head .at) (head .inv) (sym (c .before .pending .ensures) ∙ c .if1 .left)
+    ap advance-of (sym (head .inv ∙ nothing-left _ (head .r .due) (head .r .held) (head .at) (sym (c .before .pending .ensures) ∙ c .if1 .left)))
 
 pub read-spec : {M : Type 1} → statement M
 read-spec =
@@ -46,10 +53,10 @@ read-spec =
     (tie.spec
     Inv-loop
     μ-loop
-    (λ c κs. tt)
+    (λ c κs. search needs)
     loop-holds
-    (λ c κs. tt)
-    (λ c κs. tt)
+    (λ c κs. search needs)
+    (λ c κs. search needs)
     (λ c. search needs)
     (λ c. search needs)
     returns
