@@ -11,9 +11,9 @@ use Rattle.binary_field.specs.Element.{Accepted}
 use Rattle.char2_algebra.specs.Lead.{Monic}
 use Rattle.char2_algebra.proofs.{Degree.len-zero, Degree.len-nought, Division.rem-of-divides, Division.divides-of-rem, Lead.monic-nonzero}
 use Rattle.class_group.specs.Curve as Theory
-use Rattle.class_group.specs.{Mumford.Pair, Mumford.value, Reduction.Counted}
-use Rattle.class_rows.specs.{Field.degree-of, Field.Poly, Field.𝔸, Field.el, Field.poly, Row.InRange, Row.Stands, Row.StandsPair, Row.row-len, Row.rows-pair}
-use Rattle.class_rows.specs.{Core.OnCurve, Core.StandsCounted, Checked.Decides, Checked.Divisor, Checked.FormedRows, Checked.GivesPair, Checked.GivesCounted}
+use Rattle.class_group.specs.{Mumford.value, Reduction.Counted}
+use Rattle.class_rows.specs.{Field.degree-of, Field.Poly, Field.𝔸, Field.el, Field.poly, Row.InRange, Row.Stands, Row.row-len, Row.rows-pair}
+use Rattle.class_rows.specs.{Core.OnCurve, Core.StandsCounted, Checked.Decides, Checked.Divisor, Checked.FormedRows, Checked.Gives}
 use Rattle.class_rows.specs.declared.{row.RowPair.RowPair, reduction.CountedRows.CountedRows}
 use Rattle.class_rows.proofs.{Rows.Elements.degree-is, Rows.Elements.zero-lt, Rows.Elements.el-one, Rows.Elements.one-of-one}
 use Rattle.class_rows.proofs.{Rows.Lead.leads, Rows.Lead.lead-row, ReductionRows.reduced-on}
@@ -111,18 +111,10 @@ module _ {d : ℕ} {f : List ℕ} {a : RowPair} where
       (λ D. same ∙ ap (𝔸 d .len) (rem-of-divides (𝔸 d) (poly d (a .u)) nonzero (value C (poly d (a .v))) (reduced-on d (D .reduced) (h .curve .1) .divides)) ∙ len-nought (𝔸 d))
 
 -- ---- what an open function answers
-module _ {d : ℕ} {f : List ℕ} {asked : Type 0} {a : RowPair} {t : Bool} (h : Decides t asked) where
-  pub pair-refused : {of : Theory.Curve (𝔸 d) → Pair (Poly d)} → t ≡ false → GivesPair d f asked a of (record { divisor = false; pair = a })
-  pair-refused e = record { decides = no-it-is-not refl (denied h e); stands = λ k. absurd (true≢false (sym k)); else = λ _. refl }
+module _ {d : ℕ} {f : List ℕ} {asked : Type 0} {a : RowPair} {t : Bool} (h : Decides t asked) {of : Theory.Curve (𝔸 d) → Counted (Poly d)} where
+  pub rows-refused : t ≡ false → Gives d f asked a of (record { divisor = false; rows = record { pair = a; steps = 0 } })
+  rows-refused e = record { decides = no-it-is-not refl (denied h e); stands = λ k. absurd (true≢false (sym k)); else = λ _. refl }
 
-  pub pair-given : {of : Theory.Curve (𝔸 d) → Pair (Poly d)} {b : RowPair} → t ≡ true
-      → ((C : Theory.Curve (𝔸 d)) → OnCurve d f C → StandsPair d b (of C)) → GivesPair d f asked a of (record { divisor = true; pair = b })
-  pair-given e s = record { decides = yes-it-is (h .0 e); stands = λ _. s; else = λ k. absurd (true≢false k) }
-
-  pub counted-refused : {of : Theory.Curve (𝔸 d) → Counted (Poly d)} → t ≡ false
-      → GivesCounted d f asked a of (record { divisor = false; rows = record { pair = a; steps = 0 } })
-  counted-refused e = record { decides = no-it-is-not refl (denied h e); stands = λ k. absurd (true≢false (sym k)); else = λ _. refl }
-
-  pub counted-given : {of : Theory.Curve (𝔸 d) → Counted (Poly d)} {b : CountedRows} → t ≡ true
-      → ((C : Theory.Curve (𝔸 d)) → OnCurve d f C → StandsCounted d b (of C)) → GivesCounted d f asked a of (record { divisor = true; rows = b })
-  counted-given e s = record { decides = yes-it-is (h .0 e); stands = λ _. s; else = λ k. absurd (true≢false k) }
+  pub rows-given : {b : CountedRows} → t ≡ true
+      → ((C : Theory.Curve (𝔸 d)) → OnCurve d f C → StandsCounted d b (of C)) → Gives d f asked a of (record { divisor = true; rows = b })
+  rows-given e s = record { decides = yes-it-is (h .0 e); stands = λ _. s; else = λ k. absurd (true≢false k) }

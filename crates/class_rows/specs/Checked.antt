@@ -6,9 +6,9 @@ use mathlib.Core.{Bool.Bool, Bool.true, Bool.false, List.List, Logic._↔_}
 use Rattle.binary_field.specs.Element.{Accepted}
 use Rattle.char2_algebra.specs.Lead.{Monic}
 use Rattle.class_group.specs.Curve as Theory
-use Rattle.class_group.specs.{Mumford.Pair, Reduction.Counted}
-use Rattle.class_rows.specs.{Field.Poly, Field.𝔸, Field.poly, Row.InRange, Row.StandsPair, Row.row-len, Core.OnCurve, Core.ReducedRows, Core.StandsCounted, Cofactor.CofactorRow}
-use Rattle.class_rows.specs.declared.{row.RowPair.RowPair, divisor.Check.Check, PairAnswer.PairAnswer, CountedRowsAnswer.CountedRowsAnswer}
+use Rattle.class_group.specs.Reduction.{Counted}
+use Rattle.class_rows.specs.{Field.Poly, Field.𝔸, Field.poly, Row.InRange, Row.row-len, Core.OnCurve, Core.ReducedRows, Core.StandsCounted, Cofactor.CofactorRow}
+use Rattle.class_rows.specs.declared.{row.RowPair.RowPair, divisor.Check.Check, RowsAnswer.RowsAnswer}
 
 -- true exactly where P holds
 abbrev pub Decides : Bool → Type 0 → Type 0
@@ -19,17 +19,11 @@ pub record Divisor (d : ℕ) (f : List ℕ) (a : RowPair) : Type 0 where
   pub degree : Accepted d
   pub reduced : ReducedRows d f a
 
--- where what is asked holds, rows that stand for the theory's pair on every curve of f; else the first pair given
-module _ (d : ℕ) (f : List ℕ) (asked : Type 0) (a : RowPair) where
-  pub record GivesPair (of : Theory.Curve (𝔸 d) → Pair (Poly d)) (r : PairAnswer) : Type 0 where
-    pub decides : Decides (r .divisor) asked
-    pub stands : r .divisor ≡ true → (C : Theory.Curve (𝔸 d)) → OnCurve d f C → StandsPair d (r .pair) (of C)
-    pub else : r .divisor ≡ false → r .pair ≡ a
-
-  pub record GivesCounted (of : Theory.Curve (𝔸 d) → Counted (Poly d)) (r : CountedRowsAnswer) : Type 0 where
-    pub decides : Decides (r .divisor) asked
-    pub stands : r .divisor ≡ true → (C : Theory.Curve (𝔸 d)) → OnCurve d f C → StandsCounted d (r .rows) (of C)
-    pub else : r .divisor ≡ false → r .rows ≡ record { pair = a; steps = 0 }
+-- where what is asked holds, rows and a count that are the theory's on every curve of f; else the first pair given, and no step
+pub record Gives (d : ℕ) (f : List ℕ) (asked : Type 0) (a : RowPair) (of : Theory.Curve (𝔸 d) → Counted (Poly d)) (r : RowsAnswer) : Type 0 where
+  pub decides : Decides (r .divisor) asked
+  pub stands : r .divisor ≡ true → (C : Theory.Curve (𝔸 d)) → OnCurve d f C → StandsCounted d (r .rows) (of C)
+  pub else : r .divisor ≡ false → r .rows ≡ record { pair = a; steps = 0 }
 
 -- ---- the private functions of the check
 -- u monic of degree at most 3, v of smaller degree

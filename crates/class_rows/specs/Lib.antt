@@ -6,4 +6,5 @@ pub mod Compose
 pub mod Core
 pub mod Cofactor
 pub mod Halving
+pub mod Operations
 pub mod Checked

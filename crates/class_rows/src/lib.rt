@@ -1,8 +1,7 @@
 // Pairs of rows of coefficients, for the calls on classes by value in the crate above: whether a pair is a reduced divisor of the curve of the row
-// f, the opposite, the double, the half and the sum of such pairs, and the two rules that move a seal. Each function checks its rows itself, by one
-// division for each pair, whose quotient w = (v² + v + f) / u serves the double and the half; where a check fails the answer says so.
-ghost use Rattle.class_group.specs.{Mumford.opposite, Operations.counted-double, Operations.counted-sum, Half.half, Moves.double-and-add, Moves.subtract-and-halve};
-ghost use Rattle.class_rows.specs.{Row.rows-pair, Checked.Decides, Checked.Divisor, Checked.GivesPair, Checked.GivesCounted};
+// f, and the operations on one such pair and on two. Each function checks its rows itself, by one division for each pair, whose quotient
+// w = (v² + v + f) / u serves the double and the half; where a check fails the answer says so.
+ghost use Rattle.class_rows.specs.{Row.rows-pair, Operations.unary, Operations.binary, Checked.Decides, Checked.Divisor, Checked.Gives};
 
 mod composition;
 mod divisor;
@@ -16,23 +15,27 @@ mod sums;
 
 use crate::divisor::checked;
 use crate::divisor::checked_both;
-use crate::halving::half_of_reduced;
 use crate::reduction::CountedRows;
-use crate::reduction::double_of_reduced;
 use crate::row::RowPair;
-use crate::sums::commit_of_reduced;
-use crate::sums::opposite_of_reduced;
-use crate::sums::sum_of_reduced;
-use crate::sums::undo_of_reduced;
+use crate::sums::binary_of_reduced;
+use crate::sums::unary_of_reduced;
 
-// Are the rows given divisors? If so, the pair that was asked for.
-pub struct PairAnswer {
-    pub divisor: bool,
-    pub pair: RowPair,
+// What is asked of one pair.
+pub enum Unary {
+    Opposite,
+    Double,
+    Half,
 }
 
-// The same with the number of reduction steps.
-pub struct CountedRowsAnswer {
+// What is asked of two pairs.
+pub enum Binary {
+    Sum,
+    DoubleAndAdd,
+    SubtractAndHalve,
+}
+
+// Are the rows given divisors? If so, the pair that was asked for, with the number of reduction steps.
+pub struct RowsAnswer {
     pub divisor: bool,
     pub rows: CountedRows,
 }
@@ -45,115 +48,42 @@ pub fn is_divisor(d: u8, f: [u64; 12], a: RowPair) -> bool
     check.divisor
 }
 
-// The opposite of a pair.
-pub fn opposite_rows(d: u8, f: [u64; 12], a: RowPair) -> PairAnswer
-    ensures { λ r. ⌜ GivesPair d f (Divisor d f a) a (λ C. opposite C (rows-pair d a)) r ⌝ }
-{
-    let check = checked(d, f, a);
-    if !check.divisor {
-        return PairAnswer {
-            divisor: false,
-            pair: a,
-        };
-    }
-    let pair = opposite_of_reduced(d, a);
-    PairAnswer {
-        divisor: true,
-        pair: pair,
-    }
-}
-
-// The half of a pair.
-pub fn half_rows(d: u8, f: [u64; 12], a: RowPair) -> PairAnswer
-    ensures { λ r. ⌜ GivesPair d f (Divisor d f a) a (λ C. half C (rows-pair d a)) r ⌝ }
-{
-    let check = checked(d, f, a);
-    if !check.divisor {
-        return PairAnswer {
-            divisor: false,
-            pair: a,
-        };
-    }
-    let w = check.w;
-    let pair = half_of_reduced(d, f, a, w);
-    PairAnswer {
-        divisor: true,
-        pair: pair,
-    }
-}
-
-// The double of a pair, with its steps.
-pub fn double_rows(d: u8, f: [u64; 12], a: RowPair) -> CountedRowsAnswer
-    ensures { λ r. ⌜ GivesCounted d f (Divisor d f a) a (λ C. counted-double C (rows-pair d a)) r ⌝ }
+// The operation on one pair.
+pub fn unary_rows(op: Unary, d: u8, f: [u64; 12], a: RowPair) -> RowsAnswer
+    ensures { λ r. ⌜ Gives d f (Divisor d f a) a (λ C. unary op C (rows-pair d a)) r ⌝ }
 {
     let check = checked(d, f, a);
     if !check.divisor {
         let rows = CountedRows { pair: a, steps: 0 };
-        return CountedRowsAnswer {
+        return RowsAnswer {
             divisor: false,
-            rows: rows,
+            rows,
         };
     }
     let w = check.w;
-    let doubled = double_of_reduced(d, f, a, w);
-    CountedRowsAnswer {
+    let rows = unary_of_reduced(op, d, f, a, w);
+    RowsAnswer {
         divisor: true,
-        rows: doubled,
+        rows,
     }
 }
 
-// The sum of two pairs, with its steps.
-pub fn sum_rows(d: u8, f: [u64; 12], a: RowPair, b: RowPair) -> CountedRowsAnswer
-    ensures { λ r. ⌜ GivesCounted d f (Divisor d f a × Divisor d f b) a (λ C. counted-sum C (rows-pair d a) (rows-pair d b)) r ⌝ }
+// The operation on two pairs.
+pub fn binary_rows(op: Binary, d: u8, f: [u64; 12], a: RowPair, b: RowPair) -> RowsAnswer
+    ensures { λ r. ⌜ Gives d f (Divisor d f a × Divisor d f b) a (λ C. binary op C (rows-pair d a) (rows-pair d b)) r ⌝ }
 {
     let check = checked_both(d, f, a, b);
     if !check.divisor {
         let rows = CountedRows { pair: a, steps: 0 };
-        return CountedRowsAnswer {
+        return RowsAnswer {
             divisor: false,
-            rows: rows,
-        };
-    }
-    let summed = sum_of_reduced(d, f, a, b);
-    CountedRowsAnswer {
-        divisor: true,
-        rows: summed,
-    }
-}
-
-// Twice the first pair plus the second.
-pub fn commit_rows(d: u8, f: [u64; 12], a: RowPair, b: RowPair) -> PairAnswer
-    ensures { λ r. ⌜ GivesPair d f (Divisor d f a × Divisor d f b) a (λ C. double-and-add C (rows-pair d a) (rows-pair d b)) r ⌝ }
-{
-    let check = checked_both(d, f, a, b);
-    if !check.divisor {
-        return PairAnswer {
-            divisor: false,
-            pair: a,
+            rows,
         };
     }
     let w = check.w;
-    let pair = commit_of_reduced(d, f, a, w, b);
-    PairAnswer {
+    let rows = binary_of_reduced(op, d, f, a, w, b);
+    RowsAnswer {
         divisor: true,
-        pair: pair,
-    }
-}
-
-// The half of the first pair less the second.
-pub fn undo_rows(d: u8, f: [u64; 12], a: RowPair, b: RowPair) -> PairAnswer
-    ensures { λ r. ⌜ GivesPair d f (Divisor d f a × Divisor d f b) a (λ C. subtract-and-halve C (rows-pair d a) (rows-pair d b)) r ⌝ }
-{
-    let check = checked_both(d, f, a, b);
-    if !check.divisor {
-        return PairAnswer {
-            divisor: false,
-            pair: a,
-        };
-    }
-    let pair = undo_of_reduced(d, f, a, b);
-    PairAnswer {
-        divisor: true,
-        pair: pair,
+        rows,
     }
 }

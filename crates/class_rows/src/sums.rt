@@ -1,11 +1,14 @@
-// The sum and the opposite of reduced pairs, and the rules of a commit and an undo on them.
+// The operations on reduced pairs: sum and opposite, the two rules that move a seal, and each by its name.
 ghost use Rattle.binary_field.specs.Element.{Accepted};
 ghost use Rattle.class_group.specs.Curve.{Curve as TheoryCurve};
-ghost use Rattle.class_group.specs.{Mumford.opposite, Operations.counted-sum, Moves.double-and-add, Moves.subtract-and-halve};
+ghost use Rattle.class_group.specs.{Mumford.opposite, Operations.counted-sum, Moves.counted-double-and-add, Moves.counted-subtract-and-halve};
 ghost use Rattle.class_rows.specs.Field.{𝔸};
 ghost use Rattle.class_rows.specs.Row.{InRange, StandsPair, rows-pair};
 ghost use Rattle.class_rows.specs.Core.{OnCurve, ReducedRows, StandsCounted};
 ghost use Rattle.class_rows.specs.Cofactor.{CofactorRow};
+ghost use Rattle.class_rows.specs.Operations.{unary, binary};
+use crate::Binary;
+use crate::Unary;
 use crate::composition::compose_rows;
 use crate::halving::half_of_reduced;
 use crate::reduction::CountedRows;
@@ -40,31 +43,84 @@ pub(crate) fn opposite_of_reduced(d: u8, a: RowPair) -> RowPair
     RowPair { u: u, v: w }
 }
 
-// Twice the first pair, whose cofactor is w, plus the second.
-pub(crate) fn commit_of_reduced(
+// Twice the first pair, whose cofactor is w, plus the second, with the steps of both.
+fn double_and_add_of_reduced(
     d: u8,
     f: [u64; 12],
     a: RowPair,
     w: [u64; 12],
     b: RowPair,
-) -> RowPair
+) -> CountedRows
     requires { ⌜ Accepted d × ReducedRows d f a × CofactorRow d f a w × ReducedRows d f b ⌝ }
-    ensures { λ r. ⌜ ((C : TheoryCurve (𝔸 d)) → OnCurve d f C → StandsPair d r (double-and-add C (rows-pair d a) (rows-pair d b))) ⌝ }
+    ensures { λ r. ⌜ ((C : TheoryCurve (𝔸 d)) → OnCurve d f C → StandsCounted d r (counted-double-and-add C (rows-pair d a) (rows-pair d b))) ⌝ }
 {
     let doubled = double_of_reduced(d, f, a, w);
     let twice = doubled.pair;
     let summed = sum_of_reduced(d, f, twice, b);
-    summed.pair
+    let pair = summed.pair;
+    let steps = doubled.steps + summed.steps;
+    CountedRows { pair, steps }
 }
 
-// The half of the first pair less the second.
-pub(crate) fn undo_of_reduced(d: u8, f: [u64; 12], a: RowPair, b: RowPair) -> RowPair
+// The half of the first pair less the second, with the steps of the difference.
+fn subtract_and_halve_of_reduced(d: u8, f: [u64; 12], a: RowPair, b: RowPair) -> CountedRows
     requires { ⌜ Accepted d × ReducedRows d f a × ReducedRows d f b ⌝ }
-    ensures { λ r. ⌜ ((C : TheoryCurve (𝔸 d)) → OnCurve d f C → StandsPair d r (subtract-and-halve C (rows-pair d a) (rows-pair d b))) ⌝ }
+    ensures { λ r. ⌜ ((C : TheoryCurve (𝔸 d)) → OnCurve d f C → StandsCounted d r (counted-subtract-and-halve C (rows-pair d a) (rows-pair d b))) ⌝ }
 {
     let opposed = opposite_of_reduced(d, b);
     let summed = sum_of_reduced(d, f, a, opposed);
     let difference = summed.pair;
     let w = cofactor(d, f, difference);
-    half_of_reduced(d, f, difference, w)
+    let pair = half_of_reduced(d, f, difference, w);
+    let steps = summed.steps;
+    CountedRows { pair, steps }
+}
+
+// The operation on one reduced pair, whose cofactor is w.
+pub(crate) fn unary_of_reduced(
+    op: Unary,
+    d: u8,
+    f: [u64; 12],
+    a: RowPair,
+    w: [u64; 12],
+) -> CountedRows
+    requires { ⌜ Accepted d × ReducedRows d f a × CofactorRow d f a w ⌝ }
+    ensures { λ r. ⌜ ((C : TheoryCurve (𝔸 d)) → OnCurve d f C → StandsCounted d r (unary op C (rows-pair d a))) ⌝ }
+{
+    match op {
+        Unary::Opposite => {
+            let opposed = opposite_of_reduced(d, a);
+            CountedRows {
+                pair: opposed,
+                steps: 0,
+            }
+        }
+        Unary::Double => double_of_reduced(d, f, a, w),
+        Unary::Half => {
+            let halved = half_of_reduced(d, f, a, w);
+            CountedRows {
+                pair: halved,
+                steps: 0,
+            }
+        }
+    }
+}
+
+// The operation on two reduced pairs; w is the cofactor of the first.
+pub(crate) fn binary_of_reduced(
+    op: Binary,
+    d: u8,
+    f: [u64; 12],
+    a: RowPair,
+    w: [u64; 12],
+    b: RowPair,
+) -> CountedRows
+    requires { ⌜ Accepted d × ReducedRows d f a × CofactorRow d f a w × ReducedRows d f b ⌝ }
+    ensures { λ r. ⌜ ((C : TheoryCurve (𝔸 d)) → OnCurve d f C → StandsCounted d r (binary op C (rows-pair d a) (rows-pair d b))) ⌝ }
+{
+    match op {
+        Binary::Sum => sum_of_reduced(d, f, a, b),
+        Binary::DoubleAndAdd => double_and_add_of_reduced(d, f, a, w, b),
+        Binary::SubtractAndHalve => subtract_and_halve_of_reduced(d, f, a, b),
+    }
 }

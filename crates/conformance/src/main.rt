@@ -18,7 +18,6 @@
 ghost use Prim.Native.Nat.{_≤_};
 use jacobian::Class;
 use jacobian::ClassAnswer;
-use jacobian::CountedAnswer;
 use jacobian::Curve;
 use jacobian::Outcome;
 use libc::STDIN_FILENO;
@@ -70,12 +69,8 @@ fn class(case: &[u8; 138], at: usize) -> Class
 
 // The curve of the case.
 fn curve(case: &[u8; 138]) -> Curve {
-    Curve {
-        degree: case[1],
-        f3: number(case, 2),
-        f1: number(case, 10),
-        f0: number(case, 18),
-    }
+    let coefficients = [number(case, 2), number(case, 10), number(case, 18)];
+    jacobian::curves::curve_with(case[1], coefficients)
 }
 
 // Writes the coefficients below x^n, from the highest power down.
@@ -130,8 +125,8 @@ fn write_answer(answer: ClassAnswer) {
     }
 }
 
-// Writes what a call that counts its reduction steps answers.
-fn write_counted(answer: CountedAnswer) {
+// The same with the number of reduction steps.
+fn write_counted(answer: ClassAnswer) {
     let outcome = answer.outcome;
     let class = answer.class;
     match outcome {
@@ -176,8 +171,8 @@ fn answer_call(call: u8, curve: Curve, a: Class, b: Class) {
         5 => write_answer(jacobian::sum(curve, a, b)),
         6 => write_answer(half_of_double(curve, a)),
         7 => write_answer(double_of_half(curve, a)),
-        8 => write_counted(jacobian::counted_double(curve, a)),
-        9 => write_counted(jacobian::counted_sum(curve, a, b)),
+        8 => write_counted(jacobian::double(curve, a)),
+        9 => write_counted(jacobian::sum(curve, a, b)),
         10 => write_answer(jacobian::double_and_add(curve, a, b)),
         11 => write_answer(jacobian::subtract_and_halve(curve, a, b)),
         12 => write_outcome(jacobian::accepts_curve(curve)),

@@ -1,8 +1,10 @@
 -- Demand 3 of commits, undos and walks: one step, a whole list taken back, the walk back; and what the calls rest on.
+pub mod All
+pub mod Machine
 pub mod Seals
 pub mod Registers
 pub mod OneStep
-pub mod Chain
+pub mod OneCall
 pub mod TakingBack
 pub mod Failing
 pub mod Preserved

@@ -1,16 +1,15 @@
--- What the checks of a register and of the calls on it show where none of them refuses, and what a call then answers.
-use Prim.Native.Nat.{ℕ, zero, suc, _≤_, _<_}
+-- What the checks of a register and of a step on it show where none of them refuses, and what a call then answers.
+use Prim.Native.Nat.{ℕ, zero, suc, _≤_}
 use mathlib.Core.Path.{_≡_, refl, sym, _∙_, ap}
+use mathlib.Core.Bool.{Bool, true, false, cond}
 use native.Mathlib.Omega.{arith}
-use borrow.Author.Tests.{ltb-true, leb-true, lt-ltb, le-leb}
-use Rattle.jacobian.specs.Checks.{unless, _or-else_}
-use Rattle.jacobian.specs.Curves.{curve-refusal}
-use Rattle.jacobian.specs.Classes.{class-refusal}
-use Rattle.jacobian.specs.Answer.{accepted, refused}
-use Rattle.history.specs.Register.{limit, register-refusal, commit-refusal, undo-refusal, RegisterReply, follows}
+use borrow.Author.Tests.{leb-true, le-leb, ne-eqb, eqb-false}
+use lib.Dec.{eqb}
+use Rattle.jacobian.specs.{Checks.unless, Checks._or-else_, Curves.curve-refusal, Classes.class-refusal, Answer.accepted, Answer.refused}
 use Rattle.jacobian.specs.declared.Class.{Class}
-use Rattle.history.specs.declared.Register.{Register}
 use Rattle.jacobian.proofs.ByValue.Checks.{then-zero, unless-zero}
+use Rattle.history.specs.Register.{limit, register-refusal, edge, edge-refusal, step-refusal, RegisterReply, follows}
+use Rattle.history.specs.declared.{Register.Register, Step.Step, Step.the-variants.Commit, Step.the-variants.Undo}
 
 -- ---- a register that passes its own checks
 pub record Passes (r : Register) : Type 0 where
@@ -23,40 +22,38 @@ unfolding register-refusal
 register-passes r e =
     let h = then-zero _ _ e in
     let k = then-zero _ _ (h .1) in
-    record { curve-passes = h .0; count-passes = leb-true _ _ (unless-zero _ 108 (k .0)); seal-passes = k .1 }
+    record { curve-passes = h .0; count-passes = leb-true _ _ (unless-zero _ _ (k .0)); seal-passes = k .1 }
 
 pub passes-register : (r : Register) → Passes r → register-refusal r ≡ 0
 unfolding register-refusal unless _or-else_
 passes-register r p = rw (p .curve-passes, le-leb (r .count) limit (p .count-passes)) (p .seal-passes)
 
--- ---- a call that passes: the register, the class and a bound on the count
-pub record Passing (Bound : Type 0) (r : Register) (a : Class) : Type 0 where
+-- ---- a step that passes: the register, the class, and a count off the step's edge
+pub record Passing (k : Step) (r : Register) (a : Class) : Type 0 where
   pub register : Passes r
   pub class-passes : class-refusal (r .curve) a ≡ 0
-  pub bound : Bound
+  pub off-edge : ¬ (r .count ≡ edge k)
 
-module _ (r : Register) (a : Class) where
-  pub commit-passes : commit-refusal r a ≡ 0 → Passing (r .count < limit) r a
-  unfolding commit-refusal
-  commit-passes e =
+pub edge-positive : (k : Step) → ¬ (edge-refusal k ≡ 0)
+unfolding edge-refusal
+edge-positive Commit = λ e. omega arith
+edge-positive Undo = λ e. omega arith
+
+module _ (k : Step) (r : Register) (a : Class) where
+  pub step-passes : step-refusal k r a ≡ 0 → Passing k r a
+  unfolding step-refusal
+  step-passes e =
       let h = then-zero _ _ e in
-      let k = then-zero _ _ (h .1) in
-      record { register = register-passes r (h .0); class-passes = k .0; bound = ltb-true _ _ (unless-zero _ 113 (k .1)) }
+      let l = then-zero _ _ (h .1) in
+      record { register = register-passes r (h .0); class-passes = l .0; off-edge = eqb-false _ _ (off (eqb (r .count) (edge k)) (l .1)) }
+    where
+      off : (b : Bool) → cond b (edge-refusal k) 0 ≡ 0 → b ≡ false
+      off true e = absurd (edge-positive k e)
+      off false e = refl
 
-  pub passes-commit : Passing (r .count < limit) r a → commit-refusal r a ≡ 0
-  unfolding commit-refusal unless _or-else_
-  passes-commit p = rw (passes-register r (p .register), p .class-passes, lt-ltb (r .count) limit (p .bound))
-
-  pub undo-passes : undo-refusal r a ≡ 0 → Passing (0 < r .count) r a
-  unfolding undo-refusal
-  undo-passes e =
-      let h = then-zero _ _ e in
-      let k = then-zero _ _ (h .1) in
-      record { register = register-passes r (h .0); class-passes = k .0; bound = ltb-true _ _ (unless-zero _ 112 (k .1)) }
-
-  pub passes-undo : Passing (0 < r .count) r a → undo-refusal r a ≡ 0
-  unfolding undo-refusal unless _or-else_
-  passes-undo p = rw (passes-register r (p .register), p .class-passes, lt-ltb 0 (r .count) (p .bound))
+  pub passes-step : Passing k r a → step-refusal k r a ≡ 0
+  unfolding step-refusal _or-else_
+  passes-step p = rw (passes-register r (p .register), p .class-passes, ne-eqb (r .count) (edge k) (p .off-edge))
 
 -- ---- what a call answers
 module _ (n : ℕ) (given next : Register) where
@@ -105,9 +102,3 @@ at-number given next e h = h ∙ ap (λ k. follows k given next) e
 -- an accepted call hands back the register that follows
 pub at-none : (given next : Register) {n : ℕ} {t : Register} → n ≡ 0 → t ≡ next → _≡_ {A = RegisterReply} (record { outcome = accepted; register = t }) (follows n given next)
 at-none given next {n} z e = ap (λ s. record { outcome = accepted; register = s }) e ∙ sym (follows-zero n given next z)
-
--- a refusal of the first check is the refusal
-pub then-first : (m n : ℕ) → ¬ (m ≡ 0) → m or-else n ≡ m
-unfolding _or-else_
-then-first zero n h = absurd (h refl)
-then-first (suc m) n h = refl

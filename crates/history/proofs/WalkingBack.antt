@@ -7,23 +7,25 @@ use mathlib.Core.Path.{_≡_, refl, sym, _∙_, ap, ap₂}
 use mathlib.Core.List.{List, [], _∷_, map, map-map}
 use lib.ListN.{length, take, getD, length-map}
 use Rattle.class_group.specs.Walk.{All, none, more, walk}
-use Rattle.jacobian.specs.Answer.{accepted, Reply}
-use Rattle.history.specs.Register.{limit, earlier}
-use Rattle.history.specs.Calls.{Call, undo, class, back, Event, run, last, newest, backs, taken-back, turned, classes, OnlyCommits, seals-back, walk-back, steps-back, met}
+use Rattle.jacobian.specs.Answer.{accepted, Result}
+use Rattle.history.specs.Register.{limit, undo-seal, other}
+use Rattle.history.specs.Machine as definition
+use Rattle.history.specs.Calls.{Call, undo, back, Fits, Event, run, last, newest, backs, taken-back, turned, classes, OnlyCommits, seals-back, walk-back, steps-back, met}
 use Rattle.history.specs.declared.Register.{Register}
+use Rattle.history.proofs.All.{all-map}
 use Rattle.history.proofs.Steps.{undos-steps, undos-few, steps-walk, walk-at, steps-take}
-use Rattle.history.proofs.TakingBack.{Fits, all-map, last-curve, taken-back-turned, taken-back-accepted}
+use Rattle.history.proofs.TakingBack.{last-curve, taken-back-turned, taken-back-accepted}
 
 -- commits are taken back by undos of their classes
 backs-of-commits : (es : List Event) → OnlyCommits es → backs es ≡ map undo (classes es)
-unfolding backs classes back
+unfolding definition.backs classes back other
 backs-of-commits [] none = refl
-backs-of-commits (e ∷ es) (more h hs) = ap₂ (λ c l. back c ∷ l) h (backs-of-commits es hs)
+backs-of-commits (e ∷ es) (more h hs) = ap₂ (λ k l. record { step = other k; class = e .call .class } ∷ l) h (backs-of-commits es hs)
 
 module _ (r : Register) (cs : List Call) (fits : Fits r cs) (only : OnlyCommits (newest r cs)) where
   -- the taking back is a run of accepted undos
   undos-are : taken-back r cs ≡ run (last r cs) (map undo (classes (newest r cs)))
-  unfolding taken-back
+  unfolding definition.taken-back
   undos-are = ap (run (last r cs)) (backs-of-commits (newest r cs) only)
 
   undos-accepted : All (λ e. e .outcome ≡ accepted) (run (last r cs) (map undo (classes (newest r cs))))
@@ -31,7 +33,7 @@ module _ (r : Register) (cs : List Call) (fits : Fits r cs) (only : OnlyCommits 
 
   -- the steps of the walk are all accepted, and answer the seals just before the commits
   pub walk-steps : steps-back (r .curve) (last r cs .seal) (classes (newest r cs)) ≡ map met (newest r cs)
-  unfolding turned met
+  unfolding definition.turned met
   walk-steps =
       ap (λ c. steps-back c (last r cs .seal) (classes (newest r cs))) (sym (last-curve r cs))
       ∙ undos-steps (last r cs) (classes (newest r cs)) undos-accepted
@@ -39,19 +41,19 @@ module _ (r : Register) (cs : List Call) (fits : Fits r cs) (only : OnlyCommits 
       ∙ map-map (λ e. record { outcome = accepted; class = e .left .seal }) turned (newest r cs)
 
   -- all seals of the walk, the last seal first
-  pub walk-meets : walk (earlier (r .curve)) (last r cs .seal) (classes (newest r cs)) ≡ seals-back r cs
+  pub walk-meets : walk (undo-seal (r .curve)) (last r cs .seal) (classes (newest r cs)) ≡ seals-back r cs
   unfolding seals-back met
   walk-meets =
       steps-walk (r .curve) (last r cs .seal) (classes (newest r cs)) (rw walk-steps (all-map met (λ e. refl) (newest r cs)))
       ∙ ap (λ l. last r cs .seal ∷ map (λ x. x .class) l) walk-steps
-      ∙ ap (λ l. last r cs .seal ∷ l) (map-map (λ (x : Reply). x .class) met (newest r cs))
+      ∙ ap (λ l. last r cs .seal ∷ l) (map-map (λ (x : Result). x .class) met (newest r cs))
 
   -- the walk over the k newest classes ends in the seal just before the k-th newest commit, and for k = 0 in the last seal
   pub walk-ends : (k : ℕ) → k ≤ length (newest r cs)
       → walk-back (r .curve) (last r cs .seal) (take k (classes (newest r cs))) ≡ getD (seals-back r cs) k (last r cs .seal)
   unfolding walk-back classes
   walk-ends k h =
-      walk-at (earlier (r .curve)) (last r cs .seal) (classes (newest r cs)) k (last r cs .seal) (rw length-map h)
+      walk-at (undo-seal (r .curve)) (last r cs .seal) (classes (newest r cs)) k (last r cs .seal) (rw length-map h)
       ∙ ap (λ l. getD l k (last r cs .seal)) walk-meets
 
   -- and no step of it is refused

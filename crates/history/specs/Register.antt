@@ -1,19 +1,13 @@
--- The history register by value: its checks, its two rules and the step back (document 01, 'The register', 'In checking order').
--- Nothing else names all the fields of a register.
+-- The history register by value: its checks, its two steps and what the calls on it answer (document 01, 'The register', 'In checking order').
 use Prim.Native.Nat.{ℕ, zero, suc, _+_, _-_}
-use lib.Dec.{ltb, leb}
+use mathlib.Core.{Path._≡_, Bool.cond}
+use lib.Dec.{eqb, leb}
 use Rattle.class_group.specs.Moves.{double-and-add, subtract-and-halve}
-use Rattle.jacobian.specs.Checks.{unless, _or-else_}
-use Rattle.jacobian.specs.Curves.{curve-refusal, curve}
-use Rattle.jacobian.specs.Classes.{pair, class-of, class-refusal}
-use Rattle.jacobian.specs.Answer.{Verdict, accepted, refused, verdict}
-use Rattle.jacobian.specs.declared.Curve.{Curve}
-use Rattle.jacobian.specs.declared.Class.{Class}
-use Rattle.jacobian.specs.declared.Outcome.{Outcome}
-use Rattle.jacobian.specs.declared.Outcome.the-variants.{Accepted, Refused}
+use Rattle.jacobian.specs.{Checks.unless, Checks._or-else_, Curves.curve-refusal, Curves.curve, Classes.pair, Classes.class-of, Classes.class-refusal, Classes.Three}
+use Rattle.jacobian.specs.Answer.{Verdict, accepted, refused, verdict, neutral-class, Result}
+use Rattle.jacobian.specs.declared.{Curve.Curve, Class.Class}
 use Rattle.stored_form.specs.Fields.{count-limit}
-use Rattle.history.specs.declared.Register.{Register}
-use Rattle.history.specs.declared.RegisterAnswer.{RegisterAnswer}
+use Rattle.history.specs.declared.{Register.Register, RegisterAnswer.RegisterAnswer, Step.Step, Step.the-variants.Commit, Step.the-variants.Undo}
 
 -- the most operations that a register counts: as many as the stored count may say
 abbrev pub limit : ℕ
@@ -21,12 +15,22 @@ limit = count-limit
 
 -- ---- seals
 -- the seal after a commit: twice the seal plus the operation's class
-unfoldable pub later : Curve → Class → Class → Class
-later c seal a = let d = c .degree in class-of d (double-and-add (curve c) (pair d seal) (pair d a))
+unfoldable pub commit-seal : Curve → Class → Class → Class
+commit-seal c seal a = let d = c .degree in class-of d (double-and-add (curve c) (pair d seal) (pair d a))
 
 -- the seal after an undo: the class is subtracted from the seal first, and the half of that difference is the new seal
-unfoldable pub earlier : Curve → Class → Class → Class
-earlier c seal a = let d = c .degree in class-of d (subtract-and-halve (curve c) (pair d seal) (pair d a))
+unfoldable pub undo-seal : Curve → Class → Class → Class
+undo-seal c seal a = let d = c .degree in class-of d (subtract-and-halve (curve c) (pair d seal) (pair d a))
+
+-- a class in rows of three numbers, as is every value of the code's type, that no check refuses on a curve
+pub record Sound (c : Curve) (a : Class) : Type 0 where
+  pub three : Three a
+  pub unrefused : class-refusal c a ≡ 0
+
+-- the seal where no refusal is due, and else the refusal with the neutral class
+unfoldable pub sealed : ℕ → Class → Result
+sealed zero seal = record { outcome = accepted; class = seal }
+sealed (suc n) seal = record { outcome = refused (suc n); class = neutral-class }
 
 -- ---- checks, in the stored order; 0 where no refusal is due
 -- 106 or 107 of the curve, then 109 for a count above the limit, then 104, 110 or 111 of the seal
@@ -36,35 +40,40 @@ register-refusal r =
     or-else unless (leb (r .count) limit) 109
     or-else class-refusal (r .curve) (r .seal)
 
--- then 104, 110 or 111 of the operation's class, then 114 at the limit
-unfoldable pub commit-refusal : Register → Class → ℕ
-commit-refusal r a = register-refusal r or-else class-refusal (r .curve) a or-else unless (ltb (r .count) limit) 114
+-- the count at which a step is refused, and the refusal: a commit at the limit with 114, an undo at count 0 with 113
+unfoldable pub edge : Step → ℕ
+edge Commit = limit
+edge Undo = 0
 
--- then 104, 110 or 111 of the operation's class, then 113 at count 0
-unfoldable pub undo-refusal : Register → Class → ℕ
-undo-refusal r a = register-refusal r or-else class-refusal (r .curve) a or-else unless (ltb 0 (r .count)) 113
+unfoldable pub edge-refusal : Step → ℕ
+edge-refusal Commit = 114
+edge-refusal Undo = 113
+
+-- after those of the register 104, 110 or 111 of the operation's class, then 114 or 113
+unfoldable pub step-refusal : Step → Register → Class → ℕ
+step-refusal k r a = register-refusal r or-else class-refusal (r .curve) a or-else cond (eqb (r .count) (edge k)) (edge-refusal k) 0
 
 -- ---- the register that follows
 -- the register with this count and this seal, all else as it was
 unfoldable pub moved : ℕ → Class → Register → Register
 moved n seal r = record { curve = r .curve; count = n; seal = seal }
 
-unfoldable pub committed : Register → Class → Register
-committed r a = moved (r .count + 1) (later (r .curve) (r .seal) a) r
+-- a commit counts one operation more, and an undo one less
+unfoldable pub stepped : Step → Register → Class → Register
+stepped Commit r a = moved (r .count + 1) (commit-seal (r .curve) (r .seal) a) r
+stepped Undo r a = moved (r .count - 1) (undo-seal (r .curve) (r .seal) a) r
 
-unfoldable pub undone : Register → Class → Register
-undone r a = moved (r .count - 1) (earlier (r .curve) (r .seal) a) r
+-- a commit is taken back by an undo and an undo by a commit
+unfoldable pub other : Step → Step
+other Commit = Undo
+other Undo = Commit
 
 -- ---- what the calls answer
--- the number of a refusal, and 0 for an acceptance
-abbrev pub number : Outcome → ℕ
-number Accepted = 0
-number (Refused n) = n
-
 pub record RegisterReply : Type 0 where
   pub outcome : Verdict
   pub register : Register
 
+-- what the code's answer says
 abbrev pub register-reply : RegisterAnswer → RegisterReply
 register-reply r = record { outcome = verdict (r .outcome); register = r .register }
 
@@ -73,8 +82,11 @@ unfoldable pub follows : ℕ → Register → Register → RegisterReply
 follows zero given next = record { outcome = accepted; register = next }
 follows (suc n) given next = record { outcome = refused (suc n); register = given }
 
-unfoldable pub commit-answer : Register → Class → RegisterReply
-commit-answer r a = follows (commit-refusal r a) r (committed r a)
+unfoldable pub step-answer : Step → Register → Class → RegisterReply
+step-answer k r a = follows (step-refusal k r a) r (stepped k r a)
 
-unfoldable pub undo-answer : Register → Class → RegisterReply
-undo-answer r a = follows (undo-refusal r a) r (undone r a)
+abbrev pub commit-answer : Register → Class → RegisterReply
+commit-answer = step-answer Commit
+
+abbrev pub undo-answer : Register → Class → RegisterReply
+undo-answer = step-answer Undo

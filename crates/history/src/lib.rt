@@ -3,14 +3,10 @@
 // One step of a walk, which has no register, is jacobian::subtract_and_halve.
 ghost use Prim.Native.Nat.{ℕ};
 ghost use mathlib.Core.Path.{_≡_};
-ghost use Rattle.class_group.specs.Mumford.{Pair};
-ghost use Rattle.jacobian.specs.Field.{Poly};
-ghost use Rattle.jacobian.specs.Checks.{_or-else_};
-ghost use Rattle.jacobian.specs.Curves.{curve-refusal};
-ghost use Rattle.jacobian.specs.Classes.{class-of};
-ghost use Rattle.jacobian.specs.Answer.{refusal, refusal-of-two, reply, answered};
+ghost use Rattle.jacobian.specs.{Checks._or-else_, Curves.curve-refusal, Answer.refusal-of-two, Answer.reply, Answer.result};
+ghost use Rattle.jacobian.specs.declared.Class.{Class as Seal};
 ghost use Rattle.history.specs.declared.Register.{Register as Value};
-ghost use Rattle.history.specs.Register.{number, moved, register-reply, follows, commit-answer, undo-answer};
+ghost use Rattle.history.specs.Register.{edge, edge-refusal, moved, sealed, register-reply, follows, step-answer, commit-answer, undo-answer};
 use jacobian::Class;
 use jacobian::ClassAnswer;
 use jacobian::Curve;
@@ -30,123 +26,121 @@ pub struct RegisterAnswer {
     pub register: Register,
 }
 
+// What a call does to a register: it takes an operation in, or takes the last one out.
+pub enum Step {
+    Commit,
+    Undo,
+}
+
 // The most operations that a register counts: as many as the stored count may say.
 const LIMIT: u64 = stored_form::COUNT_LIMIT;
-
-// The number of a refusal, and 0 for an acceptance.
-pub fn outcome_number(o: Outcome) -> u32
-    ensures { λ r. ⌜ r ≡ number o ⌝ }
-{
-    match o {
-        Outcome::Accepted => 0,
-        Outcome::Refused(n) => n,
-    }
-}
-
-// The refusal that is due to a curve and a class, and 0 where none is.
-pub fn class_refusal(curve: Curve, a: Class) -> u32
-    ensures { λ r. ⌜ r ≡ refusal curve a ⌝ }
-{
-    let o = jacobian::membership(curve, a);
-    outcome_number(o)
-}
 
 // The refusal of a count above the limit, unless the curve is refused first.
 pub fn count_refusal(curve: Curve) -> u32
     ensures { λ r. ⌜ r ≡ curve-refusal curve or-else 109 ⌝ }
 {
-    let o = jacobian::accepts_curve(curve);
-    let n = outcome_number(o);
+    let n = jacobian::curves::curve_refusal(curve);
     if n != 0 {
         return n;
     }
     109
 }
 
-// The first refusal that is due to the seal and the class, and where none is the last number.
-fn edge_refusal(curve: Curve, seal: Class, a: Class, last: u32) -> u32
-    ensures { λ r. ⌜ r ≡ refusal-of-two curve seal a or-else last ⌝ }
+// The count at which a step is refused.
+fn edge_count(step: Step) -> u64
+    ensures { λ r. ⌜ r ≡ edge step ⌝ }
 {
-    let n = class_refusal(curve, seal);
+    match step {
+        Step::Commit => LIMIT,
+        Step::Undo => 0,
+    }
+}
+
+// The refusal of a step at that count, unless the curve, the seal or the class is refused first.
+fn edge_refusal(step: Step, curve: Curve, seal: Class, class: Class) -> u32
+    ensures { λ r. ⌜ r ≡ refusal-of-two curve seal class or-else edge-refusal step ⌝ }
+{
+    let n = jacobian::class_refusal(curve, seal);
     if n != 0 {
         return n;
     }
-    let m = class_refusal(curve, a);
+    let m = jacobian::class_refusal(curve, class);
     if m != 0 {
         return m;
     }
-    last
+    match step {
+        Step::Commit => 114,
+        Step::Undo => 113,
+    }
 }
 
 // A refusal, with the register as it was given.
-fn kept(r: Register, n: u32) -> RegisterAnswer
+fn kept(register: Register, n: u32) -> RegisterAnswer
     requires { ⌜ ¬ (n ≡ 0) ⌝ }
-    ensures { λ x. ⌜ ((next : Value) → register-reply x ≡ follows n r next) ⌝ }
+    ensures { λ r. ⌜ ((next : Value) → register-reply r ≡ follows n register next) ⌝ }
 {
     RegisterAnswer {
         outcome: Outcome::Refused(n),
-        register: r,
+        register,
     }
 }
 
-// The register with this count and the seal of a step, or the step's refusal.
-fn followed(r: Register, count: u64, step: ClassAnswer) -> RegisterAnswer
-    ensures { λ x. ⌜ ((d n : ℕ) (D : Pair (Poly d)) → reply step ≡ answered d n D → register-reply x ≡ follows n r (moved count (class-of d D) r)) ⌝ }
+// The register with this count and the seal that was answered, or the refusal that was answered.
+fn followed(register: Register, count: u64, answer: ClassAnswer) -> RegisterAnswer
+    ensures { λ r. ⌜ ((n : ℕ) (seal : Seal) → result (reply answer) ≡ sealed n seal → register-reply r ≡ follows n register (moved count seal register)) ⌝ }
 {
-    let o = step.outcome;
-    let n = outcome_number(o);
+    let outcome = answer.outcome;
+    let n = jacobian::outcome_refusal(outcome);
     if n != 0 {
-        return kept(r, n);
+        return kept(register, n);
     }
-    let curve = r.curve;
-    let seal = step.class;
-    let next = Register {
-        curve: curve,
-        count: count,
-        seal: seal,
-    };
+    let curve = register.curve;
+    let seal = answer.class;
     RegisterAnswer {
         outcome: Outcome::Accepted,
-        register: next,
+        register: Register { curve, count, seal },
     }
 }
 
 impl Register {
-    // The new seal is twice the old seal plus the operation's class, and the count grows by 1.
-    pub fn commit(self, class: Class) -> RegisterAnswer
-        ensures { λ r. ⌜ register-reply r ≡ commit-answer self class ⌝ }
+    // One step with a class. The accepted way checks the curve, the seal and the class once, where the seal is moved.
+    pub fn step(self, step: Step, class: Class) -> RegisterAnswer
+        ensures { λ r. ⌜ register-reply r ≡ step-answer step self class ⌝ }
     {
         let curve = self.curve;
         let count = self.count;
         let seal = self.seal;
         if count > LIMIT {
-            let n = count_refusal(curve);
-            return kept(self, n);
+            return kept(self, count_refusal(curve));
         }
-        if count == LIMIT {
-            let n = edge_refusal(curve, seal, class, 114);
-            return kept(self, n);
+        if count == edge_count(step) {
+            return kept(self, edge_refusal(step, curve, seal, class));
         }
-        let step = jacobian::double_and_add(curve, seal, class);
-        followed(self, count + 1, step)
+        match step {
+            Step::Commit => followed(
+                self,
+                count + 1,
+                jacobian::double_and_add(curve, seal, class),
+            ),
+            Step::Undo => followed(
+                self,
+                count - 1,
+                jacobian::subtract_and_halve(curve, seal, class),
+            ),
+        }
+    }
+
+    // The new seal is twice the old seal plus the operation's class, and the count grows by 1.
+    pub fn commit(self, class: Class) -> RegisterAnswer
+        ensures { λ r. ⌜ register-reply r ≡ commit-answer self class ⌝ }
+    {
+        self.step(Step::Commit, class)
     }
 
     // The class is subtracted from the seal first, the half of that difference is the new seal, and the count falls by 1.
     pub fn undo(self, class: Class) -> RegisterAnswer
         ensures { λ r. ⌜ register-reply r ≡ undo-answer self class ⌝ }
     {
-        let curve = self.curve;
-        let count = self.count;
-        let seal = self.seal;
-        if count > LIMIT {
-            let n = count_refusal(curve);
-            return kept(self, n);
-        }
-        if count == 0 {
-            let n = edge_refusal(curve, seal, class, 113);
-            return kept(self, n);
-        }
-        let step = jacobian::subtract_and_halve(curve, seal, class);
-        followed(self, count - 1, step)
+        self.step(Step::Undo, class)
     }
 }

@@ -14,21 +14,21 @@ use Rattle.jacobian.specs.declared.Curve.{Curve}
 use Rattle.jacobian.specs.declared.Class.{Class}
 use Rattle.jacobian.specs.Curves.{curve}
 use Rattle.jacobian.specs.Classes.{pair}
-use Rattle.jacobian.specs.Answer.{Reply, accepted, refused, membership-answer, double-answer, half-answer, sum-answer}
+use Rattle.jacobian.specs.Answer.{Result, result, accepted, refused, membership-answer, double-answer, half-answer, sum-answer}
 use Rattle.jacobian.specs.Examples.{Example, twice-is, half-is, sum-is, on-and-not-on, Gives, Holds, All-hold, table}
 use Rattle.jacobian.proofs.ByValue.Degrees.{by-degree}
 use Rattle.jacobian.proofs.Computing.{computing}
-use Rattle.jacobian.proofs.Examples.Compare.{alike-pairs, pairs-eq, alike-verdicts, verdicts-eq, alike-replies, replies-eq}
+use Rattle.jacobian.proofs.Examples.Compare.{alike-pairs, pairs-eq, alike-verdicts, verdicts-eq, alike-results, results-eq}
 pub mod Compare
 
 -- ---- the test of a row, and of all
-abbrev gives : (c : Curve) → Pair (Poly (c .degree)) → Reply → Class → Bool
-gives c D s r = alike-pairs (c .degree) D (pair (c .degree) r) && alike-replies s (record { outcome = accepted; class = r })
+abbrev gives : (c : Curve) → Pair (Poly (c .degree)) → Result → Class → Bool
+gives c D s r = alike-pairs (c .degree) D (pair (c .degree) r) && alike-results s (record { outcome = accepted; class = r })
 
 abbrev test : Example → Bool
-test (twice-is c a r) = gives c (double (curve c) (pair (c .degree) a)) (double-answer c a) r
-test (half-is c a r) = gives c (half (curve c) (pair (c .degree) a)) (half-answer c a) r
-test (sum-is c a b r) = gives c (sum (curve c) (pair (c .degree) a) (pair (c .degree) b)) (sum-answer c a b) r
+test (twice-is c a r) = gives c (double (curve c) (pair (c .degree) a)) (result (double-answer c a)) r
+test (half-is c a r) = gives c (half (curve c) (pair (c .degree) a)) (result (half-answer c a)) r
+test (sum-is c a b r) = gives c (sum (curve c) (pair (c .degree) a) (pair (c .degree) b)) (result (sum-answer c a b)) r
 test (on-and-not-on c e a) = alike-verdicts (membership-answer c a) accepted && alike-verdicts (membership-answer e a) (refused 111)
 
 abbrev test-all : List Example → Bool
@@ -40,11 +40,11 @@ unfolding computing
 computed = (tt, tt)
 
 -- ---- what passes the test holds
-gives-gives : (c : Curve) (D : Pair (Poly (c .degree))) (s : Reply) (r : Class) → T (gives c D s r) → Gives c D s r
+gives-gives : (c : Curve) (D : Pair (Poly (c .degree))) (s : Result) (r : Class) → T (gives c D s r) → Gives c D s r
 gives-gives c D s r t =
-    let answer : Reply = record { outcome = accepted; class = r } in
-    let h = and-yes (alike-pairs (c .degree) D (pair (c .degree) r)) (alike-replies s answer) t in
-    (pairs-eq (c .degree) D (pair (c .degree) r) (h .0), replies-eq s answer (h .1))
+    let answer : Result = record { outcome = accepted; class = r } in
+    let h = and-yes (alike-pairs (c .degree) D (pair (c .degree) r)) (alike-results s answer) t in
+    (pairs-eq (c .degree) D (pair (c .degree) r) (h .0), results-eq s answer (h .1))
 
 test-holds : (e : Example) → T (test e) → Holds e
 test-holds (twice-is c a r) t = gives-gives c _ _ r t

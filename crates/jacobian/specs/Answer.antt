@@ -2,9 +2,12 @@
 use Prim.Native.Nat.{ℕ, zero, suc}
 use mathlib.Core.Path.{_≡_}
 use mathlib.Core.List.{[], _∷_}
-use Rattle.class_group.specs.{Mumford.Pair, Mumford.opposite, Reduction.Counted, Operations.sum, Operations.double, Operations.counted-sum, Operations.counted-double, Half.half, Moves.double-and-add, Moves.subtract-and-halve}
-use Rattle.class_rows.specs.{Field.Poly}
-use Rattle.jacobian.specs.{Checks._or-else_, Curves.curve-refusal, Curves.curve, Classes.pair, Classes.class-of, Classes.class-refusal, declared.Curve.Curve, declared.Class.Class, declared.Outcome.Outcome, declared.Outcome.the-variants.Accepted, declared.Outcome.the-variants.Refused, declared.ClassAnswer.ClassAnswer, declared.CountedAnswer.CountedAnswer}
+use Rattle.class_group.specs.{Reduction.Counted, Operations.double}
+use Rattle.class_rows.specs.{Field.Poly, Operations.unary, Operations.binary, declared.Unary.Unary, declared.Binary.Binary}
+use Rattle.class_rows.specs.declared.Unary.the-variants.{Opposite, Double, Half}
+use Rattle.class_rows.specs.declared.Binary.the-variants.{Sum, DoubleAndAdd, SubtractAndHalve}
+use Rattle.jacobian.specs.{Checks._or-else_, Curves.curve-refusal, Curves.curve, Classes.pair, Classes.class-of, Classes.class-refusal}
+use Rattle.jacobian.specs.declared.{Curve.Curve, Class.Class, Outcome.Outcome, Outcome.the-variants.Accepted, Outcome.the-variants.Refused, ClassAnswer.ClassAnswer}
 
 -- an outcome is acceptance or a refusal with its number
 pub data Verdict : Type 0 where
@@ -37,34 +40,28 @@ verdict-of (suc n) = refused (suc n)
 unfoldable pub neutral-class : Class
 neutral-class = record { degree = 0; u = 0 ∷ 0 ∷ 0 ∷ []; v = 0 ∷ 0 ∷ 0 ∷ [] }
 
--- the answer of a call that gives a class
+-- the answer of a call that gives a class, with the number of reduction steps that led to it
 pub record Reply : Type 0 where
-  pub outcome : Verdict
-  pub class : Class
-
--- what the code's answer says
-abbrev pub reply : ClassAnswer → Reply
-reply r = record { outcome = verdict (r .outcome); class = r .class }
-
--- the class where no refusal is due, and else the refusal with the neutral class
-unfoldable pub answered : (d : ℕ) → ℕ → Pair (Poly d) → Reply
-answered d zero D = record { outcome = accepted; class = class-of d D }
-answered d (suc n) D = record { outcome = refused (suc n); class = neutral-class }
-
--- the answer of a call that gives a class and the number of reduction steps that led to it
-pub record CountedReply : Type 0 where
   pub outcome : Verdict
   pub class : Class
   pub steps : ℕ
 
 -- what the code's answer says
-abbrev pub counted-reply : CountedAnswer → CountedReply
-counted-reply r = record { outcome = verdict (r .outcome); class = r .class; steps = r .steps }
+abbrev pub reply : ClassAnswer → Reply
+reply r = record { outcome = verdict (r .outcome); class = r .class; steps = r .steps }
 
--- a refusal comes with no step
-unfoldable pub counted-answered : (d : ℕ) → ℕ → Counted (Poly d) → CountedReply
-counted-answered d zero D = record { outcome = accepted; class = class-of d (D .class); steps = D .steps }
-counted-answered d (suc n) D = record { outcome = refused (suc n); class = neutral-class; steps = 0 }
+-- the same without the steps
+pub record Result : Type 0 where
+  pub outcome : Verdict
+  pub class : Class
+
+abbrev pub result : Reply → Result
+result r = record { outcome = r .outcome; class = r .class }
+
+-- the class and its steps where no refusal is due, and else the refusal with the neutral class and no step
+unfoldable pub answered : (d : ℕ) → ℕ → Counted (Poly d) → Reply
+answered d zero D = record { outcome = accepted; class = class-of d (D .class); steps = D .steps }
+answered d (suc n) D = record { outcome = refused (suc n); class = neutral-class; steps = 0 }
 
 -- ---- the calls
 unfoldable pub curve-answer : Curve → Verdict
@@ -73,32 +70,34 @@ curve-answer c = verdict-of (curve-refusal c)
 unfoldable pub membership-answer : Curve → Class → Verdict
 membership-answer c a = verdict-of (refusal c a)
 
+-- on one class: the theory's opposite, double or half
+abbrev pub unary-answer : Unary → Curve → Class → Reply
+unary-answer op c a = let d = c .degree in answered d (refusal c a) (unary op (curve c) (pair d a))
+
 unfoldable pub opposite-answer : Curve → Class → Reply
-opposite-answer c a = let d = c .degree in answered d (refusal c a) (opposite (curve c) (pair d a))
+opposite-answer c a = unary-answer Opposite c a
 
 unfoldable pub double-answer : Curve → Class → Reply
-double-answer c a = let d = c .degree in answered d (refusal c a) (double (curve c) (pair d a))
+double-answer c a = unary-answer Double c a
 
 unfoldable pub half-answer : Curve → Class → Reply
-half-answer c a = let d = c .degree in answered d (refusal c a) (half (curve c) (pair d a))
+half-answer c a = unary-answer Half c a
 
 -- half promises besides that where its answer is accepted, the double of the answer's class is the class given
 pub record HalfAnswers (c : Curve) (a : Class) (r : Reply) : Type 0 where
   pub answer : r ≡ half-answer c a
   pub doubled : refusal c a ≡ 0 → double (curve c) (pair (c .degree) (r .class)) ≡ pair (c .degree) a
 
+-- on two classes: the theory's sum, and the rules by which a commit and an undo move a seal: twice a class plus another, and the half of a
+-- class less another
+abbrev pub binary-answer : Binary → Curve → Class → Class → Reply
+binary-answer op c a b = let d = c .degree in answered d (refusal-of-two c a b) (binary op (curve c) (pair d a) (pair d b))
+
 unfoldable pub sum-answer : Curve → Class → Class → Reply
-sum-answer c a b = let d = c .degree in answered d (refusal-of-two c a b) (sum (curve c) (pair d a) (pair d b))
+sum-answer c a b = binary-answer Sum c a b
 
-unfoldable pub counted-double-answer : Curve → Class → CountedReply
-counted-double-answer c a = let d = c .degree in counted-answered d (refusal c a) (counted-double (curve c) (pair d a))
-
-unfoldable pub counted-sum-answer : Curve → Class → Class → CountedReply
-counted-sum-answer c a b = let d = c .degree in counted-answered d (refusal-of-two c a b) (counted-sum (curve c) (pair d a) (pair d b))
-
--- twice a class plus another, and the half of a class less another: the rules by which a commit and an undo move a seal
 unfoldable pub double-and-add-answer : Curve → Class → Class → Reply
-double-and-add-answer c a b = let d = c .degree in answered d (refusal-of-two c a b) (double-and-add (curve c) (pair d a) (pair d b))
+double-and-add-answer c a b = binary-answer DoubleAndAdd c a b
 
 unfoldable pub subtract-and-halve-answer : Curve → Class → Class → Reply
-subtract-and-halve-answer c a b = let d = c .degree in answered d (refusal-of-two c a b) (subtract-and-halve (curve c) (pair d a) (pair d b))
+subtract-and-halve-answer c a b = binary-answer SubtractAndHalve c a b

@@ -11,7 +11,7 @@ use Rattle.jacobian.specs.declared.Curve.{Curve}
 use Rattle.jacobian.specs.declared.Class.{Class}
 use Rattle.jacobian.specs.Curves.{curve, curve-with}
 use Rattle.jacobian.specs.Classes.{pair}
-use Rattle.jacobian.specs.Answer.{Reply, accepted, refused, membership-answer, double-answer, half-answer, sum-answer}
+use Rattle.jacobian.specs.Answer.{Result, result, accepted, refused, membership-answer, double-answer, half-answer, sum-answer}
 
 -- A row: on a curve, twice a class, the half of a class, or the sum of two is the class that comes last;
 -- a class is on the first curve and not on the second.
@@ -22,14 +22,14 @@ pub data Example : Type 0 where
   on-and-not-on : Curve → Curve → Class → Example
 
 -- an operation's pair is the pair of the class r, and the call by value answers r
-abbrev pub Gives : (c : Curve) → Pair (Poly (c .degree)) → Reply → Class → Type 0
+abbrev pub Gives : (c : Curve) → Pair (Poly (c .degree)) → Result → Class → Type 0
 Gives c D s r = (D ≡ pair (c .degree) r) × (s ≡ record { outcome = accepted; class = r })
 
 -- what a row says; 111 is the refusal where u does not divide v² + v + f
 abbrev pub Holds : Example → Type 0
-Holds (twice-is c a r) = Gives c (double (curve c) (pair (c .degree) a)) (double-answer c a) r
-Holds (half-is c a r) = Gives c (half (curve c) (pair (c .degree) a)) (half-answer c a) r
-Holds (sum-is c a b r) = Gives c (sum (curve c) (pair (c .degree) a) (pair (c .degree) b)) (sum-answer c a b) r
+Holds (twice-is c a r) = Gives c (double (curve c) (pair (c .degree) a)) (result (double-answer c a)) r
+Holds (half-is c a r) = Gives c (half (curve c) (pair (c .degree) a)) (result (half-answer c a)) r
+Holds (sum-is c a b r) = Gives c (sum (curve c) (pair (c .degree) a) (pair (c .degree) b)) (result (sum-answer c a b)) r
 Holds (on-and-not-on c e a) = (membership-answer c a ≡ accepted) × (membership-answer e a ≡ refused 111)
 
 abbrev pub All-hold : List Example → Type 0

@@ -1,46 +1,35 @@
 -- A call in place says what the call by value says, and a refusal leaves the lent register unchanged (`refusal-leaves`).
--- Demand 3 on a list in which each call is by value or in place (document 01, 'The register'): what happens is what happens with all calls by value
--- (`happened-run`), so each theorem of the crate history on a list holds of it.
+-- Demand 3 on a list in which each call is by value or in place (document 01, 'The register'): the machine of what was said, carried to the register's,
+-- agrees with it (`agreeing`), so what happens is what happens with all calls by value (`happened-run`), and each theorem of the crate history holds of it.
 -- `taken-back-turned`: taking the accepted calls back, newest first, each by value or in place, does to each call what `turned` says. So none is refused
 -- (`taken-back-accepted`), each brings back the register just before the call that it takes back (`taken-back-registers`), and all of them the first one
 -- (`taken-back-all`). `failing`, `failing-stays`: a register that itself fails a check is refused by every call and stays as it was. `curve-kept`: degree and
 -- curve never change. `walk-steps`, `walk-meets`, `walk-ends`, `walk-part`: where only commits were accepted, the walk back from the register's seal.
 use Prim.Native.Nat.{ℕ, suc, _≤_}
-use mathlib.Core.Path.{_≡_, refl, sym, _∙_, ap, ap₂, subst}
-use mathlib.Core.List.{List, [], _∷_, map, map-map, reverse}
+use mathlib.Core.Path.{_≡_, refl, sym, _∙_, ap}
+use mathlib.Core.List.{List, [], _∷_, map, map-map}
 use lib.ListN.{length, take, getD}
-use Rattle.class_group.specs.Walk.{All, walk, after}
+use Rattle.class_group.specs.Walk.{All, none, more, walk}
 use Rattle.jacobian.specs.Answer.{accepted, refused, verdict-of}
-use Rattle.jacobian.specs.declared.Class.{Class}
-use Rattle.history.specs.Register.{RegisterReply, register-reply, register-refusal, commit-answer, undo-answer, earlier}
-use Rattle.history.specs.Calls.{Call, commit, undo, answer, Event, event, run, last, accepted-of, newest, backs, taken-back, turned, classes, OnlyCommits, walk-back, steps-back, met, seals-back}
-use Rattle.history.specs.declared.Register.{Register}
-use Rattle.history.specs.declared.RegisterAnswer.{RegisterAnswer}
-use Rattle.history.proofs.Chain.{refused-stays}
+use Rattle.history.specs.Register.{RegisterReply, register-reply, register-refusal, undo-seal, step-answer}
+use Rattle.history.specs.Machine as machine
+use Rattle.history.specs.Calls.{Call, Fits, answer, registers, Event, run, last, newest, backs, turned, classes, OnlyCommits, walk-back, steps-back, met, seals-back}
+use Rattle.history.specs.declared.{Register.Register, RegisterAnswer.RegisterAnswer}
+use Rattle.history.proofs.{All.all-map, OneCall.refused-stays, Failing.failing-run, Failing.failing-last, Machine.Carried.run-carried, Machine.Carried.last-carried, Machine.Carried.newest-carried}
 use Rattle.history.proofs.TakingBack as history
-use Rattle.history.proofs.TakingBack.{Fits, all-map}
-use Rattle.history.proofs.Failing.{failing-run, failing-last}
 use Rattle.history.proofs.WalkingBack as walking
-use Rattle.seal_register.specs.InPlace.{in-place, Made, by-value, lent, call, said, Session, happened, left-by, newest-made}
+use Rattle.seal_register.specs.InPlace.{in-place, Made, by-value, lent, call, said, made, Session, happened, left-by, newest-made}
 
 -- ---- one call
 -- what a session asks of a call is the equation of its contract
-module _ (r : Register) (a : Class) where
-  pub commit-by-value : (x : RegisterAnswer) → register-reply x ≡ commit-answer r a → said (by-value (commit a) x) ≡ answer r (commit a)
+module _ (r : Register) (c : Call) where
+  pub said-by-value : (x : RegisterAnswer) → register-reply x ≡ step-answer (c .step) r (c .class) → said (by-value c x) ≡ answer r c
   unfolding said answer
-  commit-by-value x e = e
+  said-by-value x e = e
 
-  pub undo-by-value : (x : RegisterAnswer) → register-reply x ≡ undo-answer r a → said (by-value (undo a) x) ≡ answer r (undo a)
+  pub said-lent : (n : ℕ) (left : Register) → in-place n left ≡ step-answer (c .step) r (c .class) → said (lent c n left) ≡ answer r c
   unfolding said answer
-  undo-by-value x e = e
-
-  pub commit-lent : (n : ℕ) (left : Register) → in-place n left ≡ commit-answer r a → said (lent (commit a) n left) ≡ answer r (commit a)
-  unfolding said answer
-  commit-lent n left e = e
-
-  pub undo-lent : (n : ℕ) (left : Register) → in-place n left ≡ undo-answer r a → said (lent (undo a) n left) ≡ answer r (undo a)
-  unfolding said answer
-  undo-lent n left e = e
+  said-lent n left e = e
 
 -- on a refusal the lent register is unchanged
 pub refusal-leaves : (r : Register) (c : Call) (n : ℕ) (left : Register) → in-place (suc n) left ≡ answer r c → left ≡ r
@@ -52,26 +41,29 @@ refusal-leaves r c n left e = ap (λ (x : RegisterReply). x .register) e ∙ ref
 abbrev pub calls : List Made → List Call
 calls ms = map call ms
 
--- what happens is what happens with all calls by value
-pub happened-run : (r : Register) (ms : List Made) → Session r ms → happened r ms ≡ run r (calls ms)
-unfolding happened run event
-happened-run r [] s = refl
-happened-run r (m ∷ ms) (e, s) =
-    ap₂ (λ (x : RegisterReply) es. record { before = r; call = call m; outcome = x .outcome; left = x .register } ∷ es) e
-    (happened-run (said m .register) ms s ∙ ap (λ (x : RegisterReply). run (x .register) (calls ms)) e)
+-- the register's machine answers each of them so
+agreeing : (r : Register) (ms : List Made) → Session r ms → All (machine.Agrees (λ t. t) call registers) (machine.run made r ms)
+unfolding machine.run machine.event machine.Agrees machine.carried
+agreeing r [] none = none
+agreeing r (m ∷ ms) (more e s) =
+    more (ap (λ (x : RegisterReply). record { before = r; call = call m; outcome = x .outcome; left = x .register }) (sym e)) (agreeing (said m .register) ms s)
 
-pub left-by-last : (r : Register) (ms : List Made) → Session r ms → left-by r ms ≡ last r (calls ms)
-unfolding left-by last after
-left-by-last r [] s = refl
-left-by-last r (m ∷ ms) (e, s) = left-by-last (said m .register) ms s ∙ ap (λ (x : RegisterReply). last (x .register) (calls ms)) e
+module _ (r : Register) (ms : List Made) (s : Session r ms) where
+  -- what happens is what happens with all calls by value
+  pub happened-run : happened r ms ≡ run r (calls ms)
+  unfolding happened
+  happened-run = run-carried (λ t. t) call made registers r ms (agreeing r ms s)
 
-pub newest-is : (r : Register) (ms : List Made) → Session r ms → newest-made r ms ≡ newest r (calls ms)
-unfolding newest-made newest
-newest-is r ms s = ap (λ es. reverse (accepted-of es)) (happened-run r ms s)
+  pub left-by-last : left-by r ms ≡ last r (calls ms)
+  left-by-last = last-carried (λ t. t) call made registers r ms (agreeing r ms s)
 
--- degree and curve never change
-pub curve-kept : (r : Register) (ms : List Made) → Session r ms → All (λ e. e .left .curve ≡ r .curve) (happened r ms)
-curve-kept r ms s = rw (happened-run r ms s) (history.curve-kept r (calls ms))
+  pub newest-is : newest-made r ms ≡ newest r (calls ms)
+  unfolding newest-made
+  newest-is = newest-carried (λ t. t) call made registers r ms (agreeing r ms s)
+
+  -- degree and curve never change
+  pub curve-kept : All (λ e. e .left .curve ≡ r .curve) (happened r ms)
+  curve-kept = rw happened-run (history.curve-kept r (calls ms))
 
 -- a register that itself fails a check is refused by every call with that check's number and stays as it was
 module _ (r : Register) (fails : ¬ (register-refusal r ≡ 0)) (ms : List Made) (s : Session r ms) where
@@ -83,32 +75,32 @@ module _ (r : Register) (fails : ¬ (register-refusal r ≡ 0)) (ms : List Made)
 
 module _ (r : Register) (ms : List Made) (s : Session r ms) (fits : Fits r (calls ms)) where
   -- whatever holds of the accepted calls and of the last register with all calls by value
-  carried : (P : List Event → Register → Type 0) → P (newest r (calls ms)) (last r (calls ms)) → P (newest-made r ms) (left-by r ms)
-  carried P h = rw (newest-is r ms s, left-by-last r ms s) h
+  as-by-value : (P : List Event → Register → Type 0) → P (newest r (calls ms)) (last r (calls ms)) → P (newest-made r ms) (left-by r ms)
+  as-by-value P h = rw (newest-is r ms s, left-by-last r ms s) h
 
   -- the accepted calls are taken back, newest first, each by value or in place
   module _ (bs : List Made) (back : Session (left-by r ms) bs) (takes : calls bs ≡ backs (newest-made r ms)) where
     pub taken-back-turned : happened (left-by r ms) bs ≡ map turned (newest-made r ms)
-    unfolding taken-back
+    unfolding machine.taken-back
     taken-back-turned =
         happened-run (left-by r ms) bs back ∙ ap (run (left-by r ms)) takes
-        ∙ carried (λ es t. run t (backs es) ≡ map turned es) (history.taken-back-turned r (calls ms) fits)
+        ∙ as-by-value (λ es t. run t (backs es) ≡ map turned es) (history.taken-back-turned r (calls ms) fits)
 
     -- none is refused
     pub taken-back-accepted : All (λ e. e .outcome ≡ accepted) (happened (left-by r ms) bs)
-    unfolding turned
+    unfolding machine.turned
     taken-back-accepted = rw taken-back-turned (all-map turned (λ e. refl) (newest-made r ms))
 
     -- the registers just before the accepted calls come back one by one
     pub taken-back-registers : map (λ e. e .left) (happened (left-by r ms) bs) ≡ map (λ e. e .before) (newest-made r ms)
-    unfolding turned
+    unfolding machine.turned
     taken-back-registers = ap (map (λ e. e .left)) taken-back-turned ∙ map-map (λ e. e .left) turned (newest-made r ms)
 
     -- and at the end the first one
     pub taken-back-all : left-by (left-by r ms) bs ≡ r
     taken-back-all =
         left-by-last (left-by r ms) bs back ∙ ap (last (left-by r ms)) takes
-        ∙ carried (λ es t. last t (backs es) ≡ r) (history.taken-back-all r (calls ms) fits)
+        ∙ as-by-value (λ es t. last t (backs es) ≡ r) (history.taken-back-all r (calls ms) fits)
 
   -- the walk back, where only commits were accepted
   module _ (only : OnlyCommits (newest-made r ms)) where
@@ -117,22 +109,23 @@ module _ (r : Register) (ms : List Made) (s : Session r ms) (fits : Fits r (call
 
     -- no step is refused, and each answers the seal just before its commit
     pub walk-steps : steps-back (r .curve) (left-by r ms .seal) (classes (newest-made r ms)) ≡ map met (newest-made r ms)
-    walk-steps = carried (λ es t. steps-back (r .curve) (t .seal) (classes es) ≡ map met es) (walking.walk-steps r (calls ms) fits only-by-value)
+    walk-steps = as-by-value (λ es t. steps-back (r .curve) (t .seal) (classes es) ≡ map met es) (walking.walk-steps r (calls ms) fits only-by-value)
 
     -- all seals of the walk, the last seal first
-    pub walk-meets : walk (earlier (r .curve)) (left-by r ms .seal) (classes (newest-made r ms)) ≡ left-by r ms .seal ∷ map (λ e. e .before .seal) (newest-made r ms)
+    pub walk-meets : walk (undo-seal (r .curve)) (left-by r ms .seal) (classes (newest-made r ms)) ≡ left-by r ms .seal ∷ map (λ e. e .before .seal) (newest-made r ms)
     unfolding seals-back
-    walk-meets = carried (λ es t. walk (earlier (r .curve)) (t .seal) (classes es) ≡ t .seal ∷ map (λ e. e .before .seal) es) (walking.walk-meets r (calls ms) fits only-by-value)
+    walk-meets =
+        as-by-value (λ es t. walk (undo-seal (r .curve)) (t .seal) (classes es) ≡ t .seal ∷ map (λ e. e .before .seal) es) (walking.walk-meets r (calls ms) fits only-by-value)
 
     -- the walk over the k newest classes ends in the seal just before the k-th newest commit, and for k = 0 in the last seal
     pub walk-ends : (k : ℕ) → k ≤ length (newest-made r ms)
         → walk-back (r .curve) (left-by r ms .seal) (take k (classes (newest-made r ms))) ≡ getD (left-by r ms .seal ∷ map (λ e. e .before .seal) (newest-made r ms)) k (left-by r ms .seal)
     unfolding seals-back
     walk-ends =
-        carried (λ es t. (k : ℕ) → k ≤ length es → walk-back (r .curve) (t .seal) (take k (classes es)) ≡ getD (t .seal ∷ map (λ e. e .before .seal) es) k (t .seal))
+        as-by-value (λ es t. (k : ℕ) → k ≤ length es → walk-back (r .curve) (t .seal) (take k (classes es)) ≡ getD (t .seal ∷ map (λ e. e .before .seal) es) k (t .seal))
         (walking.walk-ends r (calls ms) fits only-by-value)
 
     -- and no step of it is refused
     pub walk-part : (k : ℕ) → steps-back (r .curve) (left-by r ms .seal) (take k (classes (newest-made r ms))) ≡ take k (map met (newest-made r ms))
     walk-part =
-        carried (λ es t. (k : ℕ) → steps-back (r .curve) (t .seal) (take k (classes es)) ≡ take k (map met es)) (walking.walk-part r (calls ms) fits only-by-value)
+        as-by-value (λ es t. (k : ℕ) → steps-back (r .curve) (t .seal) (take k (classes es)) ≡ take k (map met es)) (walking.walk-part r (calls ms) fits only-by-value)

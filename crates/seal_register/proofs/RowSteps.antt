@@ -1,64 +1,40 @@
 -- The walk on its way: what its opening and each of its steps answer, and that together they answer the walk over the whole row (`row-walked`).
 use Prim.Native.Nat.{ℕ, zero, suc, _+_, _≤_, _<_}
 use mathlib.Core.Path.{_≡_, refl, sym, _∙_, ap, ap₂}
-use mathlib.Core.Bool.{Bool, true, false}
-use mathlib.Core.List.{List, [], _∷_, _++_}
-use native.Mathlib.Numerals.{add-one}
-use native.Mathlib.Omega.{arith}
-use lib.Dec.{leb}
-use lib.ListN.{length, take, getD}
-use lib.Seq.{take-nil, take-length, take-suc}
+use mathlib.Core.{Bool.Bool, Bool.true, Bool.false, List.List, List.[], List._∷_, List._++_}
+use native.Mathlib.{Numerals.add-one, Omega.arith}
+use lib.{Dec.leb, ListN.length, ListN.take, ListN.getD, Seq.take-nil, Seq.take-length, Seq.take-suc}
 use borrow.Author.Tests.{leb-true, leb-false, lt-leb, le-leb}
 use Rattle.class_group.specs.Walk.{All, none, more, after}
-use Rattle.class_group.specs.Mumford.{Pair}
-use Rattle.jacobian.specs.Field.{Poly}
-use Rattle.jacobian.specs.Checks.{unless, _or-else_}
-use Rattle.jacobian.specs.Curves.{curve-refusal}
-use Rattle.jacobian.specs.Classes.{class-of, class-refusal}
-use Rattle.jacobian.specs.Answer.{Verdict, accepted, refused, verdict-of, neutral-class, refusal, refusal-of-two, Reply, reply, answered, subtract-and-halve-answer}
-use Rattle.jacobian.specs.declared.Curve.{Curve}
-use Rattle.jacobian.specs.declared.Class.{Class}
-use Rattle.jacobian.specs.declared.ClassAnswer.{ClassAnswer}
-use Rattle.jacobian.proofs.Representation.Form.{Three}
+use Rattle.jacobian.specs.{Checks.unless, Checks._or-else_, Curves.curve-refusal, Classes.class-refusal, Classes.Three}
+use Rattle.jacobian.specs.Answer.{Verdict, accepted, refused, verdict-of, outcome-refusal, neutral-class, refusal, refusal-of-two, Result, reply, result, subtract-and-halve-answer}
+use Rattle.jacobian.specs.declared.{Curve.Curve, Class.Class, ClassAnswer.ClassAnswer}
 use Rattle.jacobian.proofs.ByValue.Checks.{then-zero}
-use Rattle.history.specs.Register.{limit, number, earlier}
+use Rattle.history.specs.Register.{limit, undo-seal, Sound, sealed}
 use Rattle.history.specs.Calls.{walk-back}
-use Rattle.history.proofs.Seals.{Sound, earlier-sound}
-use Rattle.history.proofs.Answers.{number-answered}
-use Rattle.history.proofs.Numbers.{then-positive, then-none}
-use Rattle.seal_register.specs.RowWalk.{classes-refusal, row-refusal, replied, row-walk-answer, opening-refusal, turns-due, onward}
+use Rattle.history.proofs.{Seals.undo-sound, Answers.sealed-outcome, Answers.answer-refusal, Answers.subtract-and-halve-sealed, Numbers.then-positive, Numbers.then-none}
+use Rattle.seal_register.specs.RowWalk.{classes-refusal, row-refusal, row-walk-answer, opening-refusal, turns-due, onward}
 
--- ---- what is replied
-pub replied-outcome : (n : ℕ) (s : Class) → replied n s .outcome ≡ verdict-of n
-unfolding replied verdict-of
-replied-outcome zero s = refl
-replied-outcome (suc n) s = refl
-
+-- ---- what is answered
 -- a refusal is the same whatever the seal
-pub replied-refused : (n : ℕ) (s t : Class) → ¬ (n ≡ 0) → replied n s ≡ replied n t
-unfolding replied
-replied-refused zero s t h = absurd (h refl)
-replied-refused (suc n) s t h = refl
+sealed-refused : (n : ℕ) (s t : Class) → ¬ (n ≡ 0) → sealed n s ≡ sealed n t
+unfolding sealed
+sealed-refused zero s t h = absurd (h refl)
+sealed-refused (suc n) s t h = refl
 
-pub refused-is : (n : ℕ) (s : Class) → ¬ (n ≡ 0) → record { outcome = verdict-of n; class = neutral-class } ≡ replied n s
-unfolding replied verdict-of
+pub refused-is : (n : ℕ) (s : Class) → ¬ (n ≡ 0) → record { outcome = verdict-of n; class = neutral-class } ≡ sealed n s
+unfolding sealed verdict-of
 refused-is zero s h = absurd (h refl)
 refused-is (suc n) s h = refl
 
-pub accepted-is : (n : ℕ) (s : Class) → n ≡ 0 → record { outcome = accepted; class = s } ≡ replied n s
-unfolding replied
+pub accepted-is : (n : ℕ) (s : Class) → n ≡ 0 → record { outcome = accepted; class = s } ≡ sealed n s
+unfolding sealed
 accepted-is n s e = rw e
 
-answered-replied : (d n : ℕ) (D : Pair (Poly d)) → answered d n D ≡ replied n (class-of d D)
-unfolding answered replied
-answered-replied d zero D = refl
-answered-replied d (suc n) D = refl
-
 -- an answer by its number
-number-says : (x : ClassAnswer) (d n : ℕ) (D : Pair (Poly d)) → reply x ≡ answered d n D → record { outcome = verdict-of (number (x .outcome)); class = x .class } ≡ answered d n D
-number-says x d n D e =
-    let says : verdict-of n ≡ reply x .outcome = sym (ap (λ (y : Reply). y .outcome) (e ∙ answered-replied d n D) ∙ replied-outcome n (class-of d D)) in
-    ap (λ v. record { outcome = v; class = x .class }) (ap verdict-of (number-answered x d n D e) ∙ says) ∙ e
+number-says : (x : ClassAnswer) (n : ℕ) (s : Class) → result (reply x) ≡ sealed n s → record { outcome = verdict-of (outcome-refusal (x .outcome)); class = x .class } ≡ sealed n s
+number-says x n s e =
+    ap (λ v. record { outcome = v; class = x .class }) (ap verdict-of (answer-refusal x n s e) ∙ sym (ap (λ (y : Result). y .outcome) e ∙ sealed-outcome n s)) ∙ e
 
 -- ---- the opening
 module _ (c : Curve) (s : Class) where
@@ -126,17 +102,19 @@ module _ (c : Curve) where
 
   -- the number and the class of the step's answer, where the walk stands at a seal
   pub stepped : (n : ℕ) (s a : Class) (x : ClassAnswer) → n ≡ 0 → reply x ≡ subtract-and-halve-answer c s a
-      → record { outcome = verdict-of (number (x .outcome)); class = x .class } ≡ onward c (record { outcome = verdict-of n; class = s }) a
-  unfolding onward verdict-of subtract-and-halve-answer
-  stepped n s a x z e = number-says x (c .degree) (refusal-of-two c s a) _ e ∙ rw z
+      → record { outcome = verdict-of (outcome-refusal (x .outcome)); class = x .class } ≡ onward c (record { outcome = verdict-of n; class = s }) a
+  unfolding onward verdict-of
+  stepped n s a x z e =
+      let answers = subtract-and-halve-sealed c s a in
+      number-says x (refusal-of-two c s a) (undo-seal c s a) (ap result e ∙ answers) ∙ sym answers ∙ rw z
 
-  step-replied : (s a : Class) → onward c (replied 0 s) a ≡ replied (refusal-of-two c s a) (earlier c s a)
-  unfolding onward replied subtract-and-halve-answer earlier
-  step-replied s a = answered-replied (c .degree) (refusal-of-two c s a) _
+  step-sealed : (s a : Class) → onward c (sealed 0 s) a ≡ sealed (refusal-of-two c s a) (undo-seal c s a)
+  unfolding onward sealed
+  step-sealed s a = subtract-and-halve-sealed c s a
 
   -- a refused walk stays as it is
-  refused-stands : (n : ℕ) (s : Class) (ops : List Class) → after (onward c) (replied (suc n) s) ops ≡ replied (suc n) s
-  unfolding after onward replied
+  refused-stands : (n : ℕ) (s : Class) (ops : List Class) → after (onward c) (sealed (suc n) s) ops ≡ sealed (suc n) s
+  unfolding after onward sealed
   refused-stands n s [] = refl
   refused-stands n s (a ∷ ops) = refused-stands n s ops
 
@@ -146,18 +124,18 @@ module _ (c : Curve) where
     unfolding refusal-of-two refusal _or-else_
     next-refusal s a h = rw (ok, h .unrefused)
 
-    going : (n : ℕ) (t : Class) (ops : List Class) → (n ≡ 0 → after (onward c) (replied 0 t) ops ≡ replied (classes-refusal c ops) (walk-back c t ops))
-        → after (onward c) (replied n t) ops ≡ replied (n or-else classes-refusal c ops) (walk-back c t ops)
-    unfolding _or-else_ replied
+    going : (n : ℕ) (t : Class) (ops : List Class) → (n ≡ 0 → after (onward c) (sealed 0 t) ops ≡ sealed (classes-refusal c ops) (walk-back c t ops))
+        → after (onward c) (sealed n t) ops ≡ sealed (n or-else classes-refusal c ops) (walk-back c t ops)
+    unfolding _or-else_ sealed
     going zero t ops h = h refl
     going (suc n) t ops h = refused-stands n t ops
 
-    sound-walk : (s : Class) (ops : List Class) → Sound c s → All Three ops → after (onward c) (replied 0 s) ops ≡ replied (classes-refusal c ops) (walk-back c s ops)
+    sound-walk : (s : Class) (ops : List Class) → Sound c s → All Three ops → after (onward c) (sealed 0 s) ops ≡ sealed (classes-refusal c ops) (walk-back c s ops)
     unfolding after walk-back classes-refusal
     sound-walk s [] h none = refl
     sound-walk s (a ∷ ops) h (more t ts) =
-        ap (λ x. after (onward c) x ops) (step-replied s a ∙ ap (λ n. replied n (earlier c s a)) (next-refusal s a h))
-        ∙ going (class-refusal c a) (earlier c s a) ops (λ e. sound-walk (earlier c s a) ops (earlier-sound ok h (record { three = t; unrefused = e })) ts)
+        ap (λ x. after (onward c) x ops) (step-sealed s a ∙ ap (λ n. sealed n (undo-seal c s a)) (next-refusal s a h))
+        ∙ going (class-refusal c a) (undo-seal c s a) ops (λ e. sound-walk (undo-seal c s a) ops (undo-sound ok h (record { three = t; unrefused = e })) ts)
 
   -- ---- all steps
   first-refusal : (n : ℕ) (s a : Class) → refusal c s ≡ suc n → refusal-of-two c s a ≡ suc n
@@ -166,50 +144,50 @@ module _ (c : Curve) where
 
   -- the first step checks the curve and the last seal
   opens-sound : (n : ℕ) (s a : Class) (ops : List Class) → refusal c s ≡ n → Three s → All Three (a ∷ ops)
-      → after (onward c) (replied 0 s) (a ∷ ops) ≡ replied (n or-else classes-refusal c (a ∷ ops)) (walk-back c s (a ∷ ops))
+      → after (onward c) (sealed 0 s) (a ∷ ops) ≡ sealed (n or-else classes-refusal c (a ∷ ops)) (walk-back c s (a ∷ ops))
   unfolding refusal _or-else_ after
   opens-sound zero s a ops e h ts = let p = then-zero _ _ e in sound-walk (p .0) s (a ∷ ops) (record { three = h; unrefused = p .1 }) ts
   opens-sound (suc n) s a ops e h ts =
-      ap (λ x. after (onward c) x ops) (step-replied s a ∙ ap (λ k. replied k (earlier c s a)) (first-refusal n s a e))
-      ∙ refused-stands n (earlier c s a) ops
-      ∙ replied-refused (suc n) _ _ (λ z. omega arith)
+      ap (λ x. after (onward c) x ops) (step-sealed s a ∙ ap (λ k. sealed k (undo-seal c s a)) (first-refusal n s a e))
+      ∙ refused-stands n (undo-seal c s a) ops
+      ∙ sealed-refused (suc n) _ _ (λ z. omega arith)
 
   -- the definition's checks, by the length of the row
-  row-within : (s : Class) (ops : List Class) → length ops ≤ limit → replied (refusal c s or-else classes-refusal c ops) (walk-back c s ops) ≡ row-walk-answer c s ops
+  row-within : (s : Class) (ops : List Class) → length ops ≤ limit → sealed (refusal c s or-else classes-refusal c ops) (walk-back c s ops) ≡ row-walk-answer c s ops
   unfolding row-walk-answer row-refusal refusal unless
-  row-within s ops h = rw (le-leb (length ops) limit h) (ap (λ n. replied n (walk-back c s ops)) (then-within (curve-refusal c) (class-refusal c s) (classes-refusal c ops)))
+  row-within s ops h = rw (le-leb (length ops) limit h) (ap (λ n. sealed n (walk-back c s ops)) (then-within (curve-refusal c) (class-refusal c s) (classes-refusal c ops)))
 
-  row-above : (s : Class) (ops : List Class) → limit < length ops → replied (curve-refusal c or-else 109) s ≡ row-walk-answer c s ops
+  row-above : (s : Class) (ops : List Class) → limit < length ops → sealed (curve-refusal c or-else 109) s ≡ row-walk-answer c s ops
   unfolding row-walk-answer row-refusal unless
   row-above s ops h =
-      replied-refused (curve-refusal c or-else 109) s (walk-back c s ops) (then-positive (curve-refusal c) 109 (λ z. omega arith))
-      ∙ rw (lt-leb (length ops) limit h) (ap (λ n. replied n (walk-back c s ops)) (then-above (curve-refusal c) 108 (class-refusal c s or-else classes-refusal c ops)))
+      sealed-refused (curve-refusal c or-else 109) s (walk-back c s ops) (then-positive (curve-refusal c) 109 (λ z. omega arith))
+      ∙ rw (lt-leb (length ops) limit h) (ap (λ n. sealed n (walk-back c s ops)) (then-above (curve-refusal c) 108 (class-refusal c s or-else classes-refusal c ops)))
 
   module _ (s : Class) (h : Three s) where
-    by-length : (a : Class) (ops : List Class) (x : Reply) (n : ℕ) (d : Class) (b : Bool) → leb (length (a ∷ ops)) limit ≡ b
-        → x ≡ replied (opening-refusal c s (length (a ∷ ops))) s → n ≡ turns-due (x .outcome) (length (a ∷ ops))
+    by-length : (a : Class) (ops : List Class) (x : Result) (n : ℕ) (d : Class) (b : Bool) → leb (length (a ∷ ops)) limit ≡ b
+        → x ≡ sealed (opening-refusal c s (length (a ∷ ops))) s → n ≡ turns-due (x .outcome) (length (a ∷ ops))
         → ((j : ℕ) → j < n → Three (getD (a ∷ ops) j d)) → after (onward c) x (take n (a ∷ ops)) ≡ row-walk-answer c s (a ∷ ops)
-    unfolding turns-due replied after
+    unfolding turns-due sealed after
     by-length a ops x n d true l e m ts =
         let within = leb-true _ _ l in
-        let start : x ≡ replied 0 s = e ∙ ap (λ k. replied k s) (sym (opening-within c s (length (a ∷ ops)) (λ z. omega arith) within)) in
-        let all : n ≡ length (a ∷ ops) = m ∙ ap (λ (y : Reply). turns-due (y .outcome) (length (a ∷ ops))) start in
+        let start : x ≡ sealed 0 s = e ∙ ap (λ k. sealed k s) (sym (opening-within c s (length (a ∷ ops)) (λ z. omega arith) within)) in
+        let all : n ≡ length (a ∷ ops) = m ∙ ap (λ (y : Result). turns-due (y .outcome) (length (a ∷ ops))) start in
         ap₂ (after (onward c)) start (ap (λ k. take k (a ∷ ops)) all ∙ take-length (a ∷ ops))
         ∙ opens-sound (refusal c s) s a ops refl h (all-three (a ∷ ops) d (λ j k. ts j (omega arith)))
         ∙ row-within s (a ∷ ops) within
     by-length a ops x n d false l e m ts =
         let above = leb-false _ _ l in
         let k = curve-refusal c or-else 109 in
-        let start : x ≡ replied k s = e ∙ ap (λ k. replied k s) (sym (opening-above c s (length (a ∷ ops)) above)) in
+        let start : x ≡ sealed k s = e ∙ ap (λ k. sealed k s) (sym (opening-above c s (length (a ∷ ops)) above)) in
         let still : n ≡ 0 =
-        m ∙ ap (λ (y : Reply). turns-due (y .outcome) (length (a ∷ ops))) start
-        ∙ ap (λ v. turns-due v (length (a ∷ ops))) (replied-outcome k s)
+        m ∙ ap (λ (y : Result). turns-due (y .outcome) (length (a ∷ ops))) start
+        ∙ ap (λ v. turns-due v (length (a ∷ ops))) (sealed-outcome k s)
         ∙ sym (turns-none k (length (a ∷ ops)) (then-positive (curve-refusal c) 109 (λ z. omega arith))) in
-        ap₂ (λ (y : Reply) (j : ℕ). after (onward c) y (take j (a ∷ ops))) start still ∙ row-above s (a ∷ ops) above
+        ap₂ (λ (y : Result) (j : ℕ). after (onward c) y (take j (a ∷ ops))) start still ∙ row-above s (a ∷ ops) above
 
     -- the steps that are due after the opening x answer the walk over the row
-    pub row-walked : (ops : List Class) (x : Reply) (n : ℕ) (d : Class) → x ≡ replied (opening-refusal c s (length ops)) s → n ≡ turns-due (x .outcome) (length ops)
+    pub row-walked : (ops : List Class) (x : Result) (n : ℕ) (d : Class) → x ≡ sealed (opening-refusal c s (length ops)) s → n ≡ turns-due (x .outcome) (length ops)
         → ((j : ℕ) → j < n → Three (getD ops j d)) → after (onward c) x (take n ops) ≡ row-walk-answer c s ops
     unfolding after opening-refusal classes-refusal walk-back
-    row-walked [] x n d e m ts = ap (after (onward c) x) (take-nil n) ∙ e ∙ ap (λ k. replied k s) (sym (then-none (refusal c s))) ∙ row-within s [] (omega arith)
+    row-walked [] x n d e m ts = ap (after (onward c) x) (take-nil n) ∙ e ∙ ap (λ k. sealed k s) (sym (then-none (refusal c s))) ∙ row-within s [] (omega arith)
     row-walked (a ∷ ops) x n d e m ts = by-length a ops x n d (leb (length (a ∷ ops)) limit) refl e m ts

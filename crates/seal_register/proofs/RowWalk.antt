@@ -5,28 +5,20 @@ use Prim.Native.Nat.{ℕ, zero, suc, _≤_}
 use mathlib.Core.Path.{_≡_, refl, _∙_, ap, subst}
 use mathlib.Core.List.{List, [], _∷_}
 use native.Mathlib.Omega.{arith}
-use lib.ListN.{length, take, getD, length-map}
-use lib.Seq.{length-take-le}
+use lib.{ListN.length, ListN.take, ListN.getD, ListN.length-map, Seq.length-take-le}
 use borrow.Author.Tests.{le-leb}
 use Rattle.class_group.specs.Walk.{All, none, more}
-use Rattle.jacobian.specs.Checks.{unless, _or-else_}
-use Rattle.jacobian.specs.Curves.{curve-refusal}
-use Rattle.jacobian.specs.Classes.{class-refusal}
-use Rattle.jacobian.specs.Answer.{accepted, verdict-of, Reply}
-use Rattle.jacobian.specs.declared.Curve.{Curve}
-use Rattle.jacobian.specs.declared.Class.{Class}
+use Rattle.jacobian.specs.{Checks.unless, Checks._or-else_, Curves.curve-refusal, Classes.class-refusal, Answer.accepted, Answer.verdict-of, Answer.Result}
+use Rattle.jacobian.specs.declared.{Curve.Curve, Class.Class}
+use Rattle.history.specs.Register.{limit, register-refusal, sealed}
+use Rattle.history.specs.Calls.{Call, Fits, Event, last, newest, classes, OnlyCommits, seals-back, walk-back}
 use Rattle.history.specs.declared.Register.{Register}
-use Rattle.history.specs.Register.{limit, register-refusal}
-use Rattle.history.specs.Calls.{Call, class, Event, last, newest, classes, OnlyCommits, seals-back, walk-back}
-use Rattle.history.proofs.Registers.{Passes, register-passes}
-use Rattle.history.proofs.TakingBack.{Fits, last-curve}
-use Rattle.history.proofs.Preserved.{last-passes, accepted-classes}
-use Rattle.history.proofs.WalkingBack.{walk-ends, accepted-few}
-use Rattle.seal_register.specs.RowWalk.{classes-refusal, row-refusal, replied, reached, row-walk-answer}
+use Rattle.history.proofs.{Registers.Passes, Registers.register-passes, TakingBack.last-curve, Preserved.last-passes, Preserved.accepted-classes, WalkingBack.walk-ends, WalkingBack.accepted-few}
+use Rattle.seal_register.specs.RowWalk.{classes-refusal, row-refusal, reached, row-walk-answer}
 use Rattle.seal_register.specs.declared.walk.RowWalk.{RowWalk}
 
 -- no class among those of unrefused calls is refused
-unrefused : (c : Curve) (es : List Event) (k : ℕ) → All (λ e. class-refusal c (class (e .call)) ≡ 0) es → classes-refusal c (take k (classes es)) ≡ 0
+unrefused : (c : Curve) (es : List Event) (k : ℕ) → All (λ e. class-refusal c (e .call .class) ≡ 0) es → classes-refusal c (take k (classes es)) ≡ 0
 unfolding classes-refusal classes _or-else_
 unrefused c [] zero none = refl
 unrefused c [] (suc k) none = refl
@@ -36,7 +28,7 @@ unrefused c (e ∷ es) (suc k) (more h hs) = rw h (unrefused c es k hs)
 -- what is answered where no check fails
 row-answered : (c : Curve) (s : Class) (ops : List Class) → curve-refusal c ≡ 0 → class-refusal c s ≡ 0 → length ops ≤ limit → classes-refusal c ops ≡ 0
     → row-walk-answer c s ops ≡ record { outcome = accepted; class = walk-back c s ops }
-unfolding row-walk-answer row-refusal replied unless _or-else_
+unfolding row-walk-answer row-refusal sealed unless _or-else_
 row-answered c s ops hc hs hl ho = rw (hc, le-leb (length ops) limit hl, hs, ho)
 
 accepted-zero : (n : ℕ) → verdict-of n ≡ accepted → n ≡ 0
@@ -69,4 +61,4 @@ module _ (r : Register) (cs : List Call) (fits : Fits r cs) (only : OnlyCommits 
       → (w .refusal ≡ 0) × (w .seal ≡ getD (seals-back r cs) k (last r cs .seal))
   row-walk-answers k h w e =
       let m = e ∙ row-walk-meets k h in
-      (accepted-zero (w .refusal) (ap (λ (x : Reply). x .outcome) m), ap (λ (x : Reply). x .class) m)
+      (accepted-zero (w .refusal) (ap (λ (x : Result). x .outcome) m), ap (λ (x : Result). x .class) m)

@@ -1,12 +1,13 @@
 -- A register lent and changed in place, and lists of calls each by value or in place (document 00, demand 3; document 01, 'The register').
 use Prim.Native.Nat.{ℕ}
 use mathlib.Core.Path.{_≡_}
-use mathlib.Core.List.{List, [], _∷_, reverse}
+use mathlib.Core.List.{List, map}
+use Rattle.class_group.specs.Walk.{All}
 use Rattle.jacobian.specs.Answer.{verdict-of}
 use Rattle.history.specs.Register.{RegisterReply, register-reply}
-use Rattle.history.specs.Calls.{Call, answer, Event, accepted-of}
-use Rattle.history.specs.declared.Register.{Register}
-use Rattle.history.specs.declared.RegisterAnswer.{RegisterAnswer}
+use Rattle.history.specs.Machine.{Machine, run, last, newest, carried}
+use Rattle.history.specs.Calls.{Call, answer, Event}
+use Rattle.history.specs.declared.{Register.Register, RegisterAnswer.RegisterAnswer}
 
 -- what a call on a lent register says: acceptance where its number is 0 and else that refusal, with the register as the call leaves it
 unfoldable pub in-place : ℕ → Register → RegisterReply
@@ -26,21 +27,20 @@ unfoldable pub said : Made → RegisterReply
 said (by-value c x) = register-reply x
 said (lent c n left) = in-place n left
 
--- each call gets the register that the call before it handed back or left in place, and says what its contract says
+-- the machine that says what was said: each call gets the register that the call before it handed back or left in place
+abbrev pub made : Machine Register Made
+made = record { outcome = λ r m. said m .outcome; next = λ r m. said m .register }
+
+-- each call says what its contract says
 abbrev pub Session : Register → List Made → Type 0
-Session r [] = Unit {0}
-Session r (m ∷ ms) = (said m ≡ answer r (call m)) × Session (said m .register) ms
+Session r ms = All (λ e. said (e .call) ≡ answer (e .before) (call (e .call))) (run made r ms)
 
--- what happened
+-- what happened, the register after the list, and the accepted calls, newest first
 unfoldable pub happened : Register → List Made → List Event
-happened r [] = []
-happened r (m ∷ ms) = record { before = r; call = call m; outcome = said m .outcome; left = said m .register } ∷ happened (said m .register) ms
+happened r ms = map (carried (λ t. t) call) (run made r ms)
 
--- the register after the list
-unfoldable pub left-by : Register → List Made → Register
-left-by r [] = r
-left-by r (m ∷ ms) = left-by (said m .register) ms
+abbrev pub left-by : Register → List Made → Register
+left-by = last made
 
--- the accepted calls, newest first
 unfoldable pub newest-made : Register → List Made → List Event
-newest-made r ms = reverse (accepted-of (happened r ms))
+newest-made r ms = map (carried (λ t. t) call) (newest made r ms)

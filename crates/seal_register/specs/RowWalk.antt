@@ -3,13 +3,10 @@ use Prim.Native.Nat.{ℕ, zero, suc}
 use mathlib.Core.List.{List, [], _∷_}
 use lib.Dec.{leb}
 use lib.ListN.{length}
-use Rattle.jacobian.specs.Checks.{unless, _or-else_}
-use Rattle.jacobian.specs.Curves.{curve-refusal}
-use Rattle.jacobian.specs.Classes.{class-refusal}
-use Rattle.jacobian.specs.Answer.{Verdict, accepted, refused, verdict-of, neutral-class, refusal, Reply, subtract-and-halve-answer}
-use Rattle.jacobian.specs.declared.Curve.{Curve}
-use Rattle.jacobian.specs.declared.Class.{Class}
-use Rattle.history.specs.Register.{limit}
+use Rattle.jacobian.specs.{Checks.unless, Checks._or-else_, Curves.curve-refusal, Classes.class-refusal}
+use Rattle.jacobian.specs.Answer.{Verdict, accepted, refused, verdict-of, refusal, Result, result, subtract-and-halve-answer}
+use Rattle.jacobian.specs.declared.{Curve.Curve, Class.Class}
+use Rattle.history.specs.Register.{limit, sealed}
 use Rattle.history.specs.Calls.{walk-back}
 use Rattle.seal_register.specs.declared.walk.RowWalk.{RowWalk}
 
@@ -26,18 +23,13 @@ row-refusal c last ops =
     or-else class-refusal c last
     or-else classes-refusal c ops
 
--- the seal where no refusal is due, and else the refusal with the neutral class
-unfoldable pub replied : ℕ → Class → Reply
-replied zero seal = record { outcome = accepted; class = seal }
-replied (suc n) seal = record { outcome = refused (suc n); class = neutral-class }
-
 -- the walk answers the earliest seal
-unfoldable pub row-walk-answer : Curve → Class → List Class → Reply
-row-walk-answer c last ops = replied (row-refusal c last ops) (walk-back c last ops)
+unfoldable pub row-walk-answer : Curve → Class → List Class → Result
+row-walk-answer c last ops = sealed (row-refusal c last ops) (walk-back c last ops)
 
 -- ---- the walk on its way
 -- what the code's walk says: 0 is no refusal
-abbrev pub reached : RowWalk → Reply
+abbrev pub reached : RowWalk → Result
 reached w = record { outcome = verdict-of (w .refusal); class = w .seal }
 
 -- what is checked before the first step over so many classes: where there is a class, the step over it checks the curve and the last seal
@@ -51,5 +43,5 @@ turns-due accepted n = n
 turns-due (refused k) n = 0
 
 -- one step back, unless the walk was refused before
-unfoldable pub onward : Curve → Reply → Class → Reply
-onward c x a = elim (x .outcome) [ accepted ↦ subtract-and-halve-answer c (x .class) a | refused n ↦ x ]
+unfoldable pub onward : Curve → Result → Class → Result
+onward c x a = elim (x .outcome) [ accepted ↦ result (subtract-and-halve-answer c (x .class) a) | refused n ↦ x ]

@@ -14,7 +14,7 @@ pub extern "C" fn seal_register_commit(register: &mut Register, class: Class) ->
 {
     let a = Register::commit(*register, class);
     *register = a.register;
-    history::outcome_number(a.outcome)
+    jacobian::outcome_refusal(a.outcome)
 }
 
 // The lent register becomes the one after an undo; on a refusal it stays as it was.
@@ -24,5 +24,5 @@ pub extern "C" fn seal_register_undo(register: &mut Register, class: Class) -> u
 {
     let a = Register::undo(*register, class);
     *register = a.register;
-    history::outcome_number(a.outcome)
+    jacobian::outcome_refusal(a.outcome)
 }

@@ -3,7 +3,8 @@
 // and for each class.
 ghost use mathlib.Core.Path.{_≡_};
 ghost use Rattle.jacobian.specs.Answer.{verdict-of};
-ghost use Rattle.seal_register.specs.RowWalk.{replied, reached, opening-refusal, turns-due, onward, row-walk-answer};
+ghost use Rattle.history.specs.Register.{sealed};
+ghost use Rattle.seal_register.specs.RowWalk.{reached, opening-refusal, turns-due, onward, row-walk-answer};
 use jacobian::Class;
 use jacobian::Curve;
 
@@ -22,7 +23,7 @@ fn opening_refusal(curve: Curve, last: Class, classes: usize) -> u32
     ensures { λ r. ⌜ r ≡ opening-refusal curve last classes ⌝ }
 {
     if classes == 0 {
-        return history::class_refusal(curve, last);
+        return jacobian::class_refusal(curve, last);
     }
     if classes as u64 > LIMIT {
         return history::count_refusal(curve);
@@ -32,7 +33,7 @@ fn opening_refusal(curve: Curve, last: Class, classes: usize) -> u32
 
 // The seal, or the refusal that is due.
 fn standing(n: u32, seal: Class) -> RowWalk
-    ensures { λ r. ⌜ reached r ≡ replied n seal ⌝ }
+    ensures { λ r. ⌜ reached r ≡ sealed n seal ⌝ }
 {
     if n != 0 {
         let none = jacobian::neutral();
@@ -49,7 +50,7 @@ fn standing(n: u32, seal: Class) -> RowWalk
 
 // A walk over so many classes, before its first step.
 fn opened(curve: Curve, last: Class, classes: usize) -> RowWalk
-    ensures { λ r. ⌜ reached r ≡ replied (opening-refusal curve last classes) last ⌝ }
+    ensures { λ r. ⌜ reached r ≡ sealed (opening-refusal curve last classes) last ⌝ }
 {
     let due = opening_refusal(curve, last, classes);
     standing(due, last)
@@ -75,7 +76,7 @@ fn walked_on(curve: Curve, w: RowWalk, a: Class) -> RowWalk
     let seal = w.seal;
     let step = jacobian::subtract_and_halve(curve, seal, a);
     let o = step.outcome;
-    let n = history::outcome_number(o);
+    let n = jacobian::outcome_refusal(o);
     let before = step.class;
     RowWalk {
         refusal: n,

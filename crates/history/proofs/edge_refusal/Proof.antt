@@ -1,24 +1,39 @@
 -- `edge_refusal` meets its contract.
-use mathlib.Core.Path.{sym, _∙_}
-use Rattle.history.proofs.Numbers.{due-first, due-last}
-use Rattle.history.proofs.Answers.{first-refused, second-refused}
+use mathlib.Core.Path.{sym, _∙_, ap}
+use Rattle.jacobian.specs.Answer.{refusal-of-two}
+use Rattle.jacobian.proofs.ByValue.Checks.{first-due, next-due}
+use Rattle.history.specs.Register.{edge-refusal}
+use Rattle.history.proofs.Numbers.{second-refused}
 use borrow.Author.Needs.{needs}
 use Rattle.history.proofs.edge_refusal.Statement.{statement}
 use Rattle.history.proofs.edge_refusal.Tie as tie
 
 returns : tie.Need-returns
+unfolding refusal-of-two
 returns c =
-    due-first _ (c .before .class-refusal .ensures ∙ first-refused _ _ _ (λ z. c .if1 .taken (c .before .class-refusal .ensures ∙ z))) (c .if1 .taken)
+    let h = c .if1 .taken in
+    first-due _ (first-due _ (c .before .class-refusal .ensures) h) h
 
 returns-2 : tie.Need-returns-2
 returns-2 c =
-    due-first _ (c .before .class-refusal2 .ensures ∙ second-refused _ _ _ (sym (c .before .before .before .class-refusal .ensures) ∙ c .before .before .if1 .left)) (c .if2 .taken)
+    let s = c .before .before in
+    first-due _ (c .before .class-refusal2 .ensures ∙ second-refused _ _ _ (sym (s .before .class-refusal .ensures) ∙ s .if1 .left)) (c .if2 .taken)
 
 returns-3 : tie.Need-returns-3
+unfolding edge-refusal
 returns-3 c =
-    due-last _ (c .before .class-refusal2 .ensures ∙ second-refused _ _ _ (sym (c .before .before .before .class-refusal .ensures) ∙ c .before .before .if1 .left)) (c .if2 .left)
+    let s = c .before .before .before in
+    next-due (s .class-refusal2 .ensures ∙ second-refused _ _ _ (sym (s .before .before .class-refusal .ensures) ∙ s .before .if1 .left)) (c .before .before .if2 .left)
+    (sym (ap edge-refusal (c .enum-told .given .1)))
+
+returns-4 : tie.Need-returns-4
+unfolding edge-refusal
+returns-4 c =
+    let s = c .before .before .before in
+    next-due (s .class-refusal2 .ensures ∙ second-refused _ _ _ (sym (s .before .before .class-refusal .ensures) ∙ s .before .if1 .left)) (c .before .before .if2 .left)
+    (sym (ap edge-refusal (c .enum-told2 .given .1)))
 
 pub edge-refusal-spec : {M : Type 1} → statement M
 edge-refusal-spec =
     tie.close
-    (tie.spec (λ c κs. search needs) returns (λ c κs. search needs) returns-2 returns-3)
+    (tie.spec (λ c κs. search needs) returns (λ c κs. search needs) returns-2 (λ c. search needs) (λ c. search needs) returns-3 returns-4)

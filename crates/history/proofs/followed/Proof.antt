@@ -2,22 +2,22 @@
 use mathlib.Core.Path.{sym, _∙_, ap}
 use Rattle.history.specs.Register.{moved}
 use Rattle.history.proofs.Registers.{at-number, at-none}
-use Rattle.history.proofs.Answers.{number-answered, class-answered}
+use Rattle.history.proofs.Answers.{answer-refusal, answer-seal}
 use borrow.Author.Needs.{needs}
 use Rattle.history.proofs.followed.Statement.{statement}
 use Rattle.history.proofs.followed.Tie as tie
 
 returns : tie.Need-returns
-returns c d n D e =
+returns c n seal e =
     let s = c .before .before .before in
-    at-number (s .args .r) _ (c .before .before .outcome-number .ensures ∙ number-answered (s .args .step) d n D e) (c .kept .ensures _)
+    at-number (s .args .register) _ (c .before .before .outcome-refusal .ensures ∙ answer-refusal (s .args .answer) n seal e) (c .kept .ensures _)
 
 returns-2 : tie.Need-returns-2
 unfolding moved
-returns-2 c d n D e =
+returns-2 c n seal e =
     let s = c .before .before .before .before in
-    let z = sym (c .before .before .before .outcome-number .ensures ∙ number-answered (s .args .step) d n D e) ∙ c .before .before .if1 .left in
-    at-none (s .args .r) _ z (ap (λ t. moved (s .args .count) t (s .args .r)) (class-answered (s .args .step) d n D e z))
+    let z = sym (c .before .before .before .outcome-refusal .ensures ∙ answer-refusal (s .args .answer) n seal e) ∙ c .before .before .if1 .left in
+    at-none (s .args .register) _ z (ap (λ t. moved (s .args .count) t (s .args .register)) (answer-seal (s .args .answer) n seal e z))
 
 pub followed-spec : {M : Type 1} → statement M
 followed-spec = tie.close (tie.spec (λ c κs. search needs) (λ c κs. search needs) returns returns-2)

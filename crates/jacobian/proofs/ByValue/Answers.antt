@@ -2,9 +2,9 @@
 use Prim.Native.Nat.{ℕ, zero, suc}
 use mathlib.Core.Path.{_≡_, refl, sym, _∙_, ap}
 use native.Mathlib.Omega.{arith}
-use Rattle.class_group.specs.{Mumford.Pair, Reduction.Counted}
+use Rattle.class_group.specs.Reduction.{Counted}
 use Rattle.class_rows.specs.{Field.Poly}
-use Rattle.jacobian.specs.{Answer.accepted, Answer.refused, Answer.verdict, Answer.verdict-of, Answer.outcome-refusal, Answer.refusal, Answer.neutral-class, Answer.Reply, Answer.answered, Answer.CountedReply, Answer.counted-answered, declared.Curve.Curve, declared.Class.Class, declared.Outcome.Outcome, declared.Outcome.the-variants.Accepted, declared.Outcome.the-variants.Refused}
+use Rattle.jacobian.specs.{Answer.accepted, Answer.refused, Answer.verdict, Answer.verdict-of, Answer.outcome-refusal, Answer.refusal, Answer.neutral-class, Answer.Reply, Answer.answered, declared.Curve.Curve, declared.Class.Class, declared.Outcome.Outcome, declared.Outcome.the-variants.Accepted, declared.Outcome.the-variants.Refused}
 use Rattle.jacobian.proofs.ByValue.Checks.{CurvePasses, ClassPasses, then-zero, curve-passes, class-passes}
 
 -- the number of an outcome is the refusal that was due
@@ -24,34 +24,15 @@ pub accepted-verdict : {n m : ℕ} → n ≡ m → n ≡ 0 → accepted ≡ verd
 unfolding verdict-of
 accepted-verdict e h = rw (← e, h)
 
-module _ (d : ℕ) where
-  pub refused-answered : (D : Pair (Poly d)) (n : ℕ) → ¬ (n ≡ 0) → _≡_ {A = Reply} (record { outcome = refused n; class = neutral-class }) (answered d n D)
+module _ (d : ℕ) (D : Counted (Poly d)) where
+  pub refused-answered : (n : ℕ) → ¬ (n ≡ 0) → _≡_ {A = Reply} (record { outcome = refused n; class = neutral-class; steps = 0 }) (answered d n D)
   unfolding answered
-  refused-answered D zero h = absurd (h refl)
-  refused-answered D (suc n) h = refl
-
-  pub refused-counted :
-      (D : Counted (Poly d)) (n : ℕ) → ¬ (n ≡ 0)
-      → _≡_ {A = CountedReply} (record { outcome = refused n; class = neutral-class; steps = 0 }) (counted-answered d n D)
-  unfolding counted-answered
-  refused-counted D zero h = absurd (h refl)
-  refused-counted D (suc n) h = refl
+  refused-answered zero h = absurd (h refl)
+  refused-answered (suc n) h = refl
 
   -- what is answered at one number is answered at its equal
-  pub at-refusal : (D : Pair (Poly d)) {n m : ℕ} → n ≡ m → {r : Reply} → r ≡ answered d n D → r ≡ answered d m D
-  at-refusal D e h = h ∙ ap (λ k. answered d k D) e
-
-  pub counted-at-refusal : (D : Counted (Poly d)) {n m : ℕ} → n ≡ m → {r : CountedReply} → r ≡ counted-answered d n D → r ≡ counted-answered d m D
-  counted-at-refusal D e h = h ∙ ap (λ k. counted-answered d k D) e
-
--- an answer without its count of steps
-abbrev pub uncounted : CountedReply → Reply
-uncounted r = record { outcome = r .outcome; class = r .class }
-
-pub uncounted-answered : (d n : ℕ) (D : Counted (Poly d)) → uncounted (counted-answered d n D) ≡ answered d n (D .class)
-unfolding answered counted-answered
-uncounted-answered d zero D = refl
-uncounted-answered d (suc n) D = refl
+  pub at-refusal : {n m : ℕ} → n ≡ m → {r : Reply} → r ≡ answered d n D → r ≡ answered d m D
+  at-refusal e h = h ∙ ap (λ k. answered d k D) e
 
 -- the curve and the class of a call that is not refused
 pub passes : (c : Curve) (a : Class) {n : ℕ} → n ≡ refusal c a → n ≡ 0 → CurvePasses c × ClassPasses c a

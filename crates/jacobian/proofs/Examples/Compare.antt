@@ -10,7 +10,7 @@ use Rattle.char2_algebra.proofs.PolynomialRing.{eq-of-coefficients}
 use Rattle.class_group.specs.Mumford.{Pair}
 use Rattle.class_rows.specs.Field.{degree-of, K, Poly, F}
 use Rattle.jacobian.specs.declared.Class.{Class}
-use Rattle.jacobian.specs.Answer.{Verdict, accepted, refused, Reply}
+use Rattle.jacobian.specs.Answer.{Verdict, accepted, refused, Result}
 
 -- lists whose elements are known by their numbers
 module _ {A : Type 0} (number : A → ℕ) where
@@ -73,11 +73,11 @@ classes-eq a b t =
     let v = alike-eq (λ n. n) (λ _ _ e. e) (a .v) (b .v) (k .1) in
     λ i. record { degree = n i; u = u i; v = v i }
 
-abbrev pub alike-replies : Reply → Reply → Bool
-alike-replies s t = alike-verdicts (s .outcome) (t .outcome) && alike-classes (s .class) (t .class)
+abbrev pub alike-results : Result → Result → Bool
+alike-results s t = alike-verdicts (s .outcome) (t .outcome) && alike-classes (s .class) (t .class)
 
-pub replies-eq : (s t : Reply) → T (alike-replies s t) → s ≡ t
-replies-eq s t h =
+pub results-eq : (s t : Result) → T (alike-results s t) → s ≡ t
+results-eq s t h =
     let k = and-yes (alike-verdicts (s .outcome) (t .outcome)) (alike-classes (s .class) (t .class)) h in
     let o = verdicts-eq (s .outcome) (t .outcome) (k .0) in
     let c = classes-eq (s .class) (t .class) (k .1) in

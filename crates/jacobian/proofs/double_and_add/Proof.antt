@@ -1,44 +1,12 @@
 -- `double_and_add` meets its contract.
-use Rattle.jacobian.specs.{Curves.curve, Answer.double-and-add-answer}
-use Rattle.jacobian.proofs.{ByValue.Checks.curve-passes, ByValue.Passing.on-curve, ByValue.Passing.rows-pair-is, ByValue.Refusals.form-shape, ByValue.Refusals.two-due, ByValue.Answers.at-refusal}
+use Rattle.jacobian.specs.Answer.{double-and-add-answer}
 use borrow.Author.Needs.{needs}
 use Rattle.jacobian.proofs.double_and_add.Statement.{statement}
 use Rattle.jacobian.proofs.double_and_add.Tie as tie
 
-refused-requires : tie.Need-refused-requires
-refused-requires c κs = c .if1 .taken
-
 returns : tie.Need-returns
 unfolding double-and-add-answer
-returns c = at-refusal _ _ (c .before .before .form-refusal-of-two .ensures .refused (c .before .if1 .taken)) (c .refused .ensures _ _)
-
-to-rows-requires : tie.Need-to-rows-requires
-to-rows-requires c κs =
-    let s = c .before .before .before in
-    form-shape (s .args .curve) (s .args .a) (c .before .before .form-refusal-of-two .ensures .first-none (c .before .if1 .left)) .low
-
-to-rows-requires-2 : tie.Need-to-rows-requires-2
-to-rows-requires-2 c κs =
-    let s = c .before .before .before .before in
-    form-shape (s .args .curve) (s .args .b) (c .before .before .before .form-refusal-of-two .ensures .second-none (c .before .before .if1 .left)) .low
-
-returns-2 : tie.Need-returns-2
-unfolding double-and-add-answer
-returns-2 c =
-    let after = c .before .before in
-    let left = after .before .before .before .before in
-    let s = left .before .before in
-    let d = s .args .curve .degree in
-    let due = left .before .form-refusal-of-two .ensures in
-    let ok = due .curve-none (left .if1 .left) in
-    let f = after .before .before .before .f-row .ensures in
-    let first = after .before .before .to-rows .ensures in
-    let second = after .before .to-rows2 .ensures in
-    let gives = after .commit-rows .ensures in
-    at-refusal d _
-    (two-due (s .args .curve) (s .args .a) (s .args .b) ok (due .first-none (left .if1 .left)) (due .second-none (left .if1 .left)) f first second (gives .decides))
-    (c .settled .ensures d _
-    (λ held. rw (rows-pair-is d first, rows-pair-is d second) at (gives .stands held (curve (s .args .curve)) (on-curve _ (curve-passes _ ok) f))))
+returns c = c .on-two .ensures
 
 pub double-and-add-spec : {M : Type 1} → statement M
-double-and-add-spec = tie.close (tie.spec (λ c κs. search needs) refused-requires returns (λ c κs. search needs) to-rows-requires to-rows-requires-2 (λ c κs. search needs) (λ c κs. search needs) returns-2)
+double-and-add-spec = tie.close (tie.spec (λ c κs. search needs) returns)

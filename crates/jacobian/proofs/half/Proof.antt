@@ -1,8 +1,6 @@
 -- `half` meets its contract.
-use mathlib.Core.Path.{refl, sym, _∙_, ap}
-use Rattle.class_group.specs.Half.{half}
-use Rattle.jacobian.specs.{Curves.curve, Classes.pair, Answer.half-answer, Answer.answered}
-use Rattle.jacobian.proofs.{ByValue.Checks.then-zero, ByValue.Checks.curve-passes, ByValue.Passing.on-curve, ByValue.Passing.rows-pair-is, ByValue.Refusals.form-first, ByValue.Refusals.form-shape, ByValue.Refusals.one-due, ByValue.Answers.at-refusal, ByValue.Answers.passes, ByValue.Halved.half-doubled}
+use Rattle.jacobian.specs.Answer.{half-answer}
+use Rattle.jacobian.proofs.ByValue.Halved.{half-doubled}
 use borrow.Author.Needs.{needs}
 use Rattle.jacobian.proofs.half.Statement.{statement}
 use Rattle.jacobian.proofs.half.Tie as tie
@@ -10,32 +8,9 @@ use Rattle.jacobian.proofs.half.Tie as tie
 returns : tie.Need-returns
 unfolding half-answer
 returns c =
-    let e = form-first _ _ (c .before .before .curve-and-form-refusal .ensures) (c .before .if1 .taken) in
-    record { answer = at-refusal _ _ e (c .refused .ensures _ _); doubled = λ z. absurd (c .before .if1 .taken (e ∙ z)) }
-
-to-rows-requires : tie.Need-to-rows-requires
-to-rows-requires c κs =
-    let s = c .before .before .before in
-    form-shape (s .args .curve) (s .args .a) (then-zero _ _ (sym (c .before .before .curve-and-form-refusal .ensures) ∙ c .before .if1 .left) .1) .low
-
-returns-2 : tie.Need-returns-2
-unfolding half-answer
-returns-2 c =
-    let after = c .before .before in
-    let left = after .before .before .before in
-    let s = left .before .before in
-    let d = s .args .curve .degree in
-    let z = then-zero _ _ (sym (left .before .curve-and-form-refusal .ensures) ∙ left .if1 .left) in
-    let f = after .before .before .f-row .ensures in
-    let rows = after .before .to-rows .ensures in
-    let gives = after .half-rows .ensures in
-    let answer = at-refusal d _ (one-due (s .args .curve) (s .args .a) (z .1) (z .0) f rows (gives .decides)) (c .settled .ensures d _ (λ held. rw (rows-pair-is d rows) at (gives .stands held (curve (s .args .curve)) (on-curve _ (curve-passes _ (z .0)) f)))) in
-    record {
-      answer = answer;
-      doubled = λ none.
-          let ok = passes (s .args .curve) (s .args .a) refl none in
-          half-doubled (s .args .curve) (s .args .a) (ok .0) (ok .1) (rows .three) (answer ∙ ap (λ n. answered d n (half (curve (s .args .curve)) (pair d (s .args .a)))) none);
-    }
+    let s = c .before .args in
+    let gives = c .on-one .ensures in
+    record { answer = gives .answer; doubled = λ none. half-doubled (s .curve) (s .a) none (gives .three none) (gives .answer) }
 
 pub half-spec : {M : Type 1} → statement M
-half-spec = tie.close (tie.spec (λ c κs. search needs) (λ c κs. search needs) returns (λ c κs. search needs) to-rows-requires (λ c κs. search needs) (λ c κs. search needs) returns-2)
+half-spec = tie.close (tie.spec (λ c κs. search needs) returns)

@@ -1,33 +1,12 @@
 -- `opposite` meets its contract.
-use mathlib.Core.Path.{sym, _∙_}
-use Rattle.jacobian.specs.{Curves.curve, Answer.opposite-answer}
-use Rattle.jacobian.proofs.{ByValue.Checks.then-zero, ByValue.Checks.curve-passes, ByValue.Passing.on-curve, ByValue.Passing.rows-pair-is, ByValue.Refusals.form-first, ByValue.Refusals.form-shape, ByValue.Refusals.one-due, ByValue.Answers.at-refusal}
+use Rattle.jacobian.specs.Answer.{opposite-answer}
 use borrow.Author.Needs.{needs}
 use Rattle.jacobian.proofs.opposite.Statement.{statement}
 use Rattle.jacobian.proofs.opposite.Tie as tie
 
 returns : tie.Need-returns
 unfolding opposite-answer
-returns c = at-refusal _ _ (form-first _ _ (c .before .before .curve-and-form-refusal .ensures) (c .before .if1 .taken)) (c .refused .ensures _ _)
-
-to-rows-requires : tie.Need-to-rows-requires
-to-rows-requires c κs =
-    let s = c .before .before .before in
-    form-shape (s .args .curve) (s .args .a) (then-zero _ _ (sym (c .before .before .curve-and-form-refusal .ensures) ∙ c .before .if1 .left) .1) .low
-
-returns-2 : tie.Need-returns-2
-unfolding opposite-answer
-returns-2 c =
-    let after = c .before .before in
-    let left = after .before .before .before in
-    let s = left .before .before in
-    let d = s .args .curve .degree in
-    let z = then-zero _ _ (sym (left .before .curve-and-form-refusal .ensures) ∙ left .if1 .left) in
-    let f = after .before .before .f-row .ensures in
-    let rows = after .before .to-rows .ensures in
-    let gives = after .opposite-rows .ensures in
-    at-refusal d _ (one-due (s .args .curve) (s .args .a) (z .1) (z .0) f rows (gives .decides))
-    (c .settled .ensures d _ (λ held. rw (rows-pair-is d rows) at (gives .stands held (curve (s .args .curve)) (on-curve _ (curve-passes _ (z .0)) f))))
+returns c = c .on-one .ensures .answer
 
 pub opposite-spec : {M : Type 1} → statement M
-opposite-spec = tie.close (tie.spec (λ c κs. search needs) (λ c κs. search needs) returns (λ c κs. search needs) to-rows-requires (λ c κs. search needs) (λ c κs. search needs) returns-2)
+opposite-spec = tie.close (tie.spec (λ c κs. search needs) returns)

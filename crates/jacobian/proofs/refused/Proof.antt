@@ -7,9 +7,9 @@ use Rattle.jacobian.proofs.refused.Statement.{statement}
 use Rattle.jacobian.proofs.refused.Tie as tie
 
 returns : tie.Need-returns
-returns c =
-    λ d D.
-    ap (λ (k : Class). record { outcome = refused (c .before .args .n); class = k }) (c .neutral .ensures) ∙ refused-answered d D _ (c .before .pre)
+returns c d D =
+    ap (λ (k : Class). record { outcome = refused (c .before .args .n); class = k; steps = 0 }) (c .neutral .ensures)
+    ∙ refused-answered d D _ (c .before .pre)
 
 pub refused-spec : {M : Type 1} → statement M
 refused-spec = tie.close (tie.spec (λ c κs. search needs) returns)

@@ -1,12 +1,12 @@
 -- `opened` meets its contract.
 use mathlib.Core.Path.{_∙_, ap}
-use Rattle.seal_register.specs.RowWalk.{replied}
+use Rattle.history.specs.Register.{sealed}
 use borrow.Author.Needs.{needs}
 use Rattle.seal_register.proofs.walk.opened.Statement.{statement}
 use Rattle.seal_register.proofs.walk.opened.Tie as tie
 
 returns : tie.Need-returns
-returns c = c .standing .ensures ∙ ap (λ n. replied n (c .before .before .args .last)) (c .before .opening-refusal .ensures)
+returns c = c .standing .ensures ∙ ap (λ n. sealed n (c .before .before .args .last)) (c .before .opening-refusal .ensures)
 
 pub opened-spec : {M : Type 1} → statement M
 opened-spec = tie.close (tie.spec (λ c κs. search needs) (λ c κs. search needs) returns)

@@ -15,7 +15,7 @@ returns-2 : tie.Need-returns-2
 returns-2 c =
     let s = c .before .before .before .before .before .before in
     let x = c .before .before .subtract-and-halve .result in
-    ap (λ n. record { outcome = verdict-of n; class = x .class }) (c .before .outcome-number .ensures)
+    ap (λ n. record { outcome = verdict-of n; class = x .class }) (c .before .outcome-refusal .ensures)
     ∙ stepped (s .args .curve) (s .args .w .refusal) (s .args .w .seal) (s .args .a) x (c .before .before .before .before .if1 .left) (c .before .before .subtract-and-halve .ensures)
 
 pub walked-on-spec : {M : Type 1} → statement M

@@ -1,0 +1,20 @@
+-- What each operation on one class, and on two, is in the theory, with its number of reduction steps: an opposite and a half make none.
+use Rattle.field_laws.specs.Field.{Field2}
+use Rattle.char2_algebra.specs.Polynomials.{Polynomials}
+use Rattle.class_group.specs.Curve.{Curve}
+use Rattle.class_group.specs.{Mumford.Pair, Mumford.opposite, Reduction.Counted, Operations.counted-sum, Operations.counted-double, Half.half, Moves.counted-double-and-add, Moves.counted-subtract-and-halve}
+use Rattle.class_rows.specs.declared.Unary.{Unary}
+use Rattle.class_rows.specs.declared.Unary.the-variants.{Opposite, Double, Half}
+use Rattle.class_rows.specs.declared.Binary.{Binary}
+use Rattle.class_rows.specs.declared.Binary.the-variants.{Sum, DoubleAndAdd, SubtractAndHalve}
+
+module _ {K P : Type 0} {F : Field2 K} {A : Polynomials F P} where
+  abbrev pub unary : Unary → Curve A → Pair P → Counted P
+  unary Opposite C D = record { class = opposite C D; steps = 0 }
+  unary Double C D = counted-double C D
+  unary Half C D = record { class = half C D; steps = 0 }
+
+  abbrev pub binary : Binary → Curve A → Pair P → Pair P → Counted P
+  binary Sum C D E = counted-sum C D E
+  binary DoubleAndAdd C D E = counted-double-and-add C D E
+  binary SubtractAndHalve C D E = counted-subtract-and-halve C D E

@@ -1,0 +1,4 @@
+-- Lists of calls on any machine.
+pub mod Run
+pub mod TakingBack
+pub mod Carried
