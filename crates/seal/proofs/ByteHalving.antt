@@ -8,7 +8,7 @@ use mathlib.Core.List.{List, _++_}
 use native.Mathlib.Omega.{arith}
 use lib.ListN.{length, take, drop, take-append-drop}
 use lib.Seq.{take-append-seam, take-at, drop-at}
-use Rattle.jacobian.specs.{Checks._or-else_, Curves.curve-refusal, Curves.coefficients, Answer.Reply, Answer.refusal, Answer.double-answer, Answer.half-answer}
+use Rattle.jacobian.specs.{Checks._or-else_, Curves.curve-refusal, Curves.coefficients, Answer.Result, Answer.result, Answer.refusal, Answer.double-answer, Answer.half-answer}
 use Rattle.jacobian.specs.declared.{Curve.Curve, Class.Class}
 use Rattle.jacobian.proofs.ByValue.Checks.{then-zero}
 use Rattle.jacobian.proofs.Calls.{Accepts, gives, double-gives, half-gives, double-accepts, half-accepts, double-of-half, half-of-double}
@@ -31,7 +31,7 @@ unfolding curve-first-fields degree-field curve-field stored head-bytes coeffici
 first-length c = refl
 
 -- a call that answers for the curve and the class of its record
-abbrev class-call : (Curve → Class → Reply) → List ℕ → List ℕ → Effect
+abbrev class-call : (Curve → Class → Result) → List ℕ → List ℕ → Effect
 class-call f s out = byte-call class-room class-record (λ h. class-handed (f (h .curve) (h .class))) s out
 
 module _ {s : List ℕ} {h : Held} (w : ClassStored s h) where
@@ -58,14 +58,14 @@ module _ {s : List ℕ} {h : Held} (w : ClassStored s h) where
   accepted-passes a = record { three = a .three; none = rw ok (a .passes) }
 
   -- what a call writes whose answer gives an accepted class
-  call-writes : (f : Curve → Class → Reply) (out : List ℕ) → class-room ≤ length out → {x : Class} → ClassPasses c x → f c (w .class) ≡ gives x →
+  call-writes : (f : Curve → Class → Result) (out : List ℕ) → class-room ≤ length out → {x : Class} → ClassPasses c x → f c (w .class) ≡ gives x →
       class-call f s out ≡ write (class-field 0x43 x) out
   unfolding class-handed on
   call-writes f out room {x} p e =
       let short : length (class-field 0x43 x) ≤ class-room = class-short 0x43 c x (p .three) (p .none) in
       call-found class-room class-record _ s out room (class-record-back w)
       ∙ ap (λ (k : Held). put (class-handed (f (k .curve) (k .class))) out) (w .held)
-      ∙ ap (λ (r : Reply). put (class-handed r) out) e
+      ∙ ap (λ (r : Result). put (class-handed r) out) e
       ∙ put-written (class-field 0x43 x) out (omega arith)
 
   -- the record rebuilt from it
@@ -77,13 +77,13 @@ module _ {s : List ℕ} {h : Held} (w : ClassStored s h) where
   rebuilt-stored {x} out p = record { curve = c; class = x; held = refl; bytes = rebuilt-bytes x out; passes = p }
 
   -- its length
-  answers-length : (f : Curve → Class → Reply) (out : List ℕ) → class-room ≤ length out → {x : Class} → ClassPasses c x → f c (w .class) ≡ gives x →
+  answers-length : (f : Curve → Class → Result) (out : List ℕ) → class-room ≤ length out → {x : Class} → ClassPasses c x → f c (w .class) ≡ gives x →
       class-call f s out .answer ≤ class-room
   unfolding write
   answers-length f out room p e =
       subst (λ (n : ℕ). n ≤ class-room) (sym (ap (λ (o : Effect). o .answer) (call-writes f out room p e))) (class-short 0x43 c _ (p .three) (p .none))
 
-module _ {s : List ℕ} {h : Held} (w : ClassStored s h) (f g : Curve → Class → Reply) (out last : List ℕ) (room : class-room ≤ length out) (room' : class-room ≤ length last) where
+module _ {s : List ℕ} {h : Held} (w : ClassStored s h) (f g : Curve → Class → Result) (out last : List ℕ) (room : class-room ≤ length out) (room' : class-room ≤ length last) where
   -- where one answer takes the other back, so does its call
   taken-back : {x : Class} → ClassPasses (w .curve) x → f (w .curve) (w .class) ≡ gives x → g (w .curve) x ≡ gives (w .class) →
       class-call g (class-rebuilt s (class-call f s out)) last ≡ write (last-field s) last
@@ -92,18 +92,24 @@ module _ {s : List ℕ} {h : Held} (w : ClassStored s h) (f g : Curve → Class 
       ∙ call-writes (rebuilt-stored w out p) g last room' (w .passes) back
       ∙ ap (λ (l : List ℕ). write l last) (sym (last-is w))
 
-gives-class : {x : Reply} {a : Class} → x ≡ gives a → x ≡ gives (x .class)
-gives-class e = e ∙ sym (ap (λ (y : Reply). gives (y .class)) e)
+gives-class : {x : Result} {a : Class} → x ≡ gives a → x ≡ gives (x .class)
+gives-class e = e ∙ sym (ap (λ (y : Result). gives (y .class)) e)
+
+abbrev doubles : Curve → Class → Result
+doubles c a = result (double-answer c a)
+
+abbrev halves : Curve → Class → Result
+halves c a = result (half-answer c a)
 
 -- a record that is read
 module _ (s : List ℕ) (bytes : Bytes s) {h : Held} {end : ℕ} (read : read-record class-record s ≡ found h end) where
   is-stored : ClassStored s h
   is-stored = class-record-written bytes read .0
 
-  doubled : double-answer (is-stored .curve) (is-stored .class) ≡ gives (double-answer (is-stored .curve) (is-stored .class) .class)
+  doubled : result (double-answer (is-stored .curve) (is-stored .class)) ≡ gives (double-answer (is-stored .curve) (is-stored .class) .class)
   doubled = gives-class (double-gives (is-stored .curve) (ok is-stored) (accepts is-stored))
 
-  halved : half-answer (is-stored .curve) (is-stored .class) ≡ gives (half-answer (is-stored .curve) (is-stored .class) .class)
+  halved : result (half-answer (is-stored .curve) (is-stored .class)) ≡ gives (half-answer (is-stored .curve) (is-stored .class) .class)
   halved = gives-class (half-gives (is-stored .curve) (ok is-stored) (accepts is-stored))
 
   double-passes : ClassPasses (is-stored .curve) (double-answer (is-stored .curve) (is-stored .class) .class)
@@ -116,22 +122,22 @@ module _ (s : List ℕ) (bytes : Bytes s) {h : Held} {end : ℕ} (read : read-re
     -- the answer is the length of a class field
     pub double-answers : double-call s out .answer ≤ class-room
     unfolding answered
-    double-answers = answers-length is-stored double-answer out room double-passes doubled
+    double-answers = answers-length is-stored doubles out room double-passes doubled
 
     pub half-answers : half-call s out .answer ≤ class-room
     unfolding answered
-    half-answers = answers-length is-stored half-answer out room half-passes halved
+    half-answers = answers-length is-stored halves out room half-passes halved
 
     module _ (last : List ℕ) (room' : class-room ≤ length last) where
       pub half-of-double-bytes : half-call (class-rebuilt s (double-call s out)) last ≡ write (last-field s) last
       unfolding answered
       half-of-double-bytes =
-          let w = is-stored in taken-back w double-answer half-answer out last room room' double-passes doubled (half-of-double (w .curve) (ok w) (accepts w))
+          let w = is-stored in taken-back w doubles halves out last room room' double-passes doubled (half-of-double (w .curve) (ok w) (accepts w))
 
       pub double-of-half-bytes : double-call (class-rebuilt s (half-call s out)) last ≡ write (last-field s) last
       unfolding answered
       double-of-half-bytes =
-          let w = is-stored in taken-back w half-answer double-answer out last room room' half-passes halved (double-of-half (w .curve) (ok w) (accepts w))
+          let w = is-stored in taken-back w halves doubles out last room room' half-passes halved (double-of-half (w .curve) (ok w) (accepts w))
 
       -- the half's record is the only one that has the same degree and curve and whose double is the input's class field
       pub only-half-bytes : (t : List ℕ) → first-fields t ≡ first-fields s → double-call s out ≡ write (last-field t) out → s ≡ class-rebuilt t (half-call t last)

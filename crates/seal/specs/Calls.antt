@@ -1,7 +1,7 @@
 -- What each byte call answers and leaves in the lent output (document 01, 'Stored form' and 'In checking order').
 use Prim.Native.Nat.{ℕ}
 use mathlib.Core.List.{List}
-use Rattle.jacobian.specs.Answer.{opposite-answer, double-answer, half-answer, sum-answer}
+use Rattle.jacobian.specs.Answer.{result, opposite-answer, double-answer, half-answer, sum-answer}
 use Rattle.history.specs.declared.Register.{Register}
 use Rattle.history.specs.Register.{RegisterReply, commit-answer, undo-answer}
 use Rattle.stored_form.specs.Reading.{reading-refusal}
@@ -23,10 +23,10 @@ register-handed r = on (r .outcome) (register-fields (r .register))
 
 -- what the call by value answers for the values of a record
 unfoldable pub answered : Call → Held → Handed
-answered Opposite h = class-handed (opposite-answer (h .curve) (h .class))
-answered Double h = class-handed (double-answer (h .curve) (h .class))
-answered Half h = class-handed (half-answer (h .curve) (h .class))
-answered Sum h = class-handed (sum-answer (h .curve) (h .previous) (h .class))
+answered Opposite h = class-handed (result (opposite-answer (h .curve) (h .class)))
+answered Double h = class-handed (result (double-answer (h .curve) (h .class)))
+answered Half h = class-handed (result (half-answer (h .curve) (h .class)))
+answered Sum h = class-handed (result (sum-answer (h .curve) (h .previous) (h .class)))
 answered Commit h = register-handed (commit-answer (register h) (h .operation))
 answered Undo h = register-handed (undo-answer (register h) (h .operation))
 

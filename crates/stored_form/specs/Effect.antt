@@ -4,7 +4,7 @@ use mathlib.Core.Bool.{cond}
 use mathlib.Core.List.{List, [], _++_}
 use lib.ListN.{length, take, drop}
 use lib.Dec.{ltb}
-use Rattle.jacobian.specs.Answer.{Verdict, Reply, accepted, refused as said-no}
+use Rattle.jacobian.specs.Answer.{Verdict, Result, accepted, refused as said-no}
 use Rattle.stored_form.specs.Reading.{Reading, found, refused}
 use Rattle.stored_form.specs.Head.{count-length, class-room}
 use Rattle.stored_form.specs.Classes.{class-field}
@@ -57,7 +57,7 @@ on accepted bytes = written bytes
 on (said-no n) bytes = refusal n
 
 -- a class is one 0x43 field
-unfoldable pub class-handed : Reply → Handed
+unfoldable pub class-handed : Result → Handed
 class-handed r = on (r .outcome) (class-field 0x43 (r .class))
 
 -- a reading's refusal, else what is answered for what was found

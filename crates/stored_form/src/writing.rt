@@ -4,7 +4,7 @@ ghost use mathlib.Core.List.{_++_};
 ghost use Prim.Native.Nat.{_+_, _*_, _≤_, _<_, min};
 ghost use lib.ListN.{length, getD};
 ghost use lib.Seq.{sets};
-ghost use Rattle.jacobian.specs.Answer.{verdict, reply};
+ghost use Rattle.jacobian.specs.Answer.{verdict, reply, result};
 ghost use Rattle.stored_form.specs.Number.{bytes-of};
 ghost use Rattle.stored_form.specs.Head.{class-room, count-length, stored};
 ghost use Rattle.stored_form.specs.Elements.{element-length, element-bytes};
@@ -110,7 +110,7 @@ fn with_count(row: [u8; ROOM], at: usize, tag: u8, n: u64) -> [u8; ROOM]
 
 // The field of a class, unless the call refused.
 pub fn class_output(a: ClassAnswer) -> Output
-    ensures { λ r. ⌜ handed r ≡ class-handed (reply a) ⌝ }
+    ensures { λ r. ⌜ handed r ≡ class-handed (result (reply a)) ⌝ }
 {
     let o = a.outcome;
     let class = a.class;
