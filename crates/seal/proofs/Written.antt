@@ -11,7 +11,7 @@ use Rattle.stored_form.specs.{Number.Bytes, Reading.found, Passing.ClassPasses,
 use Rattle.stored_form.specs.Held.{nothing-held, with-curve, with-count, with-class, read-fields, read-record, class-record, sum-record, register-record}
 use Rattle.stored_form.specs.declared.Held.{Held}
 use Rattle.stored_form.proofs.{Readings.same-found, RoundTrips.behind, RoundTrips.apart, RoundTrips.is-whole}
-use Rattle.stored_form.proofs.RecordRoundTrips.{first-fields-found, count-found, class-found, operation-found, first-fields-back, count-back, class-back, operation-back, record-ends, record-back, all-of}
+use Rattle.stored_form.proofs.FieldSteps.{first-fields-found, count-found, class-found, operation-found, first-fields-back, count-back, class-back, operation-back, record-ends, record-back, all-of}
 use Rattle.seal.specs.Records.{class-held, sum-held, register-held, class-record-bytes, sum-record-bytes, register-record-bytes, register-fields, ClassStored, SumStored, RegisterStored}
 
 -- a class is refused where its curve is

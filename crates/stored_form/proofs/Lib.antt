@@ -15,6 +15,6 @@ pub mod ElementBytes
 pub mod ClassBytes
 pub mod CurveRoundTrips
 pub mod ClassRoundTrips
-pub mod RecordRoundTrips
+pub mod FieldSteps
 pub mod Effects
 pub mod Rows
