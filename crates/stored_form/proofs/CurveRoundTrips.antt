@@ -28,7 +28,7 @@ curve-fits c ok =
     let small = by-degree (λ d. 2 ^ d ≤ 2 ^ 61) (lit≤ tt) (lit≤ tt) (c .degree) (p .accepted) in
     (fits (c .degree) small (p .f-below 3), (fits (c .degree) small (p .f-below 1), (fits (c .degree) small (p .f-below 0), tt)))
 
-curve-said-field : (c : Curve) → curve-refusal c ≡ 0 → curve-said (c .degree) (element-bytes (coefficients c)) ≡ c
+pub curve-said-field : (c : Curve) → curve-refusal c ≡ 0 → curve-said (c .degree) (element-bytes (coefficients c)) ≡ c
 unfolding curve-said coefficients curve-with
 curve-said-field c ok = rw (elements-bytes (coefficients c) (curve-fits c ok))
 

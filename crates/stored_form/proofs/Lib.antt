@@ -15,6 +15,8 @@ pub mod ElementBytes
 pub mod ClassBytes
 pub mod CurveRoundTrips
 pub mod ClassRoundTrips
+pub mod RecordRoundTrips
+pub mod RecordValues
 pub mod FieldSteps
 pub mod Effects
 pub mod Rows

@@ -86,14 +86,14 @@ module _ (s : List ℕ) where
 
 -- ---- the fields
 
-degree-small : (d : ℕ) → (eqb d 5 || eqb d 61) ≡ true → d < 256
+pub degree-small : (d : ℕ) → (eqb d 5 || eqb d 61) ≡ true → d < 256
 degree-small d h = go (eqb d 5) refl h
   where
     go : (b : Bool) → eqb d 5 ≡ b → (b || eqb d 61) ≡ true → d < 256
     go true e f = omega (arith, eqb-true d 5 e)
     go false e f = omega (arith, eqb-true d 61 f)
 
-count-small : (n : ℕ) → n ≤ count-limit → n < 256 ^ count-length
+pub count-small : (n : ℕ) → n ≤ count-limit → n < 256 ^ count-length
 unfolding count-limit
 count-small n h = omega arith
 

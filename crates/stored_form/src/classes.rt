@@ -1,15 +1,12 @@
 // The bodies of a curve and of a class: 0x41, 0x43 and 0x44.
-ghost use Prim.Native.Nat.{_+_, _*_, _≤_, _<_, min};
+ghost use Prim.Native.Nat.{_+_, _*_, _≤_};
 ghost use mathlib.Core.Path.{_≡_};
 ghost use mathlib.Core.Bool.{true};
-ghost use lib.ListN.{length, drop, getD};
-ghost use lib.Seq.{sets};
-ghost use Rattle.jacobian.specs.Curves.{coefficient-count};
-ghost use Rattle.stored_form.specs.Number.{part, bytes-of};
-ghost use Rattle.stored_form.specs.Head.{class-length, class-room, curve-length};
-ghost use Rattle.stored_form.specs.Elements.{element-length, elements, element-bytes};
+ghost use lib.ListN.{length, drop};
+ghost use Rattle.stored_form.specs.Number.{part};
+ghost use Rattle.stored_form.specs.Head.{class-length, curve-length};
+ghost use Rattle.stored_form.specs.Elements.{element-length, elements};
 ghost use Rattle.stored_form.specs.Classes.{curve-said, row-said, class-said};
-use crate::CLASS_ROOM;
 use crate::ELEMENT_LENGTH;
 use crate::numbers;
 use jacobian::Class;

@@ -1,19 +1,14 @@
 // The stored form of fields. A field is a one-byte tag, a two-byte length and a body, high byte first; a record is a list of the tags that are due.
 // A reader answers what the fields say beside the place where the next field begins, or the number of the refusal with nothing held.
 ghost use mathlib.Core.Path.{_≡_};
-ghost use mathlib.Core.Bool.{true};
-ghost use Prim.Native.Nat.{_+_, _≤_};
-ghost use lib.ListN.{length};
-ghost use Rattle.jacobian.specs.Curves.{degree-refusal};
-ghost use Rattle.stored_form.specs.Number.{part};
 ghost use Rattle.stored_form.specs.Reading.{found, refused, checked};
-ghost use Rattle.stored_form.specs.Head.{allowed, drawing-limit};
-ghost use Rattle.stored_form.specs.Fields.{count-refusal, end-refusal};
-ghost use Rattle.stored_form.specs.Held.{nothing-held, curve-of-degree, hold, field-refusal, read-field, read-fields, read-record, read-of, place-refusal};
+ghost use Rattle.stored_form.specs.Fields.{end-refusal};
+ghost use Rattle.stored_form.specs.Held.{nothing-held, read-field, read-fields, read-record, read-of, place-refusal};
 
 pub mod classes;
 mod drawings;
 pub mod effect;
+mod fields;
 mod head;
 mod numbers;
 pub mod writing;
@@ -163,101 +158,6 @@ pub fn settled(n: u32, held: Held, next: Cursor) -> Read
     }
 }
 
-// 106 for a degree other than 5 and 61, else 0.
-fn degree_refusal(c: Curve) -> u32
-    ensures { λ r. ⌜ r ≡ degree-refusal c ⌝ }
-{
-    if c.degree == 5 {
-        return 0;
-    }
-    if c.degree == 61 {
-        return 0;
-    }
-    106
-}
-
-// 109 for a count above the limit, else 0.
-fn count_refusal(n: u64) -> u32
-    ensures { λ r. ⌜ r ≡ count-refusal n ⌝ }
-{
-    if COUNT_LIMIT < n {
-        return 109;
-    }
-    0
-}
-
-// The curve over the field of degree d with all coefficients 0.
-fn curve_of_degree(d: u8) -> Curve
-    ensures { λ r. ⌜ r ≡ curve-of-degree d ⌝ }
-{
-    jacobian::curves::curve_with(d, [0; COEFFICIENTS])
-}
-
-// What is held once the body of len bytes from a place on is read, where a tag was due.
-fn hold(tag: u8, h: Held, s: &[u8], at: usize, len: usize) -> Held
-    requires { ⌜ (allowed tag len ≡ true) × (at + len ≤ length (now s)) ⌝ }
-    ensures { λ r. ⌜ r ≡ hold tag (part (now (s .entry)) at len) h ⌝ }
-{
-    let mut more = h;
-    if tag == DEGREE {
-        let curve = curve_of_degree(numbers::number_at(s, at, len) as u8);
-        more.curve = curve;
-        return more;
-    }
-    if tag == CURVE {
-        let before = h.curve;
-        let curve = classes::curve_of(s, at, before.degree);
-        more.curve = curve;
-        return more;
-    }
-    if tag == DRAWING {
-        let drawing = drawings::drawing_of(s, at, len);
-        more.drawing = drawing;
-        return more;
-    }
-    if tag == COUNT {
-        let count = numbers::number_at(s, at, len);
-        more.count = count;
-        return more;
-    }
-    let class = classes::class_of(s, at, len);
-    if tag == CLASS {
-        let previous = h.class;
-        more.previous = previous;
-        more.class = class;
-        return more;
-    }
-    more.operation = class;
-    more
-}
-
-// The refusal that is due to the field that was just read, and 0 where none is.
-fn field_refusal(tag: u8, h: Held) -> u32
-    requires { ⌜ (tag ≡ 0x46 → h .drawing .len ≤ drawing-limit) ⌝ }
-    ensures { λ r. ⌜ r ≡ field-refusal tag h ⌝ }
-{
-    let curve = h.curve;
-    if tag == DEGREE {
-        return degree_refusal(curve);
-    }
-    if tag == CURVE {
-        return jacobian::curves::curve_refusal(curve);
-    }
-    if tag == DRAWING {
-        let drawing = h.drawing;
-        return drawings::drawing_refusal(drawing);
-    }
-    if tag == COUNT {
-        return count_refusal(h.count);
-    }
-    if tag == CLASS {
-        let class = h.class;
-        return jacobian::class_refusal(curve, class);
-    }
-    let operation = h.operation;
-    jacobian::class_refusal(curve, operation)
-}
-
 // Reads the field at a place, where a tag is due.
 pub fn read_field(tag: u8, h: Held, s: &[u8], at: Cursor) -> Read
     ensures { λ r. ⌜ r ≡ read-of (read-field tag h (now (s .entry)) (at .at)) ⌝ }
@@ -267,8 +167,8 @@ pub fn read_field(tag: u8, h: Held, s: &[u8], at: Cursor) -> Read
     let Head::Body { len, next } = f else {
         return refused(head::head_refusal(f));
     };
-    let more = hold(tag, h, s, i + 3, len);
-    settled(field_refusal(tag, more), more, next)
+    let more = fields::hold(tag, h, s, i + 3, len);
+    settled(fields::field_refusal(tag, more), more, next)
 }
 
 // Reads the fields with these tags, one after the other, from a place on.

@@ -1,4 +1,4 @@
--- `hold` meets its contract: each return cites the tag that it tested.
+-- `fields::hold` meets its contract: each return cites the tag that it tested.
 use borrow.Author.Needs.{needs}
 use Prim.Native.Nat.{ℕ}
 use mathlib.Core.Path.{_≡_, sym, ap, _∙_}
@@ -9,8 +9,8 @@ use Rattle.stored_form.specs.{Number.part, Head.allowed, Classes.curve-s
 use Rattle.stored_form.specs.Held.{with-curve, with-drawing, with-count, with-class, with-operation, curve-of-degree, hold}
 use Rattle.stored_form.proofs.{Digits.byte-fits, Lengths.is-degree-length, Lengths.is-curve-length, Lengths.is-count-length, Lengths.is-drawing-length, Lengths.class-left}
 use Rattle.stored_form.proofs.Readers.{operation-held}
-use Rattle.stored_form.proofs.hold.Statement.{statement}
-use Rattle.stored_form.proofs.hold.Tie as tie
+use Rattle.stored_form.proofs.fields.hold.Statement.{statement}
+use Rattle.stored_form.proofs.fields.hold.Tie as tie
 
 -- the length is allowed for the tag that was tested
 allows : (c : tie.Start) {t : ℕ} → c .args .tag ≡ t → allowed t (c .args .len) ≡ true

@@ -1,9 +1,9 @@
--- `degree_refusal` meets its contract.
+-- `fields::degree_refusal` meets its contract.
 use borrow.Author.Needs.{needs}
 use borrow.Author.Tests.{eq-eqb, ne-eqb}
 use Rattle.jacobian.specs.{Checks.unless, Curves.degree-refusal}
-use Rattle.stored_form.proofs.degree_refusal.Statement.{statement}
-use Rattle.stored_form.proofs.degree_refusal.Tie as tie
+use Rattle.stored_form.proofs.fields.degree_refusal.Statement.{statement}
+use Rattle.stored_form.proofs.fields.degree_refusal.Tie as tie
 
 returns : tie.Need-returns
 unfolding degree-refusal unless

@@ -1,10 +1,10 @@
--- `count_refusal` meets its contract.
+-- `fields::count_refusal` meets its contract.
 use borrow.Author.Needs.{needs}
 use borrow.Author.Tests.{lt-leb, le-leb}
 use Rattle.jacobian.specs.Checks.{unless}
 use Rattle.stored_form.specs.Fields.{count-limit, count-refusal}
-use Rattle.stored_form.proofs.count_refusal.Statement.{statement}
-use Rattle.stored_form.proofs.count_refusal.Tie as tie
+use Rattle.stored_form.proofs.fields.count_refusal.Statement.{statement}
+use Rattle.stored_form.proofs.fields.count_refusal.Tie as tie
 
 returns : tie.Need-returns
 unfolding count-refusal count-limit unless

@@ -1,11 +1,11 @@
--- `field_refusal` meets its contract.
+-- `fields::field_refusal` meets its contract.
 use borrow.Author.Needs.{needs}
 use Prim.Native.Nat.{ℕ}
 use mathlib.Core.Path.{sym, ap, _∙_}
 use Rattle.stored_form.specs.Held.{field-refusal}
 use Rattle.stored_form.proofs.Readers.{operation-refusal}
-use Rattle.stored_form.proofs.field_refusal.Statement.{statement}
-use Rattle.stored_form.proofs.field_refusal.Tie as tie
+use Rattle.stored_form.proofs.fields.field_refusal.Statement.{statement}
+use Rattle.stored_form.proofs.fields.field_refusal.Tie as tie
 
 returns : tie.Need-returns
 unfolding field-refusal

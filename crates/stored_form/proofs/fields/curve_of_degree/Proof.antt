@@ -1,8 +1,8 @@
--- `curve_of_degree` meets its contract.
+-- `fields::curve_of_degree` meets its contract.
 use borrow.Author.Needs.{needs}
 use Rattle.stored_form.specs.Held.{curve-of-degree}
-use Rattle.stored_form.proofs.curve_of_degree.Statement.{statement}
-use Rattle.stored_form.proofs.curve_of_degree.Tie as tie
+use Rattle.stored_form.proofs.fields.curve_of_degree.Statement.{statement}
+use Rattle.stored_form.proofs.fields.curve_of_degree.Tie as tie
 
 returns : tie.Need-returns
 unfolding curve-of-degree

@@ -1,0 +1,111 @@
+// What a body says, by its tag, and the checks 106 to 111 of it.
+ghost use mathlib.Core.Path.{_≡_};
+ghost use mathlib.Core.Bool.{true};
+ghost use Prim.Native.Nat.{_+_, _≤_};
+ghost use lib.ListN.{length};
+ghost use Rattle.jacobian.specs.Curves.{degree-refusal};
+ghost use Rattle.stored_form.specs.Number.{part};
+ghost use Rattle.stored_form.specs.Head.{allowed, drawing-limit};
+ghost use Rattle.stored_form.specs.Fields.{count-refusal};
+ghost use Rattle.stored_form.specs.Held.{curve-of-degree, hold, field-refusal};
+use crate::Held;
+use crate::classes;
+use crate::drawings;
+use crate::numbers;
+use jacobian::Curve;
+use jacobian::curves::COEFFICIENTS;
+
+// 106 for a degree other than 5 and 61, else 0.
+fn degree_refusal(c: Curve) -> u32
+    ensures { λ r. ⌜ r ≡ degree-refusal c ⌝ }
+{
+    if c.degree == 5 {
+        return 0;
+    }
+    if c.degree == 61 {
+        return 0;
+    }
+    106
+}
+
+// 109 for a count above the limit, else 0.
+fn count_refusal(n: u64) -> u32
+    ensures { λ r. ⌜ r ≡ count-refusal n ⌝ }
+{
+    if crate::COUNT_LIMIT < n {
+        return 109;
+    }
+    0
+}
+
+// The curve over the field of degree d with all coefficients 0.
+fn curve_of_degree(d: u8) -> Curve
+    ensures { λ r. ⌜ r ≡ curve-of-degree d ⌝ }
+{
+    jacobian::curves::curve_with(d, [0; COEFFICIENTS])
+}
+
+// What is held once the body of len bytes from a place on is read, where a tag was due.
+pub(crate) fn hold(tag: u8, h: Held, s: &[u8], at: usize, len: usize) -> Held
+    requires { ⌜ (allowed tag len ≡ true) × (at + len ≤ length (now s)) ⌝ }
+    ensures { λ r. ⌜ r ≡ hold tag (part (now (s .entry)) at len) h ⌝ }
+{
+    let mut more = h;
+    if tag == crate::DEGREE {
+        let curve = curve_of_degree(numbers::number_at(s, at, len) as u8);
+        more.curve = curve;
+        return more;
+    }
+    if tag == crate::CURVE {
+        let before = h.curve;
+        let curve = classes::curve_of(s, at, before.degree);
+        more.curve = curve;
+        return more;
+    }
+    if tag == crate::DRAWING {
+        let drawing = drawings::drawing_of(s, at, len);
+        more.drawing = drawing;
+        return more;
+    }
+    if tag == crate::COUNT {
+        let count = numbers::number_at(s, at, len);
+        more.count = count;
+        return more;
+    }
+    let class = classes::class_of(s, at, len);
+    if tag == crate::CLASS {
+        let previous = h.class;
+        more.previous = previous;
+        more.class = class;
+        return more;
+    }
+    more.operation = class;
+    more
+}
+
+// The refusal that is due to the field that was just read, and 0 where none is.
+pub(crate) fn field_refusal(tag: u8, h: Held) -> u32
+    requires { ⌜ (tag ≡ 0x46 → h .drawing .len ≤ drawing-limit) ⌝ }
+    ensures { λ r. ⌜ r ≡ field-refusal tag h ⌝ }
+{
+    let curve = h.curve;
+    if tag == crate::DEGREE {
+        return degree_refusal(curve);
+    }
+    if tag == crate::CURVE {
+        return jacobian::curves::curve_refusal(curve);
+    }
+    if tag == crate::DRAWING {
+        let drawing = h.drawing;
+        return drawings::drawing_refusal(drawing);
+    }
+    if tag == crate::COUNT {
+        return count_refusal(h.count);
+    }
+    if tag == crate::CLASS {
+        let class = h.class;
+        return jacobian::class_refusal(curve, class);
+    }
+    let operation = h.operation;
+    jacobian::class_refusal(curve, operation)
+}
