@@ -3,137 +3,145 @@
 -- where the register call refuses. So byte commit and byte undo take each other back (demand 3): on the record rebuilt from an accepted commit's output, undo
 -- writes the record's count and seal to the byte (`undo-of-commit-bytes`), and the reverse (`commit-of-undo-bytes`).
 use Prim.Native.Nat.{ℕ, _≤_}
-use mathlib.Core.Path.{_≡_, refl, sym, ap, _∙_}
-use mathlib.Core.List.{List, _++_, append-assoc}
-use lib.ListN.{length, take, drop}
+use mathlib.Core.Path.{_≡_, refl, sym, ap, _∙_, subst}
+use mathlib.Core.List.{List, _++_}
+use native.Mathlib.Omega.{arith}
+use lib.ListN.{length, length-append}
 use lib.Seq.{take-append-seam}
-use Rattle.jacobian.specs.Checks.{_or-else_}
-use Rattle.jacobian.specs.Curves.{curve-refusal}
-use Rattle.jacobian.specs.Classes.{Three, class-refusal}
-use Rattle.jacobian.specs.Answer.{accepted, refused, refusal}
-use Rattle.jacobian.specs.declared.Curve.{Curve}
-use Rattle.jacobian.specs.declared.Class.{Class}
-use Rattle.history.specs.declared.Register.{Register}
-use Rattle.history.specs.Register.{RegisterReply, commit-refusal, undo-refusal, committed, undone, commit-answer, undo-answer}
-use Rattle.history.proofs.Registers.{Passes, Passing, commit-passes, undo-passes, follows-accepted, follows-zero}
-use Rattle.history.proofs.OneStep.{taken, committed-curve, undone-curve, committed-fits, undone-fits, commit-taken-back, undo-taken-back}
-use Rattle.stored_form.specs.{Number.Bytes, Reading.found, Fields.count-field, Classes.curve-first-fields, Classes.class-field}
-use Rattle.seal.specs.Records.{Operation, register-record, register-record-bytes}
-use Rattle.seal.specs.Calls.{Outcome, refuse, write, on, register-room, write-register, register-call, commit-call, undo-call}
-use Rattle.seal.proofs.Outcomes.{answers}
+use Rattle.jacobian.specs.{Checks._or-else_, Curves.curve-refusal, Classes.Three, Classes.class-refusal, Answer.accepted, Answer.refused, Answer.refusal}
+use Rattle.jacobian.specs.declared.{Curve.Curve, Class.Class}
+use Rattle.history.specs.declared.{Register.Register, Step.Step, Step.the-variants.Commit, Step.the-variants.Undo}
+use Rattle.history.specs.Register.{RegisterReply, step-refusal, stepped, other, step-answer, commit-answer, undo-answer}
+use Rattle.history.proofs.Registers.{Passes, Passing, step-passes, follows-accepted, follows-zero}
+use Rattle.history.proofs.OneStep.{taken, stepped-curve, stepped-fits, stepped-passes, step-taken-back}
+use Rattle.stored_form.specs.{Number.Bytes, Reading.found, Fields.count-field, Classes.curve-first-fields, Classes.class-field, Passing.ClassPasses, Held.read-record, Held.register-record}
+use Rattle.stored_form.specs.Effect.{Effect, refuse, write, on, put, byte-call, register-room}
+use Rattle.stored_form.specs.declared.Held.{Held}
+use Rattle.stored_form.proofs.{ClassRoundTrips.class-short, Rows.length-count, Effects.call-found, Effects.put-written, Effects.put-refusal}
+use Rattle.seal.specs.Records.{register-held, register-fields, register-record-bytes, RegisterStored}
+use Rattle.seal.specs.Rebuilt.{register-rebuilt}
+use Rattle.seal.specs.Calls.{register, register-handed, answered, commit-call, undo-call}
 use Rattle.seal.proofs.Written.{register-record-written, register-record-back}
-
--- the bytes of a register's count and seal
-abbrev pub register-fields : Register → List ℕ
-register-fields g = count-field (g .count) ++ class-field 0x43 (g .seal)
 
 -- ---- what is written for an answer of the register call
 
 module _ (out : List ℕ) (x : RegisterReply) where
-  pub written : x .outcome ≡ accepted → write-register out x ≡ write (register-fields (x .register)) out
-  unfolding write-register on
-  written e = ap (λ v. on out v (register-fields (x .register))) e
+  pub unwritten : {n : ℕ} → x .outcome ≡ refused n → put (register-handed x) out ≡ refuse n out
+  unfolding register-handed on
+  unwritten e = ap (λ v. put (on v (register-fields (x .register))) out) e ∙ put-refusal _ out
 
-  pub unwritten : {n : ℕ} → x .outcome ≡ refused n → write-register out x ≡ refuse n out
-  unfolding write-register on
-  unwritten e = ap (λ v. on out v (register-fields (x .register))) e
+  pub written : x .outcome ≡ accepted → length (register-fields (x .register)) ≤ length out → put (register-handed x) out ≡ write (register-fields (x .register)) out
+  unfolding register-handed on
+  written e fits = ap (λ v. put (on v (register-fields (x .register))) out) e ∙ put-written _ out fits
 
 -- ---- a record that is read
 
-module _ (s out : List ℕ) (room : register-room ≤ length out) {r : Operation} {end : ℕ} (e : register-record s ≡ found r end) where
-  of-record : (f : Register → Class → RegisterReply) → register-call f s out ≡ write-register out (f (r .register) (r .class))
-  unfolding register-call
-  of-record f = sym (answers _ _ _ room e refl)
+-- the call that takes a step with the register and the class of its record
+abbrev step-call : Step → List ℕ → List ℕ → Effect
+step-call k s out = byte-call register-room register-record (λ h. register-handed (step-answer k (register h) (h .operation))) s out
 
-  pub commit-of-record : commit-call s out ≡ write-register out (commit-answer (r .register) (r .class))
-  unfolding commit-call
-  commit-of-record = of-record commit-answer
+module _ (s out : List ℕ) (room : register-room ≤ length out) {h : Held} {end : ℕ} (e : read-record register-record s ≡ found h end) where
+  of-record : (k : Step) → step-call k s out ≡ put (register-handed (step-answer k (register h) (h .operation))) out
+  of-record k = call-found register-room register-record _ s out room e
 
-  pub undo-of-record : undo-call s out ≡ write-register out (undo-answer (r .register) (r .class))
-  unfolding undo-call
-  undo-of-record = of-record undo-answer
+  pub commit-of-record : commit-call s out ≡ put (register-handed (commit-answer (register h) (h .operation))) out
+  unfolding answered
+  commit-of-record = of-record Commit
+
+  pub undo-of-record : undo-call s out ≡ put (register-handed (undo-answer (register h) (h .operation))) out
+  unfolding answered
+  undo-of-record = of-record Undo
 
 -- ---- values in stored form that the register call accepts
 
-module _ (g : Register) (a : Class) (threes : Three (g .seal) × Three a) where
-  both-pass : {Bound : Type 0} → Passing Bound g a →
-      register-record (register-record-bytes g a) ≡ found (record { register = g; class = a }) (length (register-record-bytes g a))
-  unfolding refusal _or-else_
-  both-pass p =
-      let curve-ok = p .register .curve-passes in
-      register-record-back (record {
+passes-of : (c : Curve) {a : Class} → curve-refusal c ≡ 0 → Three a → class-refusal c a ≡ 0 → ClassPasses c a
+unfolding refusal _or-else_
+passes-of c ok three h = record { three = three; none = rw ok h }
+
+-- the fields of a register that passes have room
+fields-short : (g : Register) → Passes g → Three (g .seal) → length (register-fields g) ≤ register-room
+fields-short g p three =
+    let seal = passes-of (g .curve) (p .curve-passes) three (p .seal-passes) in
+    omega (arith, length-append (count-field (g .count)) (class-field 0x43 (g .seal)), length-count (g .count), class-short 0x43 (g .curve) (g .seal) (seal .three) (seal .none))
+
+module _ (k : Step) (g : Register) (a : Class) (threes : Three (g .seal) × Three a) (e : step-answer k g a .outcome ≡ accepted) where
+  none-due : step-refusal k g a ≡ 0
+  unfolding step-answer
+  none-due = follows-accepted (step-refusal k g a) g (stepped k g a) e
+
+  accepted-is : step-answer k g a ≡ taken (stepped k g a)
+  unfolding step-answer
+  accepted-is = follows-zero (step-refusal k g a) g (stepped k g a) none-due
+
+  follows-fits : length (register-fields (step-answer k g a .register)) ≤ register-room
+  follows-fits =
+      subst (λ (x : RegisterReply). length (register-fields (x .register)) ≤ register-room) (sym accepted-is)
+      (fields-short (stepped k g a) (stepped-passes g a (threes .0) (threes .1) k (step-passes k g a none-due)) (stepped-fits k g a))
+
+  stored : RegisterStored (register-record-bytes g a) (register-held g a)
+  stored =
+      let p = step-passes k g a none-due in
+      let ok = p .register .curve-passes in
+      record {
+        register = g;
+        class = a;
+        held = refl;
         bytes = refl;
-        few = p .register .count-passes;
-        seal-three = threes .0;
-        class-three = threes .1;
-        seal-passes = rw curve-ok (p .register .seal-passes);
-        class-passes = rw curve-ok (p .class-passes);
-      })
+        count-passes = p .register .count-passes;
+        seal-passes = passes-of (g .curve) ok (threes .0) (p .register .seal-passes);
+        class-passes = passes-of (g .curve) ok (threes .1) (p .class-passes);
+      }
 
-  module _ (out : List ℕ) (room : register-room ≤ length out) where
-    pub commit-accepts : commit-answer g a .outcome ≡ accepted →
-        commit-call (register-record-bytes g a) out ≡ write (register-fields (commit-answer g a .register)) out
-    unfolding commit-answer
-    commit-accepts e =
-        let read = both-pass (commit-passes g a (follows-accepted (commit-refusal g a) g (committed g a) e)) in
-        commit-of-record (register-record-bytes g a) out room read ∙ written out (commit-answer g a) e
+  -- what is written for an accepted step
+  step-written : (out : List ℕ) → register-room ≤ length out → put (register-handed (step-answer k g a)) out ≡ write (register-fields (step-answer k g a .register)) out
+  step-written out room = written out (step-answer k g a) e (let l = follows-fits in omega arith)
 
-    pub undo-accepts : undo-answer g a .outcome ≡ accepted →
-        undo-call (register-record-bytes g a) out ≡ write (register-fields (undo-answer g a .register)) out
-    unfolding undo-answer
-    undo-accepts e =
-        let read = both-pass (undo-passes g a (follows-accepted (undo-refusal g a) g (undone g a) e)) in
-        undo-of-record (register-record-bytes g a) out room read ∙ written out (undo-answer g a) e
+  step-accepts : (out : List ℕ) → register-room ≤ length out → step-call k (register-record-bytes g a) out ≡ write (register-fields (step-answer k g a .register)) out
+  step-accepts out room = of-record (register-record-bytes g a) out room (register-record-back stored) k ∙ step-written out room
+
+module _ (g : Register) (a : Class) (threes : Three (g .seal) × Three a) (out : List ℕ) (room : register-room ≤ length out) where
+  pub commit-accepts : commit-answer g a .outcome ≡ accepted → commit-call (register-record-bytes g a) out ≡ write (register-fields (commit-answer g a .register)) out
+  unfolding answered
+  commit-accepts e = step-accepts Commit g a threes e out room
+
+  pub undo-accepts : undo-answer g a .outcome ≡ accepted → undo-call (register-record-bytes g a) out ≡ write (register-fields (undo-answer g a .register)) out
+  unfolding answered
+  undo-accepts e = step-accepts Undo g a threes e out room
 
 -- ---- taking back
 
--- the record of an operation with the count and the seal that a call wrote
-unfoldable pub rebuilt : Operation → Outcome → List ℕ
-rebuilt r o = curve-first-fields (r .register .curve) ++ take (o .answer) (o .after) ++ class-field 0x44 (r .class)
+rebuilt-write : (g k : Register) (a : Class) (out : List ℕ) → k .curve ≡ g .curve → register-rebuilt g a (write (register-fields k) out) ≡ register-record-bytes k a
+unfolding register-rebuilt write register-record-bytes
+rebuilt-write g k a out same = rw (take-append-seam (register-fields k) _, same)
 
-rebuilt-write : (r : Operation) (g : Register) (out : List ℕ) → g .curve ≡ r .register .curve →
-    rebuilt r (write (register-fields g) out) ≡ register-record-bytes g (r .class)
-unfolding rebuilt write register-record-bytes
-rebuilt-write r g out same =
-    rw (take-append-seam (register-fields g) (drop (length (register-fields g)) out), ← same)
-    (ap (λ (l : List ℕ). l ++ class-field 0x44 (r .class)) (sym (append-assoc (curve-first-fields (g .curve)) (count-field (g .count)) (class-field 0x43 (g .seal)))))
+module _ (s out last : List ℕ) (room : register-room ≤ length out) (room' : register-room ≤ length last) (bytes : Bytes s) {h : Held} {end : ℕ}
+    (read : read-record register-record s ≡ found h end) where
+  fits : Three (h .class) × Three (h .operation)
+  fits =
+      let w = register-record-written bytes read .0 in
+      subst (λ (x : Held). Three (x .class) × Three (x .operation)) (sym (w .held)) (w .seal-passes .three, w .class-passes .three)
 
-module _ (s out last : List ℕ) (room : register-room ≤ length out) (room' : register-room ≤ length last) {r : Operation} {end : ℕ} (read : register-record s ≡ found r end) where
-  -- where one answer takes the other back, so does its call
-  taken-back : (f g : Register → Class → RegisterReply) (k : Register) {n : ℕ} → f (r .register) (r .class) ≡ taken k → k .curve ≡ r .register .curve →
-      register-record (register-record-bytes k (r .class)) ≡ found (record { register = k; class = r .class }) n → g k (r .class) ≡ taken (r .register) →
-      register-call g (rebuilt r (register-call f s out)) last ≡ write (register-fields (r .register)) last
-  taken-back f g k e same again back =
-      ap (λ (o : Outcome). register-call g (rebuilt r o) last) (of-record s out room read f ∙ ap (write-register out) e ∙ written out (taken k) refl)
-      ∙ ap (λ (l : List ℕ). register-call g l last) (rebuilt-write r k out same)
-      ∙ of-record (register-record-bytes k (r .class)) last room' again g
-      ∙ ap (write-register last) back
-      ∙ written last (taken (r .register)) refl
+  -- the other step with the record rebuilt from an accepted step's output writes the record's count and seal
+  taken-back : (k : Step) → step-answer k (register h) (h .operation) .outcome ≡ accepted →
+      step-call (other k) (register-rebuilt (register h) (h .operation) (step-call k s out)) last ≡ write (register-fields (register h)) last
+  taken-back k e =
+      let g = register h in
+      let a = h .operation in
+      let next = stepped k g a in
+      let is = accepted-is k g a fits e in
+      let back = ap (λ (x : RegisterReply). step-answer (other k) (x .register) a) (sym is) ∙ step-taken-back g a (fits .0) (fits .1) k e in
+      ap (λ (o : Effect). step-call (other k) (register-rebuilt g a o) last)
+      (of-record s out room read k ∙ step-written k g a fits e out room ∙ ap (λ (x : RegisterReply). write (register-fields (x .register)) out) is)
+      ∙ ap (λ (l : List ℕ). step-call (other k) l last) (rebuilt-write g next a out (stepped-curve k g a))
+      ∙ step-accepts (other k) next a (stepped-fits k g a, fits .1) (ap (λ (x : RegisterReply). x .outcome) back) last room'
+      ∙ ap (λ (x : RegisterReply). write (register-fields (x .register)) last) back
 
-  module _ (bytes : Bytes s) where
-    fits : Three (r .register .seal) × Three (r .class)
-    fits = let h = register-record-written bytes read .0 in (h .seal-three, h .class-three)
+  pub undo-of-commit-bytes : commit-answer (register h) (h .operation) .outcome ≡ accepted →
+      undo-call (register-rebuilt (register h) (h .operation) (commit-call s out)) last ≡ write (register-fields (register h)) last
+  unfolding answered other
+  undo-of-commit-bytes e = taken-back Commit e
 
-    pub undo-of-commit-bytes : commit-answer (r .register) (r .class) .outcome ≡ accepted →
-        undo-call (rebuilt r (commit-call s out)) last ≡ write (register-fields (r .register)) last
-    unfolding commit-call undo-call commit-answer undo-answer
-    undo-of-commit-bytes e =
-        let g = r .register in
-        let a = r .class in
-        let k = committed g a in
-        let q = follows-zero _ g k (follows-accepted (commit-refusal g a) g k e) in
-        let back = ap (λ (x : RegisterReply). undo-answer (x .register) a) (sym q) ∙ commit-taken-back g a (fits .0) (fits .1) e in
-        let p = undo-passes k a (follows-accepted (undo-refusal k a) k (undone k a) (ap (λ (x : RegisterReply). x .outcome) back)) in
-        taken-back commit-answer undo-answer k q (committed-curve g a) (both-pass k a (committed-fits g a, fits .1) p) back
-
-    pub commit-of-undo-bytes : undo-answer (r .register) (r .class) .outcome ≡ accepted →
-        commit-call (rebuilt r (undo-call s out)) last ≡ write (register-fields (r .register)) last
-    unfolding commit-call undo-call commit-answer undo-answer
-    commit-of-undo-bytes e =
-        let g = r .register in
-        let a = r .class in
-        let k = undone g a in
-        let q = follows-zero _ g k (follows-accepted (undo-refusal g a) g k e) in
-        let back = ap (λ (x : RegisterReply). commit-answer (x .register) a) (sym q) ∙ undo-taken-back g a (fits .0) (fits .1) e in
-        let p = commit-passes k a (follows-accepted (commit-refusal k a) k (committed k a) (ap (λ (x : RegisterReply). x .outcome) back)) in
-        taken-back undo-answer commit-answer k q (undone-curve g a) (both-pass k a (undone-fits g a, fits .1) p) back
+  pub commit-of-undo-bytes : undo-answer (register h) (h .operation) .outcome ≡ accepted →
+      commit-call (register-rebuilt (register h) (h .operation) (undo-call s out)) last ≡ write (register-fields (register h)) last
+  unfolding answered other
+  commit-of-undo-bytes e = taken-back Undo e

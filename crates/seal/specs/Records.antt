@@ -1,59 +1,29 @@
--- The records that the byte calls take (document 01, 'Stored form' and 'In checking order').
+-- The records that the byte calls take: what they hold and how they are written (document 01, 'Stored form').
 use Prim.Native.Nat.{ℕ}
+use mathlib.Core.Path.{_≡_}
 use mathlib.Core.List.{List, _++_}
-use Rattle.jacobian.specs.declared.Curve.{Curve}
-use Rattle.jacobian.specs.declared.Class.{Class}
+use Rattle.jacobian.specs.declared.{Curve.Curve, Class.Class}
 use Rattle.history.specs.declared.Register.{Register}
-use Rattle.stored_form.specs.Reading.{Reading, found, due, _then_}
-use Rattle.stored_form.specs.Fields.{count-at, count-field, end-due}
-use Rattle.stored_form.specs.Classes.{curve-first, curve-first-fields, class-at, class-field, placed}
-use Rattle.seal.specs.declared.records.ClassRecord.{ClassRecord}
-use Rattle.seal.specs.declared.records.SumRecord.{SumRecord}
-use Rattle.seal.specs.declared.records.RegisterRecord.{RegisterRecord}
+use Rattle.stored_form.specs.{Passing.CountPasses, Passing.ClassPasses, Fields.count-field, Classes.curve-first-fields, Classes.class-field}
+use Rattle.stored_form.specs.Held.{nothing-held, with-curve, with-count, with-class, with-operation}
+use Rattle.stored_form.specs.declared.Held.{Held}
 
--- ---- what the records hold
+-- ---- what is held once a record is read, and nothing else
 
-pub record OneClass : Type 0 where
-  pub curve : Curve
-  pub class : Class
+abbrev pub class-held : Curve → Class → Held
+class-held c a = with-class a (with-curve c nothing-held)
 
-pub record TwoClasses : Type 0 where
-  pub curve : Curve
-  pub first : Class
-  pub second : Class
+abbrev pub sum-held : Curve → Class → Class → Held
+sum-held c a b = with-class b (with-class a (with-curve c nothing-held))
 
-pub record Operation : Type 0 where
-  pub register : Register
-  pub class : Class
-
--- ---- the records, field by field
-
--- nothing follows the last field
-unfoldable pub ended : {A : Type 0} → List ℕ → A → ℕ → Reading A
-ended s a end = due (end-due s end) (found a end)
-
-unfoldable pub class-record : List ℕ → Reading OneClass
-class-record s =
-    curve-first s 0 then λ c at-class.
-    class-at 0x43 c s at-class then λ a end.
-    ended s (record { curve = c; class = a }) end
-
-unfoldable pub sum-record : List ℕ → Reading TwoClasses
-sum-record s =
-    curve-first s 0 then λ c at-first.
-    class-at 0x43 c s at-first then λ a at-second.
-    class-at 0x43 c s at-second then λ b end.
-    ended s (record { curve = c; first = a; second = b }) end
-
-unfoldable pub register-record : List ℕ → Reading Operation
-register-record s =
-    curve-first s 0 then λ c at-count.
-    count-at s at-count then λ n at-seal.
-    class-at 0x43 c s at-seal then λ seal at-class.
-    class-at 0x44 c s at-class then λ a end.
-    ended s (record { register = record { curve = c; count = n; seal = seal }; class = a }) end
+abbrev pub register-held : Register → Class → Held
+register-held g a = with-operation a (with-class (g .seal) (with-count (g .count) (with-curve (g .curve) nothing-held)))
 
 -- ---- the records as they are written
+
+-- 0x42, then 0x43
+abbrev pub register-fields : Register → List ℕ
+register-fields g = count-field (g .count) ++ class-field 0x43 (g .seal)
 
 unfoldable pub class-record-bytes : Curve → Class → List ℕ
 class-record-bytes c a = curve-first-fields c ++ class-field 0x43 a
@@ -62,16 +32,31 @@ unfoldable pub sum-record-bytes : Curve → Class → Class → List ℕ
 sum-record-bytes c a b = curve-first-fields c ++ class-field 0x43 a ++ class-field 0x43 b
 
 unfoldable pub register-record-bytes : Register → Class → List ℕ
-register-record-bytes g a =
-    curve-first-fields (g .curve) ++ count-field (g .count) ++ class-field 0x43 (g .seal) ++ class-field 0x44 a
+register-record-bytes g a = curve-first-fields (g .curve) ++ register-fields g ++ class-field 0x44 a
 
--- ---- what the code's answers say
+-- ---- bytes that are the record of values which no check refuses
 
-abbrev pub class-record-read : ClassRecord → Reading OneClass
-class-record-read r = placed (r .place) (record { curve = r .curve; class = r .class })
+pub record ClassStored (s : List ℕ) (h : Held) : Type 0 where
+  pub curve : Curve
+  pub class : Class
+  pub held : h ≡ class-held curve class
+  pub bytes : s ≡ class-record-bytes curve class
+  pub passes : ClassPasses curve class
 
-abbrev pub sum-record-read : SumRecord → Reading TwoClasses
-sum-record-read r = placed (r .place) (record { curve = r .curve; first = r .first; second = r .second })
+pub record SumStored (s : List ℕ) (h : Held) : Type 0 where
+  pub curve : Curve
+  pub first : Class
+  pub second : Class
+  pub held : h ≡ sum-held curve first second
+  pub bytes : s ≡ sum-record-bytes curve first second
+  pub first-passes : ClassPasses curve first
+  pub second-passes : ClassPasses curve second
 
-abbrev pub register-record-read : RegisterRecord → Reading Operation
-register-record-read r = placed (r .place) (record { register = r .register; class = r .class })
+pub record RegisterStored (s : List ℕ) (h : Held) : Type 0 where
+  pub register : Register
+  pub class : Class
+  pub held : h ≡ register-held register class
+  pub bytes : s ≡ register-record-bytes register class
+  pub count-passes : CountPasses (register .count)
+  pub seal-passes : ClassPasses (register .curve) (register .seal)
+  pub class-passes : ClassPasses (register .curve) class

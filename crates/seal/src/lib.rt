@@ -1,3 +1,2 @@
 // The calls for C on byte areas.
 pub mod calls;
-mod records;

@@ -1,17 +1,14 @@
--- The row of bytes that a class's field is laid out in, as the code fills it.
-use Prim.Native.Nat.{ℕ, zero, suc, _+_, _*_, _-_, _≤_, min}
+-- The coefficients of a class in a row of bytes, as the code stores them.
+use Prim.Native.Nat.{ℕ, _+_, _*_, _-_, _≤_, min}
 use mathlib.Core.Path.{_≡_, refl, sym, ap, ap₂, _∙_}
 use mathlib.Core.List.{List, [], _∷_, _++_, append-nil, reverse}
 use native.Mathlib.Decide.{decLe}
 use native.Mathlib.Omega.{arith}
-use lib.ListN.{length, getD, take, replicate, length-append, length-take, length-reverse}
+use lib.ListN.{length, getD, take, length-take, length-reverse}
 use lib.Seq.{sets, take-all}
-use Rattle.jacobian.specs.{declared.Class.Class}
 use Rattle.jacobian.proofs.{ByValue.Threes.by-three}
-use Rattle.stored_form.specs.{Number.bytes-of, Head.class-room, Head.head-bytes, Head.stored, Elements.element-bytes, Classes.row-written, Classes.class-field}
-use Rattle.stored_form.specs.{Classes.in-row, declared.classes.ClassField.ClassField}
-use Rattle.stored_form.proofs.{Digits.two-bytes-small, ElementBytes.length-element-bytes, ElementBytes.element-bytes-append, Stores.sets-append, Stores.filled}
-use Rattle.stored_form.proofs.{Bodies.length-stored}
+use Rattle.stored_form.specs.{Number.bytes-of, Elements.element-bytes, Classes.row-written}
+use Rattle.stored_form.proofs.{ElementBytes.length-element-bytes, ElementBytes.element-bytes-append, Stores.sets-append}
 
 -- one element more
 module _ (d : List ℕ) (at : ℕ) (xs : List ℕ) (x : ℕ) where
@@ -69,14 +66,12 @@ module _ (d : List ℕ) (at : ℕ) where
         c ≡ sets b (at + 16) (bytes-of 8 (getD r 0 0)) → Puts n r c
     put-3 h e f g = rw h (three r long (rw h at e) (rw h at f) g)
 
--- ---- the whole field
-
 pub length-row : (n : ℕ) (r : List ℕ) → length r ≡ 3 → n ≤ 3 → length (row-written n r) ≡ n
 unfolding row-written
 length-row n r h le = length-reverse (take n r) ∙ length-take n r ∙ omega arith
 
 -- a row of three has no more coefficients than three
-below-three : (r : List ℕ) (n : ℕ) → length r ≡ 3 → row-written (min n 3) r ≡ row-written n r
+pub below-three : (r : List ℕ) (n : ℕ) → length r ≡ 3 → row-written (min n 3) r ≡ row-written n r
 unfolding row-written
 below-three r n h = ap reverse (firsts (decLe n 3))
   where
@@ -85,34 +80,3 @@ below-three r n h = ap reverse (firsts (decLe n 3))
     firsts (no gt) =
         let e : min n 3 ≡ 3 = omega arith in
         ap (λ (k : ℕ). take k r) e ∙ take-all 3 r (omega arith) ∙ sym (take-all n r (omega arith))
-
-pub class-laid : (a : Class) (n : ℕ) {first both : List ℕ} → n ≡ min (a .degree) 3 →
-    (first ≡ sets (sets (replicate class-room 0) 0 (0x43 ∷ 0 ∷ 16 * n ∷ [])) 3 (element-bytes (row-written n (a .u)))) × (length (a .u) ≡ 3) →
-    (both ≡ sets first (3 + 8 * n) (element-bytes (row-written n (a .v)))) × (length (a .v) ≡ 3) →
-    _≡_ {A = ClassField} (record { len = 3 + 16 * n; bytes = both }) (in-row (class-field 0x43 a))
-unfolding class-field stored head-bytes in-row
-class-laid a n {first} {both} e f g =
-    let zeros : List ℕ = replicate class-room 0 in
-    let X : List ℕ = element-bytes (row-written n (a .u)) in
-    let Y : List ℕ = element-bytes (row-written n (a .v)) in
-    let F : List ℕ = stored 0x43 (X ++ Y) in
-    let H : List ℕ = 0x43 ∷ 0 ∷ 16 * n ∷ [] in
-    let low : n ≤ 3 = omega arith in
-    let x : length X ≡ 8 * n = length-element-bytes (row-written n (a .u)) ∙ ap (λ (k : ℕ). 8 * k) (length-row n (a .u) (f .1) low) in
-    let y : length Y ≡ 8 * n = length-element-bytes (row-written n (a .v)) ∙ ap (λ (k : ℕ). 8 * k) (length-row n (a .v) (g .1) low) in
-    let len : length (X ++ Y) ≡ 16 * n = length-append X Y ∙ omega arith in
-    let long : length F ≡ 3 + 16 * n = length-stored 0x43 (X ++ Y) ∙ ap (λ (k : ℕ). 3 + k) len in
-    let head : H ≡ head-bytes 0x43 (length (X ++ Y)) =
-    ap (λ (l : List ℕ). 0x43 ∷ l) (two-bytes-small (16 * n) (omega arith)) ∙ ap (head-bytes 0x43) (sym len) in
-    let fills : both ≡ F ++ replicate (class-room - length F) 0 =
-    g .0
-    ∙ ap₂ (λ (l : List ℕ) (k : ℕ). sets l (3 + k) Y) (f .0) (sym x)
-    ∙ sets-append (sets zeros 0 H) 3 X Y
-    ∙ sets-append zeros 0 H (X ++ Y)
-    ∙ ap (λ (l : List ℕ). sets zeros 0 (l ++ (X ++ Y))) head
-    ∙ filled F class-room (omega arith) in
-    let said : stored 0x43 (X ++ Y) ≡ class-field 0x43 a =
-    ap₂ (λ (l r : List ℕ). stored 0x43 (element-bytes l ++ element-bytes r))
-    (ap (λ (k : ℕ). row-written k (a .u)) e ∙ below-three (a .u) (a .degree) (f .1))
-    (ap (λ (k : ℕ). row-written k (a .v)) e ∙ below-three (a .v) (a .degree) (g .1)) in
-    ap₂ (λ (l : ℕ) (b : List ℕ). record { len = l; bytes = b }) (sym long) fills ∙ ap in-row said

@@ -108,11 +108,7 @@ pub turn : (s : List ℕ) (at k i n b : ℕ) → at + k ≤ length s → i < k �
     n * 256 + b ≡ number-of (part s at (i + 1))
 turn s at k i n b fits lt e f = rw (e, f) (sym (number-more s at i (omega arith)))
 
--- ---- two bytes, as the code writes them
-
-pub two-bytes : (n : ℕ) → n / 256 % 256 ∷ n % 256 ∷ [] ≡ bytes-of 2 n
-unfolding bytes-of
-two-bytes n = ap₂ (λ (x y : ℕ). x ∷ y ∷ []) (omega arith) (omega arith)
+-- ---- two bytes of a small number, as the code writes them
 
 pub two-bytes-small : (n : ℕ) → n < 256 → 0 ∷ n ∷ [] ≡ bytes-of 2 n
 unfolding bytes-of

@@ -17,3 +17,6 @@ pub mod CurveRoundTrips
 pub mod ClassRoundTrips
 pub mod RecordRoundTrips
 pub mod RecordValues
+pub mod FieldSteps
+pub mod Effects
+pub mod Rows

@@ -16,6 +16,17 @@ sets-append d at (x ∷ xs) ys =
     let e : at + suc (length xs) ≡ suc at + length xs = omega arith in
     rw e (sets-append (set d at x) (suc at) xs ys)
 
+-- a turn of a loop that stores bytes one after the other
+pub store-more : (d : List ℕ) (at : ℕ) (xs : List ℕ) (i : ℕ) {r : List ℕ} {y : ℕ} → i < length xs → y ≡ getD xs i 0 → r ≡ sets d at (take i xs) →
+    set r (at + i) y ≡ sets d at (take (i + 1) xs)
+store-more d at xs i h f e =
+    let len : length (take i xs) ≡ i = length-take-le i xs (omega arith) in
+    let more : take (i + 1) xs ≡ take i xs ++ getD xs i 0 ∷ [] = ap (λ (k : ℕ). take k xs) (add-one i) ∙ take-suc xs i 0 h in
+    ap₂ (λ (l : List ℕ) (x : ℕ). set l (at + i) x) e f
+    ∙ ap (λ (k : ℕ). sets (sets d at (take i xs)) (at + k) (getD xs i 0 ∷ [])) (sym len)
+    ∙ sets-append d at (take i xs) (getD xs i 0 ∷ [])
+    ∙ ap (sets d at) (sym more)
+
 pub drop-replicate : (k n : ℕ) → drop {A = ℕ} k (replicate n 0) ≡ replicate (n - k) 0
 drop-replicate zero n = let e : n - 0 ≡ n = omega arith in rw e
 drop-replicate (suc k) zero = let e : 0 - suc k ≡ 0 = omega arith in rw e
@@ -51,19 +62,6 @@ below-eight P p₀ p₁ p₂ p₃ p₄ p₅ p₆ p₇ (suc (suc (suc (suc (suc (
 pub byte-is : (x i : ℕ) → i < 8 → x / 2 ^ (8 * (7 - i)) % 256 ≡ getD (bytes-of 8 x) i 0
 unfolding bytes-of
 byte-is x = below-eight (λ i. x / 2 ^ (8 * (7 - i)) % 256 ≡ getD (bytes-of 8 x) i 0) refl refl refl refl refl refl refl refl
-
--- a turn of the loop that stores them
-pub store-more : (d : List ℕ) (at x i b : ℕ) {r : List ℕ} → i < 8 → r ≡ sets d at (take i (bytes-of 8 x)) → b ≡ getD (bytes-of 8 x) i 0 →
-    set r (at + i) b ≡ sets d at (take (i + 1) (bytes-of 8 x))
-store-more d at x i b {r} h e f =
-    let xs = bytes-of 8 x in
-    let long : length xs ≡ 8 = length-bytes 8 x in
-    let len : length (take i xs) ≡ i = length-take-le i xs (omega arith) in
-    let more : take (i + 1) xs ≡ take i xs ++ getD xs i 0 ∷ [] = ap (λ (k : ℕ). take k xs) (add-one i) ∙ take-suc xs i 0 (omega arith) in
-    ap₂ (λ (l : List ℕ) (y : ℕ). set l (at + i) y) e f
-    ∙ ap (λ (k : ℕ). sets (sets d at (take i xs)) (at + k) (getD xs i 0 ∷ [])) (sym len)
-    ∙ sets-append d at (take i xs) (getD xs i 0 ∷ [])
-    ∙ ap (sets d at) (sym more)
 
 pub store-all : (d : List ℕ) (at x i : ℕ) {r : List ℕ} → 8 ≤ i → i ≤ 8 → r ≡ sets d at (take i (bytes-of 8 x)) → r ≡ sets d at (bytes-of 8 x)
 unfolding bytes-of

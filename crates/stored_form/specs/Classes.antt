@@ -1,15 +1,14 @@
 -- The fields of a curve and of a class, as they are read and as they are written (document 01, 'Stored form' and
 -- 'In checking order').
-use Prim.Native.Nat.{ℕ, _+_, _-_, _/_}
+use Prim.Native.Nat.{ℕ, _+_, _/_}
 use mathlib.Core.List.{List, [], _∷_, _++_, reverse}
-use lib.ListN.{length, take, drop, replicate}
+use lib.ListN.{length, take, drop}
 use Rattle.jacobian.specs.{Curves.coefficient-count, Curves.coefficients, Curves.curve-with, Curves.curve-refusal, Answer.refusal}
 use Rattle.jacobian.specs.declared.{Curve.Curve, Class.Class}
 use Rattle.stored_form.specs.Reading.{Reading, found, checked, _then_}
-use Rattle.stored_form.specs.Head.{class-room, body-at, stored}
+use Rattle.stored_form.specs.Head.{body-at, stored}
 use Rattle.stored_form.specs.Fields.{degree-at, degree-field}
 use Rattle.stored_form.specs.Elements.{elements, element-bytes}
-use Rattle.stored_form.specs.declared.classes.ClassField.{ClassField}
 
 -- ---- the curve: f3, f1, f0
 
@@ -60,7 +59,3 @@ unfoldable pub class-field : ℕ → Class → List ℕ
 class-field tag a =
     let n = a .degree in
     stored tag (element-bytes (row-written n (a .u)) ++ element-bytes (row-written n (a .v)))
-
--- bytes as the first of a row with room for the longest field
-unfoldable pub in-row : List ℕ → ClassField
-in-row xs = record { len = length xs; bytes = xs ++ replicate (class-room - length xs) 0 }

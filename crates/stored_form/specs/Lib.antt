@@ -6,3 +6,6 @@ pub mod Fields
 pub mod Elements
 pub mod Classes
 pub mod Held
+pub mod Passing
+pub mod Effect
+pub mod internal

@@ -2,14 +2,16 @@
 // A reader answers what the fields say beside the place where the next field begins, or the number of the refusal with nothing held.
 ghost use mathlib.Core.Path.{_≡_};
 ghost use Rattle.stored_form.specs.Reading.{found, refused, checked};
-ghost use Rattle.stored_form.specs.Fields.{count-field, end-refusal};
+ghost use Rattle.stored_form.specs.Fields.{end-refusal};
 ghost use Rattle.stored_form.specs.Held.{nothing-held, read-field, read-fields, read-record, read-of, place-refusal};
 
 pub mod classes;
 mod drawings;
+pub mod effect;
 mod fields;
 mod head;
 mod numbers;
+pub mod writing;
 
 use head::Head;
 use jacobian::Class;
@@ -54,8 +56,10 @@ pub const COUNT_LENGTH: usize = 2;
 // The longest drawing number.
 pub const DRAWING_LIMIT: usize = 255;
 
-// The longest field of a class.
-pub const CLASS_ROOM: usize = 51;
+// The longest body of a class, and its field.
+pub const CLASS_LIMIT: usize = 6 * ELEMENT_LENGTH;
+
+pub const CLASS_ROOM: usize = 3 + CLASS_LIMIT;
 
 // The most operations that a count may say.
 pub const COUNT_LIMIT: u64 = 1024;
@@ -202,11 +206,4 @@ pub fn read_record(tags: &[u8], s: &[u8]) -> Read
     };
     let held = r.held;
     settled(end_refusal(s, end), held, end)
-}
-
-// The field of a count.
-pub fn count_field(n: u64) -> [u8; 5]
-    ensures { λ r. ⌜ r ≡ count-field n ⌝ }
-{
-    [COUNT, 0, 2, (n / 256 % 256) as u8, (n % 256) as u8]
 }

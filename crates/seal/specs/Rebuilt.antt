@@ -1,0 +1,27 @@
+-- A record rebuilt from what a call wrote for it (document 01, demand 3 of the byte calls).
+use Prim.Native.Nat.{ℕ}
+use mathlib.Core.List.{List, _++_}
+use lib.ListN.{take, drop}
+use Rattle.stored_form.specs.{Head.first-fields-length, Classes.curve-first-fields, Classes.class-field}
+use Rattle.stored_form.specs.Effect.{Effect}
+use Rattle.history.specs.declared.Register.{Register}
+use Rattle.jacobian.specs.declared.Class.{Class}
+
+-- a class's record: the fields of degree and curve, and the class field
+abbrev pub first-fields : List ℕ → List ℕ
+first-fields s = take first-fields-length s
+
+abbrev pub last-field : List ℕ → List ℕ
+last-field s = drop first-fields-length s
+
+-- what a call wrote
+abbrev pub wrote : Effect → List ℕ
+wrote e = take (e .answer) (e .after)
+
+-- a class's record with the field that a call wrote in place of its class field
+unfoldable pub class-rebuilt : List ℕ → Effect → List ℕ
+class-rebuilt s e = first-fields s ++ wrote e
+
+-- the record of an operation with the count and the seal that a call wrote
+unfoldable pub register-rebuilt : Register → Class → Effect → List ℕ
+register-rebuilt g a e = curve-first-fields (g .curve) ++ wrote e ++ class-field 0x44 a

@@ -1,0 +1,35 @@
+-- `writing::with_class` meets its contract.
+use borrow.Author.Needs.{needs}
+use Rattle.stored_form.proofs.Rows.{class-filled}
+use Rattle.stored_form.proofs.writing.with_class.Statement.{statement}
+use Rattle.stored_form.proofs.writing.with_class.Tie as tie
+
+returns : tie.Need-returns
+returns c =
+    let counted = c .before .before .before .before in
+    let start = counted .before in
+    class-filled (start .args .row) (start .args .at) (start .args .a) (counted .below .result) (counted .below .ensures) (c .before .with-coefficients .ensures) (c .with-coefficients2 .ensures)
+
+pub with-class-spec : {M : Type 1} → statement M
+with-class-spec =
+    tie.close
+    (tie.spec
+    (λ c κs. search needs)
+    (λ c. search needs)
+    (λ c. search needs)
+    (λ c. search needs)
+    (λ c. search needs)
+    (λ c. search needs)
+    (λ c. search needs)
+    (λ c. search needs)
+    (λ c. search needs)
+    (λ c κs. search needs)
+    (λ c. search needs)
+    (λ c. search needs)
+    (λ c. search needs)
+    (λ c κs. search needs)
+    (λ c. search needs)
+    (λ c. search needs)
+    (λ c. search needs)
+    (λ c. search needs)
+    returns)

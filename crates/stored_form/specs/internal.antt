@@ -1,0 +1,2 @@
+-- Promises of functions that are not open.
+pub mod Rows

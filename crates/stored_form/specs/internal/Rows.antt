@@ -1,0 +1,12 @@
+-- What the functions that fill a row of bytes promise.
+use Prim.Native.Nat.{ℕ, _+_}
+use mathlib.Core.List.{List}
+use lib.ListN.{length}
+use lib.Seq.{sets}
+use Rattle.stored_form.specs.declared.effect.Output.{Output}
+
+-- a row with bytes stored from a place on, handed over with all that stands before them
+abbrev pub filled : List ℕ → ℕ → List ℕ → Output
+filled row at bytes =
+    let n = at + length bytes in
+    record { answer = n; len = n; bytes = sets row at bytes }

@@ -1,0 +1,66 @@
+// What a call on byte areas hands over to be written, and the one place that writes it.
+ghost use mathlib.Core.Path.{_≡_};
+ghost use Rattle.stored_form.specs.Effect.{room, effect, hand, refusal, handed, put};
+ghost use Prim.Native.Nat.{min};
+ghost use lib.ListN.{take};
+
+// A count's field, and the seal's behind it.
+pub const COUNT_ROOM: usize = 3 + crate::COUNT_LENGTH;
+
+pub const REGISTER_ROOM: usize = COUNT_ROOM + crate::CLASS_ROOM;
+
+// The most bytes that a call hands over.
+pub const ROOM: usize = REGISTER_ROOM;
+
+// The answer of a call, and the bytes that it writes at the start of the lent output: the first len of the row.
+pub struct Output {
+    pub answer: u32,
+    pub len: usize,
+    pub bytes: [u8; ROOM],
+}
+
+// A refusal's number, and nothing to write.
+pub fn refusal(n: u32) -> Output
+    ensures { λ r. ⌜ handed r ≡ refusal n ⌝ }
+{
+    Output {
+        answer: n,
+        len: 0,
+        bytes: [0u8; ROOM],
+    }
+}
+
+// No more than a row has.
+fn within(len: usize) -> usize
+    ensures { λ r. ⌜ r ≡ min len room ⌝ }
+{
+    if len < ROOM {
+        return len;
+    }
+    ROOM
+}
+
+// Writes the first bytes of a row at the start of the output and hands on the answer.
+fn put_row(answer: u32, len: usize, row: [u8; ROOM], output: &mut [u8]) -> u32
+    ensures { λ r. ⌜ effect r (now (output .exit)) ≡ put (hand answer (take len row)) (now (output .entry)) ⌝ }
+{
+    let n = within(len);
+    if output.len() < n {
+        return 101;
+    }
+    let mut i = 0;
+    while i < n {
+        output[i] = row[i];
+        i += 1;
+    }
+    answer
+}
+
+// Writes the bytes at the start of the output and hands on the answer.
+// Where the output is shorter than they are nothing is written, and the answer is 101.
+pub fn put(o: Output, output: &mut [u8]) -> u32
+    ensures { λ r. ⌜ effect r (now (output .exit)) ≡ put (handed o) (now (output .entry)) ⌝ }
+{
+    let bytes = o.bytes;
+    put_row(o.answer, o.len, bytes, output)
+}
