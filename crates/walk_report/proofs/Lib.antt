@@ -2,9 +2,4 @@
 pub mod Writing
 pub mod Marks
 pub mod Lines
-pub mod Walks
-pub mod Reports
-pub mod Seals
-pub mod Demand3
 pub mod Digits
-pub mod Kept
