@@ -2,4 +2,5 @@
 pub mod Writing
 pub mod Marks
 pub mod Lines
+pub mod Advances
 pub mod Digits

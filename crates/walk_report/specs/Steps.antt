@@ -78,7 +78,7 @@ next-of (Refusal n) r s at = record { text = refusal-text n; after = moved (with
 next-of First r s at = record { text = first-line (r .reader .held .count) (drawing-name (r .reader .held .drawing)); after = moved (with-stage Last r) at }
 next-of Last r s at = record { text = line 0 0x2E (r .seal); after = advanced r s at }
 next-of Undo r s at = undone r s at
-next-of Over r s at = record { text = []; after = moved r at }
+next-of Over r s at = record { text = []; after = moved (with-stage Over r) at }
 
 unfoldable pub next-line : Report → List ℕ → ℕ → Next
 next-line r s at = next-of (r .stage) r s at

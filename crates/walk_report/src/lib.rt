@@ -2,21 +2,23 @@
 // A line is made from the report on its way, which holds what was read, and from the input at the place of the next field: any part of the input
 // that has this field will do.
 ghost use mathlib.Core.Path.{_≡_};
-ghost use Prim.Native.Nat.{_-_, min};
+ghost use Prim.Native.Nat.{ℕ, _-_, min};
+ghost use mathlib.Core.List.{List};
+ghost use lib.ListN.{take};
 ghost use Rattle.stored_form.specs.{Head.drawing-limit, Held.drawing-name};
-ghost use Rattle.walk_report.specs.{Text.first-line, Line.in-line};
+ghost use Rattle.walk_report.specs.{Text.line, Text.first-line, Line.in-line};
 ghost use Rattle.walk_report.specs.Steps.{with-stage, with-seal, moved, older, advanced, undoing, letter-before, made, undone, next-line, refused-report, opened, pending};
+
 mod letters;
 pub mod text;
 
+use crate::text::Line;
 use archive::Due;
 use archive::Reader;
-use crate::text::Line;
 use jacobian::Class;
 use jacobian::Curve;
 use stored_form::Cursor;
 use stored_form::DRAWING_LIMIT;
-use stored_form::Drawing;
 use stored_form::Place;
 
 // The line that is due.
@@ -135,12 +137,12 @@ fn letter_before(curve: Curve, a: Class, r: Report) -> u8
     ensures { λ b. ⌜ b ≡ letter-before curve a r ⌝ }
 {
     let stage = r.stage;
-    if !undoing(stage) {
-        return letters::mark(false, a);
+    if undoing(stage) {
+        let older = r.operation;
+        let opposes = letters::opposed(curve, a, older);
+        return letters::mark(opposes, a);
     }
-    let older = r.operation;
-    let opposes = letters::opposed(curve, a, older);
-    letters::mark(opposes, a)
+    letters::mark(false, a)
 }
 
 // How many operations of so many are undone where some are still to be read.
@@ -195,13 +197,43 @@ fn name_length(len: usize) -> usize
     DRAWING_LIMIT
 }
 
-// The first line, with the drawing number that was read.
-fn first_line(count: u64, drawing: Drawing) -> Line
-    ensures { λ r. ⌜ r ≡ in-line (first-line count (drawing-name drawing)) ⌝ }
+// The first line, with the drawing number of a row.
+fn first_line(count: u64, len: usize, bytes: [u8; DRAWING_LIMIT]) -> Line
+    ensures { λ r. ⌜ r ≡ in-line (first-line count (take len bytes)) ⌝ }
 {
-    let bytes = drawing.bytes;
-    let n = name_length(drawing.len);
+    let n = name_length(len);
     text::first_line(count, &bytes[..n])
+}
+
+// A line, and the report with another line due.
+fn line_made(line: Line, stage: Stage, r: Report, next: Cursor) -> Made
+    ensures { λ m. ⌜ ((text : List ℕ) → line ≡ in-line text → m ≡ made (record { text = text; after = moved (with-stage stage r) (next .at) })) ⌝ }
+{
+    let report = with_stage(stage, r);
+    Made { line, report, next }
+}
+
+// The line of the last seal; the newest operation is to be undone then.
+fn last_line(r: Report, s: &[u8], at: Cursor) -> Made
+    ensures { λ m. ⌜ m ≡ made (record { text = line 0 0x2E (r .seal); after = advanced r (now (s .entry)) (at .at) }) ⌝ }
+{
+    let seal = r.seal;
+    let line = text::seal_line(0, b'.', seal);
+    let m = advanced(r, s, at);
+    let report = m.report;
+    let next = m.next;
+    Made { line, report, next }
+}
+
+// The first line of the report.
+fn opening_line(r: Report) -> Line
+    ensures { λ l. ⌜ l ≡ in-line (first-line (r .reader .held .count) (drawing-name (r .reader .held .drawing))) ⌝ }
+{
+    let reader = r.reader;
+    let held = reader.held;
+    let drawing = held.drawing;
+    let bytes = drawing.bytes;
+    first_line(held.count, drawing.len, bytes)
 }
 
 // Makes the line that is due, from the field at a place of the input; an empty one where the report is over.
@@ -209,36 +241,12 @@ pub fn next_line(r: Report, s: &[u8], at: Cursor) -> Made
     ensures { λ m. ⌜ m ≡ made (next-line r (now (s .entry)) (at .at)) ⌝ }
 {
     let stage = r.stage;
-    let reader = r.reader;
-    let held = reader.held;
-    let seal = r.seal;
     match stage {
-        Stage::Refusal(n) => Made {
-            line: text::refusal_line(n),
-            report: with_stage(Stage::Over, r),
-            next: at,
-        },
-        Stage::First => {
-            let drawing = held.drawing;
-            Made {
-                line: first_line(held.count, drawing),
-                report: with_stage(Stage::Last, r),
-                next: at,
-            }
-        }
-        Stage::Last => {
-            let line = text::seal_line(0, b'.', seal);
-            let m = advanced(r, s, at);
-            let report = m.report;
-            let next = m.next;
-            Made { line, report, next }
-        }
+        Stage::Refusal(n) => line_made(text::refusal_line(n), Stage::Over, r, at),
+        Stage::First => line_made(opening_line(r), Stage::Last, r, at),
+        Stage::Last => last_line(r, s, at),
         Stage::Undo => undone(r, s, at),
-        Stage::Over => Made {
-            line: text::no_line(),
-            report: r,
-            next: at,
-        },
+        Stage::Over => line_made(text::no_line(), Stage::Over, r, at),
     }
 }
 
