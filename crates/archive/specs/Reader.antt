@@ -67,6 +67,10 @@ read-steps s =
     read-fields (replicate (h .count) 0x44) h s next then λ h end.
     read-end h s end
 
+-- the opening alone: the operations are due then
+unfoldable pub opening : List ℕ → Reading Reader
+opening s = read-fields archive-opening nothing-held s 0 then λ h next. found (reader (operations-due (h .count)) h) next
+
 -- ---- the code's answer: the state beside its place, the start on a refusal
 
 unfoldable pub advance-of : Reading Reader → Advance

@@ -4,7 +4,7 @@ ghost use lib.ListN.{getD};
 ghost use Rattle.stored_form.specs.Reading.{found, refused};
 ghost use Rattle.stored_form.specs.Held.{archive-opening};
 ghost use Rattle.archive.specs.Archive.{archive-refusal};
-ghost use Rattle.archive.specs.Reader.{reader, start, after-opening, operations-due, read-opening, read-operation, read-end, step, pending, read-steps, advance-of};
+ghost use Rattle.archive.specs.Reader.{reader, start, after-opening, operations-due, read-opening, read-operation, read-end, step, pending, read-steps, opening, advance-of};
 use stored_form::ARCHIVE_OPENING;
 use stored_form::Cursor;
 use stored_form::Held;
@@ -185,6 +185,20 @@ pub fn read(s: &[u8]) -> Advance
         place: Place::Next(Cursor { at }),
         reader: r,
     }
+}
+
+// Reads the fields before the operations, which are due then.
+pub fn opening(s: &[u8]) -> Advance
+    ensures { λ r. ⌜ r ≡ advance-of (opening (now (s .entry))) ⌝ }
+{
+    let tags = ARCHIVE_OPENING;
+    let r = stored_form::read_fields(&tags, stored_form::nothing_held(), s, Cursor { at: 0 });
+    let place = r.place;
+    let Place::Next(next) = place else {
+        return stopped(stored_form::place_refusal(place));
+    };
+    let held = r.held;
+    moved(operations_due(held.count), held, next)
 }
 
 // The refusal that is due to an archive, and 0 where it is accepted.

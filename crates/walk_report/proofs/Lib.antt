@@ -2,9 +2,5 @@
 pub mod Writing
 pub mod Marks
 pub mod Lines
-pub mod Walks
-pub mod Reports
-pub mod Seals
-pub mod Demand3
+pub mod Advances
 pub mod Digits
-pub mod Kept

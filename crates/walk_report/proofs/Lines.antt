@@ -4,7 +4,7 @@ use mathlib.Core.Path.{_≡_, refl}
 use mathlib.Core.List.{List, [], _∷_, _++_}
 use native.Mathlib.Omega.{arith}
 use lib.ListN.{length, getD}
-use Rattle.walk_report.specs.Report.{hexadecimal, row-text, part-text}
+use Rattle.walk_report.specs.Text.{hexadecimal, row-text, part-text}
 
 module _ (n : ℕ) (r : List ℕ) where
   pub row-0 : n ≡ 0 → [] ≡ row-text n r

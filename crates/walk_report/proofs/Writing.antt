@@ -1,13 +1,13 @@
 -- Writing one text after another into a lent area.
 use Prim.Native.Nat.{ℕ, zero, suc, _+_, _-_, _/_, _%_, _≤_, _<_}
-use mathlib.Core.Path.{_≡_, refl, sym, ap, _∙_, subst}
+use mathlib.Core.Path.{_≡_, refl, sym, ap, ap₂, _∙_, subst}
 use mathlib.Core.List.{List, [], _∷_, _++_}
 use native.Mathlib.Omega.{arith}
-use lib.ListN.{length, set, getD, take, length-append}
-use lib.Seq.{sets, length-sets, length-take-le, take-suc, take-all}
+use lib.ListN.{length, set, getD, take, drop, replicate, length-append, length-replicate}
+use lib.Seq.{sets, sets-eq, length-sets, length-take-le, take-suc, take-all}
 use borrow.Author.Tests.{lt-ltb, le-ltb}
-use Rattle.walk_report.specs.Text.{Wrote}
-use Rattle.walk_report.specs.Report.{digit, digits}
+use Rattle.walk_report.specs.{internal.Writing.Wrote, Line.line-room, Line.in-line, declared.text.Line.Line}
+use Rattle.walk_report.specs.Text.{digit, digits}
 
 pub sets-both : (xs ys d : List ℕ) (at : ℕ) → sets (sets d at xs) (at + length xs) ys ≡ sets d at (xs ++ ys)
 sets-both [] ys d at = let e : at + 0 ≡ at = omega arith in rw e
@@ -17,9 +17,6 @@ sets-both (x ∷ xs) ys d at =
 
 pub wrote-none : (d : List ℕ) (at : ℕ) → Wrote 0 d at d at []
 wrote-none d at = record { area = refl; place = omega arith; short = omega arith }
-
-pub wrote-byte : (d : List ℕ) (at b : ℕ) → Wrote 1 d at (set d at b) (at + 1) (b ∷ [])
-wrote-byte d at b = record { area = refl; place = refl; short = omega arith }
 
 pub wrote-both : {j k at m r : ℕ} {d e f xs ys : List ℕ} → Wrote j d at e m xs → Wrote k e m f r ys → Wrote (j + k) d at f r (xs ++ ys)
 wrote-both {d = d} {xs = xs} {ys = ys} v w =
@@ -79,3 +76,22 @@ module _ (d s : List ℕ) (at i : ℕ) {e : List ℕ} (h : e ≡ sets d at (take
 
   pub copied-all : i ≤ length s → length s ≤ i → Wrote (length s) d at e (at + i) s
   copied-all le ge = record { area = h ∙ ap (sets d at) (take-all i s ge); place = omega arith; short = omega arith }
+
+-- ---- a line: a text at the front of a row of zeros
+
+drop-zeros : (k n : ℕ) → drop {A = ℕ} k (replicate n 0) ≡ replicate (n - k) 0
+drop-zeros zero n = let e : n - 0 ≡ n = omega arith in rw e
+drop-zeros (suc k) zero = let e : 0 - suc k ≡ 0 = omega arith in rw e
+drop-zeros (suc k) (suc n) = let e : suc n - suc k ≡ n - k = omega arith in rw e (drop-zeros k n)
+
+pub line-laid : {k r : ℕ} {e xs : List ℕ} → k ≤ line-room → Wrote k (replicate line-room 0) 0 e r xs → _≡_ {A = Line} (record { len = r; bytes = e }) (in-line xs)
+unfolding in-line
+line-laid {k} {r} {e} {xs} fits w =
+    let zeros : List ℕ = replicate line-room 0 in
+    let long : length zeros ≡ line-room = length-replicate {A = ℕ} line-room 0 in
+    let plain : 0 + length xs ≡ length xs = omega arith in
+    ap₂ (λ (l : ℕ) (b : List ℕ). record { len = l; bytes = b }) (omega (arith, w .place))
+    (w .area
+    ∙ sets-eq xs zeros 0 (omega (arith, w .short))
+    ∙ ap (λ (j : ℕ). xs ++ drop j zeros) plain
+    ∙ ap (λ (l : List ℕ). xs ++ l) (drop-zeros (length xs) line-room))

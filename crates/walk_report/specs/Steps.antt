@@ -1,50 +1,124 @@
--- The walk by value, and what each of its steps promises.
-use Prim.Native.Nat.{ℕ, suc, _+_, _≤_}
-use mathlib.Core.Path.{_≡_}
-use mathlib.Core.List.{List}
-use lib.ListN.{length}
-use lib.Seq.{sets}
-use Rattle.stored_form.specs.Reading.{found}
-use Rattle.jacobian.specs.declared.Curve.{Curve}
-use Rattle.jacobian.specs.declared.Class.{Class}
-use Rattle.archive.specs.declared.Opening.{Opening}
-use Rattle.walk_report.specs.declared.walk.Walk.{Walk}
-use Rattle.archive.specs.Archive.{operations-at}
-use Rattle.archive.specs.Reader.{archive-of}
-use Rattle.walk_report.specs.Report.{lines-after, walk-text}
+-- The report on its way: a line, and the report after it (document 01, 'The walk report').
+use Prim.Native.Nat.{ℕ, zero, suc, _-_}
+use mathlib.Core.Bool.{Bool, true, false}
+use mathlib.Core.List.{List, [], _∷_}
+use Rattle.jacobian.specs.{Answer.neutral-class, Answer.subtract-and-halve-answer, declared.Curve.Curve, declared.Class.Class}
+use Rattle.stored_form.specs.{Reading.Reading, Reading.found, Reading.refused, Held.drawing-name, declared.Held.Held}
+use Rattle.archive.specs.{Archive.archive-refusal, Reader.start, Reader.step, Reader.opening, declared.Due.Due, declared.Reader.Reader}
+use Rattle.archive.specs.declared.Due.the-variants as due
+use Rattle.walk_report.specs.{Text.line, Text.first-line, Text.refusal-text, Line.in-line, Walk.opposed, Walk.mark}
+use Rattle.walk_report.specs.declared.{Stage.Stage, Report.Report, Moved.Moved, Made.Made}
+use Rattle.walk_report.specs.declared.Stage.the-variants.{Refusal, First, Last, Undo, Over}
 
--- the lines that a walk has still to write
-abbrev pub pending : Curve → Walk → List Class → List ℕ
-pending c w ops = lines-after c (w .undone) (w .seal) ops
+abbrev pub report : Stage → Reader → Class → Class → Report
+report stage reader seal a = record { stage = stage; reader = reader; seal = seal; operation = a }
 
--- the area d once they are written, and the place after them
-unfoldable pub area-left : Curve → List ℕ → Walk → List Class → List ℕ
-area-left c d w ops = sets d (w .to) (pending c w ops)
+abbrev pub with-stage : Stage → Report → Report
+with-stage stage r = report stage (r .reader) (r .seal) (r .operation)
 
-unfoldable pub place-left : Curve → Walk → List Class → ℕ
-place-left c w ops = w .to + length (pending c w ops)
+abbrev pub with-seal : Class → Report → Report
+with-seal seal r = report (r .stage) (r .reader) seal (r .operation)
 
--- a step from w to r, and from the area d to e: what was pending is the line written and what is pending now
-pub record Moved (c : Curve) (s : List ℕ) (older : ℕ) (d e : List ℕ) (w r : Walk) (ops : List Class) (end : ℕ) : Type 0 where
-  pub rest : List Class
-  pub left : operations-at older c s (r .from) ≡ found rest end
-  pub area : area-left c e r rest ≡ area-left c d w ops
-  pub place : place-left c r rest ≡ place-left c w ops
+abbrev pub moved : Report → ℕ → Moved
+moved r at = record { report = r; next = record { at = at } }
 
--- a step writes at most 146 bytes, and undoes the operation that the walk is at, where some operations and their end are found there
-pub record Stepped (c : Curve) (s : List ℕ) (older : ℕ) (d e : List ℕ) (w r : Walk) : Type 0 where
-  pub near : r .to ≤ w .to + 146
-  pub count : r .undone ≤ w .undone + 1
-  pub size : length e ≡ length d
-  pub moved : {ops : List Class} {end : ℕ} → operations-at (suc older) c s (w .from) ≡ found ops end → Moved c s older d e w r ops end
+-- the operations that are still to be read
+unfoldable pub older : Due → ℕ
+older (due.Opening i) = 0
+older (due.Operations n) = n
+older due.End = 0
+older due.Nothing = 0
 
--- all steps: what was pending is written
-pub record Walked (c : Curve) (s : List ℕ) (count : ℕ) (d e : List ℕ) (w : Walk) (r : ℕ) : Type 0 where
-  pub within : r ≤ length d
-  pub written : {ops : List Class} {end : ℕ} → operations-at count c s (w .from) ≡ found ops end → (e ≡ area-left c d w ops) × (r ≡ place-left c w ops)
+-- the next operation was read, and is to be undone then; without one the report is over
+unfoldable pub held-next : Report → ℕ → Reading Reader → Moved
+held-next r at (found reader next) = moved (report Undo reader (r .seal) (reader .held .operation)) next
+held-next r at (refused n) = moved (with-stage Over r) at
 
--- the report of an accepted archive stands at the front of the area
-pub record Reported (s : List ℕ) (o : Opening) (d e : List ℕ) (r : ℕ) : Type 0 where
-  pub within : r ≤ length d
-  pub written : {ops : List Class} {end : ℕ} → operations-at (o .count) (o .curve) s (o .first .at) ≡ found ops end →
-      (e ≡ sets d 0 (walk-text (archive-of s o ops))) × (r ≡ length (walk-text (archive-of s o ops)))
+unfoldable pub advanced-by : ℕ → Report → List ℕ → ℕ → Moved
+advanced-by zero r s at = moved (with-stage Over r) at
+advanced-by (suc n) r s at = held-next r at (step (r .reader) s at)
+
+unfoldable pub advanced : Report → List ℕ → ℕ → Moved
+advanced r s at = advanced-by (older (r .reader .due)) r s at
+
+-- is there an operation that is to be undone?
+unfoldable pub undoing : Stage → Bool
+undoing (Refusal n) = false
+undoing First = false
+undoing Last = false
+undoing Undo = true
+undoing Over = false
+
+-- the letter of an operation, where the report stands at the next older one, if there is one
+unfoldable pub letter-before : Curve → Class → Report → ℕ
+letter-before c a r = elim (undoing (r .stage)) [ true ↦ mark (opposed c a (r .operation)) a | false ↦ mark false a ]
+
+-- a line, the report after it and the place of the next field
+pub record Next : Type 0 where
+  pub text : List ℕ
+  pub after : Moved
+
+unfoldable pub made : Next → Made
+made n = record { line = in-line (n .text); report = n .after .report; next = n .after .next }
+
+-- the operation is undone: the count less those that are still to be read were undone with it
+unfoldable pub undone : Report → List ℕ → ℕ → Next
+undone r s at =
+    let held = r .reader .held in
+    let seal = subtract-and-halve-answer (held .curve) (r .seal) (r .operation) .class in
+    let m = advanced r s at in
+    record {
+      text = line (held .count - older (r .reader .due)) (letter-before (held .curve) (r .operation) (m .report)) seal;
+      after = record { report = with-seal seal (m .report); next = m .next };
+    }
+
+-- the line that is due
+unfoldable pub next-of : Stage → Report → List ℕ → ℕ → Next
+next-of (Refusal n) r s at = record { text = refusal-text n; after = moved (with-stage Over r) at }
+next-of First r s at = record { text = first-line (r .reader .held .count) (drawing-name (r .reader .held .drawing)); after = moved (with-stage Last r) at }
+next-of Last r s at = record { text = line 0 0x2E (r .seal); after = advanced r s at }
+next-of Undo r s at = undone r s at
+next-of Over r s at = record { text = []; after = moved (with-stage Over r) at }
+
+unfoldable pub next-line : Report → List ℕ → ℕ → Next
+next-line r s at = next-of (r .stage) r s at
+
+-- a report that says a refusal alone
+unfoldable pub refused-report : ℕ → Moved
+refused-report n = moved (report (Refusal n) start neutral-class neutral-class) 0
+
+-- the report once the fields before the operations were read
+unfoldable pub first-report : Reading Reader → Moved
+first-report (found reader next) = moved (report First reader (reader .held .class) neutral-class) next
+first-report (refused n) = refused-report n
+
+unfoldable pub opened-by : ℕ → Reading Reader → Moved
+opened-by zero x = first-report x
+opened-by (suc n) x = refused-report (suc n)
+
+-- the report of these bytes before its first line: every check is made first, and then the fields before the operations are read once more
+unfoldable pub opened : List ℕ → Moved
+opened s = opened-by (archive-refusal s) (opening s)
+
+-- is a line still to come?
+unfoldable pub pending : Stage → Bool
+pending (Refusal n) = true
+pending First = true
+pending Last = true
+pending Undo = true
+pending Over = false
+
+-- how many lines are to come
+unfoldable pub lines-left : Report → ℕ
+lines-left r = elim (r .stage) [
+  | Refusal n ↦ 1
+  | First ↦ suc (suc (older (r .reader .due)))
+  | Last ↦ suc (older (r .reader .due))
+  | Undo ↦ suc (older (r .reader .due))
+  | Over ↦ 0
+]
+
+-- the texts of so many lines, from a report and a place on
+unfoldable pub texts : ℕ → Report → List ℕ → ℕ → List (List ℕ)
+texts zero r s at = []
+texts (suc n) r s at = let m = next-line r s at in m .text ∷ texts n (m .after .report) s (m .after .next .at)

@@ -1,41 +1,28 @@
 -- The walk of an archive: its seals and the letters of its lines (document 01, 'The register', 'The walk report').
 use Prim.Native.Nat.{ℕ}
-use mathlib.Core.Bool.{Bool, false, cond, _&&_}
+use mathlib.Core.Bool.{Bool, false, cond}
 use mathlib.Core.List.{List, [], _∷_}
-use lib.ListN.{getD}
 use lib.Dec.{eqb}
-use Rattle.jacobian.specs.Answer.{opposite-answer, subtract-and-halve-answer}
-use Rattle.jacobian.specs.declared.Curve.{Curve}
-use Rattle.jacobian.specs.declared.Class.{Class}
+use Rattle.class_group.specs.Walk.{walk}
+use Rattle.jacobian.specs.{Classes.same-class, Answer.opposite-answer, declared.Curve.Curve, declared.Class.Class}
+use Rattle.history.specs.Register.{undo-seal}
 
--- the undo rule: the class is subtracted from the seal, and the half of that difference is the seal before
-unfoldable pub seal-before : Curve → Class → Class → Class
-seal-before c seal a = subtract-and-halve-answer c seal a .class
-
--- the walk: the last seal, then one seal for each class, newest first
+-- the walk: the last seal, then one seal for each class, newest first, by the rule of an undo
 unfoldable pub seals : Curve → Class → List Class → List Class
-seals c seal [] = seal ∷ []
-seals c seal (a ∷ older) = seal ∷ seals c (seal-before c seal a) older
+seals c seal ops = walk (undo-seal c) seal ops
 
--- three numbers agree
-unfoldable pub same-row : List ℕ → List ℕ → Bool
-same-row r s = eqb (getD r 0 0) (getD s 0 0) && (eqb (getD r 1 0) (getD s 1 0) && eqb (getD r 2 0) (getD s 2 0))
-
-unfoldable pub same-class : Class → Class → Bool
-same-class a b = eqb (a .degree) (b .degree) && (same-row (a .u) (b .u) && same-row (a .v) (b .v))
-
--- is a class the opposite of the next older one, if there is one?
-unfoldable pub opposes : Curve → Class → List Class → Bool
-opposes c a [] = false
-opposes c a (b ∷ older) = same-class a (opposite-answer c b .class)
+-- is a class the opposite of another?
+unfoldable pub opposed : Curve → Class → Class → Bool
+opposed c a b = same-class a (opposite-answer c b .class)
 
 -- R for a class that is the opposite of the next older one, else M for a neutral one, else -
 unfoldable pub mark : Bool → Class → ℕ
-mark opposed a = cond opposed 0x52 (cond (eqb (a .degree) 0) 0x4D 0x2D)
+mark opposes a = cond opposes 0x52 (cond (eqb (a .degree) 0) 0x4D 0x2D)
 
--- the letter of an operation, given the older ones
+-- the letter of an operation, given the older ones, newest first
 unfoldable pub letter : Curve → Class → List Class → ℕ
-letter c a older = mark (opposes c a older) a
+letter c a [] = mark false a
+letter c a (b ∷ older) = mark (opposed c a b) a
 
 -- the letters of operations, newest first
 unfoldable pub letters : Curve → List Class → List ℕ

@@ -1,61 +1,311 @@
-// An archive's walk report. The archive is read twice: once to make every check, then operation by operation as its lines are written.
+// An archive's walk report, line by line. The archive is read twice: once to make every check, then operation by operation as its lines are made.
+// A line is made from the report on its way, which holds what was read, and from the input at the place of the next field: any part of the input
+// that has this field will do.
 ghost use mathlib.Core.Path.{_≡_};
-ghost use Prim.Native.Nat.{_≤_};
-ghost use lib.ListN.{length};
-ghost use Rattle.archive.specs.Reader.{Bounded};
-ghost use Rattle.walk_report.specs.Report.{room, outcome, report-answer};
-ghost use Rattle.walk_report.specs.Steps.{Reported};
-use crate::walk::Walk;
-use archive::Opening;
-use stored_form::classes::Place;
+ghost use Prim.Native.Nat.{ℕ, _-_, min};
+ghost use mathlib.Core.List.{List};
+ghost use lib.ListN.{take};
+ghost use Rattle.stored_form.specs.{Head.drawing-limit, Held.drawing-name};
+ghost use Rattle.walk_report.specs.{Text.line, Text.first-line, Line.in-line};
+ghost use Rattle.walk_report.specs.Steps.{with-stage, with-seal, moved, older, advanced, undoing, letter-before, made, undone, next-line, refused-report, opened, pending};
 
 mod letters;
-mod text;
-mod walk;
+pub mod text;
 
-// The report of an archive whose checks are made, in an area with room for it.
-fn put_walk(s: &[u8], out: &mut [u8], o: Opening) -> usize
-    requires { ⌜ (room ≤ length (now out)) × Bounded (now s) o ⌝ }
-    ensures { λ r. ⌜ Reported (now (s .entry)) o (now (out .entry)) (now (out .exit)) r ⌝ }
-{
-    let curve = o.curve;
-    let drawing = o.drawing;
-    let count = o.count;
-    let seal = o.seal;
-    let first = o.first;
-    let start = drawing.start;
-    let stop = start + drawing.len;
-    let head = text::put_first_line(out, 0, count as u64, &s[start..stop]);
-    let to = text::put_line(out, head, 0, b'.', seal);
-    let w = Walk {
-        from: first.at,
-        seal: seal,
-        undone: 0,
-        to: to,
-    };
-    let end = walk::put_lines(s, out, curve, w, count);
-    end
+use crate::text::Line;
+use archive::Due;
+use archive::Reader;
+use jacobian::Class;
+use jacobian::Curve;
+use stored_form::Cursor;
+use stored_form::DRAWING_LIMIT;
+use stored_form::Place;
+
+// The line that is due.
+pub enum Stage {
+    // A refusal's number.
+    Refusal(u32),
+    // walk, the count and the drawing number.
+    First,
+    // The last seal.
+    Last,
+    // The seal before the operation that is held.
+    Undo,
+    // None.
+    Over,
 }
 
-// Room for every report.
-pub const ROOM: usize = 163840;
+// The report on its way: the line that is due, the reader of the second pass, the seal that was met last and the operation that is to be undone.
+pub struct Report {
+    pub stage: Stage,
+    pub reader: Reader,
+    pub seal: Class,
+    pub operation: Class,
+}
 
-// The report of an archive at the front of the area, and its length; an area without room is left as it is, and the answer is 0.
-pub fn report(s: &[u8], out: &mut [u8]) -> usize
-    ensures { λ r. ⌜ outcome r (now (out .exit)) ≡ report-answer (now (s .entry)) (now (out .entry)) ⌝ }
+// The report, and the place of the next field.
+pub struct Moved {
+    pub report: Report,
+    pub next: Cursor,
+}
+
+// A line, the report after it, and the place of the next field.
+pub struct Made {
+    pub line: Line,
+    pub report: Report,
+    pub next: Cursor,
+}
+
+// The operations that are still to be read.
+fn older(due: Due) -> u64
+    ensures { λ r. ⌜ r ≡ older due ⌝ }
 {
-    if out.len() < ROOM {
+    match due {
+        Due::Opening(_) => 0,
+        Due::Operations(n) => n,
+        Due::End => 0,
+        Due::Nothing => 0,
+    }
+}
+
+// The report with another line due.
+fn with_stage(stage: Stage, r: Report) -> Report
+    ensures { λ t. ⌜ t ≡ with-stage stage r ⌝ }
+{
+    let reader = r.reader;
+    let seal = r.seal;
+    let operation = r.operation;
+    Report {
+        stage,
+        reader,
+        seal,
+        operation,
+    }
+}
+
+// Reads the next operation, which is to be undone then; without one the report is over.
+fn advanced(r: Report, s: &[u8], at: Cursor) -> Moved
+    ensures { λ m. ⌜ m ≡ advanced r (now (s .entry)) (at .at) ⌝ }
+{
+    let reader = r.reader;
+    let due = reader.due;
+    let n = older(due);
+    if n == 0 {
+        return Moved {
+            report: with_stage(Stage::Over, r),
+            next: at,
+        };
+    }
+    let t = archive::step(reader, s, at);
+    let p = t.place;
+    let more = t.reader;
+    let Place::Next(next) = p else {
+        return Moved {
+            report: with_stage(Stage::Over, r),
+            next: at,
+        };
+    };
+    let held = more.held;
+    let seal = r.seal;
+    let operation = held.operation;
+    Moved {
+        report: Report {
+            stage: Stage::Undo,
+            reader: more,
+            seal,
+            operation,
+        },
+        next,
+    }
+}
+
+// Is there an operation that is to be undone?
+fn undoing(stage: Stage) -> bool
+    ensures { λ r. ⌜ r ≡ undoing stage ⌝ }
+{
+    match stage {
+        Stage::Refusal(_) => false,
+        Stage::First => false,
+        Stage::Last => false,
+        Stage::Undo => true,
+        Stage::Over => false,
+    }
+}
+
+// The letter of an operation, where the report stands at the next older one, if there is one.
+fn letter_before(curve: Curve, a: Class, r: Report) -> u8
+    ensures { λ b. ⌜ b ≡ letter-before curve a r ⌝ }
+{
+    let stage = r.stage;
+    if undoing(stage) {
+        let older = r.operation;
+        let opposes = letters::opposed(curve, a, older);
+        return letters::mark(opposes, a);
+    }
+    letters::mark(false, a)
+}
+
+// How many operations of so many are undone where some are still to be read.
+fn undone_of(count: u64, older: u64) -> u64
+    ensures { λ r. ⌜ r ≡ count - older ⌝ }
+{
+    if count < older {
         return 0;
     }
-    let t = archive::read(s);
+    count - older
+}
+
+// Undoes the operation that is held, and makes the line of the seal before it.
+fn undone(r: Report, s: &[u8], at: Cursor) -> Made
+    ensures { λ m. ⌜ m ≡ made (undone r (now (s .entry)) (at .at)) ⌝ }
+{
+    let reader = r.reader;
+    let held = reader.held;
+    let due = reader.due;
+    let curve = held.curve;
+    let seal = r.seal;
+    let a = r.operation;
+    let step = jacobian::subtract_and_halve(curve, seal, a);
+    let before = step.class;
+    let m = advanced(r, s, at);
+    let after = m.report;
+    let next = m.next;
+    let mark = letter_before(curve, a, after);
+    let line = text::seal_line(undone_of(held.count, older(due)), mark, before);
+    let stage = after.stage;
+    let more = after.reader;
+    let operation = after.operation;
+    Made {
+        line,
+        report: Report {
+            stage,
+            reader: more,
+            seal: before,
+            operation,
+        },
+        next,
+    }
+}
+
+// As many bytes as a drawing number has, and no more than it may have.
+fn name_length(len: usize) -> usize
+    ensures { λ r. ⌜ r ≡ min len drawing-limit ⌝ }
+{
+    if len < DRAWING_LIMIT {
+        return len;
+    }
+    DRAWING_LIMIT
+}
+
+// The first line, with the drawing number of a row.
+fn first_line(count: u64, len: usize, bytes: [u8; DRAWING_LIMIT]) -> Line
+    ensures { λ r. ⌜ r ≡ in-line (first-line count (take len bytes)) ⌝ }
+{
+    let n = name_length(len);
+    text::first_line(count, &bytes[..n])
+}
+
+// A line, and the report with another line due.
+fn line_made(line: Line, stage: Stage, r: Report, next: Cursor) -> Made
+    ensures { λ m. ⌜ ((text : List ℕ) → line ≡ in-line text → m ≡ made (record { text = text; after = moved (with-stage stage r) (next .at) })) ⌝ }
+{
+    let report = with_stage(stage, r);
+    Made { line, report, next }
+}
+
+// The line of the last seal; the newest operation is to be undone then.
+fn last_line(r: Report, s: &[u8], at: Cursor) -> Made
+    ensures { λ m. ⌜ m ≡ made (record { text = line 0 0x2E (r .seal); after = advanced r (now (s .entry)) (at .at) }) ⌝ }
+{
+    let seal = r.seal;
+    let line = text::seal_line(0, b'.', seal);
+    let m = advanced(r, s, at);
+    let report = m.report;
+    let next = m.next;
+    Made { line, report, next }
+}
+
+// The first line of the report.
+fn opening_line(r: Report) -> Line
+    ensures { λ l. ⌜ l ≡ in-line (first-line (r .reader .held .count) (drawing-name (r .reader .held .drawing))) ⌝ }
+{
+    let reader = r.reader;
+    let held = reader.held;
+    let drawing = held.drawing;
+    let bytes = drawing.bytes;
+    first_line(held.count, drawing.len, bytes)
+}
+
+// Makes the line that is due, from the field at a place of the input; an empty one where the report is over.
+pub fn next_line(r: Report, s: &[u8], at: Cursor) -> Made
+    ensures { λ m. ⌜ m ≡ made (next-line r (now (s .entry)) (at .at)) ⌝ }
+{
+    let stage = r.stage;
+    match stage {
+        Stage::Refusal(n) => line_made(text::refusal_line(n), Stage::Over, r, at),
+        Stage::First => line_made(opening_line(r), Stage::Last, r, at),
+        Stage::Last => last_line(r, s, at),
+        Stage::Undo => undone(r, s, at),
+        Stage::Over => line_made(text::no_line(), Stage::Over, r, at),
+    }
+}
+
+// A report that says a refusal alone.
+fn refused(n: u32) -> Moved
+    ensures { λ m. ⌜ m ≡ refused-report n ⌝ }
+{
+    let reader = archive::start();
+    let seal = jacobian::neutral();
+    Moved {
+        report: Report {
+            stage: Stage::Refusal(n),
+            reader,
+            seal,
+            operation: seal,
+        },
+        next: Cursor { at: 0 },
+    }
+}
+
+// The report of an archive before its first line, and the place of its first operation: every check is made first, and then the fields before the operations
+// are read once more.
+pub fn opened(s: &[u8]) -> Moved
+    ensures { λ m. ⌜ m ≡ opened (now (s .entry)) ⌝ }
+{
+    let n = archive::archive_refusal(s);
+    if n != 0 {
+        return refused(n);
+    }
+    let t = archive::opening(s);
     let p = t.place;
-    let r = t.reader;
-    let Place::Next(_) = p else {
-        let n = stored_form::classes::place_refusal(p);
-        let end = text::put_refusal(out, 0, n);
-        return end;
+    let Place::Next(next) = p else {
+        return refused(stored_form::place_refusal(p));
     };
-    let o = r.opening;
-    let end = put_walk(s, out, o);
-    end
+    let reader = t.reader;
+    let held = reader.held;
+    let seal = held.class;
+    let operation = jacobian::neutral();
+    Moved {
+        report: Report {
+            stage: Stage::First,
+            reader,
+            seal,
+            operation,
+        },
+        next,
+    }
+}
+
+// Is a line still to come?
+pub fn pending(r: Report) -> bool
+    ensures { λ b. ⌜ b ≡ pending (r .stage) ⌝ }
+{
+    let stage = r.stage;
+    match stage {
+        Stage::Refusal(_) => true,
+        Stage::First => true,
+        Stage::Last => true,
+        Stage::Undo => true,
+        Stage::Over => false,
+    }
 }

@@ -4,9 +4,25 @@ ghost use mathlib.Core.List.{[], _∷_, _++_};
 ghost use Prim.Native.Nat.{_+_, _≤_, _<_};
 ghost use lib.ListN.{length};
 ghost use Rattle.stored_form.specs.Head.{drawing-limit};
-ghost use Rattle.walk_report.specs.Text.{Wrote};
-ghost use Rattle.walk_report.specs.Report.{digit, digits, decimal, hexadecimal, row-text, class-text, line, part-text, first-line, refusal-text};
+ghost use Rattle.walk_report.specs.Line.{in-line};
+ghost use Rattle.walk_report.specs.internal.Writing.{Wrote, two-room, row-room, class-text-room, seal-line-room, first-line-room, refusal-line-room};
+ghost use Rattle.walk_report.specs.Text.{decimal-digits, hexadecimal-digits, digit, digits, decimal, hexadecimal, row-text, class-text, line, part-text, first-line, refusal-text};
 use jacobian::Class;
+use stored_form::DRAWING_LIMIT;
+
+// As many digits as a number of 64 bits may have.
+const DECIMAL_DIGITS: usize = 20;
+
+const HEXADECIMAL_DIGITS: usize = 16;
+
+// Room for every line: for the first, which has a drawing number, and for a seal's.
+const LINE: usize = 2 * DECIMAL_DIGITS + 6 * HEXADECIMAL_DIGITS + 10 + DRAWING_LIMIT;
+
+// A line of the report: len bytes, and 0 after them.
+pub struct Line {
+    pub len: usize,
+    pub bytes: [u8; LINE],
+}
 
 // A byte.
 fn put(out: &mut [u8], at: usize, b: u8) -> usize
@@ -50,26 +66,26 @@ fn put_digits(out: &mut [u8], at: usize, base: u64, k: usize, n: u64) -> usize
 
 // A number in decimal.
 fn put_decimal(out: &mut [u8], at: usize, n: u64) -> usize
-    requires { ⌜ at + 20 ≤ length (now out) ⌝ }
-    ensures { λ r. ⌜ Wrote 20 (now (out .entry)) at (now (out .exit)) r (decimal n) ⌝ }
+    requires { ⌜ at + decimal-digits ≤ length (now out) ⌝ }
+    ensures { λ r. ⌜ Wrote decimal-digits (now (out .entry)) at (now (out .exit)) r (decimal n) ⌝ }
 {
-    let all = put_digits(out, at, 10, 20, n);
+    let all = put_digits(out, at, 10, DECIMAL_DIGITS, n);
     all
 }
 
 // A coefficient in hexadecimal.
 fn put_hexadecimal(out: &mut [u8], at: usize, n: u64) -> usize
-    requires { ⌜ at + 16 ≤ length (now out) ⌝ }
-    ensures { λ r. ⌜ Wrote 16 (now (out .entry)) at (now (out .exit)) r (hexadecimal n) ⌝ }
+    requires { ⌜ at + hexadecimal-digits ≤ length (now out) ⌝ }
+    ensures { λ r. ⌜ Wrote hexadecimal-digits (now (out .entry)) at (now (out .exit)) r (hexadecimal n) ⌝ }
 {
-    let all = put_digits(out, at, 16, 16, n);
+    let all = put_digits(out, at, 16, HEXADECIMAL_DIGITS, n);
     all
 }
 
 // The coefficients of a row below x^2, comma between.
 fn put_two(out: &mut [u8], at: usize, a: u64, b: u64) -> usize
-    requires { ⌜ at + 33 ≤ length (now out) ⌝ }
-    ensures { λ r. ⌜ Wrote 33 (now (out .entry)) at (now (out .exit)) r (hexadecimal a ++ 0x2C ∷ hexadecimal b) ⌝ }
+    requires { ⌜ at + two-room ≤ length (now out) ⌝ }
+    ensures { λ r. ⌜ Wrote two-room (now (out .entry)) at (now (out .exit)) r (hexadecimal a ++ 0x2C ∷ hexadecimal b) ⌝ }
 {
     let first = put_hexadecimal(out, at, a);
     let comma = put(out, first, b',');
@@ -79,8 +95,8 @@ fn put_two(out: &mut [u8], at: usize, a: u64, b: u64) -> usize
 
 // The coefficients of a row below x^n, comma between.
 fn put_row(out: &mut [u8], at: usize, n: u64, r: [u64; 3]) -> usize
-    requires { ⌜ at + 50 ≤ length (now out) ⌝ }
-    ensures { λ x. ⌜ Wrote 50 (now (out .entry)) at (now (out .exit)) x (row-text n r) ⌝ }
+    requires { ⌜ at + row-room ≤ length (now out) ⌝ }
+    ensures { λ x. ⌜ Wrote row-room (now (out .entry)) at (now (out .exit)) x (row-text n r) ⌝ }
 {
     if n == 0 {
         return at;
@@ -101,8 +117,8 @@ fn put_row(out: &mut [u8], at: usize, n: u64, r: [u64; 3]) -> usize
 
 // A class: degree, u and v with a colon between.
 fn put_class(out: &mut [u8], at: usize, a: Class) -> usize
-    requires { ⌜ at + 122 ≤ length (now out) ⌝ }
-    ensures { λ r. ⌜ Wrote 122 (now (out .entry)) at (now (out .exit)) r (class-text a) ⌝ }
+    requires { ⌜ at + class-text-room ≤ length (now out) ⌝ }
+    ensures { λ r. ⌜ Wrote class-text-room (now (out .entry)) at (now (out .exit)) r (class-text a) ⌝ }
 {
     let n = a.degree;
     let u = a.u;
@@ -117,8 +133,8 @@ fn put_class(out: &mut [u8], at: usize, a: Class) -> usize
 
 // A seal's line.
 pub(crate) fn put_line(out: &mut [u8], at: usize, undone: u64, letter: u8, seal: Class) -> usize
-    requires { ⌜ at + 146 ≤ length (now out) ⌝ }
-    ensures { λ r. ⌜ Wrote 146 (now (out .entry)) at (now (out .exit)) r (line undone letter seal) ⌝ }
+    requires { ⌜ at + seal-line-room ≤ length (now out) ⌝ }
+    ensures { λ r. ⌜ Wrote seal-line-room (now (out .entry)) at (now (out .exit)) r (line undone letter seal) ⌝ }
 {
     let count = put_decimal(out, at, undone);
     let blank = put(out, count, b' ');
@@ -144,8 +160,8 @@ fn put_bytes(out: &mut [u8], at: usize, s: &[u8]) -> usize
 
 // A refusal.
 pub(crate) fn put_refusal(out: &mut [u8], at: usize, n: u32) -> usize
-    requires { ⌜ at + 29 ≤ length (now out) ⌝ }
-    ensures { λ r. ⌜ Wrote 29 (now (out .entry)) at (now (out .exit)) r (refusal-text n) ⌝ }
+    requires { ⌜ at + refusal-line-room ≤ length (now out) ⌝ }
+    ensures { λ r. ⌜ Wrote refusal-line-room (now (out .entry)) at (now (out .exit)) r (refusal-text n) ⌝ }
 {
     let word = put_bytes(out, at, b"refused ");
     let number = put_decimal(out, word, n as u64);
@@ -155,8 +171,8 @@ pub(crate) fn put_refusal(out: &mut [u8], at: usize, n: u32) -> usize
 
 // walk, the count and the drawing number.
 pub(crate) fn put_first_line(out: &mut [u8], at: usize, count: u64, drawing: &[u8]) -> usize
-    requires { ⌜ (at + 282 ≤ length (now out)) × (length (now drawing) ≤ drawing-limit) ⌝ }
-    ensures { λ r. ⌜ Wrote 282 (now (out .entry)) at (now (out .exit)) r (first-line count (now (drawing .entry))) ⌝ }
+    requires { ⌜ (at + first-line-room ≤ length (now out)) × (length (now drawing) ≤ drawing-limit) ⌝ }
+    ensures { λ r. ⌜ Wrote first-line-room (now (out .entry)) at (now (out .exit)) r (first-line count (now (drawing .entry))) ⌝ }
 {
     let word = put_bytes(out, at, b"walk ");
     let number = put_decimal(out, word, count);
@@ -168,4 +184,42 @@ pub(crate) fn put_first_line(out: &mut [u8], at: usize, count: u64, drawing: &[u
     let name = put_bytes(out, blank, drawing);
     let end = put(out, name, b'\n');
     end
+}
+
+// A seal's line.
+pub(crate) fn seal_line(undone: u64, letter: u8, seal: Class) -> Line
+    ensures { λ r. ⌜ r ≡ in-line (line undone letter seal) ⌝ }
+{
+    let mut bytes = [0u8; LINE];
+    let len = put_line(&mut bytes, 0, undone, letter, seal);
+    Line { len, bytes }
+}
+
+// The line of a refusal.
+pub(crate) fn refusal_line(n: u32) -> Line
+    ensures { λ r. ⌜ r ≡ in-line (refusal-text n) ⌝ }
+{
+    let mut bytes = [0u8; LINE];
+    let len = put_refusal(&mut bytes, 0, n);
+    Line { len, bytes }
+}
+
+// The first line.
+pub(crate) fn first_line(count: u64, drawing: &[u8]) -> Line
+    requires { ⌜ length (now drawing) ≤ drawing-limit ⌝ }
+    ensures { λ r. ⌜ r ≡ in-line (first-line count (now (drawing .entry))) ⌝ }
+{
+    let mut bytes = [0u8; LINE];
+    let len = put_first_line(&mut bytes, 0, count, drawing);
+    Line { len, bytes }
+}
+
+// No line.
+pub(crate) fn no_line() -> Line
+    ensures { λ r. ⌜ r ≡ in-line [] ⌝ }
+{
+    Line {
+        len: 0,
+        bytes: [0u8; LINE],
+    }
 }

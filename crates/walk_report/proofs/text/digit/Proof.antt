@@ -1,7 +1,7 @@
 -- `text::digit` meets its contract.
 use mathlib.Core.Path.{_≡_}
 use borrow.Author.Tests.{lt-ltb, le-ltb}
-use Rattle.walk_report.specs.Report.{digit}
+use Rattle.walk_report.specs.Text.{digit}
 use borrow.Author.Needs.{needs}
 use Rattle.walk_report.proofs.text.digit.Statement.{statement}
 use Rattle.walk_report.proofs.text.digit.Tie as tie

@@ -1,5 +1,5 @@
 -- `text::put_decimal` meets its contract.
-use Rattle.walk_report.specs.Report.{decimal}
+use Rattle.walk_report.specs.Text.{decimal}
 use borrow.Author.Needs.{needs}
 use Rattle.walk_report.proofs.text.put_decimal.Statement.{statement}
 use Rattle.walk_report.proofs.text.put_decimal.Tie as tie

@@ -1,7 +1,7 @@
 -- `text::put_first_line` meets its contract.
 use mathlib.Core.Path.{_∙_}
 use native.Mathlib.Omega.{arith}
-use Rattle.walk_report.specs.Report.{first-line}
+use Rattle.walk_report.specs.Text.{first-line}
 use Rattle.walk_report.proofs.Writing.{wrote-none, wrote-both, wrote-more, wrote-same, wrote-length}
 use Rattle.walk_report.proofs.Lines.{part-none, part-some}
 use borrow.Author.Needs.{needs}

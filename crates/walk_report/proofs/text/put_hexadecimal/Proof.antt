@@ -1,5 +1,5 @@
 -- `text::put_hexadecimal` meets its contract.
-use Rattle.walk_report.specs.Report.{hexadecimal}
+use Rattle.walk_report.specs.Text.{hexadecimal}
 use borrow.Author.Needs.{needs}
 use Rattle.walk_report.proofs.text.put_hexadecimal.Statement.{statement}
 use Rattle.walk_report.proofs.text.put_hexadecimal.Tie as tie

@@ -1,7 +1,7 @@
 -- `text::put_line` meets its contract.
 use mathlib.Core.Path.{_∙_}
 use native.Mathlib.Omega.{arith}
-use Rattle.walk_report.specs.Report.{line}
+use Rattle.walk_report.specs.Text.{line}
 use Rattle.walk_report.proofs.Writing.{wrote-both, wrote-length}
 use borrow.Author.Needs.{needs}
 use Rattle.walk_report.proofs.text.put_line.Statement.{statement}

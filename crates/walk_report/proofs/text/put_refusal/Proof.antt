@@ -1,7 +1,7 @@
 -- `text::put_refusal` meets its contract.
 use mathlib.Core.Path.{_∙_}
 use native.Mathlib.Omega.{arith}
-use Rattle.walk_report.specs.Report.{refusal-text}
+use Rattle.walk_report.specs.Text.{refusal-text}
 use Rattle.walk_report.proofs.Writing.{wrote-both, wrote-length}
 use borrow.Author.Needs.{needs}
 use Rattle.walk_report.proofs.text.put_refusal.Statement.{statement}

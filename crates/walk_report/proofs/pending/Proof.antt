@@ -1,0 +1,40 @@
+-- `pending` meets its contract.
+use borrow.Author.Needs.{needs}
+use Rattle.walk_report.specs.Steps.{pending}
+use Rattle.walk_report.proofs.pending.Statement.{statement}
+use Rattle.walk_report.proofs.pending.Tie as tie
+
+returns : tie.Need-returns
+unfolding pending
+returns c = search needs
+
+returns-2 : tie.Need-returns-2
+unfolding pending
+returns-2 c = search needs
+
+returns-3 : tie.Need-returns-3
+unfolding pending
+returns-3 c = search needs
+
+returns-4 : tie.Need-returns-4
+unfolding pending
+returns-4 c = search needs
+
+returns-5 : tie.Need-returns-5
+unfolding pending
+returns-5 c = search needs
+
+pub pending-spec : {M : Type 1} → statement M
+pending-spec =
+    tie.close
+    (tie.spec
+    (λ c. search needs)
+    (λ c. search needs)
+    (λ c. search needs)
+    (λ c. search needs)
+    (λ c. search needs)
+    returns
+    returns-2
+    returns-3
+    returns-4
+    returns-5)
