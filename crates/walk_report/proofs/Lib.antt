@@ -3,3 +3,5 @@ pub mod Writing
 pub mod Marks
 pub mod Lines
 pub mod Digits
+pub mod Kept
+pub mod Demand3
