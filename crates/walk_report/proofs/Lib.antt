@@ -4,3 +4,5 @@ pub mod Marks
 pub mod Lines
 pub mod Advances
 pub mod Digits
+pub mod Kept
+pub mod Demand3

@@ -1,5 +1,6 @@
 -- The walk of an archive, and the bytes of the walk report.
 pub mod Walk
+pub mod Demand3
 pub mod Text
 pub mod Line
 pub mod Report

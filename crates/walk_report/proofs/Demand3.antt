@@ -1,0 +1,37 @@
+-- Demand 3 of archives (document 01, 'The register'): where the accepted calls of a list are all commits, an accepted archive, whatever its drawing number, with
+-- the register's curve, its last seal and all their classes, newest first, has for k operations undone the seal just before the k-th newest commit,
+-- and for k = 0 the last seal (`archive-seals`: all its seals; `archive-seal`: the one for k). Where the register passes its own checks such an archive exists
+-- for every drawing number that is allowed: the encoding of these values is accepted (`archive-exists`).
+use Prim.Native.Nat.{ℕ, _≤_}
+use mathlib.Core.Path.{_≡_, refl, ap}
+use mathlib.Core.Bool.{true}
+use mathlib.Core.List.{List}
+use lib.ListN.{length, getD}
+use Rattle.history.specs.{Register.register-refusal, Calls.Call, Calls.Fits, Calls.OnlyCommits, Calls.last, Calls.newest, Calls.classes, Calls.seals-back, declared.Register.Register}
+use Rattle.history.proofs.WalkingBack.{walk-meets}
+use Rattle.stored_form.specs.{Reading.found, Head.drawing-limit, Fields.printable}
+use Rattle.archive.specs.{Archive.Archive, Archive.read-archive, Written.archive-bytes}
+use Rattle.archive.proofs.{ArchiveRoundTrips.archive-read-back, ArchiveBytes.archive-is-bytes}
+use Rattle.walk_report.specs.{Walk.seals, Demand3.Keeps, Demand3.kept-archive, Demand3.Encodes}
+use Rattle.walk_report.proofs.Kept.{kept-storable}
+
+module _ (r : Register) (cs : List Call) (fits : Fits r cs) (only : OnlyCommits (newest r cs)) where
+  walk-seals : seals (r .curve) (last r cs .seal) (classes (newest r cs)) ≡ seals-back r cs
+  unfolding seals
+  walk-seals = walk-meets r cs fits only
+
+  module _ (s : List ℕ) {a : Archive} {end : ℕ} (reads : read-archive s ≡ found a end) (keeps : Keeps a r cs) where
+    pub archive-seals : seals (a .curve) (a .seal) (a .operations) ≡ seals-back r cs
+    archive-seals = rw (keeps .curve-kept, keeps .seal-kept, keeps .operations-kept) walk-seals
+
+    pub archive-seal : (k : ℕ) → getD (seals (a .curve) (a .seal) (a .operations)) k (a .seal) ≡ getD (seals-back r cs) k (a .seal)
+    archive-seal k = ap (λ l. getD l k (a .seal)) archive-seals
+
+  pub archive-exists : register-refusal r ≡ 0 → (drawing : List ℕ) → printable drawing ≡ true → length drawing ≤ drawing-limit →
+      Encodes r cs drawing (kept-archive r cs drawing)
+  unfolding kept-archive
+  archive-exists passes drawing clean short =
+      let a : Archive = kept-archive r cs drawing in
+      let keeps : Keeps a r cs = record { curve-kept = refl; seal-kept = refl; operations-kept = refl } in
+      let reads = archive-read-back a (kept-storable r cs fits only passes drawing clean short) in
+      record { named = refl; keeps = keeps; bytes = archive-is-bytes a clean; reads = reads; meets = archive-seals (archive-bytes a) reads keeps }
