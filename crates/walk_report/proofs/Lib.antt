@@ -3,3 +3,4 @@ pub mod Writing
 pub mod Marks
 pub mod Lines
 pub mod Digits
+pub mod ReportMade
