@@ -1,8 +1,9 @@
--- Laws of writing into a lent area, of the walk and of its report.
+-- Laws of writing into a lent area, of the report's steps, of the walk and of its report.
 pub mod Writing
+pub mod Digits
 pub mod Marks
 pub mod Lines
 pub mod Advances
-pub mod Digits
+pub mod ReportMade
 pub mod Kept
 pub mod Demand3

@@ -1,0 +1,342 @@
+-- The lines that the report's steps make, one after the other, are the report's lines (`report-made`), and with each line fewer are to come (`lines-fewer`).
+use Prim.Native.Nat.{ℕ, zero, suc, _+_, _-_, _≤_, _<_}
+use mathlib.Core.Path.{_≡_, refl, sym, ap, _∙_, subst}
+use mathlib.Core.Bool.{Bool, true, false, not, true≢false}
+use mathlib.Core.List.{List, [], _∷_}
+use native.Mathlib.Omega.{arith}
+use lib.Dec.{eqb, ltb}
+use lib.ListN.{length, getD}
+use Rattle.jacobian.specs.{Curves.curve-refusal, Answer.Result, Answer.refusal, Answer.refusal-of-two, Answer.neutral-class, Answer.subtract-and-halve-answer, declared.Curve.Curve, declared.Class.Class}
+use Rattle.jacobian.proofs.{ByValue.Checks.then-zero, Representation.Unrefused.zero-then}
+use Rattle.stored_form.specs.{Reading.Reading, Reading.found, Reading.refused, Reading.refuse, Reading.checked, Reading._then_, Reading.reading-refusal, Head.allowed, Head.body-length, Head.head-at, Head.body-at, Fields.degree-at, Fields.drawing-at, Fields.count-at, Fields.end-refusal, Classes.curve-at, Classes.curve-first, Classes.class-said, Classes.class-at}
+use Rattle.stored_form.specs.{Held.drawing-name, Held.nothing-held, Held.with-operation, Held.read-field, Held.read-fields, Held.archive-opening, declared.Held.Held}
+use Rattle.stored_form.proofs.{Readings.then-found, Readings.both-found, Readings.checked-found, Readings.same-found, FieldReadings.read-operation, ClassRoundTrips.class-three}
+use Rattle.history.specs.Register.{undo-seal, sealed, Sound}
+use Rattle.history.proofs.{Seals.undo-sound, Answers.subtract-and-halve-sealed}
+use Rattle.archive.specs.{Archive.Archive, Archive.operations-at, Archive.read-archive, Archive.archive-refusal, Reader.reader, Reader.operations-due, Reader.step, Reader.opening, Reader.read-opened, Reader.archive-of, declared.Due.Due, declared.Reader.Reader}
+use Rattle.archive.specs.Reader as reading
+use Rattle.archive.specs.declared.Due.the-variants as due
+use Rattle.archive.proofs.{Operations.newest, Operations.no-operations, Agreement.archive-is, ArchiveFields.found-fields}
+use Rattle.class_group.specs.Walk.{walk}
+use Rattle.walk_report.specs.{Text.line, Text.first-line, Text.refusal-text, Walk.seals, Walk.letter, Walk.letters, Report.seal-lines, Report.walk-lines, Report.lines-of, Report.report-lines}
+use Rattle.walk_report.specs.Steps.{report, with-stage, with-seal, moved, older, held-next, advanced-by, advanced, undoing, letter-before, undone, next-of, next-line, refused-report, first-report, opened-by, opened, pending, lines-left, texts}
+use Rattle.walk_report.specs.declared.{Stage.Stage, Report.Report, Moved.Moved}
+use Rattle.walk_report.specs.declared.Stage.the-variants.{Refusal, First, Last, Undo, Over}
+
+-- ---- a refusal's number is never 0
+
+abbrev Numbered : {A : Type 0} → Reading A → Type 0
+Numbered x = x ≡ refused 0 → ⊥
+
+module _ {A : Type 0} where
+  found-numbered : (a : A) (n : ℕ) → Numbered (found a n)
+  found-numbered a n e = let z : _≡_ {A = ℕ} 0 1 = cc in omega arith
+
+  suc-numbered : (n : ℕ) → Numbered {A = A} (refused (suc n))
+  suc-numbered n e = let z : suc n ≡ 0 = cc in omega arith
+
+  checked-numbered : (n : ℕ) (x : Reading A) → Numbered x → Numbered (checked n x)
+  unfolding checked
+  checked-numbered zero x h = h
+  checked-numbered (suc n) x h = suc-numbered n
+
+  refuse-numbered : (n : ℕ) (b : Bool) (x : Reading A) → Numbered x → Numbered (refuse (suc n) b x)
+  refuse-numbered n true x h = suc-numbered n
+  refuse-numbered n false x h = h
+
+then-numbered : {A B : Type 0} (x : Reading A) (f : A → ℕ → Reading B) → Numbered x → ((a : A) (n : ℕ) → Numbered (f a n)) → Numbered (x then f)
+unfolding _then_
+then-numbered (found a n) f h g = g a n
+then-numbered (refused n) f h g = λ e. h (let z : n ≡ 0 = cc in ap refused z)
+
+module _ (s : List ℕ) where
+  head-numbered : (tag at : ℕ) → Numbered (head-at tag s at)
+  unfolding head-at
+  head-numbered tag at =
+      let n = body-length s at in
+      let r₄ : Reading ℕ = refuse 105 (ltb (length s) (at + 3 + n)) (found n (at + 3 + n)) in
+      let r₃ : Reading ℕ = refuse 104 (not (allowed tag n)) r₄ in
+      let r₂ : Reading ℕ = refuse 103 (not (eqb (getD s at 0) tag)) r₃ in
+      refuse-numbered 101 (ltb (length s) (at + 3)) r₂
+      (refuse-numbered 102 (not (eqb (getD s at 0) tag)) r₃
+      (refuse-numbered 103 (not (allowed tag n)) r₄
+      (refuse-numbered 104 (ltb (length s) (at + 3 + n)) (found n (at + 3 + n)) (found-numbered n (at + 3 + n)))))
+
+  body-numbered : (tag at : ℕ) → Numbered (body-at tag s at)
+  unfolding body-at
+  body-numbered tag at = then-numbered (head-at tag s at) _ (head-numbered tag at) (λ n next. found-numbered _ _)
+
+  class-numbered : (tag : ℕ) (c : Curve) (at : ℕ) → Numbered (class-at tag c s at)
+  unfolding class-at
+  class-numbered tag c at = then-numbered (body-at tag s at) _ (body-numbered tag at) (λ body next. checked-numbered _ _ (found-numbered _ _))
+
+  curve-numbered : (at : ℕ) → Numbered (curve-first s at)
+  unfolding curve-first degree-at curve-at
+  curve-numbered at =
+      then-numbered (degree-at s at) _ (then-numbered (body-at 0x40 s at) _ (body-numbered 0x40 at) (λ body next. checked-numbered _ _ (found-numbered _ _)))
+      (λ d next. then-numbered (body-at 0x41 s next) _ (body-numbered 0x41 next) (λ body next. checked-numbered _ _ (found-numbered _ _)))
+
+  operations-numbered : (n : ℕ) (c : Curve) (at : ℕ) → Numbered (operations-at n c s at)
+  unfolding operations-at
+  operations-numbered zero c at = found-numbered _ _
+  operations-numbered (suc n) c at =
+      then-numbered (class-at 0x44 c s at) _ (class-numbered 0x44 c at)
+      (λ a next. then-numbered (operations-at n c s next) _ (operations-numbered n c next) (λ older next. found-numbered _ _))
+
+  archive-numbered : Numbered (read-archive s)
+  unfolding read-archive drawing-at count-at
+  archive-numbered =
+      then-numbered (curve-first s 0) _ (curve-numbered 0)
+      (λ c next.
+      then-numbered (drawing-at s next) _ (then-numbered (body-at 0x46 s next) _ (body-numbered 0x46 next) (λ body next. checked-numbered _ _ (found-numbered _ _)))
+      (λ name next.
+      then-numbered (count-at s next) _ (then-numbered (body-at 0x42 s next) _ (body-numbered 0x42 next) (λ body next. checked-numbered _ _ (found-numbered _ _)))
+      (λ n next.
+      then-numbered (class-at 0x43 c s next) _ (class-numbered 0x43 c next)
+      (λ seal next.
+      then-numbered (operations-at n c s next) _ (operations-numbered n c next) (λ ops next. checked-numbered _ _ (found-numbered _ _))))))
+
+-- ---- what was read is sound
+
+module _ (tag : ℕ) (c : Curve) (s : List ℕ) (at : ℕ) {a : Class} {next : ℕ} (e : class-at tag c s at ≡ found a next) where
+  class-unrefused : refusal c a ≡ 0
+  unfolding class-at
+  class-unrefused =
+      let p = both-found _ (body-at tag s at) e in
+      let q = checked-found (refusal c (class-said (p .0))) (found (class-said (p .0)) (p .1)) (p .3) in
+      subst (λ (b : Class). refusal c b ≡ 0) (same-found (q .1) .0) (q .0)
+
+  class-sound : Sound c a
+  unfolding refusal
+  class-sound = record { three = class-three tag c s at e; unrefused = then-zero _ _ class-unrefused .1 }
+
+  curve-accepted : curve-refusal c ≡ 0
+  unfolding refusal
+  curve-accepted = then-zero _ _ class-unrefused .0
+
+operations-counted : (n : ℕ) (c : Curve) (s : List ℕ) (at : ℕ) {ops : List Class} {end : ℕ} → operations-at n c s at ≡ found ops end → length ops ≡ n
+operations-counted zero c s at e = ap length (no-operations c s at e)
+operations-counted (suc n) c s at e =
+    let m = newest c s at n e in
+    ap length (m .all) ∙ ap suc (operations-counted n c s (m .next) (m .rest))
+
+-- the rule's answer is the seal
+answer-is : (c : Curve) (seal a : Class) → curve-refusal c ≡ 0 → Sound c seal → Sound c a → subtract-and-halve-answer c seal a .class ≡ undo-seal c seal a
+unfolding refusal-of-two refusal sealed
+answer-is c seal a ok hs ha =
+    let z : refusal-of-two c seal a ≡ 0 = zero-then _ _ (zero-then _ _ ok (hs .unrefused)) (ha .unrefused) in
+    ap (λ (x : Result). x .class) (subtract-and-halve-sealed c seal a ∙ ap (λ (n : ℕ). sealed n (undo-seal c seal a)) z)
+
+-- ---- the report's lines, behind the one of a seal
+
+unfoldable later-lines : Curve → ℕ → Class → List Class → List (List ℕ)
+later-lines c k seal [] = []
+later-lines c k seal (a ∷ older) = seal-lines (k + 1) (letters c (a ∷ older)) (seals c (undo-seal c seal a) older)
+
+lines-from : (c : Curve) (k mark : ℕ) (seal : Class) (ops : List Class) → seal-lines k (mark ∷ letters c ops) (seals c seal ops) ≡ line k mark seal ∷ later-lines c k seal ops
+unfolding later-lines seal-lines letters seals walk
+lines-from c k mark seal [] = refl
+lines-from c k mark seal (a ∷ older) = refl
+
+-- ---- one step
+
+due-older : (n : ℕ) → older (operations-due n) ≡ n
+unfolding older operations-due
+due-older zero = refl
+due-older (suc n) = refl
+
+module _ (s : List ℕ) where
+  advanced-none : (stage : Stage) (h : Held) (seal b : Class) (at : ℕ) →
+      advanced (report stage (reader (operations-due 0) h) seal b) s at ≡ moved (report Over (reader (operations-due 0) h) seal b) at
+  unfolding advanced advanced-by older operations-due
+  advanced-none stage h seal b at = refl
+
+  advanced-more : (n : ℕ) (stage : Stage) (h : Held) (seal b : Class) (at : ℕ) {a : Class} {next : ℕ} → class-at 0x44 (h .curve) s at ≡ found a next →
+      advanced (report stage (reader (operations-due (suc n)) h) seal b) s at ≡ moved (report Undo (reader (operations-due n) (with-operation a h)) seal a) next
+  unfolding advanced advanced-by older operations-due step reading.read-operation held-next _then_
+  advanced-more n stage h seal b at {a} {next} e =
+      let r : Report = report stage (reader (due.Operations (suc n)) h) seal b in
+      let less : suc n - 1 ≡ n = omega arith in
+      ap (λ (x : Reading Held). held-next r at (x then λ more next. found (reader (operations-due (suc n - 1)) more) next)) (read-operation h s at ∙ then-found _ e)
+      ∙ ap (λ (k : ℕ). moved (report Undo (reader (operations-due k) (with-operation a h)) seal a) next) less
+
+  -- another seal is carried along
+  held-seal : (seal : Class) (r : Report) (at : ℕ) (x : Reading Reader) →
+      held-next (with-seal seal r) at x ≡ record { report = with-seal seal (held-next r at x .report); next = held-next r at x .next }
+  unfolding held-next
+  held-seal seal r at (found reader next) = refl
+  held-seal seal r at (refused n) = refl
+
+  advanced-seal : (seal : Class) (r : Report) (at : ℕ) →
+      advanced (with-seal seal r) s at ≡ record { report = with-seal seal (advanced r s at .report); next = advanced r s at .next }
+  unfolding advanced advanced-by
+  advanced-seal seal r at = go (older (r .reader .due))
+    where
+      go : (n : ℕ) → advanced-by n (with-seal seal r) s at ≡ record { report = with-seal seal (advanced-by n r s at .report); next = advanced-by n r s at .next }
+      go zero = refl
+      go (suc n) = held-seal seal r at (step (r .reader) s at)
+
+  -- the letter of an operation, by those that are still to be read
+  letter-is : (n : ℕ) (h : Held) (seal a b : Class) (stage : Stage) (at : ℕ) {ops : List Class} {end : ℕ} → operations-at n (h .curve) s at ≡ found ops end →
+      letter-before (h .curve) a (advanced (report stage (reader (operations-due n) h) seal b) s at .report) ≡ letter (h .curve) a ops
+  unfolding letter-before letter undoing
+  letter-is zero h seal a b stage at e =
+      ap (λ (m : Moved). letter-before (h .curve) a (m .report)) (advanced-none stage h seal b at)
+      ∙ ap (letter (h .curve) a) (sym (no-operations (h .curve) s at e))
+  letter-is (suc n) h seal a b stage at e =
+      let m = newest (h .curve) s at n e in
+      ap (λ (m : Moved). letter-before (h .curve) a (m .report)) (advanced-more n stage h seal b at (m .this))
+      ∙ ap (letter (h .curve) a) (sym (m .all))
+
+  -- an undo's line, and those behind it
+  undo-made : (n : ℕ) (h : Held) (seal a : Class) (at k : ℕ) {before : Class} {ops : List Class} {end : ℕ} → operations-at n (h .curve) s at ≡ found ops end →
+      h .count ≡ k + suc n → subtract-and-halve-answer (h .curve) seal a .class ≡ before →
+      let m = advanced (report Undo (reader (operations-due n) h) before a) s at in
+      texts (suc n) (report Undo (reader (operations-due n) h) seal a) s at ≡ line (k + 1) (letter (h .curve) a ops) before ∷ texts n (m .report) s (m .next .at)
+  unfolding texts next-line next-of undone
+  undo-made n h seal a at k {before} {ops} e counted same =
+      let c : Curve = h .curve in
+      let r : Report = report Undo (reader (operations-due n) h) seal a in
+      let number : h .count - older (operations-due n) ≡ k + 1 = omega (arith, counted, due-older n) in
+      let rest : ℕ → Moved → List (List ℕ) = λ j m. texts j (m .report) s (m .next .at) in
+      let carried : Class → Moved = λ x. record { report = with-seal x (advanced r s at .report); next = advanced r s at .next } in
+      ap (λ (x : Class). line (h .count - older (operations-due n)) (letter-before c a (advanced r s at .report)) x ∷ rest n (carried x)) same
+      ∙ ap (λ (j : ℕ). line j (letter-before c a (advanced r s at .report)) before ∷ rest n (carried before)) number
+      ∙ ap (λ (j : ℕ). line (k + 1) j before ∷ rest n (carried before)) (letter-is n h seal a a Undo at e)
+      ∙ ap (λ (m : Moved). line (k + 1) (letter c a ops) before ∷ rest n m) (sym (advanced-seal before r at))
+
+  -- all lines behind the one of a seal
+
+  walk-made : (n : ℕ) (stage : Stage) (h : Held) (seal b : Class) (at k : ℕ) {ops : List Class} {end : ℕ} → operations-at n (h .curve) s at ≡ found ops end →
+      h .count ≡ k + n → Sound (h .curve) seal →
+      let m = advanced (report stage (reader (operations-due n) h) seal b) s at in texts n (m .report) s (m .next .at) ≡ later-lines (h .curve) k seal ops
+  unfolding texts later-lines letters
+  walk-made zero stage h seal b at k e counted hs = ap (later-lines (h .curve) k seal) (sym (no-operations (h .curve) s at e))
+  walk-made (suc n) stage h seal b at k e counted hs =
+      let c : Curve = h .curve in
+      let m = newest c s at n e in
+      let a : Class = m .class in
+      let ops : List Class = m .older in
+      let next : ℕ = m .next in
+      let ok = curve-accepted 0x44 c s at (m .this) in
+      let ha = class-sound 0x44 c s at (m .this) in
+      let before : Class = undo-seal c seal a in
+      let more : Held = with-operation a h in
+      ap (λ (x : Moved). texts (suc n) (x .report) s (x .next .at)) (advanced-more n stage h seal b at (m .this))
+      ∙ undo-made n more seal a next k (m .rest) counted (answer-is c seal a ok hs ha)
+      ∙ ap (λ (l : List (List ℕ)). line (k + 1) (letter c a ops) before ∷ l)
+      (walk-made n Undo more before a next (k + 1) (m .rest) (omega (arith, counted)) (undo-sound ok hs ha))
+      ∙ sym (lines-from c (k + 1) (letter c a ops) before ops)
+      ∙ ap (later-lines c k seal) (sym (m .all))
+
+-- ---- an accepted archive
+
+-- what was opened and the operations of an archive
+record Parts (s : List ℕ) (a : Archive) : Type 0 where
+  held : Held
+  first : ℕ
+  operations : List Class
+  end : ℕ
+  opening-read : read-fields archive-opening nothing-held s 0 ≡ found held first
+  operations-read : operations-at (held .count) (held .curve) s first ≡ found operations end
+  archive : a ≡ record { curve = held .curve; drawing = drawing-name (held .drawing); seal = held .class; operations = operations }
+
+parts : (s : List ℕ) {a : Archive} {end : ℕ} → read-archive s ≡ found a end → Parts s a
+unfolding read-opened archive-of
+parts s e =
+    let o = both-found _ (read-opened s) (sym (archive-is s) ∙ e) in
+    let h = both-found _ (read-fields archive-opening nothing-held s 0) (o .2) in
+    let ops = both-found _ (operations-at (h .0 .count) (h .0 .curve) s (h .1)) (h .3) in
+    let all = checked-found (end-refusal s (ops .1)) _ (ops .3) in
+    record {
+      held = h .0;
+      first = h .1;
+      operations = ops .0;
+      end = ops .1;
+      opening-read = h .2;
+      operations-read = ops .2;
+      archive = sym (ap archive-of (same-found (all .1) .0) ∙ same-found (o .3) .0);
+    }
+
+module _ (s : List ℕ) where
+  opened-first : {h : Held} {first : ℕ} → archive-refusal s ≡ 0 → read-fields archive-opening nothing-held s 0 ≡ found h first →
+      opened s ≡ moved (report First (reader (operations-due (h .count)) h) (h .class) neutral-class) first
+  unfolding opened opened-by first-report opening
+  opened-first z e = ap (λ (n : ℕ). opened-by n (opening s)) z ∙ ap first-report (then-found _ e)
+
+  -- the first two lines, and those behind them
+  first-made : (n : ℕ) (h : Held) (seal b : Class) (at : ℕ) →
+      let r = report First (reader (operations-due n) h) seal b in
+      let m = advanced (with-stage Last r) s at in
+      texts (lines-left r) r s at ≡ first-line (h .count) (drawing-name (h .drawing)) ∷ line 0 0x2E seal ∷ texts n (m .report) s (m .next .at)
+  unfolding texts lines-left next-line next-of
+  first-made n h seal b at =
+      let m = advanced (report Last (reader (operations-due n) h) seal b) s at in
+      ap (λ (j : ℕ). first-line (h .count) (drawing-name (h .drawing)) ∷ line 0 0x2E seal ∷ texts j (m .report) s (m .next .at)) (due-older n)
+
+  accepted-made : {a : Archive} {end : ℕ} → read-archive s ≡ found a end → texts (lines-left (opened s .report)) (opened s .report) s (opened s .next .at) ≡ walk-lines a
+  unfolding walk-lines archive-refusal
+  accepted-made {a} e =
+      let p = parts s e in
+      let h : Held = p .held in
+      let c : Curve = h .curve in
+      let ops : List Class = p .operations in
+      let f = found-fields s e in
+      let hs : Sound c (h .class) = subst (λ (x : Archive). Sound (x .curve) (x .seal)) (p .archive) (class-sound 0x43 (a .curve) s (f .after-count) (f .seal-found)) in
+      let counted = operations-counted (h .count) c s (p .first) (p .operations-read) in
+      ap (λ (m : Moved). texts (lines-left (m .report)) (m .report) s (m .next .at)) (opened-first (ap reading-refusal e) (p .opening-read))
+      ∙ first-made (h .count) h (h .class) neutral-class (p .first)
+      ∙ ap (λ (l : List (List ℕ)). first-line (h .count) (drawing-name (h .drawing)) ∷ line 0 0x2E (h .class) ∷ l)
+      (walk-made s (h .count) Last h (h .class) neutral-class (p .first) 0 (p .operations-read) (omega arith) hs)
+      ∙ ap (λ (l : List (List ℕ)). first-line (h .count) (drawing-name (h .drawing)) ∷ l) (sym (lines-from c 0 0x2E (h .class) ops))
+      ∙ ap (λ (n : ℕ). first-line n (drawing-name (h .drawing)) ∷ seal-lines 0 (0x2E ∷ letters c ops) (seals c (h .class) ops)) (sym counted)
+      ∙ ap walk-lines (sym (p .archive))
+
+  -- ---- a refused one
+
+  refused-made : (n : ℕ) → read-archive s ≡ refused n → texts (lines-left (opened s .report)) (opened s .report) s (opened s .next .at) ≡ refusal-text n ∷ []
+  unfolding opened opened-by archive-refusal refused-report lines-left texts next-line next-of
+  refused-made zero e = absurd (archive-numbered s e)
+  refused-made (suc n) e =
+      ap (λ (k : ℕ). let m = opened-by k (opening s) in texts (lines-left (m .report)) (m .report) s (m .next .at)) (ap reading-refusal e)
+
+-- ---- with each line fewer are to come
+
+module _ (s : List ℕ) (at : ℕ) where
+  -- an operation was read, or nothing is to come
+  read-fewer : (n : ℕ) (r : Report) (x : Reading Held) →
+      lines-left (held-next r at (x then λ more next. found (reader (operations-due (suc n - 1)) more) next) .report) ≤ suc n
+  unfolding held-next _then_ lines-left
+  read-fewer n r (found more next) = omega (arith, due-older (suc n - 1))
+  read-fewer n r (refused k) = omega arith
+
+  due-fewer : (d : Due) (stage : Stage) (h : Held) (seal b : Class) → lines-left (advanced (report stage (reader d h) seal b) s at .report) ≤ older d
+  unfolding advanced advanced-by lines-left older step reading.read-operation
+  due-fewer (due.Opening i) stage h seal b = omega arith
+  due-fewer (due.Operations zero) stage h seal b = omega arith
+  due-fewer (due.Operations (suc n)) stage h seal b = read-fewer n (report stage (reader (due.Operations (suc n)) h) seal b) (read-field 0x44 h s at)
+  due-fewer due.End stage h seal b = omega arith
+  due-fewer due.Nothing stage h seal b = omega arith
+
+  stage-fewer : (stage : Stage) (r : Reader) (seal b : Class) → pending stage ≡ true →
+      let t = report stage r seal b in lines-left (next-of stage t s at .after .report) < lines-left t
+  unfolding next-of undone lines-left pending
+  stage-fewer (Refusal n) r seal b h = omega arith
+  stage-fewer First r seal b h = omega arith
+  stage-fewer Last r seal b h = omega (arith, due-fewer (r .due) Last (r .held) seal b)
+  stage-fewer Undo r seal b h = omega (arith, due-fewer (r .due) Undo (r .held) seal b)
+  stage-fewer Over r seal b h = absurd (true≢false (sym h))
+
+pub lines-fewer : (r : Report) (s : List ℕ) (at : ℕ) → pending (r .stage) ≡ true → lines-left (next-line r s at .after .report) < lines-left r
+unfolding next-line
+lines-fewer r s at h = stage-fewer s at (r .stage) (r .reader) (r .seal) (r .operation) h
+
+-- ---- the theorem
+
+pub report-made : (s : List ℕ) → texts (lines-left (opened s .report)) (opened s .report) s (opened s .next .at) ≡ report-lines s
+unfolding report-lines lines-of
+report-made s = go (read-archive s) refl
+  where
+    go : (x : Reading Archive) → read-archive s ≡ x → texts (lines-left (opened s .report)) (opened s .report) s (opened s .next .at) ≡ lines-of x
+    go (found a end) e = accepted-made s e
+    go (refused n) e = refused-made s n e
