@@ -16,7 +16,7 @@ const DECIMAL_DIGITS: usize = 20;
 const HEXADECIMAL_DIGITS: usize = 16;
 
 // Room for every line: for the first, which has a drawing number, and for a seal's.
-const LINE: usize = 2 * DECIMAL_DIGITS + 6 * HEXADECIMAL_DIGITS + 10 + DRAWING_LIMIT;
+pub const LINE: usize = 2 * DECIMAL_DIGITS + 6 * HEXADECIMAL_DIGITS + 10 + DRAWING_LIMIT;
 
 // A line of the report: len bytes, and 0 after them.
 pub struct Line {
