@@ -4,3 +4,4 @@ pub mod Marks
 pub mod Lines
 pub mod Digits
 pub mod ReportMade
+pub mod LineLengths
