@@ -3,6 +3,7 @@ pub mod Writing
 pub mod Digits
 pub mod Marks
 pub mod Lines
+pub mod LineLengths
 pub mod Advances
 pub mod ReportMade
 pub mod Kept

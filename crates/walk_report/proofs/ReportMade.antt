@@ -1,14 +1,14 @@
 -- The lines that the report's steps make, one after the other, are the report's lines (`report-made`), and with each line fewer are to come (`lines-fewer`).
 use Prim.Native.Nat.{ℕ, zero, suc, _+_, _-_, _≤_, _<_}
 use mathlib.Core.Path.{_≡_, refl, sym, ap, _∙_, subst}
-use mathlib.Core.Bool.{Bool, true, false, not, true≢false}
+use mathlib.Core.Bool.{Bool, true, false, not, _||_, true≢false}
 use mathlib.Core.List.{List, [], _∷_}
 use native.Mathlib.Omega.{arith}
 use lib.Dec.{eqb, ltb}
 use lib.ListN.{length, getD}
-use Rattle.jacobian.specs.{Curves.curve-refusal, Answer.Result, Answer.refusal, Answer.refusal-of-two, Answer.neutral-class, Answer.subtract-and-halve-answer, declared.Curve.Curve, declared.Class.Class}
+use Rattle.jacobian.specs.{Checks.unless, Curves.curve-refusal, Answer.Result, Answer.refusal, Answer.refusal-of-two, Answer.neutral-class, Answer.subtract-and-halve-answer, declared.Curve.Curve, declared.Class.Class}
 use Rattle.jacobian.proofs.{ByValue.Checks.then-zero, Representation.Unrefused.zero-then}
-use Rattle.stored_form.specs.{Reading.Reading, Reading.found, Reading.refused, Reading.refuse, Reading.checked, Reading._then_, Reading.reading-refusal, Head.allowed, Head.body-length, Head.head-at, Head.body-at, Fields.degree-at, Fields.drawing-at, Fields.count-at, Fields.end-refusal, Classes.curve-at, Classes.curve-first, Classes.class-said, Classes.class-at}
+use Rattle.stored_form.specs.{Number.number-of, Reading.Reading, Reading.found, Reading.refused, Reading.refuse, Reading.checked, Reading._then_, Reading.reading-refusal, Head.allowed, Head.body-length, Head.head-at, Head.body-at, Fields.degree-at, Fields.drawing-refusal, Fields.drawing-at, Fields.count-refusal, Fields.count-at, Fields.end-refusal, Classes.curve-said, Classes.curve-at, Classes.curve-first, Classes.class-said, Classes.class-at}
 use Rattle.stored_form.specs.{Held.drawing-name, Held.nothing-held, Held.with-operation, Held.read-field, Held.read-fields, Held.archive-opening, declared.Held.Held}
 use Rattle.stored_form.proofs.{Readings.then-found, Readings.both-found, Readings.checked-found, Readings.same-found, FieldReadings.read-operation, ClassRoundTrips.class-three}
 use Rattle.history.specs.Register.{undo-seal, sealed, Sound}
@@ -66,15 +66,18 @@ module _ (s : List ℕ) where
   unfolding body-at
   body-numbered tag at = then-numbered (head-at tag s at) _ (head-numbered tag at) (λ n next. found-numbered _ _)
 
+  -- what a body says, once it is checked
+  field-numbered : {A : Type 0} (tag at : ℕ) (said : List ℕ → A) (check : A → ℕ) → Numbered (body-at tag s at then λ body next. checked (check (said body)) (found (said body) next))
+  field-numbered tag at said check = then-numbered (body-at tag s at) _ (body-numbered tag at) (λ body next. checked-numbered _ _ (found-numbered _ _))
+
   class-numbered : (tag : ℕ) (c : Curve) (at : ℕ) → Numbered (class-at tag c s at)
   unfolding class-at
-  class-numbered tag c at = then-numbered (body-at tag s at) _ (body-numbered tag at) (λ body next. checked-numbered _ _ (found-numbered _ _))
+  class-numbered tag c at = field-numbered tag at class-said (refusal c)
 
   curve-numbered : (at : ℕ) → Numbered (curve-first s at)
   unfolding curve-first degree-at curve-at
   curve-numbered at =
-      then-numbered (degree-at s at) _ (then-numbered (body-at 0x40 s at) _ (body-numbered 0x40 at) (λ body next. checked-numbered _ _ (found-numbered _ _)))
-      (λ d next. then-numbered (body-at 0x41 s next) _ (body-numbered 0x41 next) (λ body next. checked-numbered _ _ (found-numbered _ _)))
+      then-numbered (degree-at s at) _ (field-numbered 0x40 at number-of (λ d. unless (eqb d 5 || eqb d 61) 106)) (λ d next. field-numbered 0x41 next (curve-said d) curve-refusal)
 
   operations-numbered : (n : ℕ) (c : Curve) (at : ℕ) → Numbered (operations-at n c s at)
   unfolding operations-at
@@ -88,9 +91,9 @@ module _ (s : List ℕ) where
   archive-numbered =
       then-numbered (curve-first s 0) _ (curve-numbered 0)
       (λ c next.
-      then-numbered (drawing-at s next) _ (then-numbered (body-at 0x46 s next) _ (body-numbered 0x46 next) (λ body next. checked-numbered _ _ (found-numbered _ _)))
+      then-numbered (drawing-at s next) _ (field-numbered 0x46 next (λ body. body) drawing-refusal)
       (λ name next.
-      then-numbered (count-at s next) _ (then-numbered (body-at 0x42 s next) _ (body-numbered 0x42 next) (λ body next. checked-numbered _ _ (found-numbered _ _)))
+      then-numbered (count-at s next) _ (field-numbered 0x42 next number-of count-refusal)
       (λ n next.
       then-numbered (class-at 0x43 c s next) _ (class-numbered 0x43 c next)
       (λ seal next.

@@ -1,0 +1,40 @@
+-- `main` is safe and ends: with each line fewer are to come.
+use mathlib.Core.Path.{_≡_, sym, ap, subst, _∙_}
+use Prim.Native.Nat.{ℕ, _<_}
+use borrow.Author.Needs.{needs}
+use Rattle.walk_report.specs.Steps.{lines-left, made, next-line}
+use Rattle.walk_report.specs.declared.Made.{Made}
+use Rattle.walk_report.proofs.ReportMade.{lines-fewer}
+use Rattle.walkreport.proofs.main.Statement.{statement}
+use Rattle.walkreport.proofs.main.Tie as tie
+
+abbrev Inv-loop : tie.InvT-loop
+Inv-loop archive read report₀ at₀ report at = Unit {0}
+
+abbrev μ-loop : tie.MeasureT-loop
+μ-loop archive read report₀ at₀ report at = lines-left report
+
+loop-less : tie.Need-loop-less Inv-loop μ-loop
+loop-less c = ?
+
+pub main-spec : {M : Type 1} → statement M
+main-spec =
+    tie.close
+    (tie.spec
+    Inv-loop
+    μ-loop
+    (λ c κs. search needs)
+    (λ c. search needs)
+    (λ c κs. search needs)
+    (λ c. search needs)
+    (λ c. search needs)
+    (λ c κs. search needs)
+    (λ c. search needs)
+    (λ c κs. search needs)
+    (λ c. search needs)
+    (λ c. search needs)
+    (λ c κs. search needs)
+    (λ c κs. search needs)
+    loop-less
+    (λ c. search needs)
+    (λ c. search needs))
