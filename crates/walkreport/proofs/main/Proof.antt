@@ -1,8 +1,8 @@
 -- `main` is safe and ends: with each line fewer are to come.
-use mathlib.Core.Path.{_≡_, sym, ap, subst, _∙_}
-use Prim.Native.Nat.{ℕ, _<_}
+use mathlib.Core.Path.{sym, subst, _∙_}
+use Prim.Native.Nat.{_<_}
 use borrow.Author.Needs.{needs}
-use Rattle.walk_report.specs.Steps.{lines-left, made, next-line}
+use Rattle.walk_report.specs.Steps.{lines-left, made}
 use Rattle.walk_report.specs.declared.Made.{Made}
 use Rattle.walk_report.proofs.ReportMade.{lines-fewer}
 use Rattle.walkreport.proofs.main.Statement.{statement}
@@ -15,7 +15,13 @@ abbrev μ-loop : tie.MeasureT-loop
 μ-loop archive read report₀ at₀ report at = lines-left report
 
 loop-less : tie.Need-loop-less Inv-loop μ-loop
-loop-less c = ?
+unfolding made
+loop-less c =
+    let line = c .before .before .before .before in
+    let test = line .before .before in
+    let report = test .before .before .loop .report in
+    subst (λ (x : Made). lines-left (x .report) < lines-left report) (sym (line .next-line .ensures))
+    (lines-fewer _ _ _ (sym (test .before .pending .ensures) ∙ test .if1 .taken))
 
 pub main-spec : {M : Type 1} → statement M
 main-spec =
