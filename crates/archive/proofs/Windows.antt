@@ -20,7 +20,7 @@ use Rattle.archive.specs.Reader.{reader, read-opening, read-operation, r
 
 -- ---- places counted from k bytes before
 
-pub after : {A : Type 0} → ℕ → Reading A → Reading A
+unfoldable pub after : {A : Type 0} → ℕ → Reading A → Reading A
 after k (found a next) = found a (k + next)
 after k (refused n) = refused n
 

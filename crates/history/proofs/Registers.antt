@@ -4,7 +4,7 @@ use mathlib.Core.Path.{_≡_, refl, sym, _∙_, ap}
 use mathlib.Core.Bool.{Bool, true, false, cond}
 use native.Mathlib.Omega.{arith}
 use borrow.Author.Tests.{leb-true, le-leb, ne-eqb, eqb-false}
-use lib.Dec.{eqb}
+use lib.Dec.{eqb, lit<}
 use Rattle.jacobian.specs.{Checks.unless, Checks._or-else_, Curves.curve-refusal, Classes.class-refusal, Answer.accepted, Answer.refused}
 use Rattle.jacobian.specs.declared.Class.{Class}
 use Rattle.jacobian.proofs.ByValue.Checks.{then-zero, unless-zero}
@@ -22,7 +22,7 @@ unfolding register-refusal
 register-passes r e =
     let h = then-zero _ _ e in
     let k = then-zero _ _ (h .1) in
-    record { curve-passes = h .0; count-passes = leb-true _ _ (unless-zero _ _ (k .0)); seal-passes = k .1 }
+    record { curve-passes = h .0; count-passes = leb-true _ _ (unless-zero _ 109 (lit< tt) (k .0)); seal-passes = k .1 }
 
 pub passes-register : (r : Register) → Passes r → register-refusal r ≡ 0
 unfolding register-refusal unless _or-else_

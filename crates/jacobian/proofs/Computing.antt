@@ -14,7 +14,8 @@ use Rattle.class_group.specs.Operations.{counted-sum, counted-double, sum, doub
 use Rattle.class_group.specs.Half.{lift, step, halved, quadratic, half-of-degree-1, lifted-half-of-degree-2, half-of-degree-2, stepped-of-degree-3, lifted-half-of-degree-3, half-of-degree-3, triple, half-by, half}
 use Rattle.row_theory.specs.Field.{degree-of, accepted, F, 𝔸, el, poly}
 use Rattle.jacobian.specs.Curves.{coefficients, curve-with, f-row, degree-refusal, coefficient-refusal, curve-refusal, curve}
-use Rattle.jacobian.specs.Checks.{unless, _or-else_, below, blank}
+use Rattle.jacobian.specs.Checks.{unless, _or-else_, blank}
+use Rattle.binary_field.specs.Answer.{below}
 use Rattle.jacobian.specs.Classes.{u-row, pair, numbers, class-of, shape-refusal, range-refusal, class-refusal}
 use Rattle.jacobian.specs.Answer.{refusal, refusal-of-two, verdict-of, neutral-class, answered, membership-answer, opposite-answer, double-answer, half-answer, sum-answer}
 

@@ -1,7 +1,7 @@
 -- How a call's checks are said (document 01, 'In checking order'): one after the other, and the first that fails gives the refusal's number.
 use Prim.Native.Nat.{ℕ, zero, suc}
 use mathlib.Core.{Bool.Bool, Bool.true, Bool.cond, Bool._&&_, List.List, List.[], List._∷_}
-use lib.Dec.{eqb, ltb}
+use lib.Dec.{eqb}
 
 infixr 20 _or-else_
 -- the refusal with number n, unless the test holds; 0 is no refusal
@@ -12,11 +12,6 @@ unless holds n = cond holds 0 n
 unfoldable pub _or-else_ : ℕ → ℕ → ℕ
 _or-else_ zero m = m
 _or-else_ (suc n) m = suc n
-
--- every number is below m
-unfoldable pub below : ℕ → List ℕ → Bool
-below m [] = true
-below m (n ∷ ns) = ltb n m && below m ns
 
 -- every number is 0
 unfoldable pub blank : List ℕ → Bool

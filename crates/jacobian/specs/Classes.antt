@@ -5,7 +5,8 @@ use mathlib.Core.{Bool.Bool, Bool.cond, Bool._&&_, List.List, List.[], List._∷
 use lib.{Dec.eqb, Dec.ltb, Dec.leb, ListN.getD, ListN.length, ListN.take, ListN.drop}
 use Rattle.class_group.specs.Mumford.{Pair, value}
 use Rattle.row_theory.specs.Field.{Poly, 𝔸, poly}
-use Rattle.jacobian.specs.{Checks.unless, Checks._or-else_, Checks.below, Checks.blank, Curves.curve, declared.Curve.Curve, declared.Class.Class}
+use Rattle.jacobian.specs.{Checks.unless, Checks._or-else_, Checks.blank, Curves.curve, declared.Curve.Curve, declared.Class.Class}
+use Rattle.binary_field.specs.Answer.{below}
 
 -- u, the lowest coefficient first, with its leading 1, which is not in the row of the class
 unfoldable pub u-row : Class → List ℕ

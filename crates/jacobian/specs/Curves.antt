@@ -5,7 +5,8 @@ use mathlib.Core.{Bool._||_, List.List, List.[], List._∷_}
 use lib.{Dec.eqb, ListN.getD, ListN.replicate}
 use Rattle.class_group.specs.Coefficients.{curve-of}
 use Rattle.row_theory.specs.Field.{F, 𝔸, el}
-use Rattle.jacobian.specs.{Checks.unless, Checks._or-else_, Checks.below, declared.Curve.Curve}
+use Rattle.jacobian.specs.{Checks.unless, Checks._or-else_, declared.Curve.Curve}
+use Rattle.binary_field.specs.Answer.{below}
 use Rattle.class_group.specs.Curve as Theory
 
 -- how many coefficients a curve has

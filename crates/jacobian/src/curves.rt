@@ -1,6 +1,7 @@
 // A curve by value: its coefficients, its checks, and its f as a row. Only `coefficients`, `curve_with` and `f_row` name f3, f1 and f0.
 ghost use mathlib.Core.Path.{_≡_};
-ghost use Rattle.jacobian.specs.Checks.{unless, below};
+ghost use Rattle.jacobian.specs.Checks.{unless};
+ghost use Rattle.binary_field.specs.Answer.{below};
 ghost use Rattle.jacobian.specs.Curves.{coefficients, curve-with, blank-curve, curve-refusal, f-row};
 ghost use Rattle.row_theory.specs.Row.{filled};
 use crate::Curve;

@@ -7,7 +7,7 @@ use native.Mathlib.Omega.{arith}
 use lib.ListN.{length, getD}
 use lib.Seq.{take-length}
 use Rattle.stored_form.specs.{Number.number-of, Number.bytes-of, Number.Bytes, Number.part, Reading.found, Head.allowed, Head.body-length}
-use Rattle.stored_form.specs.{Head.head-at, Head.body-at, Head.head-bytes, Head.stored, Head.Stands}
+use Rattle.stored_form.specs.{Head.head-at, Head.body-at, Head.head-bytes, Head.stored, Head.StandsAt}
 use Rattle.stored_form.proofs.{Digits.bytes-number, Digits.number-bytes-small, Digits.part-bytes, Parts.part-part, Parts.part-add, Parts.part-cons}
 use Rattle.stored_form.proofs.{Parts.length-part, Parts.getD-part, Parts.stands-within, Readings.then-found, Readings.both-found}
 use Rattle.stored_form.proofs.{Readings.same-found, Heads.Whole, Heads.head-found, Heads.head-whole}
@@ -19,7 +19,7 @@ length-stored tag body = omega arith
 -- ---- what was read was written so
 
 pub record Written (tag : ℕ) (s : List ℕ) (at : ℕ) (body : List ℕ) (next : ℕ) : Type 0 where
-  pub stands : Stands s at (stored tag body)
+  pub stands : StandsAt s at (stored tag body)
   pub ends : next ≡ at + length (stored tag body)
   pub allows : allowed tag (length body) ≡ true
   pub bytes : Bytes body
@@ -58,7 +58,7 @@ body-written tag s at {body} {next} b h =
 
 -- ---- what was written is read so
 
-pub body-read : (tag : ℕ) (s : List ℕ) (at : ℕ) (body : List ℕ) → allowed tag (length body) ≡ true → length body < 256 ^ 2 → Stands s at (stored tag body) →
+pub body-read : (tag : ℕ) (s : List ℕ) (at : ℕ) (body : List ℕ) → allowed tag (length body) ≡ true → length body < 256 ^ 2 → StandsAt s at (stored tag body) →
     body-at tag s at ≡ found body (at + length (stored tag body))
 unfolding stored head-bytes bytes-of body-at body-length
 body-read tag s at body a small h =

@@ -10,7 +10,7 @@ use lib.Seq.{take-at, drop-at}
 use Rattle.jacobian.specs.{Answer.refusal, declared.Curve.Curve, declared.Class.Class}
 use Rattle.jacobian.proofs.{ByValue.Degrees.by-degree, ByValue.Threes.by-three, ByValue.Answers.passes}
 use Rattle.jacobian.specs.Classes.{Three}
-use Rattle.stored_form.specs.{Number.Bytes, Reading.found, Head.class-room, Head.class-limit, Head.allowed, Head.class-length, Head.body-at, Head.stored, Head.Stands}
+use Rattle.stored_form.specs.{Number.Bytes, Reading.found, Head.class-room, Head.class-limit, Head.allowed, Head.class-length, Head.body-at, Head.stored, Head.StandsAt}
 use Rattle.stored_form.specs.{Elements.elements, Elements.element-bytes}
 use Rattle.stored_form.specs.Classes.{row-said, class-said, class-at, row-written, class-field}
 use Rattle.stored_form.proofs.{Readings.then-found, Readings.both-found, Readings.checked-found, Readings.checked-none, Readings.same-found}
@@ -190,7 +190,7 @@ module _ (tag : ℕ) (lengths : (n : ℕ) → allowed tag n ≡ class-length n) 
             (subst (λ (bs : List ℕ). Field s at bs (p .1)) (sym said) (record { stands = w .stands; ends = w .ends })),
       )
 
-  pub class-read-back : (a : Class) → Three a → refusal c a ≡ 0 → Stands s at (class-field tag a) → class-at tag c s at ≡ found a (at + length (class-field tag a))
+  pub class-read-back : (a : Class) → Three a → refusal c a ≡ 0 → StandsAt s at (class-field tag a) → class-at tag c s at ≡ found a (at + length (class-field tag a))
   unfolding class-at class-field
   class-read-back a three ok h =
       let fits = body-allowed c a three ok in

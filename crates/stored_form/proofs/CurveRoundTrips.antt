@@ -8,7 +8,7 @@ use lib.Dec.{eqb, lit<, lit≤}
 use lib.ListN.{length}
 use Rattle.jacobian.specs.{Curves.coefficient-count, Curves.coefficients, Curves.curve-with, Curves.curve-refusal, Curves.degree-refusal, Curves.f-row, declared.Curve.Curve}
 use Rattle.jacobian.proofs.ByValue.{Degrees.by-degree, Checks.curve-passes, Checks.then-zero}
-use Rattle.stored_form.specs.{Number.Bytes, Reading.found, Head.curve-length, Head.allowed, Head.body-at, Head.stored, Head.Stands}
+use Rattle.stored_form.specs.{Number.Bytes, Reading.found, Head.curve-length, Head.allowed, Head.body-at, Head.stored, Head.StandsAt}
 use Rattle.stored_form.specs.{Elements.elements, Elements.element-bytes, Classes.curve-said, Classes.curve-at, Classes.curve-field}
 use Rattle.stored_form.specs.{Fields.degree-at, Fields.degree-field, Classes.curve-first, Classes.curve-first-fields}
 use Rattle.stored_form.proofs.{Readings.test-passed, Readings.then-found, Readings.both-found, Readings.checked-found, Readings.checked-none, Readings.same-found}
@@ -52,7 +52,7 @@ module _ (s : List ℕ) (at : ℕ) where
             (subst (λ (bs : List ℕ). Field s at bs (p .1)) (sym said) (record { stands = w .stands; ends = w .ends })),
       )
 
-  pub curve-read-back : (c : Curve) → curve-refusal c ≡ 0 → Stands s at (curve-field c) → curve-at (c .degree) s at ≡ found c (at + length (curve-field c))
+  pub curve-read-back : (c : Curve) → curve-refusal c ≡ 0 → StandsAt s at (curve-field c) → curve-at (c .degree) s at ≡ found c (at + length (curve-field c))
   unfolding curve-at curve-field coefficients allowed
   curve-read-back c ok h =
       let body : List ℕ = element-bytes (coefficients c) in
@@ -71,7 +71,7 @@ module _ (s : List ℕ) (at : ℕ) where
       let d = subst (λ (n : ℕ). Field s at (degree-field n) (p .1)) (sym (q .1)) (degree-written s at b (p .2) .1) in
       (q .0, behind (degree-field (c .degree)) (curve-field c) d (q .2))
 
-  pub curve-first-read-back : (c : Curve) → curve-refusal c ≡ 0 → Stands s at (curve-first-fields c) →
+  pub curve-first-read-back : (c : Curve) → curve-refusal c ≡ 0 → StandsAt s at (curve-first-fields c) →
       curve-first s at ≡ found c (at + length (curve-first-fields c))
   unfolding curve-first curve-first-fields
   curve-first-read-back c ok h =

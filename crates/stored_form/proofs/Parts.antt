@@ -7,7 +7,7 @@ use native.Mathlib.Omega.{arith}
 use lib.ListN.{length, getD, take, drop, length-take, length-drop}
 use lib.Seq.{take-nil, take-take, drop-drop, take-add, take-suc, drop-cons, getD-take, getD-drop}
 use Rattle.stored_form.specs.Number.{part}
-use Rattle.stored_form.specs.Head.{Stands}
+use Rattle.stored_form.specs.Head.{StandsAt}
 
 pub drop-take : (i k : ℕ) (l : List ℕ) → drop i (take k l) ≡ take (k - i) (drop i l)
 drop-take zero k l = let e : k - 0 ≡ k = omega arith in rw e
@@ -37,7 +37,7 @@ pub getD-part : (s : List ℕ) (at k i : ℕ) → i < k → getD (part s at k) i
 getD-part s at k i h = rw (getD-take, getD-drop)
 
 -- what stands at a place ends within the list
-pub stands-within : (s : List ℕ) (at : ℕ) (x : ℕ) (xs : List ℕ) → Stands s at (x ∷ xs) → at + length (x ∷ xs) ≤ length s
+pub stands-within : (s : List ℕ) (at : ℕ) (x : ℕ) (xs : List ℕ) → StandsAt s at (x ∷ xs) → at + length (x ∷ xs) ≤ length s
 stands-within s at x xs h =
     let e : length (part s at (length (x ∷ xs))) ≡ length (x ∷ xs) = ap length h in
     let f = simp (length-take, length-drop) at e in

@@ -11,7 +11,7 @@ use lib.Dec.{eqb}
 use lib.ListN.{length}
 use Rattle.jacobian.specs.{Curves.coefficients, Curves.curve-with, Curves.curve-refusal, Answer.refusal, Classes.Three, declared.Curve.Curve, declared.Class.Class}
 use Rattle.stored_form.specs.{Number.number-of, Number.bytes-of, Number.Bytes, Reading.found, Reading.checked, Elements.elements, Elements.element-bytes}
-use Rattle.stored_form.specs.{Head.degree-length, Head.count-length, Head.allowed, Head.body-at, Head.stored, Head.Stands, Fields.end-refusal, Classes.class-said, Classes.curve-said}
+use Rattle.stored_form.specs.{Head.degree-length, Head.count-length, Head.allowed, Head.body-at, Head.stored, Head.StandsAt, Fields.end-refusal, Classes.class-said, Classes.curve-said}
 use Rattle.stored_form.specs.Held.{drawing-name, drawing-said, nothing-held, curve-of-degree, hold, field-refusal, read-field, read-fields, ended, read-record}
 use Rattle.stored_form.specs.declared.Held.{Held}
 use Rattle.stored_form.proofs.{Digits.bytes-number, ElementBytes.bytes-elements, FieldReadings.name-said, ClassRoundTrips.body-of, ClassRoundTrips.class-body-said}
@@ -76,7 +76,7 @@ module _ (tag : ℕ) (h : Held) (s : List ℕ) (at : ℕ) {m : Held} where
         subst₂ (λ (x : List ℕ) (n : ℕ). Field s at (stored tag x) n) is (same .1) (record { stands = w .stands; ends = w .ends }),
       )
 
-  pub field-read-back : Says tag h m → Stands s at (field-bytes tag m) → read-field tag h s at ≡ found m (at + length (field-bytes tag m))
+  pub field-read-back : Says tag h m → StandsAt s at (field-bytes tag m) → read-field tag h s at ≡ found m (at + length (field-bytes tag m))
   unfolding read-field field-bytes
   field-read-back says stands =
       let body = field-body tag m in

@@ -12,7 +12,7 @@ use lib.Seq.{take-take, take-length, take-all, take-append-seam, drop-append-sea
 use borrow.Author.Tests.{eqb-true, ltb-false, le-ltb, leb-true, le-leb}
 use Rattle.jacobian.specs.Checks.{unless}
 use Rattle.stored_form.specs.{Number.number-of, Number.bytes-of, Number.Bytes, Number.part, Reading.Reading, Reading.found, Reading.checked}
-use Rattle.stored_form.specs.Head.{degree-length, count-length, drawing-limit, allowed, body-at, stored, Stands}
+use Rattle.stored_form.specs.Head.{degree-length, count-length, drawing-limit, allowed, body-at, stored, StandsAt}
 use Rattle.stored_form.specs.Fields.{degree-at, degree-field, count-limit, count-refusal, count-at, count-field, printable, drawing-refusal, drawing-at, drawing-field, end-refusal}
 use Rattle.stored_form.proofs.{Digits.bytes-number, Digits.number-bytes-small, Digits.length-bytes, Parts.part-part, Parts.part-add}
 use Rattle.stored_form.proofs.Readings.{test-passed, then-found, both-found, checked-found, same-found}
@@ -20,7 +20,7 @@ use Rattle.stored_form.proofs.{Lengths.is-degree-length, Lengths.is-cou
 
 -- a field that stands at a place, and ends at the next
 pub record Field (s : List ℕ) (at : ℕ) (bytes : List ℕ) (next : ℕ) : Type 0 where
-  pub stands : Stands s at bytes
+  pub stands : StandsAt s at bytes
   pub ends : next ≡ at + length bytes
 
 -- ---- fields one behind the other, and the end
@@ -56,7 +56,7 @@ module _ {s : List ℕ} {at : ℕ} where
       )
 
   -- what is read where a field stands ends with the field
-  pub up-to : {A : Type 0} {x : Reading A} {a : A} {bytes : List ℕ} {next : ℕ} → Field s at bytes next → (Stands s at bytes → x ≡ found a (at + length bytes)) →
+  pub up-to : {A : Type 0} {x : Reading A} {a : A} {bytes : List ℕ} {next : ℕ} → Field s at bytes next → (StandsAt s at bytes → x ≡ found a (at + length bytes)) →
       x ≡ found a next
   up-to {a = a} h read = read (h .stands) ∙ ap (found a) (sym (h .ends))
 
@@ -117,7 +117,7 @@ module _ (s : List ℕ) (at : ℕ) where
       let w = body-written 0x40 s at b (p .2) in
       (rw (← (e .0)) (test-passed _ (lit< tt) (q .0)), rw (← (e .1)) (number-field 0x40 s at degree-length d (p .1) w (is-degree-length (w .allows)) (e .0)))
 
-  pub degree-read-back : (d : ℕ) → (eqb d 5 || eqb d 61) ≡ true → Stands s at (degree-field d) → degree-at s at ≡ found d (at + length (degree-field d))
+  pub degree-read-back : (d : ℕ) → (eqb d 5 || eqb d 61) ≡ true → StandsAt s at (degree-field d) → degree-at s at ≡ found d (at + length (degree-field d))
   unfolding degree-at degree-field allowed unless checked
   degree-read-back d ok h =
       then-found _ (body-read 0x40 s at (bytes-of degree-length d) (rw (length-bytes degree-length d) refl) (rw (length-bytes degree-length d) (lit< tt)) h)
@@ -134,7 +134,7 @@ module _ (s : List ℕ) (at : ℕ) where
       let w = body-written 0x42 s at b (p .2) in
       (rw (← (e .0)) (leb-true _ _ (test-passed _ (lit< tt) (q .0))), rw (← (e .1)) (number-field 0x42 s at count-length n (p .1) w (is-count-length (w .allows)) (e .0)))
 
-  pub count-read-back : (n : ℕ) → n ≤ count-limit → Stands s at (count-field n) → count-at s at ≡ found n (at + length (count-field n))
+  pub count-read-back : (n : ℕ) → n ≤ count-limit → StandsAt s at (count-field n) → count-at s at ≡ found n (at + length (count-field n))
   unfolding count-at count-field allowed count-refusal unless checked
   count-read-back n ok h =
       then-found _ (body-read 0x42 s at (bytes-of count-length n) (rw (length-bytes count-length n) refl) (rw (length-bytes count-length n) (lit< tt)) h)
@@ -155,7 +155,7 @@ module _ (s : List ℕ) (at : ℕ) where
         subst₂ (λ (x : List ℕ) (n : ℕ). Field s at (stored 0x46 x) n) (e .0) (e .1) (record { stands = w .stands; ends = w .ends }),
       )
 
-  pub drawing-read-back : (xs : List ℕ) → printable xs ≡ true → length xs ≤ drawing-limit → Stands s at (drawing-field xs) →
+  pub drawing-read-back : (xs : List ℕ) → printable xs ≡ true → length xs ≤ drawing-limit → StandsAt s at (drawing-field xs) →
       drawing-at s at ≡ found xs (at + length (drawing-field xs))
   unfolding drawing-at drawing-field drawing-refusal allowed unless checked
   drawing-read-back xs ok short h =

@@ -91,5 +91,5 @@ unfoldable pub stored : ℕ → List ℕ → List ℕ
 stored tag body = head-bytes tag (length body) ++ body
 
 -- these bytes stand at a place
-abbrev pub Stands : List ℕ → ℕ → List ℕ → Type 0
-Stands s at xs = part s at (length xs) ≡ xs
+abbrev pub StandsAt : List ℕ → ℕ → List ℕ → Type 0
+StandsAt s at xs = part s at (length xs) ≡ xs

@@ -63,7 +63,7 @@ fn with_coefficients(row: [u8; ROOM], at: usize, n: usize, r: [u64; 3]) -> [u8; 
 }
 
 // How many coefficients a row has below a degree.
-fn below(degree: u64) -> usize
+fn places_of(degree: u64) -> usize
     ensures { λ r. ⌜ r ≡ min degree 3 ⌝ }
 {
     if degree < 3 {
@@ -77,7 +77,7 @@ fn with_class(row: [u8; ROOM], at: usize, a: Class) -> Output
     requires { ⌜ at + class-room ≤ room ⌝ }
     ensures { λ r. ⌜ (r ≡ filled row at (class-field 0x43 a)) × (length (class-field 0x43 a) ≤ class-room) ⌝ }
 {
-    let n = below(a.degree);
+    let n = places_of(a.degree);
     let mut d = row;
     d[at] = crate::CLASS;
     d[at + 1] = 0;

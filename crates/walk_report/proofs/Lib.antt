@@ -6,5 +6,6 @@ pub mod Lines
 pub mod LineLengths
 pub mod Advances
 pub mod ReportMade
+pub mod Through
 pub mod Kept
 pub mod Demand3

@@ -7,7 +7,8 @@ use native.Mathlib.Decide.{decLe}
 use lib.ListN.{getD, length, drop, List·getD-eq-default}
 use lib.Seq.{getD-drop}
 use borrow.Author.Tests.{lt-ltb, le-ltb, eq-eqb}
-use Rattle.jacobian.specs.Checks.{below, blank}
+use Rattle.binary_field.specs.Answer.{below}
+use Rattle.jacobian.specs.Checks.{blank}
 use Rattle.jacobian.proofs.ByValue.Checks.{blank-past}
 
 -- the numbers before place i are below m

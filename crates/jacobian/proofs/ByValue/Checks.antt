@@ -3,12 +3,13 @@ use Prim.Native.Nat.{ℕ, zero, suc, _^_, _≤_, _<_}
 use mathlib.Core.Path.{_≡_, refl}
 use mathlib.Core.{Bool.Bool, Bool.true, Bool.false, Bool._&&_, List.List, List.[], List._∷_}
 use native.Mathlib.Omega.{arith}
-use lib.{Dec.T, Dec.eqb, Dec.ltb, Dec.lit≤, ListN.getD, ListN.drop, Pow.pow-pos}
+use lib.{Dec.T, Dec.eqb, Dec.ltb, Dec.lit<, Dec.lit≤, ListN.getD, ListN.drop, Pow.pow-pos}
 use borrow.Author.Tests.{ltb-true, leb-true, eqb-true}
 use Rattle.binary_field_theory.specs.Element.{Accepted}
 use Rattle.class_group.specs.Mumford.{value}
 use Rattle.row_theory.specs.Field.{𝔸}
-use Rattle.jacobian.specs.{Checks.unless, Checks._or-else_, Checks.below, Checks.blank, Curves.coefficients, Curves.degree-refusal, Curves.coefficient-refusal, Curves.curve-refusal, Curves.f-row, Curves.curve, Classes.pair, Classes.shape-refusal, Classes.range-refusal, Classes.class-refusal, declared.Curve.Curve, declared.Class.Class}
+use Rattle.jacobian.specs.{Checks.unless, Checks._or-else_, Checks.blank, Curves.coefficients, Curves.degree-refusal, Curves.coefficient-refusal, Curves.curve-refusal, Curves.f-row, Curves.curve, Classes.pair, Classes.shape-refusal, Classes.range-refusal, Classes.class-refusal, declared.Curve.Curve, declared.Class.Class}
+use Rattle.binary_field.specs.Answer.{below}
 use Rattle.jacobian.proofs.ByValue.Degrees.{by-degree}
 
 -- ---- one check, and one after the other
@@ -27,10 +28,10 @@ unfolding _or-else_
 next-due {m = zero} e z h = h
 next-due {m = suc m} e z h = absurd (omega arith)
 
-pub unless-zero : (b : Bool) (n : ℕ) → unless b (suc n) ≡ 0 → b ≡ true
+pub unless-zero : (b : Bool) (n : ℕ) → 0 < n → unless b n ≡ 0 → b ≡ true
 unfolding unless
-unless-zero true n e = refl
-unless-zero false n e = absurd (omega arith)
+unless-zero true n p e = refl
+unless-zero false n p e = absurd (omega arith)
 
 both : (x y : Bool) → (x && y) ≡ true → (x ≡ true) × (y ≡ true)
 both true y e = (refl, e)
@@ -83,9 +84,9 @@ curve-passes c e =
     let h = then-zero _ _ e in
     let of-degree : degree-refusal c ≡ 0 = search in
     let of-coefficients : coefficient-refusal c ≡ 0 = search in
-    let ok : Accepted (c .degree) = T-of (unless-zero _ 105 of-degree) in
+    let ok : Accepted (c .degree) = T-of (unless-zero _ 106 (lit< tt) of-degree) in
     let two : 2 ≤ 2 ^ c .degree = by-degree (λ d. 2 ≤ 2 ^ d) (lit≤ tt) (lit≤ tt) (c .degree) ok in
-    let at = below-at _ _ (omega arith) (unless-zero _ 106 of-coefficients) in
+    let at = below-at _ _ (omega arith) (unless-zero _ 107 (lit< tt) of-coefficients) in
     record {
       accepted = ok;
       coefficients-below = at;
@@ -110,7 +111,7 @@ pub record ClassPasses (c : Curve) (a : Class) : Type 0 where
 pub shape-passes : (a : Class) → shape-refusal a ≡ 0 → ShapePasses a
 unfolding shape-refusal
 shape-passes a e =
-    let shape = both _ _ (unless-zero _ 103 e) in
+    let shape = both _ _ (unless-zero _ 104 (lit< tt) e) in
     let degree = both _ _ (shape .0) in
     record {
       low = leb-true _ _ (degree .0);
@@ -121,7 +122,7 @@ shape-passes a e =
 pub range-passes : (d : ℕ) (a : Class) → range-refusal d a ≡ 0 → RangePasses d a
 unfolding range-refusal
 range-passes d a e =
-    let range = both _ _ (unless-zero _ 109 e) in
+    let range = both _ _ (unless-zero _ 110 (lit< tt) e) in
     record { u-below = below-at (2 ^ d) (a .u) (pow-pos d) (range .0); v-below = below-at (2 ^ d) (a .v) (pow-pos d) (range .1) }
 
 pub class-passes : (c : Curve) (a : Class) → class-refusal c a ≡ 0 → ClassPasses c a
@@ -132,5 +133,5 @@ class-passes c a e =
     record {
       shape = shape-passes a (search);
       range = range-passes (c .degree) a (search);
-      divides = eqb-true _ _ (unless-zero _ 110 (k .1));
+      divides = eqb-true _ _ (unless-zero _ 111 (lit< tt) (k .1));
     }

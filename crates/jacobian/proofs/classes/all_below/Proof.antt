@@ -4,7 +4,7 @@ use mathlib.Core.Bool.{false, and-true}
 use Prim.Native.Nat.{_≤_, _<_}
 use lib.{Dec.ltb, ListN.getD}
 use borrow.Author.{Needs.needs, Tests.lt-ltb, Tests.le-ltb}
-use Rattle.jacobian.specs.Checks.{below}
+use Rattle.binary_field.specs.Answer.{below}
 use Rattle.jacobian.proofs.ByValue.Threes.{by-three}
 use Rattle.jacobian.proofs.classes.all_below.Statement.{statement}
 use Rattle.jacobian.proofs.classes.all_below.Tie as tie

@@ -3,7 +3,8 @@ use Prim.Native.Nat.{_-_, _≤_}
 use lib.ListN.{getD}
 use native.Mathlib.Omega.{arith}
 use borrow.Author.Needs.{needs}
-use Rattle.jacobian.specs.{Checks.unless, Checks.below, Curves.coefficients}
+use Rattle.jacobian.specs.{Checks.unless, Curves.coefficients}
+use Rattle.binary_field.specs.Answer.{below}
 use Rattle.jacobian.proofs.ByValue.Below.{BelowTo, below-none, below-more, below-all, below-fails}
 use Rattle.jacobian.proofs.curves.coefficients_refusal.Statement.{statement}
 use Rattle.jacobian.proofs.curves.coefficients_refusal.Tie as tie

@@ -8,7 +8,7 @@ returns : tie.Need-returns
 returns c =
     let counted = c .before .before .before .before in
     let start = counted .before in
-    class-filled (start .args .row) (start .args .at) (start .args .a) (counted .below .result) (counted .below .ensures) (c .before .with-coefficients .ensures) (c .with-coefficients2 .ensures)
+    class-filled (start .args .row) (start .args .at) (start .args .a) (counted .places-of .result) (counted .places-of .ensures) (c .before .with-coefficients .ensures) (c .with-coefficients2 .ensures)
 
 pub with-class-spec : {M : Type 1} → statement M
 with-class-spec =
