@@ -1,4 +1,4 @@
-// Measures the calls on elements, classes, registers and archives in one run and prints ratios: against the element product,
+// Measures the calls on elements, classes and registers in one run and prints ratios: against the element product,
 // against the same algorithms written straightforwardly in C (bench/plain.c), and against NTL's polynomials over GF(2^61) doing
 // Cantor's rule as document 01 writes it, without checks.
 //
@@ -6,8 +6,8 @@
 //
 // The classes are of degree 3, on a curve and from a point drawn at random. Before anything is measured every double and sum is
 // held to NTL's, every half to NTL's double, and every answer to that in C. The operations take turns, and the least time
-// of all rounds counts. Calls on elements run as a chain, each on what the last one answered. ARCHIVE has 1,024 operations; the
-// walk is timed on it, and the program WALKREPORT with it on standard input.
+// of all rounds counts. Calls on elements run as a chain, each on what the last one answered. ARCHIVE has 1,024 operations, and
+// the program WALKREPORT is timed with it on standard input.
 #include <NTL/GF2EX.h>
 
 #include <cstdint>
@@ -33,14 +33,13 @@ uint32_t class_double_and_add(uint8_t d, const uint64_t *f, const uint64_t *a, c
 uint32_t class_subtract_and_halve(uint8_t d, const uint64_t *f, const uint64_t *a, const uint64_t *b, uint64_t *r);
 uint32_t register_commit(uint8_t d, const uint64_t *f, uint64_t count, const uint64_t *a, const uint64_t *b, uint64_t *r);
 uint32_t register_undo(uint8_t d, const uint64_t *f, uint64_t count, const uint64_t *a, const uint64_t *b, uint64_t *r);
-size_t archive_report(const uint8_t *archive, size_t length, uint8_t *report, size_t room);
 uint64_t element_product(uint8_t d, uint64_t a, uint64_t b);
 uint64_t element_square(uint8_t d, uint64_t a);
 uint64_t element_square_root(uint8_t d, uint64_t a);
 uint64_t element_inverse(uint8_t d, uint64_t a);
 }
 
-enum { DEGREE = 61, CLASSES = 100, ROUNDS = 300, CHAIN = 10, KEPT = 1024, ROOM = 163840 };
+enum { DEGREE = 61, CLASSES = 100, ROUNDS = 300, CHAIN = 10, KEPT = 1024 };
 
 // Numbers that look random and are the same in every run: splitmix64 from a fixed seed.
 static uint64_t drawn() {
@@ -172,19 +171,6 @@ static std::vector<uint8_t> record_of(uint64_t count, const Class &seal, const C
 }
 
 static std::vector<std::vector<uint8_t>> records;
-static std::vector<uint8_t> archive;
-
-static void read_archive(const char *name) {
-    FILE *file = fopen(name, "rb");
-    int c;
-    while (file && (c = getc(file)) != EOF) archive.push_back(c);
-    if (archive.empty()) {
-        fprintf(stderr, "%s cannot be read\n", name);
-        exit(1);
-    }
-    fclose(file);
-}
-
 static void hold(bool held, const char *what, int i) {
     if (held) return;
     fprintf(stderr, "%s of class %d: the two differ\n", what, i);
@@ -224,7 +210,7 @@ static void compare() {
 }
 
 // What is measured: an operation by the proved code, in C, or by NTL.
-enum Operation { PRODUCT, SQUARE, ROOT, INVERSE, MEMBERSHIP, DOUBLE, HALF, SUM, COMMIT, UNDO, BYTE_UNDO, WALK, LOOP_PRODUCT, OPERATIONS };
+enum Operation { PRODUCT, SQUARE, ROOT, INVERSE, MEMBERSHIP, DOUBLE, HALF, SUM, COMMIT, UNDO, BYTE_UNDO, LOOP_PRODUCT, OPERATIONS };
 enum Maker { PROVED, PLAIN, NTL_LIBRARY, MAKERS };
 
 static uint64_t element_step(int operation, int maker, uint64_t x, uint64_t y) {
@@ -249,7 +235,7 @@ static GF2E element_step_by_ntl(int operation, const GF2E &x, const GF2E &y) {
 
 static bool is_made(int operation, int maker) {
     if (maker == PROVED) return operation != LOOP_PRODUCT;
-    if (maker == PLAIN) return operation != BYTE_UNDO && operation != WALK;
+    if (maker == PLAIN) return operation != BYTE_UNDO;
     return operation == PRODUCT || operation == SQUARE || operation == INVERSE || operation == DOUBLE || operation == SUM ||
         operation == COMMIT;
 }
@@ -305,13 +291,8 @@ static double now() {
 
 // How long one operation took in a round.
 static double timed(int operation, int maker) {
-    static uint8_t report[ROOM];
     static volatile uint64_t kept = 3;
     double began = now();
-    if (operation == WALK) {
-        kept = kept + archive_report(archive.data(), archive.size(), report, ROOM);
-        return (now() - began) / KEPT;
-    }
     kept = kept ^ (is_of_elements(operation) ? element_round(operation, maker, 3) : class_round(operation, maker, 3));
     return (now() - began) / CLASSES / (is_of_elements(operation) ? CHAIN : 1);
 }
@@ -354,7 +335,6 @@ int main(int words, char **word) {
     GF2X modulus;
     for (int i : {61, 5, 2, 1, 0}) SetCoeff(modulus, i);
     GF2E::init(modulus);
-    read_archive(word[1]);
     draw();
     compare();
     for (int round = 0; round < ROUNDS; round++) {
@@ -370,8 +350,8 @@ int main(int words, char **word) {
     printf("  %-30s %10s %8s %8s %8s\n", "", "time in", "time in", "C by", "NTL by");
     printf("  %-30s %10s %8s %8s %8s\n", "", "products", "halves", "ours", "ours");
     const char *names[] = {"product", "square", "square root", "inverse", "membership", "double", "half", "sum", "commit", "undo",
-        "undo by bytes", "walk and report, by operation"};
-    for (int operation = 0; operation <= WALK; operation++) print_line(names[operation], operation);
+        "undo by bytes"};
+    for (int operation = 0; operation <= BYTE_UNDO; operation++) print_line(names[operation], operation);
     double program = program_time(word[2], word[1]) / least[HALF][PROVED];
     printf("  the program walkreport on %d operations takes %.0f halves, %.2f for each operation\n", KEPT, program, program / KEPT);
     printf("  NTL's double and sum take %.2f of an undo, a plain loop of 61 turns in C %.2f of a product\n",
