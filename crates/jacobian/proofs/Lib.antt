@@ -4,3 +4,4 @@ pub mod Representation
 pub mod Computing
 pub mod Examples
 pub mod Calls
+pub mod Refusals

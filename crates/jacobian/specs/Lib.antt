@@ -1,6 +1,7 @@
 -- Classes by value: what the calls answer.
 pub mod Field
 pub mod Checks
+pub mod Refusals
 pub mod Curves
 pub mod Classes
 pub mod Examples

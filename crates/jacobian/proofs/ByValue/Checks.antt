@@ -33,7 +33,7 @@ unfolding unless
 unless-zero true n p e = refl
 unless-zero false n p e = absurd (omega arith)
 
-both : (x y : Bool) → (x && y) ≡ true → (x ≡ true) × (y ≡ true)
+pub both : (x y : Bool) → (x && y) ≡ true → (x ≡ true) × (y ≡ true)
 both true y e = (refl, e)
 both false true e = (e, refl)
 both false false e = (e, e)

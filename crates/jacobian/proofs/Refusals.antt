@@ -1,0 +1,61 @@
+-- What the checks say is 0 or the number of a refusal: of one check (`told-unless`), of one after the other (`told-or-else`), and so of a verdict
+-- (`refused-told`). Every refusal's number is above 100 (`above-100`), so no length up to that is taken for one.
+use Prim.Native.Nat.{ℕ, zero, suc, _<_}
+use mathlib.Core.{Path._≡_, Path.refl, Path.sym, Path.ap, Path.subst, Bool.Bool, Bool.true, Bool.false, Bool.true≢false, Bool.false≢true, Bool._||_, Bool._&&_, List.List, List.[], List._∷_, Logic._⊎_, Logic.inl, Logic.inr}
+use native.Mathlib.Omega.{arith}
+use lib.Dec.{eqb, ltb}
+use borrow.Author.Tests.{ltb-true, eqb-true}
+use Rattle.jacobian.specs.{Checks.unless, Checks._or-else_, Refusals.refusals, Refusals.listed, Refusals.IsRefusal, Refusals.Told}
+use Rattle.jacobian.specs.Answer.{Verdict, accepted, refused, verdict-of}
+use Rattle.jacobian.proofs.ByValue.Checks.{both}
+
+-- ---- every number of the list is above 100
+all-above : ℕ → List ℕ → Bool
+all-above k [] = true
+all-above k (m ∷ ms) = ltb k m && all-above k ms
+
+second : (x y : Bool) → x ≡ false → (x || y) ≡ true → y ≡ true
+second true y is e = absurd (true≢false is)
+second false y is e = e
+
+listed-above : (k n : ℕ) (ms : List ℕ) → all-above k ms ≡ true → listed n ms ≡ true → k < n
+unfolding listed all-above
+listed-above k n [] a e = absurd (false≢true e)
+listed-above k n (m ∷ ms) a e = from (eqb n m) refl (λ is. listed-above k n ms (both (ltb k m) (all-above k ms) a .1) (second (eqb n m) (listed n ms) is e))
+  where
+    from : (x : Bool) → eqb n m ≡ x → (eqb n m ≡ false → k < n) → k < n
+    from true is rest = subst (λ (i : ℕ). k < i) (sym (eqb-true n m is)) (ltb-true k m (both (ltb k m) (all-above k ms) a .0))
+    from false is rest = rest is
+
+pub above-100 : (n : ℕ) → IsRefusal n → 100 < n
+unfolding IsRefusal refusals all-above
+above-100 n e = listed-above 100 n refusals refl e
+
+-- ---- checks
+pub told-none : Told 0
+unfolding Told
+told-none = inl refl
+
+pub told-unless : (b : Bool) (n : ℕ) → IsRefusal n → Told (unless b n)
+unfolding Told unless
+told-unless true n r = inl refl
+told-unless false n r = inr r
+
+pub told-or-else : (m n : ℕ) → Told m → Told n → Told (m or-else n)
+unfolding _or-else_
+told-or-else zero n t u = u
+told-or-else (suc m) n t u = t
+
+accepted-not-refused : {n : ℕ} → _≡_ {A = Verdict} accepted (refused n) → ⊥
+accepted-not-refused h = let z : _≡_ {A = ℕ} 0 1 = cc in omega arith
+
+number : Verdict → ℕ
+number accepted = 0
+number (refused n) = n
+
+-- a verdict refuses with the number of a refusal
+pub refused-told : (m n : ℕ) → Told m → verdict-of m ≡ refused n → IsRefusal n
+unfolding Told verdict-of number
+refused-told zero n t e = absurd (accepted-not-refused e)
+refused-told (suc m) n (inl z) e = absurd (omega arith)
+refused-told (suc m) n (inr r) e = subst IsRefusal (ap number e) r

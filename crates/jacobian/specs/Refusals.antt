@@ -1,0 +1,19 @@
+-- The numbers of the refusals (document 01, 'In checking order').
+use Prim.Native.Nat.{ℕ}
+use mathlib.Core.{Path._≡_, Bool.Bool, Bool.true, Bool.false, Bool._||_, List.List, List.[], List._∷_, Logic._⊎_}
+use lib.Dec.{eqb}
+
+-- one for each check
+unfoldable pub refusals : List ℕ
+refusals = 101 ∷ 102 ∷ 103 ∷ 104 ∷ 105 ∷ 106 ∷ 107 ∷ 108 ∷ 109 ∷ 110 ∷ 111 ∷ 112 ∷ 113 ∷ 114 ∷ []
+
+unfoldable pub listed : ℕ → List ℕ → Bool
+listed n [] = false
+listed n (m ∷ ms) = eqb n m || listed n ms
+
+unfoldable pub IsRefusal : ℕ → Type 0
+IsRefusal n = listed n refusals ≡ true
+
+-- what a check says: 0, or the number of a refusal
+unfoldable pub Told : ℕ → Type 0
+Told n = (n ≡ 0) ⊎ IsRefusal n
