@@ -1,0 +1,102 @@
+"""Reads Rattle's files of definitions and proofs as far as tests/claims needs it: what a file imports, what each of its declarations says, and which
+names of a statement lead to a definition that stands under proofs/."""
+import os
+import re
+
+DECLARED = re.compile(r"((?:abbrev |unfoldable |pub )*)(data |record )?([^\s(){}:,=]+)((?: [({][^)}]*[)}])*) : (.*)")
+
+
+def imports(text):
+    """The full path of each name that a file imports."""
+    names = {}
+    for m in re.finditer(r"^\s*(?:ghost )?use ([^{\n;]+?)(?:\.\{([^}]*)\})?(?: as ([^\s;]+))?;?$", text, re.M):
+        base, items, alias = m[1].strip(), m[2], m[3]
+        if items is None:
+            names[alias or base.split(".")[-1]] = base
+            continue
+        for item in filter(None, (i.strip() for i in items.split(","))):
+            path, _, new = item.partition(" as ")
+            names[new.strip() or path.split(".")[-1]] = base + "." + path
+    return names
+
+
+def declarations(text):
+    """Of each name that a file declares: what it says, with the parameters of the sections around it, and whether it is a definition, which is marked as
+    one that unfolds or is a type, and not a lemma."""
+    found, sections, lines, i = {}, [], text.split("\n"), 0
+    while i < len(lines):
+        body = lines[i].strip()
+        indent = len(lines[i]) - len(lines[i].lstrip())
+        i += 1
+        if not body or body.startswith(("--", "use ", "let ", "|")):
+            continue
+        while sections and sections[-1][0] >= indent:
+            sections.pop()
+        more = i
+        while more < len(lines) and lines[more].strip() and len(lines[more]) - len(lines[more].lstrip()) > indent:
+            more += 1
+        if body.startswith("module "):
+            while not body.endswith("where"):
+                body += " " + lines[i].strip()
+                i += 1
+            sections.append((indent, body[len("module "):-len("where")]))
+        elif m := DECLARED.match(body):
+            said = " ".join([s for _, s in sections] + [m[4], m[5]] + [l.strip() for l in lines[i:more]])
+            definition = bool(m[2]) or "abbrev" in m[1] or "unfoldable" in m[1]
+            found.setdefault(m[3], (said, definition))
+    return found
+
+
+def words(said):
+    return set(re.findall(r"[^\s(){}\[\],;⌜⌝]+", said))
+
+
+def read(path):
+    with open(path, encoding="utf-8") as f:
+        return f.read()
+
+
+def place(full, kind):
+    """The file of some crate's folder (`specs` or `proofs`) that an import leads to, and the name that it takes from there."""
+    m = re.match(rf"Rattle·([^.·]+)(?:·{kind}\.{kind}|\.{kind})\.(.+)$", full)
+    parts = m[2].split(".") if m else []
+    for n in range(len(parts), 0, -1):
+        path = f"crates/{m[1]}/{kind}/{'/'.join(parts[:n])}.antt"
+        if os.path.isfile(path):
+            return path, ".".join(parts[n:])
+    return None, None
+
+
+def hidden(name, text):
+    """The words of the statement of a theorem that lead to a declaration under proofs/: imported from there, or another one of its own file."""
+    names, own, found = imports(text), declarations(text), set()
+    for word in words(own[name][0]):
+        for w in (word, word.split(".")[0], f"_{word}_"):
+            if (w in own and w != name) or (w in names and place(names[w], "proofs")[0]):
+                found.add(word)
+    return found
+
+
+def definitions_from_proofs(text):
+    """The definitions, as opposed to lemmas, that a file takes from under proofs/."""
+    found = set()
+    for name, full in imports(text).items():
+        path, inner = place(full, "proofs")
+        if path:
+            held = declarations(read(path))
+            for word in [inner] if inner else re.findall(re.escape(name) + r"\.([^\s(){},]+)", text):
+                if held.get(word.split(".")[-1], (0, False))[1]:
+                    found.add(word)
+    return found
+
+
+def conditions(ensures, text):
+    """What an `ensures` promises under a condition: an arrow of its own, or a record of specs/ with an arrow in a field."""
+    found = {"→"} if "→" in ensures else set()
+    names = imports(text)
+    for word in words(ensures):
+        path, inner = place(names.get(word, ""), "specs")
+        fields = path and re.search(rf"^pub record {re.escape(inner)}\b.*?where\n((?:  .*\n?|\n)+)", read(path), re.M)
+        if fields and "→" in re.sub(r"--.*", "", fields[1]):
+            found.add(inner)
+    return found
