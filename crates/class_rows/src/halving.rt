@@ -203,7 +203,7 @@ fn half_of_degree_3(d: u8, u: Row, v: Row, w: Row) -> RowPair
     RowPair { u: a, v: o }
 }
 
-// The half of a reduced pair, with w at hand.
+// The half of a reduced pair, with w at hand. The neutral class is its own half.
 pub(crate) fn half_of_reduced(d: u8, f: Row, a: RowPair, w: Row) -> RowPair
     requires { ⌜ Accepted d × ReducedRows d f a × CofactorRow d f a w ⌝ }
     ensures { λ r. ⌜ ((C : TheoryCurve (𝔸 d)) → OnCurve d f C → StandsPair d r (half C (rows-pair d a))) ⌝ }
@@ -212,7 +212,11 @@ pub(crate) fn half_of_reduced(d: u8, f: Row, a: RowPair, w: Row) -> RowPair
     let v = a.v;
     let n = length(u);
     if n <= 1 {
-        return a;
+        let unit = one();
+        return RowPair {
+            u: unit,
+            v: [0; 12],
+        };
     }
     if n == 2 {
         return half_of_degree_1(d, u, v, w);

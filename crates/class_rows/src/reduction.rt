@@ -65,8 +65,8 @@ fn reduce_with(d: u8, f: Row, a: RowPair, w: Row) -> CountedRows
 {
     let once = step(d, f, a, w);
     let u = once.u;
-    let n = length(u);
-    if n <= 4 {
+    let left = length(u);
+    if left <= 4 {
         return CountedRows {
             pair: once,
             steps: 1,
