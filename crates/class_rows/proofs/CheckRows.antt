@@ -17,7 +17,7 @@ use Rattle.class_rows.specs.Pair.{rows-pair}
 use Rattle.row_theory.proofs.{Rows.Elements.degree-is, Rows.Elements.zero-lt, Rows.Elements.el-one, Rows.Elements.one-of-one, Rows.Lead.leads}
 use Rattle.row_theory.proofs.Rows.Lead.{lead-row}
 use Rattle.class_rows.proofs.ReductionRows.{reduced-on}
-use Rattle.class_rows.specs.{Core.OnCurve, Core.StandsCounted, Checked.Decides, Checked.Divisor, Checked.FormedRows, Checked.Gives}
+use Rattle.class_rows.specs.{Core.OnCurve, Core.StandsCounted, Checked.Decides, Checked.Divisor, Checked.Gives, internal.Check.FormedRows}
 use Rattle.class_rows.specs.declared.{row.RowPair.RowPair, reduction.CountedRows.CountedRows}
 
 -- ---- tests

@@ -9,8 +9,8 @@ use Rattle.class_group.specs.Curve as Theory
 use Rattle.class_group.specs.{Mumford.value, Composition.compose-double, Reduction.reduce, Operations.counted-double}
 use Rattle.class_group.proofs.{SemiReduced.semi-of-reduced, Composed.compose-double-semi, Composed.compose-double-len}
 use Rattle.row_theory.specs.{Field.𝔸, Field.poly, Row.Stands, Row.row-len}
-use Rattle.class_rows.specs.{Pair.StandsPair, Pair.rows-pair, Core.OnCurve, Core.ReducedRows, Core.SemiReducedRows, Core.StandsCounted}
-use Rattle.class_rows.specs.internal.Cofactor.{CofactorRow, SquaredRows}
+use Rattle.class_rows.specs.{Pair.StandsPair, Pair.rows-pair, Core.OnCurve, Core.ReducedRows, Core.StandsCounted}
+use Rattle.class_rows.specs.internal.Cofactor.{CofactorRow, SemiReducedRows, SquaredRows}
 use Rattle.row_theory.proofs.ReductionSteps.{square-nonzero, square-len, double-cofactor, cofactor-short}
 use Rattle.row_theory.proofs.ReductionSteps.{quotient-short}
 use Rattle.class_rows.specs.declared.{row.RowPair.RowPair, reduction.CountedRows.CountedRows, reduction.Squared.Squared}

@@ -13,8 +13,8 @@ use Rattle.class_group.proofs.SemiReduced.{SemiReduced, cofactor-nonzero, step-
 use Rattle.row_theory.specs.{Field.𝔸, Field.Poly, Field.poly, Row.InRange, Row.Stands, Row.row-len}
 use Rattle.row_theory.proofs.Rows.Coefficients.{self-stands, stands-eq}
 use Rattle.row_theory.proofs.ReductionSteps.{reduce-none, reduce-once, reduce-twice}
-use Rattle.class_rows.specs.{Pair.StandsPair, Pair.rows-pair, Core.OnCurve, Core.ReducedRows, Core.SemiReducedRows, Core.StandsCounted}
-use Rattle.class_rows.specs.{internal.Cofactor.CofactorRow, declared.row.RowPair.RowPair}
+use Rattle.class_rows.specs.{Pair.StandsPair, Pair.rows-pair, Core.OnCurve, Core.ReducedRows, Core.StandsCounted}
+use Rattle.class_rows.specs.{internal.Cofactor.CofactorRow, internal.Cofactor.SemiReducedRows, declared.row.RowPair.RowPair}
 
 -- v² + v + f on a curve of f
 pub value-stands :

@@ -5,7 +5,7 @@ ghost use Rattle.binary_field_theory.specs.Element.{Accepted};
 ghost use Rattle.char2_algebra.specs.Lead.{Monic};
 ghost use Rattle.row_theory.specs.{Field.𝔸, Field.poly, Row.InRange, Row.Stands, Row.row-len};
 ghost use Rattle.class_rows.specs.Core.{OnCurve};
-ghost use Rattle.class_rows.specs.Checked.{Decides, FormedPair, FormedRows, CheckedRows, CheckedBoth};
+ghost use Rattle.class_rows.specs.{Checked.Decides, Checked.Divisor, internal.Check.FormedPair, internal.Check.FormedRows, internal.Check.CheckedRows};
 use crate::row::Division;
 use crate::row::Row;
 use crate::row::RowPair;
@@ -129,7 +129,7 @@ fn divided(d: u8, f: Row, a: RowPair) -> Division
 
 // The check of a pair.
 pub(crate) fn checked(d: u8, f: Row, a: RowPair) -> Check
-    ensures { λ r. ⌜ CheckedRows d f a r ⌝ }
+    ensures { λ r. ⌜ CheckedRows d f (Divisor d f a) a r ⌝ }
 {
     if !in_form(d, f, a) {
         return Check {
@@ -146,7 +146,7 @@ pub(crate) fn checked(d: u8, f: Row, a: RowPair) -> Check
 
 // The check of two pairs, with the cofactor of the first.
 pub(crate) fn checked_both(d: u8, f: Row, a: RowPair, b: RowPair) -> Check
-    ensures { λ r. ⌜ CheckedBoth d f a b r ⌝ }
+    ensures { λ r. ⌜ CheckedRows d f (Divisor d f a × Divisor d f b) a r ⌝ }
 {
     let second = checked(d, f, b);
     if !second.divisor {
