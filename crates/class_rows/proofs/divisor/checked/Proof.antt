@@ -14,9 +14,6 @@ returns c =
       cofactor = λ e. absurd (true≢false (sym e));
     }
 
-divided-requires : tie.Need-divided-requires
-divided-requires c κs = c .before .in-form .ensures .0 (not-false _ (c .if1 .left))
-
 returns-2 : tie.Need-returns-2
 returns-2 c =
     let after = c .before .before .before in
@@ -28,4 +25,4 @@ returns-2 c =
     }
 
 pub checked-spec : {M : Type 1} → statement M
-checked-spec = tie.close (tie.spec (λ c κs. tt) returns divided-requires (λ c κs. tt) returns-2)
+checked-spec = tie.close (tie.spec (λ c κs. tt) returns (λ c κs. c .before .in-form .ensures .0 (not-false _ (c .if1 .left))) (λ c κs. tt) returns-2)

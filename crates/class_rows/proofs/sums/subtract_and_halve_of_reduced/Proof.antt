@@ -5,9 +5,6 @@ use Rattle.class_rows.proofs.MoveRows.{opposed-reduced, summed-reduced,
 use Rattle.class_rows.proofs.sums.subtract_and_halve_of_reduced.Statement.{statement}
 use Rattle.class_rows.proofs.sums.subtract_and_halve_of_reduced.Tie as tie
 
-opposite-of-reduced-requires : tie.Need-opposite-of-reduced-requires
-opposite-of-reduced-requires c κs = (c .pre .0, c .pre .2 .u-range, c .pre .2 .v-range)
-
 sum-of-reduced-requires : tie.Need-sum-of-reduced-requires
 sum-of-reduced-requires c κs =
     let s = c .before in
@@ -41,7 +38,7 @@ pub subtract-and-halve-of-reduced-spec : {M : Type 1} → statement M
 subtract-and-halve-of-reduced-spec =
     tie.close
     (tie.spec
-    opposite-of-reduced-requires
+    (λ c κs. (c .pre .0, c .pre .2 .u-range, c .pre .2 .v-range))
     sum-of-reduced-requires
     cofactor-requires
     half-of-reduced-requires
