@@ -11,12 +11,6 @@ use Rattle.binary_field_theory.proofs.Words.Sizes.{clmul-lt}
 use Rattle.binary_field.proofs.rooting.times_root_of_t.Statement.{statement}
 use Rattle.binary_field.proofs.rooting.times_root_of_t.Tie as tie
 
-product-of-requires : tie.Need-product-of-requires
-product-of-requires c κs = (tt, rw (c .if1 .taken) at (c .before .pre .1), lit< tt)
-
-returns : tie.Need-returns
-returns c = rw (c .before .if1 .taken) (times-root 5 tt _ _ root-5 (c .product-of .ensures))
-
 fold-requires : tie.Need-fold-requires
 fold-requires c κs =
     let (l, e) = c .wide-times-root .ensures in
@@ -33,4 +27,9 @@ returns-2 c =
 pub times-root-of-t-spec : {M : Type 1} → statement M
 times-root-of-t-spec =
     tie.close
-    (tie.spec product-of-requires returns (λ c κs. search needs) fold-requires returns-2)
+    (tie.spec
+    (λ c κs. (tt, rw (c .if1 .taken) at (c .before .pre .1), lit< tt))
+    (λ c. rw (c .before .if1 .taken) (times-root 5 tt _ _ root-5 (c .product-of .ensures)))
+    (λ c κs. search needs)
+    fold-requires
+    returns-2)

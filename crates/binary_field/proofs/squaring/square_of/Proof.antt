@@ -10,9 +10,6 @@ use Rattle.binary_field_theory.proofs.Words.Halves.{spread-words}
 use Rattle.binary_field.proofs.squaring.square_of.Statement.{statement}
 use Rattle.binary_field.proofs.squaring.square_of.Tie as tie
 
-spread-32-requires-2 : tie.Need-spread-32-requires-2
-spread-32-requires-2 c κs = (c .before .pre .2, mask-lt (c .before .args .a) 32)
-
 fold-requires : tie.Need-fold-requires
 fold-requires c κs =
     let s = c .before .before in
@@ -27,4 +24,4 @@ returns c =
     c .fold .ensures ∙ ap (remainder (s .args .d) (low (s .args .d))) e ∙ sym (square-spread (s .args .d) (s .args .a))
 
 pub square-of-spec : {M : Type 1} → statement M
-square-of-spec = tie.close (tie.spec (λ c κs. search needs) spread-32-requires-2 fold-requires returns)
+square-of-spec = tie.close (tie.spec (λ c κs. search needs) (λ c κs. (c .before .pre .2, mask-lt (c .before .args .a) 32)) fold-requires returns)
