@@ -4,9 +4,7 @@
 use Prim.Native.Nat.{ℕ, _^_, _<_}
 use mathlib.Core.Path.{_≡_, sym, ap, _∙_}
 use Rattle.binary_field_theory.specs.Element.{Accepted, product, square, root, inverse}
-use Rattle.binary_field_theory.proofs.Products.{low-lt}
-use Rattle.binary_field_theory.proofs.Frobenius.{square-root, root-square, root-lt}
-use Rattle.binary_field_theory.proofs.Certificate.{certified}
+use Rattle.binary_field_theory.proofs.{Products.low-lt, Frobenius.square-root, Frobenius.root-square, Frobenius.root-lt, Certificate.certified}
 use Rattle.binary_field_theory.proofs.Inverses
 
 -- r is an element whose square is a, and the only one

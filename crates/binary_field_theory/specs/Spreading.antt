@@ -1,6 +1,5 @@
 -- The table that spreads a byte to sixteen bits (document 01, 'The fields'): bit i of the byte is bit 2i of its entry.
-use mathlib.Core.Path.{_≡_}
-use mathlib.Core.List.{List}
+use mathlib.Core.{Path._≡_, List.List}
 use Prim.Native.Nat.{ℕ, zero, suc, _+_, _*_, _/_, _%_, _<_}
 use lib.ListN.{getD}
 use Rattle.binary_field_theory.specs.Carryless.{spread}

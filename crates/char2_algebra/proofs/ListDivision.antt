@@ -1,13 +1,10 @@
 -- The schoolbook division of lists of coefficients: the dividend is quotient times divisor plus remainder, and the remainder is shorter
 -- than the divisor.
 use Prim.Native.Nat.{ℕ, zero, suc, _≤_, _<_, suc-le-suc}
-use mathlib.Core.Path.{_≡_, refl, sym, _∙_, ap, ap₂, subst}
-use mathlib.Core.List.{List, [], _∷_}
-use native.Mathlib.Omega.{arith}
-use native.Mathlib.Decide.{ℕ-discrete}
+use mathlib.Core.{Path._≡_, Path.refl, Path.sym, Path._∙_, Path.ap, Path.ap₂, Path.subst, List.List, List.[], List._∷_}
+use native.Mathlib.{Omega.arith, Decide.ℕ-discrete}
 use lib.ListN.{length, List·getD-eq-default}
-use Rattle.field_laws.specs.Ring.{Ring2}
-use Rattle.field_laws.specs.Field.{Field2}
+use Rattle.field_laws.specs.{Ring.Ring2, Field.Field2}
 use Rattle.char2_algebra.specs.Polynomial.{Polynomial, Trimmed, trim, trim-trimmed, of-list, add-lists, scale-list, invert, divide-steps, divide-lists, coeff, nought, con, x, add, mul}
 use Rattle.char2_algebra.proofs.Ring.{ring2, 𝟘-·, 𝟘-+, +-𝟘, +-self, ·-𝟘, by, combine}
 use Rattle.char2_algebra.proofs.ListCoefficients.{at, at-add, at-scale, at-trim, at-end, length-le}

@@ -5,9 +5,8 @@ use lib.ListN.{List·getD-eq-default}
 use Rattle.field_laws.specs.Field.{Field2}
 use Rattle.char2_algebra.specs.Polynomials.{Polynomials}
 use Rattle.char2_algebra.specs.Polynomial.{Polynomial, nought, con, x, add, mul, coeff, len, quot, rem}
-use Rattle.char2_algebra.proofs.ListCoefficients.{at-last}
+use Rattle.char2_algebra.proofs.{ListCoefficients.at-last, ListDivision.of-coefficients, ListDivision.divide-law, ListDivision.divide-short}
 use Rattle.char2_algebra.proofs.PolynomialRing.{ring, ext, eq-of-coefficients, coeff-add, coeff-con, coeff-con-suc, coeff-con-mul, coeff-x-mul, coeff-x-mul-suc}
-use Rattle.char2_algebra.proofs.ListDivision.{of-coefficients, divide-law, divide-short}
 
 module _ {K : Type 0} (F : Field2 K) where
   pub division : (a b : Polynomial F) → a ≡ add F (mul F (quot F a b) b) (rem F a b)

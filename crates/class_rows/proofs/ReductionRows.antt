@@ -1,8 +1,7 @@
 -- Rows that stand for semi-reduced pairs: what the functions of a reduction require of each other, and what they promise, from what
 -- the functions on rows promise.
 use Prim.Native.Nat.{ℕ, _≤_, _<_}
-use mathlib.Core.Path.{_≡_, refl, sym, _∙_, ap, ap₂, subst}
-use mathlib.Core.List.{List}
+use mathlib.Core.{Path._≡_, Path.refl, Path.sym, Path._∙_, Path.ap, Path.ap₂, Path.subst, List.List}
 use native.Mathlib.Omega.{arith}
 use Rattle.field_laws.specs.Ring.{Ring2}
 use Rattle.char2_algebra.specs.{Polynomials.Polynomials, Lead.monic-of}

@@ -4,8 +4,7 @@
 -- doubling and halving undo each other. `only-half`: the half is the only divisor whose double is the one given. `subtract-of-add`,
 -- `add-of-subtract`: so do the two rules that move a seal, with the same second pair.
 use Prim.Native.Nat.{ℕ}
-use mathlib.Core.Path.{_≡_, sym, _∙_, ap}
-use mathlib.Core.{Bool.true, List.List}
+use mathlib.Core.{Path._≡_, Path.sym, Path._∙_, Path.ap, Bool.true, List.List}
 use lib.ListN.{getD}
 use Rattle.class_group.specs.Curve as Theory
 use Rattle.class_group.specs.{Mumford.Pair, Mumford.Reduced, Reduction.Counted, Operations.double, Half.half, Moves.double-and-add, Moves.subtract-and-halve}
@@ -14,8 +13,7 @@ use Rattle.class_group.proofs.Moves.{moves, counted-double-and-add-class, count
 use Rattle.row_theory.specs.{Field.𝔸, Field.Poly, Field.el, Field.poly, Row.InRange}
 use Rattle.row_theory.proofs.Rows.{Elements.el-injective, Coefficients.coeff-poly, Coefficients.poly-is, Coefficients.self-stands}
 use Rattle.class_rows.specs.{Pair.StandsPair, Pair.rows-pair, Core.OnCurve, Checked.Divisor, Checked.Gives, Checked.UnaryAnswer, Checked.BinaryAnswer, Checked.SameRows}
-use Rattle.class_rows.specs.declared.{row.RowPair.RowPair, RowsAnswer.RowsAnswer}
-use Rattle.class_rows.specs.declared.{Unary.the-variants.Double, Unary.the-variants.Half}
+use Rattle.class_rows.specs.declared.{row.RowPair.RowPair, RowsAnswer.RowsAnswer, Unary.the-variants.Double, Unary.the-variants.Half}
 use Rattle.class_rows.specs.declared.{Binary.the-variants.DoubleAndAdd, Binary.the-variants.SubtractAndHalve}
 use Rattle.class_rows.proofs.ReductionRows.{pair-eq, stands-pair-eq, reduced-on, reduced-rows}
 

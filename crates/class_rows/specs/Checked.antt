@@ -1,8 +1,7 @@
 -- What the open functions answer for rows of any numbers: whether they are reduced divisors of the curve of f, and where they are, the rows
 -- of what the theory says.
 use Prim.Native.Nat.{ℕ}
-use mathlib.Core.Path.{_≡_}
-use mathlib.Core.{Bool.Bool, Bool.true, Bool.false, List.List, Logic._↔_}
+use mathlib.Core.{Path._≡_, Bool.Bool, Bool.true, Bool.false, List.List, Logic._↔_}
 use lib.ListN.{getD}
 use Rattle.binary_field_theory.specs.Element.{Accepted}
 use Rattle.class_group.specs.Curve as Theory

@@ -1,14 +1,10 @@
 -- Rows that are a reduced class of the curve of a row f, and rows with a count of steps.
 use Prim.Native.Nat.{ℕ}
-use mathlib.Core.Path.{_≡_}
-use mathlib.Core.List.{List}
+use mathlib.Core.{Path._≡_, List.List}
 use Rattle.class_group.specs.Curve as Theory
-use Rattle.class_group.specs.Mumford.{Reduced}
-use Rattle.class_group.specs.Reduction.{Counted}
+use Rattle.class_group.specs.{Mumford.Reduced, Reduction.Counted}
 use Rattle.row_theory.specs.{Field.𝔸, Field.Poly, Field.poly, Row.InRange}
-use Rattle.class_rows.specs.Pair.{StandsPair, rows-pair}
-use Rattle.class_rows.specs.declared.row.RowPair.{RowPair}
-use Rattle.class_rows.specs.declared.reduction.CountedRows.{CountedRows}
+use Rattle.class_rows.specs.{Pair.StandsPair, Pair.rows-pair, declared.row.RowPair.RowPair, declared.reduction.CountedRows.CountedRows}
 
 -- the row f is the f of the curve C
 pub record OnCurve (d : ℕ) (f : List ℕ) (C : Theory.Curve (𝔸 d)) : Type 0 where

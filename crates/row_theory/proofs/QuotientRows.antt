@@ -1,8 +1,7 @@
 -- The quotient alone, coefficient by coefficient. A coefficient of a product by partial sums (`Partial`), and the quotient from the top
 -- (`Divided`): from k on a + q b has no coefficient, and q none below k less the degree of b.
 use Prim.Native.Nat.{ℕ, zero, suc, _+_, _-_, _≤_, _<_}
-use mathlib.Core.Path.{_≡_, refl, sym, _∙_, ap, ap₂}
-use mathlib.Core.List.{List}
+use mathlib.Core.{Path._≡_, Path.refl, Path.sym, Path._∙_, Path.ap, Path.ap₂, List.List}
 use native.Mathlib.{Omega.arith, Decide.decLe, Decide.ℕ-discrete}
 use lib.{ListN.length, ListN.getD, ListN.set, ListN.replicate, ListN.length-set, Seq.getD-set-other}
 use Rattle.field_laws.specs.{Ring.Ring2, Field.Field2}

@@ -1,7 +1,6 @@
 -- What the functions on numbers and rows promise: numbers in range that stand for elements and polynomials.
 use Prim.Native.Nat.{ℕ, zero, suc, _-_, _≤_, _<_, _^_}
-use mathlib.Core.Path.{_≡_}
-use mathlib.Core.List.{List, [], _∷_, _++_}
+use mathlib.Core.{Path._≡_, List.List, List.[], List._∷_, List._++_}
 use lib.ListN.{length, getD, replicate}
 use Rattle.row_theory.specs.Field.{degree-of, K, Poly, 𝔸, el, poly}
 

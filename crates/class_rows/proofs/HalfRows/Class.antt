@@ -1,7 +1,6 @@
 -- From a reduced class by rows to the rows that the halving rule takes, and from the rule's pair to the half of the class.
 use Prim.Native.Nat.{ℕ, zero, suc, _≤_, _<_, _+_}
-use mathlib.Core.Path.{_≡_, sym, _∙_, ap, subst}
-use mathlib.Core.List.{List}
+use mathlib.Core.{Path._≡_, Path.sym, Path._∙_, Path.ap, Path.subst, List.List}
 use native.Mathlib.Omega.{arith}
 use Rattle.char2_algebra.specs.Lead.{Monic}
 use Rattle.char2_algebra.proofs.{Degree.nonzero-of-len, Division.len-quot-exact, Lead.monic-nonzero, Lead.quot-monic}

@@ -1,7 +1,6 @@
 -- What the private functions of the check promise.
 use Prim.Native.Nat.{ℕ, _≤_, _<_}
-use mathlib.Core.Path.{_≡_}
-use mathlib.Core.{Bool.true, List.List}
+use mathlib.Core.{Path._≡_, Bool.true, List.List}
 use Rattle.binary_field_theory.specs.Element.{Accepted}
 use Rattle.char2_algebra.specs.Lead.{Monic}
 use Rattle.class_group.specs.Curve as Theory

@@ -6,9 +6,7 @@ use Rattle.char2_algebra.specs.{Lead.Monic, Divides.Divides}
 use Rattle.class_group.specs.Curve as Theory
 use Rattle.class_group.specs.Mumford.{value}
 use Rattle.row_theory.specs.{Field.𝔸, Field.poly, Row.InRange, Row.Stands}
-use Rattle.class_rows.specs.Core.{OnCurve}
-use Rattle.class_rows.specs.declared.row.RowPair.{RowPair}
-use Rattle.class_rows.specs.declared.reduction.Squared.{Squared}
+use Rattle.class_rows.specs.{Core.OnCurve, declared.row.RowPair.RowPair, declared.reduction.Squared.Squared}
 
 -- the rows are a pair of degree at most 6 that is to be reduced
 pub record SemiReducedRows (d : ℕ) (f : List ℕ) (a : RowPair) : Type 0 where

@@ -1,7 +1,6 @@
 -- Numbers in range and the elements that they stand for: the accepted degrees, 0 and 1, equality, sums and products.
 use Prim.Native.Nat.{ℕ, _≤_, _<_, _^_}
-use mathlib.Core.Path.{_≡_, refl, sym, _∙_, ap}
-use mathlib.Core.Bool.{Bool, true, false, cond, _||_}
+use mathlib.Core.{Path._≡_, Path.refl, Path.sym, Path._∙_, Path.ap, Bool.Bool, Bool.true, Bool.false, Bool.cond, Bool._||_}
 use native.Mathlib.Omega.{arith}
 use lib.Dec.{T, eqb, lit<}
 use borrow.Author.Tests.{eqb-true}

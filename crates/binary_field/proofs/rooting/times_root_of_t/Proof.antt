@@ -3,11 +3,8 @@ use mathlib.Core.Path.{ap, _∙_}
 use borrow.Author.Needs.{needs}
 use native.Mathlib.Nat.{lt-of-lt-of-le}
 use lib.Dec.{lit<, lit≤}
-use Rattle.binary_field_theory.specs.Carryless.{remainder}
-use Rattle.binary_field_theory.specs.Element.{low, product}
-use Rattle.binary_field_theory.proofs.Degrees.{other-degree}
-use Rattle.binary_field_theory.proofs.Words.Roots.{times-root, root-5, root-61}
-use Rattle.binary_field_theory.proofs.Words.Sizes.{clmul-lt}
+use Rattle.binary_field_theory.specs.{Carryless.remainder, Element.low, Element.product}
+use Rattle.binary_field_theory.proofs.{Degrees.other-degree, Words.Roots.times-root, Words.Roots.root-5, Words.Roots.root-61, Words.Sizes.clmul-lt}
 use Rattle.binary_field.proofs.rooting.times_root_of_t.Statement.{statement}
 use Rattle.binary_field.proofs.rooting.times_root_of_t.Tie as tie
 

@@ -1,7 +1,6 @@
 -- `spread_16` meets its contract: the two halves are spread apart.
 use borrow.Author.Needs.{needs}
-use lib.Bits.{mask-lt}
-use lib.Dec.{lit≤}
+use lib.{Bits.mask-lt, Dec.lit≤}
 use Rattle.binary_field_theory.proofs.Words.Halves.{spread-joined}
 use Rattle.binary_field.proofs.spreading.spread_16.Statement.{statement}
 use Rattle.binary_field.proofs.spreading.spread_16.Tie as tie

@@ -2,11 +2,8 @@
 use mathlib.Core.Path.{ap, sym, _∙_}
 use borrow.Author.Needs.{needs}
 use lib.Bits.{mask-lt}
-use Rattle.binary_field_theory.specs.Carryless.{remainder}
-use Rattle.binary_field_theory.specs.Element.{low}
-use Rattle.binary_field_theory.proofs.Products.{square-spread}
-use Rattle.binary_field_theory.proofs.Spread.{spread-lt}
-use Rattle.binary_field_theory.proofs.Words.Halves.{spread-words}
+use Rattle.binary_field_theory.specs.{Carryless.remainder, Element.low}
+use Rattle.binary_field_theory.proofs.{Products.square-spread, Spread.spread-lt, Words.Halves.spread-words}
 use Rattle.binary_field.proofs.squaring.square_of.Statement.{statement}
 use Rattle.binary_field.proofs.squaring.square_of.Tie as tie
 

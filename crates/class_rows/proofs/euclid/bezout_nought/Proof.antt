@@ -3,8 +3,7 @@ use mathlib.Core.Path.{sym, _∙_}
 use native.Mathlib.Omega.{arith}
 use Rattle.char2_algebra.proofs.Degree.{nonzero-of-len}
 use Rattle.row_theory.specs.Field.{𝔸, poly}
-use Rattle.row_theory.proofs.{Rows.Elements.zero-lt, Bezout.nought-rows, Bezout.blank-rows}
-use Rattle.row_theory.proofs.Rows.Length.{places-len}
+use Rattle.row_theory.proofs.{Rows.Elements.zero-lt, Bezout.nought-rows, Bezout.blank-rows, Rows.Length.places-len}
 use Rattle.class_rows.proofs.euclid.bezout_nought.Statement.{statement}
 use Rattle.class_rows.proofs.euclid.bezout_nought.Tie as tie
 

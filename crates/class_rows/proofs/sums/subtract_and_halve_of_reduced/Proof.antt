@@ -1,7 +1,6 @@
 -- `subtract_and_halve_of_reduced` meets its contract.
 use Rattle.class_rows.specs.Core.{ReducedRows}
-use Rattle.class_rows.proofs.DoubleRows.{reduced-semi}
-use Rattle.class_rows.proofs.MoveRows.{opposed-reduced, summed-reduced, subtract-and-halve-stands}
+use Rattle.class_rows.proofs.{DoubleRows.reduced-semi, MoveRows.opposed-reduced, MoveRows.summed-reduced, MoveRows.subtract-and-halve-stands}
 use Rattle.class_rows.proofs.sums.subtract_and_halve_of_reduced.Statement.{statement}
 use Rattle.class_rows.proofs.sums.subtract_and_halve_of_reduced.Tie as tie
 
