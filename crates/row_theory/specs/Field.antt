@@ -6,7 +6,7 @@ use Rattle.field_laws.specs.Field.{Field2}
 use Rattle.binary_field_theory.specs.Element.{Element, Accepted}
 use Rattle.binary_field.specs.Field.{field, element}
 use Rattle.char2_algebra.specs.{Polynomials.Polynomials, Polynomial.Polynomial, Polynomial.of-list}
-use Rattle.char2_algebra.proofs.Polynomial.{polynomials}
+use Rattle.polynomial_lists.specs.Polynomials.{polynomials}
 
 -- 61, and 5 for every other number: no call gets past 106 with a number other than these two
 unfoldable pub degree-of : ℕ → ℕ

@@ -3,9 +3,10 @@ use Prim.Native.Nat.{ℕ}
 use mathlib.Core.{Path._≡_, Path.refl, List.List, List.[], List._∷_}
 use lib.ListN.{getD}
 use Rattle.field_laws.specs.Field.{Field2}
 use Rattle.char2_algebra.specs.{Polynomials.Polynomials, Polynomial.of-list}
-use Rattle.char2_algebra.proofs.{PolynomialRing.coeff-of-list, Polynomial.polynomials}
+use Rattle.char2_algebra.proofs.PolynomialRing.{coeff-of-list}
 use Rattle.char2_algebra.proofs.ListDivision
+use Rattle.polynomial_lists.specs.Polynomials.{polynomials}
 
 module _ {K : Type 0} (F : Field2 K) where
   open Field2 F using (ring as K-ring)
