@@ -7,7 +7,7 @@ ghost use Rattle.char2_algebra.specs.Square.{sqrt};
 ghost use Rattle.class_group.specs.Curve.{Curve as TheoryCurve};
 ghost use Rattle.class_group.specs.Half.{quadratic, half, half-of-degree-1, half-of-degree-2, half-of-degree-3};
 ghost use Rattle.class_group.specs.Half.{first-lift};
-ghost use Rattle.row_theory.specs.{Field.degree-of, Field.F, Field.𝔸, Field.el, Field.poly, Row.Is, Row.InRange, Row.Stands, Row.row-len};
+ghost use Rattle.row_theory.specs.{Field.degree-of, Field.F, Field.𝔸, Field.el, Field.poly, internal.Elements.Is, Row.InRange, Row.Stands, Row.row-len};
 ghost use Rattle.row_theory.specs.internal.Halving.{HalvingRows, even-quartic, root-pair, rows-triple};
 ghost use Rattle.row_theory.specs.internal.Halving.{second-square, second-remainder};
 ghost use Rattle.class_rows.specs.{Pair.StandsPair, Pair.rows-pair, internal.Cofactor.CofactorRow};

@@ -6,7 +6,7 @@ use lib.ListN.{getD}
 use Rattle.field_laws.specs.Ring.{Ring2}
 use Rattle.char2_algebra.specs.Square.{sqrt}
 use Rattle.class_group.specs.Half.{Triple, quadratic, half-of-degree-2}
-use Rattle.row_theory.specs.{Field.K, Field.F, Field.Poly, Field.𝔸, Field.el, Field.poly, Row.Is, Row.Stands, internal.Halving.HalvingRows}
+use Rattle.row_theory.specs.{Field.K, Field.F, Field.Poly, Field.𝔸, Field.el, Field.poly, internal.Elements.Is, Row.Stands, internal.Halving.HalvingRows}
 use Rattle.row_theory.specs.internal.Halving.{even-quartic, root-pair, rows-triple}
 use Rattle.row_theory.proofs.{Rows.Elements.el-zero, Rows.Elements.el-one, Rows.Elements.el-nonzero, Rows.Coefficients.coeff-poly}
 use Rattle.row_theory.proofs.HalfRows.Degrees12.{pair-2-square, nonzero-2-square, pair-2, nonzero-2, k-2, m-2}

@@ -7,7 +7,7 @@ use Rattle.field_laws.specs.Ring.{Ring2}
 use Rattle.char2_algebra.specs.Lead.{lead}
 use Rattle.char2_algebra.proofs.{Ring.ring2, Ring.𝟘-+, Ring.𝟘-·, Ring.+-𝟘, Ring.·-𝟘, Ring.·-𝟙, Ring.·-assoc, Ring.·-comm, Degree.con-mul}
 use Rattle.char2_algebra.proofs.Division.{rem-is, quot-is}
-use Rattle.row_theory.specs.{Field.K, Field.F, Field.Poly, Field.𝔸, Field.el, Field.poly, Row.Is, Row.InRange, Row.Stands, Row.row-len, Row.x-power}
+use Rattle.row_theory.specs.{Field.K, Field.F, Field.Poly, Field.𝔸, Field.el, Field.poly, internal.Elements.Is, Row.InRange, Row.Stands, Row.row-len, internal.Elements.x-power}
 use Rattle.row_theory.proofs.{Rows.Elements.zero-lt, Rows.Elements.el-zero, Rows.Elements.zero-of-nought, Rows.Coefficients.coeff-poly, Rows.Lead.lead-nonzero}
 use Rattle.row_theory.proofs.Rows.Coefficients.{row-len-le, zero-past, self-stands, stands-eq}
 use Rattle.row_theory.proofs.{Rows.Length.Blank, Rows.Fill.range-set, Rows.Fill.zeros-at, Rows.Fill.zeros-range, Rows.Fill.zeros-poly, Rows.Shift.x-power-add}

@@ -7,7 +7,7 @@ use borrow.Author.Tests.{eqb-true}
 use Rattle.binary_field_theory.specs.Element.{Accepted}
 use Rattle.binary_field_theory.proofs.Elements.{element-path}
 use Rattle.binary_field.proofs.Field.{element-small, element-number, nought-number, one-number}
-use Rattle.row_theory.specs.{Field.degree-of, Field.accepted, Field.K, Field.F, Field.el, Row.Is}
+use Rattle.row_theory.specs.{Field.degree-of, Field.accepted, Field.K, Field.F, Field.el, internal.Elements.Is}
 
 -- the degree of an accepted call is the degree itself
 pub degree-is : (d : ℕ) → Accepted d → degree-of d ≡ d

@@ -5,7 +5,7 @@ use mathlib.Core.{Path._≡_, Path.refl, Path.sym, Path._∙_, Path.ap, Path.sub
 use native.Mathlib.{Omega.arith, Decide.decLe, Decide.ℕ-discrete}
 use lib.{ListN.length, ListN.getD, ListN.set, ListN.replicate, ListN.length-set, Seq.getD-set-same, Seq.getD-set-other}
 use Rattle.char2_algebra.proofs.Degree.{coeff-nought}
-use Rattle.row_theory.specs.{Field.degree-of, Field.F, Field.Poly, Field.𝔸, Field.el, Field.poly, Row.Is, Row.InRange, Row.Stands}
+use Rattle.row_theory.specs.{Field.degree-of, Field.F, Field.Poly, Field.𝔸, Field.el, Field.poly, internal.Elements.Is, Row.InRange, Row.Stands}
 use Rattle.row_theory.proofs.{Rows.Elements.zero-lt, Rows.Elements.el-zero, Rows.Coefficients.coeff-poly, Rows.Coefficients.stands-by}
 
 -- a store of a number in range

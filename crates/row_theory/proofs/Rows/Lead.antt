@@ -6,7 +6,7 @@ use lib.{ListN.length, ListN.getD, ListN.set, Seq.getD-set-same, Seq.getD-set-ot
 use Rattle.field_laws.specs.Ring.{Ring2}
 use Rattle.char2_algebra.specs.Lead.{lead}
 use Rattle.char2_algebra.proofs.{Ring.ring2, Degree.len-nonzero, Lead.lead-is}
-use Rattle.row_theory.specs.{Field.F, Field.Poly, Field.𝔸, Field.el, Field.poly, Row.InRange, Row.row-len, Row.x-power}
+use Rattle.row_theory.specs.{Field.F, Field.Poly, Field.𝔸, Field.el, Field.poly, Row.InRange, Row.row-len, internal.Elements.x-power}
 use Rattle.row_theory.proofs.{Rows.Elements.zero-lt, Rows.Elements.el-nonzero, Rows.Coefficients.coeff-poly, Rows.Coefficients.row-len-le, Rows.Shift.poly-strike}
 use Rattle.row_theory.proofs.{Rows.Coefficients.row-len-length, Rows.Coefficients.zero-past, Rows.Coefficients.top-nonzero, Rows.Fill.range-set}
 

@@ -5,7 +5,7 @@ use native.Mathlib.{Omega.arith, Decide.ℕ-discrete, Decide.decLe}
 use lib.ListN.{getD, replicate}
 use Rattle.field_laws.specs.Ring.{Ring2}
 use Rattle.char2_algebra.proofs.{Ring.ring2, Ring.+-𝟘, Ring.𝟘-+, Ring.𝟘-·, Degree.coeff-nought}
-use Rattle.row_theory.specs.{Field.F, Field.Poly, Field.𝔸, Field.el, Field.poly, Row.InRange, Row.Stands, Row.x-power, Row.row-len}
+use Rattle.row_theory.specs.{Field.F, Field.Poly, Field.𝔸, Field.el, Field.poly, Row.InRange, Row.Stands, internal.Elements.x-power, Row.row-len}
 use Rattle.row_theory.proofs.{Rows.Coefficients.coeff-poly, Rows.Fill.zeros-range, Rows.Fill.zeros-poly, Rows.Shift.monomial-at, Rows.Shift.monomial-off}
 
 one-more : {A : Type 0} (R : Ring2 A) (p c x b : A) → R .add (R .mul p b) (R .mul c (R .mul x b)) ≡ R .mul (R .add p (R .mul c x)) b

@@ -4,7 +4,7 @@ use mathlib.Core.{Path._≡_, Path.refl, Path.sym, Path._∙_, Path.ap, Path.ap�
 use native.Mathlib.{Omega.arith, Decide.ℕ-discrete}
 use lib.{ListN.length, ListN.getD, ListN.set, Seq.getD-set-same, Seq.getD-set-other}
 use Rattle.char2_algebra.proofs.{Ring.+-𝟘, Ring.𝟘-+, Ring.·-𝟙, Ring.𝟙-·, Ring.·-𝟘, Ring.·-assoc, Degree.coeff-one, Degree.coeff-one-suc}
-use Rattle.row_theory.specs.{Field.K, Field.F, Field.Poly, Field.𝔸, Field.el, Field.poly, Row.x-power}
+use Rattle.row_theory.specs.{Field.K, Field.F, Field.Poly, Field.𝔸, Field.el, Field.poly, internal.Elements.x-power}
 use Rattle.row_theory.proofs.{Rows.Elements.el-zero, Rows.Coefficients.coeff-poly, Rows.Coefficients.poly-is}
 
 module _ (d : ℕ) where

@@ -6,7 +6,7 @@ use lib.ListN.{getD}
 use Rattle.field_laws.specs.Ring.{Ring2}
 use Rattle.char2_algebra.specs.{Polynomials.Polynomials, Square.sqrt}
 use Rattle.char2_algebra.proofs.{Ring.·-𝟘, Degree.len-zero, Degree.len-nought, Product.len-mul-le, Square.coeff-square-even, Square.coeff-square-odd}
-use Rattle.row_theory.specs.{Field.F, Field.Poly, Field.𝔸, Field.el, Field.poly, Row.Is}
+use Rattle.row_theory.specs.{Field.F, Field.Poly, Field.𝔸, Field.el, Field.poly, internal.Elements.Is}
 use Rattle.row_theory.proofs.{Rows.Elements.is-eq, Rows.Coefficients.coeff-poly, Rows.Roots.root-nought, Rows.Roots.coeff-of-sqrt}
 
 module _ (d : ℕ) where

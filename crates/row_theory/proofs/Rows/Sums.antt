@@ -5,7 +5,7 @@ use lib.ListN.{getD, replicate}
 use Rattle.field_laws.specs.Ring.{Ring2}
 use Rattle.char2_algebra.specs.Polynomials.{Polynomials}
 use Rattle.char2_algebra.proofs.{Ring.+-𝟘, Ring.𝟘-+, Ring.·-𝟘, Ring.𝟘-·, Ring.𝟙-·, Degree.con-nought, Degree.con-one}
-use Rattle.row_theory.specs.{Field.K, Field.F, Field.Poly, Field.𝔸, Field.el, Field.poly, Row.Is, Row.x-power}
+use Rattle.row_theory.specs.{Field.K, Field.F, Field.Poly, Field.𝔸, Field.el, Field.poly, internal.Elements.Is, internal.Elements.x-power}
 use Rattle.row_theory.proofs.{Rows.Elements.el-zero, Rows.Elements.el-one, Rows.Elements.is-eq, Rows.Coefficients.coeff-poly, Rows.Fill.zeros-poly, Rows.Shift.coeff-shift}
 use Rattle.row_theory.proofs.Rows.Shift.{coeff-shift-below, coeff-shift-past}
 
