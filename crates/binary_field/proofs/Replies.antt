@@ -1,17 +1,13 @@
 -- What the answers of the calls on elements come to: the refusal where there is one, and else what the field's operation gives.
-use mathlib.Core.Path.{_≡_, refl, ap, sym, _∙_}
-use mathlib.Core.Bool.{Bool, true, false, cond, _||_, _&&_}
-use mathlib.Core.List.{[], _∷_}
+use mathlib.Core.{Path._≡_, Path.refl, Path.ap, Path.sym, Path._∙_, Bool.Bool, Bool.true, Bool.false, Bool.cond, Bool._||_, Bool._&&_, List.[], List._∷_}
 use Prim.Native.Nat.{ℕ, zero, suc, _^_, _<_}
 use native.Mathlib.Omega.{arith}
 use lib.Dec.{T, eqb, ltb, ltb→lt}
 use borrow.Author.Tests.{lt-ltb}
-use Rattle.binary_field.specs.declared.Answer.{Answer}
-use Rattle.binary_field.specs.declared.Answer.the-variants.{Element, Refused}
+use Rattle.binary_field.specs.{declared.Answer.Answer, declared.Answer.the-variants.Element, declared.Answer.the-variants.Refused, Field.element as at}
 use Rattle.binary_field_theory.specs.{Carryless._⊕_, Element.Accepted, Element.product, Element.square, Element.root, Element.inverse}
 use Rattle.binary_field_theory.proofs.Linear.{both}
 use Rattle.binary_field.specs.{Field.field, Answer.element, Answer.refusal, Answer.reply, Answer.below, Answer.element-refusal, Answer.answered, Answer.sum-reply, Answer.product-reply, Answer.square-reply, Answer.root-reply, Answer.inverse-reply}
-use Rattle.binary_field.specs.Field.{element as at}
 use Rattle.binary_field.proofs.Field.{add-number, mul-number, root-number, inverse-number, element-small}
 
 refusal-of : (k v : ℕ) → (k ≡ 0 → ⊥) → refusal k ≡ answered k v

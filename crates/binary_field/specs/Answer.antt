@@ -1,10 +1,8 @@
 -- What the calls on elements answer (document 01, 'The fields' and 'In checking order').
 use Prim.Native.Nat.{ℕ, zero, suc, _^_}
-use mathlib.Core.Bool.{Bool, true, cond, _||_, _&&_}
-use mathlib.Core.List.{List, [], _∷_}
+use mathlib.Core.{Bool.Bool, Bool.true, Bool.cond, Bool._||_, Bool._&&_, List.List, List.[], List._∷_}
 use lib.Dec.{eqb, ltb}
-use Rattle.binary_field.specs.declared.Answer.{Answer}
-use Rattle.binary_field.specs.declared.Answer.the-variants.{Element, Refused}
+use Rattle.binary_field.specs.declared.Answer.{Answer, the-variants.Element, the-variants.Refused}
 use Rattle.binary_field_theory.specs.{Carryless._⊕_, Element.product, Element.square, Element.root, Element.inverse}
 
 -- an answer is an element or a refusal with its number

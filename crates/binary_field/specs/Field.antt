@@ -1,10 +1,8 @@
 -- The field of elements of degree d, for d = 5 and d = 61, as the record of laws that upper crates use (document 01, 'The fields'),
 -- and the element that a number stands for. Its operations compute; which number each gives is said in proofs/Field.
 use Prim.Native.Nat.{ℕ, _-_, _^_}
-use mathlib.Core.Path.{_≡_, ap}
-use mathlib.Core.HLevel.{hedberg}
-use native.Mathlib.Decide.{Fin-discrete}
-use native.Mathlib.Omega.{arith}
+use mathlib.Core.{Path._≡_, Path.ap, HLevel.hedberg}
+use native.Mathlib.{Decide.Fin-discrete, Omega.arith}
 use lib.Pow.{pow-pos}
 use Rattle.field_laws.specs.{Ring.Ring2, Field.Field2}
 use Rattle.binary_field_theory.specs.{Carryless._⊕_, Carryless.remainder, Element.Accepted, Element.Element, Element.low, Element.product, Chain.spreadings, Chain.chain-inverse}

@@ -2,9 +2,7 @@
 -- a² + a up to the last digit. The list holds, for each i below d, the value at t^i of an additive map L with
 -- L (t^2i + t^i) = t^i for i from 1 to d - 1, and L (1 + 1) = 0. So a² + a = 0 only for a = 0 and a = 1.
 use Prim.Native.Nat.{ℕ, _%_, _^_, _<_}
-use mathlib.Core.Path.{_≡_, refl, sym, ap, _∙_}
-use mathlib.Core.Bool.{Bool}
-use mathlib.Core.List.{List, [], _∷_}
+use mathlib.Core.{Path._≡_, Path.refl, Path.sym, Path.ap, Path._∙_, Bool.Bool, List.List, List.[], List._∷_}
 use native.Mathlib.Omega.{arith}
 use lib.Dec.{T}
 use Rattle.binary_field_theory.specs.{Carryless._⊕_, Carryless.digits-to, Carryless.digits, Carryless.clmul, Carryless.spread, Carryless.reduce, Carryless.remainder, Element.Accepted, Element.low, Element.product, Element.square, Element.squarings, Chain.spreadings}

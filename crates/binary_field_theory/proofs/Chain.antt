@@ -6,8 +6,7 @@ use lib.Arith.{bin-ind}
 use Rattle.binary_field_theory.specs.Carryless.{digits-to, digits, spread, remainder}
 use Rattle.binary_field_theory.specs.Element.{low, product, square, squarings, power, inverse}
 use Rattle.binary_field_theory.specs.Chain.{spreadings, chain-turn, chain, chain-inverse}
-use Rattle.binary_field_theory.proofs.Sums.{bit-cases, bit-lt}
-use Rattle.binary_field_theory.proofs.Clmul.{digits-step}
+use Rattle.binary_field_theory.proofs.{Sums.bit-cases, Sums.bit-lt, Clmul.digits-step}
 use Rattle.binary_field_theory.proofs.Products
 use Rattle.binary_field_theory.proofs.Power
 

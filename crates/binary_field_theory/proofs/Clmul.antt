@@ -2,8 +2,7 @@
 -- through shifts; squaring is additive.
 use Prim.Native.Nat.{ℕ, zero, suc, _+_, _*_, _/_, _%_, _^_, _≤_, _<_}
 use mathlib.Core.Path.{_≡_, refl, sym, ap, ap₂, _∙_}
-use native.Mathlib.Nat.{le-refl, zero-mul, one-mul, mul-one, mul-zero, mul-left-comm, mul-comm, pow-suc, not-suc-le-zero}
-use native.Mathlib.Decide.{le-ind}
+use native.Mathlib.{Nat.le-refl, Nat.zero-mul, Nat.one-mul, Nat.mul-one, Nat.mul-zero, Nat.mul-left-comm, Nat.mul-comm, Nat.pow-suc, Nat.not-suc-le-zero, Decide.le-ind}
 use native.Mathlib.Omega.{arith}
 use lib.Arith.{bin-ind, half-le}
 use Rattle.binary_field_theory.specs.Carryless.{_⊕_, digits-to, digits, clmul}

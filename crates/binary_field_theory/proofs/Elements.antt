@@ -5,11 +5,8 @@ use mathlib.Core.Path.{_≡_}
 use native.Mathlib.Decide.{Fin·val-path}
 use Rattle.binary_field_theory.specs.Element.{Accepted, Element, product, square, root, inverse}
 use Rattle.binary_field_theory.specs.Chain.{spreadings, chain-inverse}
-use Rattle.binary_field_theory.proofs.Products.{low-lt}
-use Rattle.binary_field_theory.proofs.Frobenius.{root-lt, square-root}
-use Rattle.binary_field_theory.proofs.Certificate.{certified}
-use Rattle.binary_field_theory.proofs.Inverses.{inverse-lt, product-inverse}
-use Rattle.binary_field_theory.proofs.Chain.{chain-is-inverse, spreadings-squarings}
+use Rattle.binary_field_theory.proofs.{Products.low-lt, Frobenius.root-lt, Frobenius.square-root, Certificate.certified}
+use Rattle.binary_field_theory.proofs.{Inverses.inverse-lt, Inverses.product-inverse, Chain.chain-is-inverse, Chain.spreadings-squarings}
 
 pub element-path : (d : ℕ) {x y : Element d} → x .0 ≡ y .0 → x ≡ y
 element-path d {x} {y} = Fin·val-path {n = 2 ^ d} {i = x} {j = y}

@@ -2,8 +2,7 @@
 -- one.
 use Prim.Native.Nat.{ℕ, suc, _-_, _*_, _/_, _%_, _^_, _<_}
 use mathlib.Core.Path.{_≡_, sym, ap, ap₂, _∙_}
-use native.Mathlib.Numerals.{add-one}
-use native.Mathlib.Omega.{arith}
+use native.Mathlib.{Numerals.add-one, Omega.arith}
 use lib.Arith.{bin-ind}
 use Rattle.binary_field_theory.specs.{Carryless._⊕_, Element.low, Element.product, Element.square, Element.squarings, Element.root}
 use Rattle.binary_field_theory.proofs.{Sums.bit-cases, Sums.bit-lt, Clmul.digit-split, Linear.additive-zero, Remainder.remainder-small}

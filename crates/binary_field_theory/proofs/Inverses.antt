@@ -4,11 +4,10 @@ use Prim.Native.Nat.{ℕ, suc, _+_, _-_, _^_, _<_}
 use mathlib.Core.Path.{_≡_, refl, sym, ap, _∙_}
 use native.Mathlib.Omega.{arith}
 use Rattle.binary_field_theory.specs.Element.{product, square, power, inverse}
-use Rattle.binary_field_theory.proofs.Sums.{bit-cases}
+use Rattle.binary_field_theory.proofs.{Sums.bit-cases, Certificate.Certified, Certificate.idempotent-lt}
 use Rattle.binary_field_theory.proofs.Products
 use Rattle.binary_field_theory.proofs.Power
 use Rattle.binary_field_theory.proofs.Frobenius
-use Rattle.binary_field_theory.proofs.Certificate.{Certified, idempotent-lt}
 
 module _ (d : ℕ) (c : Certified d) (a : ℕ) (ha : a < 2 ^ d) where
   pub power-degree : power d a (2 ^ d) ≡ a

@@ -1,13 +1,10 @@
 -- Both moduli are irreducible: a product of two polynomials over GF(2) that is the modulus has a factor 1.
 -- The degree of a product is the sum of the degrees.
 use Prim.Native.Nat.{ℕ, zero, suc, _+_, _*_, _/_, _%_, _^_, _≤_, _<_}
-use mathlib.Core.Path.{_≡_, refl, sym, ap, ap₂, _∙_}
-use mathlib.Core.Logic.{_⊎_, inl, inr}
+use mathlib.Core.{Path._≡_, Path.refl, Path.sym, Path.ap, Path.ap₂, Path._∙_, Logic._⊎_, Logic.inl, Logic.inr}
 use native.Mathlib.Nat.{div-one, zero-add, suc-add, zero-mul, one-mul, pow-succ', div-div-eq-div-mul, div-lt-iff-lt-mul, le-div-iff-mul-le, div-eq-of-lt}
-use native.Mathlib.Decide.{ℕ-discrete, decLt}
-use native.Mathlib.Omega.{arith}
-use lib.Arith.{bin-ind}
-use lib.Pow.{pow-pos, pow-mono}
+use native.Mathlib.{Decide.ℕ-discrete, Decide.decLt, Omega.arith}
+use lib.{Arith.bin-ind, Pow.pow-pos, Pow.pow-mono}
 use Rattle.binary_field_theory.specs.{Carryless._⊕_, Carryless.clmul, Carryless.remainder, Element.Accepted, Element.low, Element.modulus, Element.product}
 use Rattle.binary_field_theory.proofs.{Sums.bit-cases, Sums.bit-lt, Sums.zero-sum, Sums.sum-half, Sums.sum-shr, Clmul.clmul-step, Clmul.zero-clmul, Clmul.clmul-zero, Clmul.one-clmul, Remainder.remainder-modulus, Certificate.Certified, Certificate.certified, Inverses.product-cancel}
 

@@ -1,16 +1,9 @@
 -- Additive maps on polynomials over GF(2): two that agree on t^0 .. t^(d-1) agree below 2^d. The map given by the list of
 -- its values at t^0, t^1, .. is additive.
 use Prim.Native.Nat.{ℕ, zero, suc, _*_, _/_, _%_, _^_, _<_}
-use mathlib.Core.Path.{_≡_, refl, sym, ap, ap₂, subst, _∙_}
-use mathlib.Core.Bool.{Bool, true, false, _&&_}
-use mathlib.Core.List.{List, [], _∷_}
-use native.Mathlib.Nat.{zero-mul, one-mul, mul-one, pow-suc, mod-lt, le-refl, div-lt-iff-lt-mul}
-use native.Mathlib.Decide.{decLt}
-use native.Mathlib.Omega.{arith}
-use lib.Arith.{lt-one}
-use lib.Dec.{T, eqb, eqb→eq}
-use lib.ListN.{getD, drop}
-use lib.Pow.{pow-pos}
+use mathlib.Core.{Path._≡_, Path.refl, Path.sym, Path.ap, Path.ap₂, Path.subst, Path._∙_, Bool.Bool, Bool.true, Bool.false, Bool._&&_, List.List, List.[], List._∷_}
+use native.Mathlib.{Nat.zero-mul, Nat.one-mul, Nat.mul-one, Nat.pow-suc, Nat.mod-lt, Nat.le-refl, Nat.div-lt-iff-lt-mul, Decide.decLt, Omega.arith}
+use lib.{Arith.lt-one, Dec.T, Dec.eqb, Dec.eqb→eq, ListN.getD, ListN.drop, Pow.pow-pos}
 use Rattle.binary_field_theory.specs.Carryless.{_⊕_}
 use Rattle.binary_field_theory.proofs.Sums.{bit-cases, bit-lt, sum-self, sum-zero, zero-sum, sum-half, sum-odd, sum-split, sum-middle, bit-sum-mul}
 

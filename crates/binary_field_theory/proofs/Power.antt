@@ -1,13 +1,9 @@
 -- Powers of elements, for every d with low d below 2^d: squaring k times is the power 2^k, additive and multiplicative;
 -- the laws of exponents. A power of an element is an element.
 use Prim.Native.Nat.{ℕ, zero, suc, _+_, _-_, _*_, _/_, _%_, _^_, _<_}
-use mathlib.Core.Path.{_≡_, refl, sym, ap, _∙_}
-use mathlib.Core.Bool.{cond}
-use native.Mathlib.Nat.{zero-add, suc-add, add-zero, one-mul, mul-comm, mul-assoc, pow-succ'}
-use native.Mathlib.Omega.{arith}
-use lib.Dec.{eqb}
-use lib.Arith.{bin-ind}
-use lib.Pow.{ones-split}
+use mathlib.Core.{Path._≡_, Path.refl, Path.sym, Path.ap, Path._∙_, Bool.cond}
+use native.Mathlib.{Nat.zero-add, Nat.suc-add, Nat.add-zero, Nat.one-mul, Nat.mul-comm, Nat.mul-assoc, Nat.pow-succ', Omega.arith}
+use lib.{Dec.eqb, Arith.bin-ind, Pow.ones-split}
 use Rattle.binary_field_theory.specs.{Carryless._⊕_, Carryless.digits-to, Carryless.digits, Carryless.remainder, Element.low, Element.product, Element.square, Element.squarings, Element.power, Element.inverse}
 use Rattle.binary_field_theory.proofs.{Sums.bit-cases, Sums.bit-lt, Clmul.digits-step}
 use Rattle.binary_field_theory.proofs.Products

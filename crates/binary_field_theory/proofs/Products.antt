@@ -1,8 +1,7 @@
 -- The product of elements, for every d with low d below 2^d: closed below 2^d, commutative, associative, distributive,
 -- with unit 1. Squaring is additive and spreads the digits before the remainder is taken.
 use Prim.Native.Nat.{ℕ, zero, suc, _*_, _/_, _%_, _^_, _≤_, _<_}
-use mathlib.Core.Path.{_≡_, sym, ap, subst, _∙_}
-use mathlib.Core.Bool.{Bool, true, false, cond, _||_}
+use mathlib.Core.{Path._≡_, Path.sym, Path.ap, Path.subst, Path._∙_, Bool.Bool, Bool.true, Bool.false, Bool.cond, Bool._||_}
 use native.Mathlib.Omega.{arith}
 use lib.Dec.{T, eqb, eqb→eq}
 use Rattle.binary_field_theory.specs.Carryless.{_⊕_, clmul, spread, remainder}

@@ -3,10 +3,8 @@
 -- rule of fast reduction: the digits above the d lowest, times low, are added to the d lowest.
 use Prim.Native.Nat.{ℕ, suc, _+_, _*_, _/_, _%_, _^_, _<_}
 use mathlib.Core.Path.{_≡_, refl, sym, ap, ap₂, _∙_}
-use native.Mathlib.Nat.{zero-div, zero-mul, one-mul, add-zero, mod-lt, div-eq-of-lt, div-self, mod-self, div-lt-iff-lt-mul}
-use native.Mathlib.Omega.{arith}
-use lib.Arith.{bin-ind}
-use lib.Pow.{pow-pos}
+use native.Mathlib.{Nat.zero-div, Nat.zero-mul, Nat.one-mul, Nat.add-zero, Nat.mod-lt, Nat.div-eq-of-lt, Nat.div-self, Nat.mod-self, Nat.div-lt-iff-lt-mul, Omega.arith}
+use lib.{Arith.bin-ind, Pow.pow-pos}
 use Rattle.binary_field_theory.specs.Carryless.{_⊕_, digits-to, digits, clmul, reduce, remainder}
 use Rattle.binary_field_theory.proofs.Sums.{bit-cases, bit-lt, sums, sum-assoc, sum-self, sum-zero, zero-sum, sum-lt, sum-shr, sum-half, sum-odd, sum-double, sum-shifted, sum-split, double-plus, bit-mul-sum, bit-sum-mul, sum-middle, double-plus-sum}
 use Rattle.binary_field_theory.proofs.Clmul.{digits-step, digit-split, clmul-step, zero-clmul, clmul-zero, clmul-comm, sum-clmul, double-clmul, bit-clmul, clmul-pow}

@@ -2,10 +2,8 @@
 -- digits apart, which is the rule of a table of spread bytes.
 use Prim.Native.Nat.{ℕ, zero, suc, _+_, _*_, _/_, _%_, _^_, _<_}
 use mathlib.Core.Path.{_≡_, refl, sym, ap, ap₂, _∙_}
-use native.Mathlib.Nat.{mul-assoc, zero-lt-suc}
-use native.Mathlib.Omega.{arith}
-use lib.Arith.{bin-ind, lt-one}
-use lib.Pow.{pow-add}
+use native.Mathlib.{Nat.mul-assoc, Nat.zero-lt-suc, Omega.arith}
+use lib.{Arith.bin-ind, Arith.lt-one, Pow.pow-add}
 use Rattle.binary_field_theory.specs.Carryless.{_⊕_, digits-to, digits, clmul, spread}
 use Rattle.binary_field_theory.proofs.Sums.{bit-cases, bit-lt, sum-shifted, double-plus}
 use Rattle.binary_field_theory.proofs.Clmul.{digits-step, digit-split, zero-clmul, bit-clmul, double-clmul, clmul-double, clmul-self-sum, clmul-shl, shl-clmul}

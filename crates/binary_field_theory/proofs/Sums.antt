@@ -2,10 +2,8 @@
 -- and passing through shifts. `sums` is the set for simp that sorts and cancels sums.
 use Prim.Native.Nat.{ℕ, zero, suc, _+_, _*_, _/_, _%_, _^_, _<_}
 use mathlib.Core.Path.{_≡_, refl, sym, ap, ap₂, _∙_}
-use native.Mathlib.Nat.{mod-lt, add-zero, mul-comm, zero-mul, one-mul}
-use native.Mathlib.Omega.{arith}
-use lib.Arith.{bin-ind}
-use lib.Pow.{pow-pos, split}
+use native.Mathlib.{Nat.mod-lt, Nat.add-zero, Nat.mul-comm, Nat.zero-mul, Nat.one-mul, Omega.arith}
+use lib.{Arith.bin-ind, Pow.pow-pos, Pow.split}
 use lib.Bits.{bitXor, bitAnd, and-shr, and-mod, xor-comm, xor-self, xor-zero-r, xor-lt, xor-shr, xor-mod, xor-block, xor-shifted}
 use Rattle.binary_field_theory.specs.Carryless.{_⊕_}
 

@@ -3,17 +3,9 @@
 -- `irreducible` of Irreducible; the field laws are those of the record `field` of binary_field.
 use Prim.Native.Nat.{ℕ, _^_, _<_}
 use mathlib.Core.Path.{_≡_, sym, ap, _∙_}
-use Rattle.binary_field_theory.specs.Element.{Accepted, product, square, root, inverse}
-use Rattle.binary_field_theory.proofs.Products.{low-lt}
-use Rattle.binary_field_theory.proofs.Frobenius.{square-root, root-square, root-lt}
-use Rattle.binary_field_theory.proofs.Certificate.{certified}
+use Rattle.binary_field_theory.specs.Element.{Accepted, product, root, inverse, OneRoot}
+use Rattle.binary_field_theory.proofs.{Products.low-lt, Frobenius.square-root, Frobenius.root-square, Frobenius.root-lt, Certificate.certified}
 use Rattle.binary_field_theory.proofs.Inverses
-
--- r is an element whose square is a, and the only one
-pub record OneRoot (d a r : ℕ) : Type 0 where
-  pub below : r < 2 ^ d
-  pub squares : square d r ≡ a
-  pub only : (b : ℕ) → b < 2 ^ d → square d b ≡ a → b ≡ r
 
 module _ (d : ℕ) (ok : Accepted d) where
   pub one-root : (a : ℕ) → a < 2 ^ d → OneRoot d a (root d a)

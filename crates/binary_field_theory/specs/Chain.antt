@@ -3,8 +3,7 @@
 use Prim.Native.Nat.{ℕ, zero, suc, _-_, _/_, _%_}
 use mathlib.Core.Bool.{cond}
 use lib.Dec.{eqb}
-use Rattle.binary_field_theory.specs.Carryless.{digits, spread, remainder}
-use Rattle.binary_field_theory.specs.Element.{low, product}
+use Rattle.binary_field_theory.specs.{Carryless.digits, Carryless.spread, Carryless.remainder, Element.low, Element.product}
 
 -- squared k times, by spreading
 unfoldable pub spreadings : ℕ → ℕ → ℕ → ℕ

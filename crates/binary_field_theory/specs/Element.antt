@@ -1,7 +1,7 @@
 -- Elements of degree d: numbers below 2^d, polynomials over GF(2) modulo t^61 + t^5 + t^2 + t + 1 for d = 61
 -- and modulo t^5 + t^2 + 1 for d = 5 (document 01, 'The fields').
 use Prim.Native.Nat.{ℕ, zero, suc, _+_, _-_, _%_, _^_, _<_}
-use mathlib.Core.Bool.{cond, _||_}
+use mathlib.Core.{Path._≡_, Bool.cond, Bool._||_}
 use lib.Dec.{T, eqb}
 use Rattle.binary_field_theory.specs.Carryless.{clmul, remainder, digits}
 
@@ -38,6 +38,12 @@ power d a n = digits 1 (λ k r. product d (cond (eqb (k % 2) 1) a 1) (square d r
 -- the square root: a to the power 2^(d-1)
 unfoldable pub root : ℕ → ℕ → ℕ
 root d a = squarings d (d - 1) a
+
+-- r is an element whose square is a, and the only one
+pub record OneRoot (d a r : ℕ) : Type 0 where
+  pub below : r < 2 ^ d
+  pub squares : square d r ≡ a
+  pub only : (b : ℕ) → b < 2 ^ d → square d b ≡ a → b ≡ r
 
 -- the inverse: a to the power 2^d - 2
 unfoldable pub inverse : ℕ → ℕ → ℕ

@@ -1,7 +1,6 @@
 -- The table that squares an element of GF(2^61) six times at once, by its hexadecimal digits: entry 16 i + j is what the digit j
 -- at place i gives.
-use mathlib.Core.Path.{_≡_}
-use mathlib.Core.List.{List}
+use mathlib.Core.{Path._≡_, List.List}
 use Prim.Native.Nat.{ℕ, _*_, _/_, _%_, _^_, _<_}
 use lib.ListN.{getD}
 use Rattle.binary_field_theory.specs.Element.{squarings}

@@ -2,12 +2,9 @@
 -- polynomial as its lowest coefficient and x times the rest, its tail.
 use Prim.Native.Nat.{ℕ, zero, suc, _≤_, _<_}
 use mathlib.Core.Path.{_≡_, refl, sym, _∙_, ap, ap₂}
-use native.Mathlib.Omega.{arith}
-use native.Mathlib.Decide.{decLe}
-use Rattle.field_laws.specs.Ring.{Ring2}
-use Rattle.field_laws.specs.Field.{Field2}
-use Rattle.char2_algebra.specs.Polynomials.{Polynomials}
-use Rattle.char2_algebra.specs.Square.{tail}
+use native.Mathlib.{Omega.arith, Decide.decLe}
+use Rattle.field_laws.specs.{Ring.Ring2, Field.Field2}
+use Rattle.char2_algebra.specs.{Polynomials.Polynomials, Square.tail}
 use Rattle.char2_algebra.proofs.Ring.{+-comm, +-𝟘, 𝟘-+, +-self, ·-comm, ·-𝟙, ·-𝟘}
 
 module _ {K P : Type 0} {F : Field2 K} (A : Polynomials F P) where

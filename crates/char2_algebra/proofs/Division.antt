@@ -3,14 +3,11 @@
 use Prim.Native.Nat.{ℕ, zero, suc, _+_ as _+ℕ_, _≤_, _<_}
 use mathlib.Core.Path.{_≡_, refl, sym, _∙_, ap}
 use native.Mathlib.{Omega.arith, Decide.decLe}
-use Rattle.field_laws.specs.Ring.{Ring2}
-use Rattle.field_laws.specs.Field.{Field2}
-use Rattle.char2_algebra.specs.Polynomials.{Polynomials}
-use Rattle.char2_algebra.specs.Divides.{Divides}
+use Rattle.field_laws.specs.{Ring.Ring2, Field.Field2}
+use Rattle.char2_algebra.specs.{Polynomials.Polynomials, Divides.Divides}
 use Rattle.char2_algebra.proofs.Ring.{ring2, +-comm, +-𝟘, 𝟘-+, ·-comm, 𝟘-·, eq-of-sum, sum-of-eq, by, both, combine}
 use Rattle.char2_algebra.proofs.Degree.{len-nought, len-nonzero, nonzero-of-len, len-add, len-add-less, is-nought}
-use Rattle.char2_algebra.proofs.Product.{len-mul-monotone, cancel-right, len-mul, integral}
-use Rattle.char2_algebra.proofs.Divides.{divides-right}
+use Rattle.char2_algebra.proofs.{Product.len-mul-monotone, Product.cancel-right, Product.len-mul, Product.integral, Divides.divides-right}
 
 -- identities of a few terms, over plain variables
 module _ {A : Type 0} (R : Ring2 A) where

@@ -4,7 +4,7 @@ use mathlib.Core.Path.{_≡_, refl, sym, _∙_, ap}
 use native.Mathlib.{Omega.arith, Decide.decLe}
 use Rattle.field_laws.specs.{Ring.Ring2, Field.Field2}
 use Rattle.char2_algebra.specs.{Polynomials.Polynomials, Divides.Divides, Lead.lead, Lead.Monic, Lead.monic-of}
-use Rattle.char2_algebra.specs.Euclid.{Bezout, Bezout3, bezout-to, bezout, bezout3}
+use Rattle.char2_algebra.specs.Euclid.{Bezout, Bezout3, IsBezout, IsBezout3, bezout-to, bezout, bezout3}
 use Rattle.char2_algebra.proofs.Ring.{ring2, +-𝟘, 𝟘-+, ·-𝟘, 𝟘-·, by, both, combine}
 use Rattle.char2_algebra.proofs.Degree.{len-zero, len-nonzero, len-add, nonzero-of-len}
 use Rattle.char2_algebra.proofs.{Product.len-mul-le, Division.len-quot, Division.rem-short, Division.quot-short}
@@ -28,19 +28,6 @@ module _ {K P : Type 0} {F : Field2 K} (A : Polynomials F P) where
 
   infixl 60 _+_
   infixl 70 _·_
-  pub record IsBezout (a b : P) (B : Bezout P) : Type 0 where
-    pub combination : B .g ≡ B .s · a + B .t · b
-    pub divides-first : Divides R (B .g) a
-    pub divides-second : Divides R (B .g) b
-    pub monic : ¬ ((a ≡ 𝟘) × (b ≡ 𝟘)) → Monic A (B .g)
-
-  pub record IsBezout3 (a b c : P) (B : Bezout3 P) : Type 0 where
-    pub combination : B .e ≡ B .s1 · a + B .s2 · b + B .s3 · c
-    pub divides-first : Divides R (B .e) a
-    pub divides-second : Divides R (B .e) b
-    pub divides-third : Divides R (B .e) c
-    pub monic : ¬ ((a ≡ 𝟘) × (b ≡ 𝟘) × (c ≡ 𝟘)) → Monic A (B .e)
-
   -- the two cases of the rule
   bezout-stop : (n : ℕ) (a b : P) → len b ≡ 0 → bezout-to A (suc n) a b ≡ record { g = monic-of A a; s = con (F .inverse (lead A a)); t = 𝟘 }
   unfolding bezout-to monic-of
@@ -51,7 +38,7 @@ module _ {K P : Type 0} {F : Field2 K} (A : Polynomials F P) where
   unfolding bezout-to
   bezout-go n k a b e = rw (e, bezout-to)
 
-  pub bezout-nought-is : (a b : P) → b ≡ 𝟘 → IsBezout a b (record { g = monic-of A a; s = con (F .inverse (lead A a)); t = 𝟘 })
+  pub bezout-nought-is : (a b : P) → b ≡ 𝟘 → IsBezout A a b (record { g = monic-of A a; s = con (F .inverse (lead A a)); t = 𝟘 })
   unfolding monic-of
   bezout-nought-is a b e = record {
     combination = sym (ap (λ z. con (F .inverse (lead A a)) · a + z) (𝟘-· R b) ∙ +-𝟘 R _);
@@ -61,7 +48,7 @@ module _ {K P : Type 0} {F : Field2 K} (A : Polynomials F P) where
   }
 
   -- the divisor of 0 and 0 is 0, whatever the coefficients
-  pub bezout-noughts-is : (a b : P) → a ≡ 𝟘 → b ≡ 𝟘 → IsBezout a b (record { g = 𝟘; s = 𝟘; t = 𝟘 })
+  pub bezout-noughts-is : (a b : P) → a ≡ 𝟘 → b ≡ 𝟘 → IsBezout A a b (record { g = 𝟘; s = 𝟘; t = 𝟘 })
   bezout-noughts-is a b h k = record {
     combination = sym (ap (λ z. z + 𝟘 · b) (𝟘-· R a) ∙ 𝟘-+ R _ ∙ 𝟘-· R b);
     divides-first = divides-eq R (sym h) (divides-nought R 𝟘);
@@ -69,8 +56,8 @@ module _ {K P : Type 0} {F : Field2 K} (A : Polynomials F P) where
     monic = λ n. absurd (n (h, k));
   }
 
-  pub bezout-step-is : (a b : P) (r : Bezout P) → ¬ (b ≡ 𝟘) → IsBezout b (rem a b) r
-      → IsBezout a b (record { g = r .g; s = r .t; t = r .s + r .t · quot a b })
+  pub bezout-step-is : (a b : P) (r : Bezout P) → ¬ (b ≡ 𝟘) → IsBezout A b (rem a b) r
+      → IsBezout A a b (record { g = r .g; s = r .t; t = r .s + r .t · quot a b })
   bezout-step-is a b r h i = record {
     combination = back-substitution R a b (r .g) (quot a b) (rem a b) (r .s) (r .t) (i .combination) (A .division a b h);
     divides-first = divides-eq R (sym (A .division a b h)) (divides-add R (divides-mul R (quot a b) (i .divides-first)) (i .divides-second));
@@ -96,7 +83,7 @@ module _ {K P : Type 0} {F : Field2 K} (A : Polynomials F P) where
   ]
 
   -- a constant other than 0 has the divisor 1 with every polynomial
-  pub bezout-constant-is : (a b : P) → len b ≡ 1 → IsBezout a b (record { g = 𝟙; s = 𝟘; t = con (F .inverse (lead A b)) })
+  pub bezout-constant-is : (a b : P) → len b ≡ 1 → IsBezout A a b (record { g = 𝟙; s = 𝟘; t = con (F .inverse (lead A b)) })
   unfolding monic-of
   bezout-constant-is a b e = record {
     combination = sym (ap (λ z. z + con (F .inverse (lead A b)) · b) (𝟘-· R a) ∙ 𝟘-+ R _ ∙ unit);
@@ -108,11 +95,11 @@ module _ {K P : Type 0} {F : Field2 K} (A : Polynomials F P) where
       unit : con (F .inverse (lead A b)) · b ≡ 𝟙
       unit = monic-constant A (monic-of A b) (monic-of-monic A b (nonzero-of-len A b (omega arith))) (let l : len (monic-of A b) ≡ len b = len-monic-of A b in omega arith)
 
-  bezout-to-is : (n : ℕ) (a b : P) → len b < n → IsBezout a b (bezout-to A n a b)
+  bezout-to-is : (n : ℕ) (a b : P) → len b < n → IsBezout A a b (bezout-to A n a b)
   bezout-to-is zero a b h = absurd (omega arith)
   bezout-to-is (suc n) a b h = go (bezout-to-is n b (rem a b)) (len b) refl
     where
-      go : (len (rem a b) < n → IsBezout b (rem a b) (bezout-to A n b (rem a b))) → (k : ℕ) → len b ≡ k → IsBezout a b (bezout-to A (suc n) a b)
+      go : (len (rem a b) < n → IsBezout A b (rem a b) (bezout-to A n b (rem a b))) → (k : ℕ) → len b ≡ k → IsBezout A a b (bezout-to A (suc n) a b)
       go ih zero e = rw (bezout-stop n a b e) (bezout-nought-is a b (len-zero A b e))
       go ih (suc k) e =
           let b-nonzero : ¬ (b ≡ 𝟘) = nonzero-of-len A b (omega arith) in
@@ -120,13 +107,13 @@ module _ {K P : Type 0} {F : Field2 K} (A : Polynomials F P) where
           rw (bezout-go n k a b e) (bezout-step-is a b (bezout-to A n b (rem a b)) b-nonzero (ih (omega arith)))
 
   -- Euclid's rule of two polynomials
-  pub bezout-is : (a b : P) → IsBezout a b (bezout A a b)
+  pub bezout-is : (a b : P) → IsBezout A a b (bezout A a b)
   unfolding bezout
   bezout-is a b = bezout-to-is (suc (len b)) a b (omega arith)
 
   -- of three: of two of them first, then of their divisor and the third
-  pub bezout-twice : {a b c : P} {B B' : Bezout P} → IsBezout a b B → IsBezout (B .g) c B'
-      → IsBezout3 a b c (record { e = B' .g; s1 = B' .s · B .s; s2 = B' .s · B .t; s3 = B' .t })
+  pub bezout-twice : {a b c : P} {B B' : Bezout P} → IsBezout A a b B → IsBezout A (B .g) c B'
+      → IsBezout3 A a b c (record { e = B' .g; s1 = B' .s · B .s; s2 = B' .s · B .t; s3 = B' .t })
   bezout-twice {a} {b} {c} first second = record {
     combination = substitution R a b c _ _ _ _ _ _ (first .combination) (second .combination);
     divides-first = divides-trans R (second .divides-first) (first .divides-first);
@@ -135,13 +122,13 @@ module _ {K P : Type 0} {F : Field2 K} (A : Polynomials F P) where
     monic = λ h. second .monic (λ z. h (nought-divides R (divides-by-eq R (z .0) (first .divides-first)), nought-divides R (divides-by-eq R (z .0) (first .divides-second)), z .1));
   }
 
-  pub bezout3-is : (a b c : P) → IsBezout3 a b c (bezout3 A a b c)
+  pub bezout3-is : (a b c : P) → IsBezout3 A a b c (bezout3 A a b c)
   unfolding bezout3
   bezout3-is a b c = bezout-twice (bezout-is a b) (bezout-is (bezout A a b .g) c)
 
   -- where the divisor of two is 1, the third is not needed
-  pub bezout-coprime : {a b : P} {B : Bezout P} (c : P) → IsBezout a b B → B .g ≡ 𝟙
-      → IsBezout3 a b c (record { e = B .g; s1 = B .s; s2 = B .t; s3 = 𝟘 })
+  pub bezout-coprime : {a b : P} {B : Bezout P} (c : P) → IsBezout A a b B → B .g ≡ 𝟙
+      → IsBezout3 A a b c (record { e = B .g; s1 = B .s; s2 = B .t; s3 = 𝟘 })
   bezout-coprime {a} {b} {B} c i e = record {
     combination = i .combination ∙ sym (ap (λ z. B .s · a + B .t · b + z) (𝟘-· R c) ∙ +-𝟘 R _);
     divides-first = i .divides-first;
@@ -151,7 +138,7 @@ module _ {K P : Type 0} {F : Field2 K} (A : Polynomials F P) where
   }
 
   -- the greatest: every common divisor divides it
-  pub bezout3-greatest : {a b c d : P} {B : Bezout3 P} → IsBezout3 a b c B → Divides R d a → Divides R d b → Divides R d c → Divides R d (B .e)
+  pub bezout3-greatest : {a b c d : P} {B : Bezout3 P} → IsBezout3 A a b c B → Divides R d a → Divides R d b → Divides R d c → Divides R d (B .e)
   bezout3-greatest {B = B} i p q r =
       divides-eq
       R
@@ -159,7 +146,7 @@ module _ {K P : Type 0} {F : Field2 K} (A : Polynomials F P) where
       (divides-add R (divides-add R (divides-mul R (B .s1) p) (divides-mul R (B .s2) q)) (divides-mul R (B .s3) r))
 
   -- it is the same however the coefficients were found
-  pub bezout3-unique : {a b c : P} {B B' : Bezout3 P} → ¬ ((a ≡ 𝟘) × (b ≡ 𝟘) × (c ≡ 𝟘)) → IsBezout3 a b c B → IsBezout3 a b c B' → B .e ≡ B' .e
+  pub bezout3-unique : {a b c : P} {B B' : Bezout3 P} → ¬ ((a ≡ 𝟘) × (b ≡ 𝟘) × (c ≡ 𝟘)) → IsBezout3 A a b c B → IsBezout3 A a b c B' → B .e ≡ B' .e
   bezout3-unique {B = B} {B' = B'} h i j =
       monic-antisym
       A
@@ -170,8 +157,8 @@ module _ {K P : Type 0} {F : Field2 K} (A : Polynomials F P) where
       (bezout3-greatest j (i .divides-first) (i .divides-second) (i .divides-third))
       (bezout3-greatest i (j .divides-first) (j .divides-second) (j .divides-third))
 
-  pub bezout3-monic : {a b c : P} {B : Bezout3 P} → IsBezout3 a b c B → ¬ (a ≡ 𝟘) → Monic A (B .e)
+  pub bezout3-monic : {a b c : P} {B : Bezout3 P} → IsBezout3 A a b c B → ¬ (a ≡ 𝟘) → Monic A (B .e)
   bezout3-monic i h = i .monic (λ z. h (z .0))
 
-  pub bezout3-nonzero : {a b c : P} {B : Bezout3 P} → IsBezout3 a b c B → ¬ (a ≡ 𝟘) → ¬ (B .e ≡ 𝟘)
+  pub bezout3-nonzero : {a b c : P} {B : Bezout3 P} → IsBezout3 A a b c B → ¬ (a ≡ 𝟘) → ¬ (B .e ≡ 𝟘)
   bezout3-nonzero {B = B} i h = monic-nonzero A (B .e) (bezout3-monic i h)

@@ -2,16 +2,11 @@
 use Prim.Native.Nat.{ℕ, zero, suc, _+_ as _+ℕ_, _≤_, _<_}
 use mathlib.Core.Path.{_≡_, refl, sym, _∙_, ap, ap₂}
 use native.Mathlib.Omega.{arith}
-use Rattle.field_laws.specs.Ring.{Ring2}
-use Rattle.field_laws.specs.Field.{Field2}
-use Rattle.char2_algebra.specs.Polynomials.{Polynomials}
-use Rattle.char2_algebra.specs.Divides.{Divides}
-use Rattle.char2_algebra.specs.Lead.{lead, Monic, monic-of}
-use Rattle.char2_algebra.proofs.Ring.{𝟘-+, ·-comm, ·-assoc, ·-𝟘, 𝟘-·, ·-𝟙, 𝟙-·}
+use Rattle.field_laws.specs.{Ring.Ring2, Field.Field2}
+use Rattle.char2_algebra.specs.{Polynomials.Polynomials, Divides.Divides, Lead.lead, Lead.Monic, Lead.monic-of}
+use Rattle.char2_algebra.proofs.{Ring.𝟘-+, Ring.·-comm, Ring.·-assoc, Ring.·-𝟘, Ring.𝟘-·, Ring.·-𝟙, Ring.𝟙-·, Divides.divides-eq, Divides.divides-nought}
 use Rattle.char2_algebra.proofs.Degree.{coeff-nought, len-bound, len-is, len-zero, len-nonzero, nonzero-of-len, len-add-less, len-one, len-con, con-mul, con-of-len, coeff-one, is-nought}
-use Rattle.char2_algebra.proofs.Product.{len-mul, coeff-mul-top, len-con-mul}
-use Rattle.char2_algebra.proofs.Divides.{divides-eq, divides-nought}
-use Rattle.char2_algebra.proofs.Division.{divides-len, quot-exact}
+use Rattle.char2_algebra.proofs.{Product.len-mul, Product.coeff-mul-top, Product.len-con-mul, Division.divides-len, Division.quot-exact}
 
 module _ {K P : Type 0} {F : Field2 K} (A : Polynomials F P) where
   open Polynomials A using (ring as R, coeff, con, x, len, quot, rem)
@@ -150,11 +145,6 @@ module _ {K P : Type 0} {F : Field2 K} (A : Polynomials F P) where
       let b : len q ≤ len p = divides-len A d' h in
       sym (𝟙-· R p) ∙ ap (λ z. z · p) (sym (monic-constant (d .0) s-monic (omega arith))) ∙ sym (d .1)
 
-  -- exact quotients of monic polynomials, and remainders by a polynomial made monic
+  -- exact quotients of monic polynomials
   pub quot-monic : (a b : P) → Monic A a → Monic A b → Divides R b a → Monic A (quot a b)
   quot-monic a b m n d = monic-cofactor (quot a b) b (ap (lead A) (sym (quot-exact A b (monic-nonzero b n) a d)) ∙ m) n
-
-  pub monic-of-fixed : (p : P) → Monic A p → monic-of A p ≡ p
-  monic-of-fixed p m =
-      let h : ¬ (p ≡ 𝟘) = monic-nonzero p m in
-      monic-antisym (monic-of A p) p (monic-of-monic p h) m (monic-of-divides p) (divides-monic-of p)

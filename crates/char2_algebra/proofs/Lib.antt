@@ -7,10 +7,8 @@ pub mod Division
 pub mod Lead
 pub mod Euclid
 pub mod Square
--- trimmed lists of coefficients are such polynomials, `Polynomial`
+-- trimmed lists of coefficients are such polynomials (polynomial_lists, specs/Polynomials.antt):
 pub mod Convolution
 pub mod ListCoefficients
 pub mod PolynomialRing
 pub mod ListDivision
-pub mod Polynomial
-pub mod OfList

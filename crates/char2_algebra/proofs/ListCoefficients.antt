@@ -1,15 +1,11 @@
 -- Lists of coefficients: which coefficients the operations on lists give, and that a list without a nought at its end is known by its coefficients.
 use Prim.Native.Nat.{ℕ, zero, suc, _≤_, zero-le}
-use mathlib.Core.Path.{_≡_, refl, sym, _∙_, ap₂, subst}
-use mathlib.Core.List.{List, [], _∷_}
-use native.Mathlib.Omega.{arith}
-use native.Mathlib.Decide.{decLe}
+use mathlib.Core.{Path._≡_, Path.refl, Path.sym, Path._∙_, Path.ap₂, Path.subst, List.List, List.[], List._∷_}
+use native.Mathlib.{Omega.arith, Decide.decLe}
 use lib.ListN.{length, getD}
-use Rattle.field_laws.specs.Ring.{Ring2}
-use Rattle.field_laws.specs.Field.{Field2}
+use Rattle.field_laws.specs.{Ring.Ring2, Field.Field2}
 use Rattle.char2_algebra.specs.Polynomial.{IsNo, Nonzero, Trimmed, attach, trim, add-lists, scale-list, mul-lists}
-use Rattle.char2_algebra.proofs.Ring.{𝟘-+, +-𝟘, ·-𝟘}
-use Rattle.char2_algebra.proofs.Convolution.{conv, conv-none, conv-zero, conv-suc}
+use Rattle.char2_algebra.proofs.{Ring.𝟘-+, Ring.+-𝟘, Ring.·-𝟘, Convolution.conv, Convolution.conv-none, Convolution.conv-zero, Convolution.conv-suc}
 
 module _ {K : Type 0} (F : Field2 K) where
   open Field2 F using (ring, discrete)

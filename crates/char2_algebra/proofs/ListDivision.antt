@@ -1,14 +1,11 @@
 -- The schoolbook division of lists of coefficients: the dividend is quotient times divisor plus remainder, and the remainder is shorter
 -- than the divisor.
 use Prim.Native.Nat.{ℕ, zero, suc, _≤_, _<_, suc-le-suc}
-use mathlib.Core.Path.{_≡_, refl, sym, _∙_, ap, ap₂, subst}
-use mathlib.Core.List.{List, [], _∷_}
-use native.Mathlib.Omega.{arith}
-use native.Mathlib.Decide.{ℕ-discrete}
+use mathlib.Core.{Path._≡_, Path.refl, Path.sym, Path._∙_, Path.ap, Path.ap₂, Path.subst, List.List, List.[], List._∷_}
+use native.Mathlib.{Omega.arith, Decide.ℕ-discrete}
 use lib.ListN.{length, List·getD-eq-default}
-use Rattle.field_laws.specs.Ring.{Ring2}
-use Rattle.field_laws.specs.Field.{Field2}
-use Rattle.char2_algebra.specs.Polynomial.{Polynomial, Trimmed, trim, trim-trimmed, of-list, add-lists, scale-list, invert, divide-steps, divide-lists, coeff, nought, con, x, add, mul}
+use Rattle.field_laws.specs.{Ring.Ring2, Field.Field2}
+use Rattle.char2_algebra.specs.Polynomial.{Polynomial, Trimmed, trim, trim-trimmed, of-list, add-lists, scale-list, invert, divide-steps, divide-lists, coeff, nought, con, x, add, mul, quot, rem}
 use Rattle.char2_algebra.proofs.Ring.{ring2, 𝟘-·, 𝟘-+, +-𝟘, +-self, ·-𝟘, by, combine}
 use Rattle.char2_algebra.proofs.ListCoefficients.{at, at-add, at-scale, at-trim, at-end, length-le}
 use Rattle.char2_algebra.proofs.PolynomialRing.{ext, coeff-of-list, coeff-add, coeff-con, coeff-con-suc, coeff-con-mul, coeff-x-mul, coeff-x-mul-suc, ring}
@@ -154,3 +151,11 @@ module _ {K : Type 0} (F : Field2 K) where
           (λ j l. List·getD-eq-default (a ∷ b) 𝟘 l)
           (invert-law (at F (a ∷ b) (length b)) (at-end F a b t))
           p
+
+  -- a = q b + r
+  pub division : (a b : Polynomial F) → a ≡ add F (mul F (quot F a b) b) (rem F a b)
+  unfolding quot rem
+  division a b =
+      sym (of-coefficients a)
+      ∙ divide-law (a .coefficients) (b .coefficients)
+      ∙ ap (λ z. add F (mul F (quot F a b) z) (rem F a b)) (of-coefficients b)

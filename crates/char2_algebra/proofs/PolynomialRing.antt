@@ -1,11 +1,9 @@
 -- Trimmed lists of coefficients form a commutative ring of characteristic 2. Two of them with the same coefficients are equal (`ext`), so
 -- each law of the ring is a law of coefficient functions.
 use Prim.Native.Nat.{ℕ, suc}
-use mathlib.Core.Path.{_≡_, refl, sym, _∙_, ap, ap₂, fun-ext}
-use mathlib.Core.List.{List, [], _∷_, List·isSet}
+use mathlib.Core.{Path._≡_, Path.refl, Path.sym, Path._∙_, Path.ap, Path.ap₂, Path.fun-ext, List.List, List.[], List._∷_, List.List·isSet}
 use mathlib.Core.HLevel.{isProp→PathP, collapsible→set, Unit-prop, ⊥-prop}
-use Rattle.field_laws.specs.Ring.{Ring2}
-use Rattle.field_laws.specs.Field.{Field2}
+use Rattle.field_laws.specs.{Ring.Ring2, Field.Field2}
 use Rattle.char2_algebra.specs.Polynomial.{Polynomial, IsNo, Trimmed, of-list, add-lists, mul-lists, coeff, nought, con, x, add, mul}
 use Rattle.char2_algebra.proofs.Convolution.{conv, conv-zero, conv-comm, conv-assoc, conv-add, conv-con, conv-shift}
 use Rattle.char2_algebra.proofs.Ring.{𝟘-·, 𝟙-·}

@@ -2,10 +2,8 @@
 use Prim.Native.Nat.{ℕ, zero, suc, _+_ as _+ℕ_, _≤_, _<_}
 use mathlib.Core.Path.{_≡_, refl, sym, _∙_, ap, ap₂}
 use native.Mathlib.Omega.{arith}
-use Rattle.field_laws.specs.Ring.{Ring2}
-use Rattle.field_laws.specs.Field.{Field2}
-use Rattle.char2_algebra.specs.Polynomials.{Polynomials}
-use Rattle.char2_algebra.specs.Square.{tail}
+use Rattle.field_laws.specs.{Ring.Ring2, Field.Field2}
+use Rattle.char2_algebra.specs.{Polynomials.Polynomials, Square.tail}
 use Rattle.char2_algebra.proofs.Ring.{+-𝟘, 𝟘-+, +-self, +-·, ·-+, ·-comm, ·-assoc, 𝟙-·, ·-𝟘, 𝟘-·, eq-of-sum, sum-of-eq}
 use Rattle.char2_algebra.proofs.Degree.{len-bound, len-zero, len-is, len-nonzero, len-nought, nonzero-of-len, con-of-len, split, len-tail, coeff-tail, is-nought, con-nonzero, len-con}
 

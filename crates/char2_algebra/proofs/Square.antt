@@ -3,15 +3,11 @@
 use Prim.Native.Nat.{ℕ, zero, suc, _+_ as _+ℕ_, _≤_}
 use mathlib.Core.Path.{_≡_, sym, _∙_, ap, ap₂, fun-ext}
 use native.Mathlib.Omega.{arith}
-use Rattle.field_laws.specs.Ring.{Ring2}
-use Rattle.field_laws.specs.Field.{Field2}
-use Rattle.char2_algebra.specs.Polynomials.{Polynomials}
-use Rattle.char2_algebra.specs.Lead.{lead, Monic}
-use Rattle.char2_algebra.specs.Square.{tail, sqrt-to, sqrt}
-use Rattle.char2_algebra.proofs.Ring.{ring2, 𝟘-+, ·-𝟙, ·-𝟘, square-+, eq-of-sum, sum-of-eq}
+use Rattle.field_laws.specs.{Ring.Ring2, Field.Field2}
+use Rattle.char2_algebra.specs.{Polynomials.Polynomials, Lead.lead, Lead.Monic, Square.tail, Square.sqrt-to, Square.sqrt}
+use Rattle.char2_algebra.proofs.{Ring.ring2, Ring.𝟘-+, Ring.·-𝟙, Ring.·-𝟘, Ring.square-+, Ring.eq-of-sum, Ring.sum-of-eq, Lead.lead-mul}
 use Rattle.char2_algebra.proofs.Degree.{split, coeff-tail, len-tail, len-zero, con-mul, con-nought, coeff-con-add-x-mul, coeff-con-add-x-mul-suc, nonzero-of-len}
 use Rattle.char2_algebra.proofs.Product.{field-integral, left-nonzero, len-square}
-use Rattle.char2_algebra.proofs.Lead.{lead-mul}
 
 square-of-split : {A : Type 0} (R : Ring2 A) (c x p : A) → R .mul (R .add c (R .mul x p)) (R .add c (R .mul x p)) ≡ R .add (R .mul c c) (R .mul x (R .mul x (R .mul p p)))
 square-of-split R c x p = simp (ring2, R)

@@ -1,9 +1,8 @@
 -- Euclid's rule with coefficients: the greatest common divisor of two polynomials, and of three, as a combination of them.
 use Prim.Native.Nat.{ℕ, zero, suc}
-use Rattle.field_laws.specs.Ring.{Ring2}
-use Rattle.field_laws.specs.Field.{Field2}
-use Rattle.char2_algebra.specs.Polynomials.{Polynomials}
-use Rattle.char2_algebra.specs.Lead.{lead}
+use mathlib.Core.Path.{_≡_}
+use Rattle.field_laws.specs.{Ring.Ring2, Field.Field2}
+use Rattle.char2_algebra.specs.{Polynomials.Polynomials, Divides.Divides, Lead.lead, Lead.Monic}
 
 -- g = s a + t b
 pub record Bezout (P : Type 0) : Type 0 where
@@ -24,6 +23,21 @@ module _ {K P : Type 0} {F : Field2 K} (A : Polynomials F P) where
 
   infixl 60 _+_
   infixl 70 _·_
+  -- what is a greatest common divisor of a and b, however found: it is their combination, divides both, and is monic unless both are 0
+  pub record IsBezout (a b : P) (B : Bezout P) : Type 0 where
+    pub combination : B .g ≡ B .s · a + B .t · b
+    pub divides-first : Divides ring (B .g) a
+    pub divides-second : Divides ring (B .g) b
+    pub monic : ¬ ((a ≡ 𝟘) × (b ≡ 𝟘)) → Monic A (B .g)
+
+  -- the same of a, b and c
+  pub record IsBezout3 (a b c : P) (B : Bezout3 P) : Type 0 where
+    pub combination : B .e ≡ B .s1 · a + B .s2 · b + B .s3 · c
+    pub divides-first : Divides ring (B .e) a
+    pub divides-second : Divides ring (B .e) b
+    pub divides-third : Divides ring (B .e) c
+    pub monic : ¬ ((a ≡ 𝟘) × (b ≡ 𝟘) × (c ≡ 𝟘)) → Monic A (B .e)
+
   -- The rule calls itself on the remainder: from g = s b + t r and a = q b + r follows g = t a + (s + t q) b.
   -- At b = 0 the divisor is a, made monic. The recursion is on a count of calls to go.
   unfoldable pub bezout-to : ℕ → P → P → Bezout P

@@ -1,11 +1,9 @@
 -- Polynomials over a field of characteristic 2, to compute with: the list of the coefficients, the lowest first, whose last element is not
 -- nought. So a polynomial is written in one way only. Each operation computes a list and leaves off the noughts at its end.
 use Prim.Native.Nat.{ℕ}
-use mathlib.Core.Path.{_≡_}
-use mathlib.Core.List.{List, [], _∷_}
+use mathlib.Core.{Path._≡_, List.List, List.[], List._∷_}
 use lib.ListN.{length, getD}
-use Rattle.field_laws.specs.Ring.{Ring2}
-use Rattle.field_laws.specs.Field.{Field2}
+use Rattle.field_laws.specs.{Ring.Ring2, Field.Field2}
 
 -- a test has answered no
 abbrev pub IsNo : {A : Type 0} → Dec A → Type 0

@@ -3,8 +3,7 @@
 -- `len p` is the degree plus one, and 0 for the polynomial 0. `quot` and `rem` are total; their laws are for a divisor that is not 0.
 use Prim.Native.Nat.{ℕ, suc, _≤_, _<_}
 use mathlib.Core.Path.{_≡_}
-use Rattle.field_laws.specs.Ring.{Ring2}
-use Rattle.field_laws.specs.Field.{Field2}
+use Rattle.field_laws.specs.{Ring.Ring2, Field.Field2}
 
 pub record Polynomials {K : Type 0} (F : Field2 K) (P : Type 0) : Type 0 where
   pub ring : Ring2 P

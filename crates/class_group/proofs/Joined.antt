@@ -8,7 +8,8 @@ use Rattle.field_laws.specs.{Ring.Ring2, Field.Field2}
 use Rattle.char2_algebra.specs.{Polynomials.Polynomials, Divides.Divides, Euclid.Bezout, Euclid.Bezout3}
 use Rattle.char2_algebra.proofs.{Ring.ring2, Ring.·-𝟙, Ring.by, Ring.combine, Product.mul-nonzero, Product.cancel-left, Product.left-nonzero}
 use Rattle.char2_algebra.proofs.{Divides.divides-eq, Division.quot-exact, Division.quot-mul, Division.rem-divides, Division.rem-congruent, Lead.monic-nonzero, Lead.monic-constant}
-use Rattle.char2_algebra.proofs.Euclid.{IsBezout, IsBezout3, bezout3-is, bezout3-unique, bezout3-nonzero, bezout-twice, bezout-coprime}
+use Rattle.char2_algebra.specs.Euclid.{IsBezout, IsBezout3}
+use Rattle.char2_algebra.proofs.Euclid.{bezout3-is, bezout3-unique, bezout3-nonzero, bezout-twice, bezout-coprime}
 use Rattle.class_group.specs.{Curve.Curve, Mumford.Pair, Mumford.Reduced, Mumford.value, Composition.composed, Composition.compose, Composition.joined}
 use Rattle.class_group.proofs.{Coordinate.coordinate, Coordinate.constant-mul, PairIdeal.pair-ideal-y₁, SemiReduced.SemiReduced, SemiReduced.semi-of-reduced}
 use Rattle.class_group.proofs.Composition.{Composed, composed-within, composed-within⁻¹, divisor-nonzero, Identities.congruent-eq}

@@ -5,8 +5,8 @@ use mathlib.Core.List.{[], _∷_}
 use lib.ListN.{List·getD-eq-default}
 use Rattle.field_laws.specs.Field.{Field2}
 use Rattle.char2_algebra.specs.Polynomial.{Polynomial, of-list}
-use Rattle.char2_algebra.proofs.Polynomial.{polynomials}
-use Rattle.char2_algebra.proofs.OfList.{coeff-of}
+use Rattle.polynomial_lists.specs.Polynomials.{polynomials}
+use Rattle.polynomial_lists.proofs.OfList.{coeff-of}
 use Rattle.char2_algebra.proofs.Lead.{len-by-top, monic-by-top}
 use Rattle.class_group.specs.Curve.{Curve}
 

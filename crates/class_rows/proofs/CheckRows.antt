@@ -1,11 +1,8 @@
 -- The check of rows of any numbers: what each test shows where it holds, and what fails where it does not.
 use Prim.Native.Nat.{ℕ, _+_, _-_, _≤_, _<_, _^_}
-use mathlib.Core.Path.{_≡_, refl, sym, _∙_, ap, subst}
-use mathlib.Core.{Bool.Bool, Bool.true, Bool.false, Bool.true≢false, List.List}
-use native.Mathlib.Omega.{arith}
-use native.Mathlib.Decide.{decLe}
-use lib.Dec.{eqb}
-use lib.ListN.{length, getD, List·getD-eq-default}
+use mathlib.Core.{Path._≡_, Path.refl, Path.sym, Path._∙_, Path.ap, Path.subst, Bool.Bool, Bool.true, Bool.false, Bool.true≢false, List.List}
+use native.Mathlib.{Omega.arith, Decide.decLe}
+use lib.{Dec.eqb, ListN.length, ListN.getD, ListN.List·getD-eq-default}
 use borrow.Author.Tests.{eqb-true, eq-eqb, ne-eqb}
 use Rattle.binary_field_theory.specs.Element.{Accepted}
 use Rattle.char2_algebra.specs.Lead.{Monic}
@@ -13,11 +10,9 @@ use Rattle.char2_algebra.proofs.{Degree.len-zero, Degree.len-nought, Division.r
 use Rattle.class_group.specs.Curve as Theory
 use Rattle.class_group.specs.{Mumford.value, Reduction.Counted}
 use Rattle.row_theory.specs.{Field.degree-of, Field.Poly, Field.𝔸, Field.el, Field.poly, Row.InRange, Row.Stands, Row.row-len}
-use Rattle.class_rows.specs.Pair.{rows-pair}
-use Rattle.row_theory.proofs.{Rows.Elements.degree-is, Rows.Elements.zero-lt, Rows.Elements.el-one, Rows.Elements.one-of-one, Rows.Lead.leads}
-use Rattle.row_theory.proofs.Rows.Lead.{lead-row}
-use Rattle.class_rows.proofs.ReductionRows.{reduced-on}
-use Rattle.class_rows.specs.{Core.OnCurve, Core.StandsCounted, Checked.Decides, Checked.Divisor, Checked.FormedRows, Checked.Gives}
+use Rattle.class_rows.specs.{Pair.rows-pair, Core.OnCurve, Core.StandsCounted, Checked.Decides, Checked.Divisor, Checked.Gives, internal.Check.FormedRows}
+use Rattle.row_theory.proofs.{Rows.Elements.degree-is, Rows.Elements.zero-lt, Rows.Elements.el-one, Rows.Elements.one-of-one, Rows.Lead.leads, Rows.Lead.lead-row}
+use Rattle.class_rows.proofs.ReductionRows.{reduced-on, value-stands}
 use Rattle.class_rows.specs.declared.{row.RowPair.RowPair, reduction.CountedRows.CountedRows}
 
 -- ---- tests
@@ -87,13 +82,16 @@ module _ {d : ℕ} {f : List ℕ} {a : RowPair} where
       }
 
   -- the division tells whether it is a divisor
-  pub division-decides : {n : ℕ} {rest : List ℕ} (h : FormedRows d f a)
-      → Stands d rest (𝔸 d .rem (value (h .curve .0) (poly d (a .v))) (poly d (a .u))) → n ≡ row-len d rest → Decides (eqb n 0) (Divisor d f a)
+  pub division-decides : {n : ℕ} {l rest : List ℕ} (h : FormedRows d f a)
+      → Stands d l (𝔸 d .ring .add (𝔸 d .ring .add (𝔸 d .ring .mul (poly d (a .v)) (poly d (a .v))) (poly d (a .v))) (poly d f))
+      → Stands d rest (𝔸 d .rem (poly d l) (poly d (a .u)))
+      → n ≡ row-len d rest
+      → Decides (eqb n 0) (Divisor d f a)
   unfolding rows-pair
-  division-decides h s e =
+  division-decides h t s e =
       let nonzero = monic-nonzero (𝔸 d) (poly d (a .u)) (h .pair .u-monic) in
       let C = h .curve .0 in
-      let same = e ∙ ap (𝔸 d .len) (s .stands) in
+      let same = e ∙ ap (𝔸 d .len) (s .stands ∙ ap (λ z. 𝔸 d .rem z (poly d (a .u))) (value-stands d (a .v) (h .curve .1) t)) in
       by-number
       (λ z. record {
         degree = h .degree;

@@ -1,22 +1,18 @@
 -- Composition by rows: what the functions of a composition require of each other, and what they promise.
 use Prim.Native.Nat.{ℕ, suc, _+_ as _+ℕ_, _≤_, _<_}
-use mathlib.Core.Path.{_≡_, sym, _∙_, ap, ap₂, subst}
-use mathlib.Core.List.{List}
+use mathlib.Core.{Path._≡_, Path.sym, Path._∙_, Path.ap, Path.ap₂, Path.subst, List.List}
 use native.Mathlib.Omega.{arith}
 use Rattle.field_laws.specs.Ring.{Ring2}
-use Rattle.char2_algebra.specs.{Polynomials.Polynomials, Divides.Divides}
+use Rattle.char2_algebra.specs.{Polynomials.Polynomials, Divides.Divides, Euclid.IsBezout}
 use Rattle.char2_algebra.proofs.{Degree.len-add, Degree.len-one, Product.mul-nonzero, Product.len-mul-le, Lead.monic-nonzero, Divides.divides-trans}
-use Rattle.char2_algebra.proofs.{Division.divides-len, Division.len-quot-le, Division.quot-exact-nonzero, Euclid.IsBezout}
+use Rattle.char2_algebra.proofs.{Division.divides-len, Division.len-quot-le, Division.quot-exact-nonzero}
 use Rattle.class_group.specs.Curve as Theory
-use Rattle.class_group.specs.{Mumford.value, Composition.compose}
+use Rattle.class_group.specs.{Mumford.value, Composition.compose, Composition.joined}
 use Rattle.class_group.proofs.{Norm.value-len, Joined.compose-coprime, Joined.compose-common}
-use Rattle.class_group.specs.Composition.{joined}
-use Rattle.row_theory.specs.{Field.𝔸, Field.Poly, Field.poly, Row.Stands, Row.row-len, internal.Bezout.BezoutRows, internal.Compose.Short}
-use Rattle.row_theory.specs.internal.Compose.{multiple}
-use Rattle.class_rows.specs.{Pair.StandsPair, Pair.rows-pair, Core.OnCurve, Core.ReducedRows, internal.Cofactor.CofactorRow}
+use Rattle.row_theory.specs.{Field.𝔸, Field.Poly, Field.poly, Row.Stands, Row.row-len, internal.Bezout.BezoutRows, internal.Compose.Short, internal.Compose.multiple}
+use Rattle.class_rows.specs.{Pair.StandsPair, Pair.rows-pair, Core.OnCurve, Core.ReducedRows, internal.Cofactor.CofactorRow, declared.row.RowPair.RowPair}
 use Rattle.row_theory.proofs.{Rows.Coefficients.stands-eq, Rows.Coefficients.stands-len}
 use Rattle.class_rows.proofs.{ReductionRows.reduced-on, DoubleRows.reduced-len}
-use Rattle.class_rows.specs.declared.{row.RowPair.RowPair}
 
 module _ (d : ℕ) where
   open Polynomials (𝔸 d) using (ring as R, len, quot, rem)

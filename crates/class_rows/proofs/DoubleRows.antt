@@ -1,7 +1,6 @@
 -- The composition of a double by rows, and its cofactor: what the functions of a double require of each other, and what they promise.
 use Prim.Native.Nat.{ℕ, suc, _+_ as _+ℕ_, _≤_, _<_}
-use mathlib.Core.Path.{_≡_, sym, _∙_, ap, ap₂, subst}
-use mathlib.Core.List.{List}
+use mathlib.Core.{Path._≡_, Path.sym, Path._∙_, Path.ap, Path.ap₂, Path.subst, List.List}
 use native.Mathlib.Omega.{arith}
 use Rattle.field_laws.specs.Ring.{Ring2}
 use Rattle.char2_algebra.specs.Polynomials.{Polynomials}
@@ -9,10 +8,9 @@ use Rattle.class_group.specs.Curve as Theory
 use Rattle.class_group.specs.{Mumford.value, Composition.compose-double, Reduction.reduce, Operations.counted-double}
 use Rattle.class_group.proofs.{SemiReduced.semi-of-reduced, Composed.compose-double-semi, Composed.compose-double-len}
 use Rattle.row_theory.specs.{Field.𝔸, Field.poly, Row.Stands, Row.row-len}
-use Rattle.class_rows.specs.{Pair.StandsPair, Pair.rows-pair, Core.OnCurve, Core.ReducedRows, Core.SemiReducedRows, Core.StandsCounted}
-use Rattle.class_rows.specs.internal.Cofactor.{CofactorRow, SquaredRows}
-use Rattle.row_theory.proofs.ReductionSteps.{square-nonzero, square-len, double-cofactor, cofactor-short}
-use Rattle.row_theory.proofs.ReductionSteps.{quotient-short}
+use Rattle.class_rows.specs.{Pair.StandsPair, Pair.rows-pair, Core.OnCurve, Core.ReducedRows, Core.StandsCounted}
+use Rattle.class_rows.specs.internal.Cofactor.{CofactorRow, SemiReducedRows, SquaredRows}
+use Rattle.row_theory.proofs.ReductionSteps.{square-nonzero, square-len, double-cofactor, cofactor-short, quotient-short}
 use Rattle.class_rows.specs.declared.{row.RowPair.RowPair, reduction.CountedRows.CountedRows, reduction.Squared.Squared}
 use Rattle.class_rows.proofs.ReductionRows.{pair-eq, reduced-on, semi-rows}
 

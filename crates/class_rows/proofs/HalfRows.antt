@@ -1,3 +1,2 @@
 -- The half of a class by rows.
 pub mod Class
-pub mod Reduced

@@ -6,3 +6,4 @@ pub mod HalfRows
 pub mod OppositeRows
 pub mod MoveRows
 pub mod CheckRows
+pub mod TakingBack

@@ -1,7 +1,6 @@
 -- The two rules that move a seal, on rows: what each step hands to the next is a reduced class, and the last one stands for the rule's result.
 use Prim.Native.Nat.{ℕ, _+_, _≤_}
-use mathlib.Core.Path.{ap₂, subst}
-use mathlib.Core.List.{List}
+use mathlib.Core.{Path.ap₂, Path.subst, List.List}
 use Rattle.class_group.specs.Curve as Theory
 use Rattle.class_group.specs.{Mumford.opposite, Operations.sum, Operations.double, Operations.counted-sum, Operations.counted-double, Half.half, Moves.counted-double-and-add, Moves.counted-subtract-and-halve}
 use Rattle.class_group.proofs.Closed.{sum-reduced, sum-steps, double-reduced, double-steps, opposite-reduced}

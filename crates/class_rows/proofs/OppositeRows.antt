@@ -1,7 +1,6 @@
 -- The opposite of a pair of rows.
 use Prim.Native.Nat.{ℕ, _≤_, _<_}
-use mathlib.Core.Path.{_≡_, refl, _∙_, ap}
-use mathlib.Core.List.{List}
+use mathlib.Core.{Path._≡_, Path.refl, Path._∙_, Path.ap, List.List}
 use borrow.Author.Tests.{lt-ltb, le-ltb}
 use Rattle.field_laws.specs.Field.{Field2}
 use Rattle.char2_algebra.specs.Polynomials.{Polynomials}
@@ -9,7 +8,6 @@ use Rattle.class_group.specs.Curve as Theory
 use Rattle.class_group.specs.Mumford.{Pair, opposite}
 use Rattle.row_theory.specs.{Field.𝔸, Field.poly, Row.InRange, Row.Stands, Row.row-len}
 use Rattle.class_rows.specs.{Pair.StandsPair, Pair.rows-pair, declared.row.RowPair.RowPair}
-use Rattle.row_theory.proofs.Rows.Constants.{one-row, one-stands}
 
 -- the opposite by the length of u
 module _ {K P : Type 0} {F : Field2 K} {A : Polynomials F P} (C : Theory.Curve A) where
@@ -28,12 +26,12 @@ module _ (d : ℕ) (C : Theory.Curve (𝔸 d)) (a : RowPair) (hu : InRange d (a 
       rw (short-opposite C (rows-pair d a) h) (record { u-stands = record { in-range = hu; stands = refl }; v-stands = record { in-range = hv; stands = refl } })
 
   pub opposite-long :
-      {w : List ℕ} → 1 < row-len d (a .u) → Stands d w (𝔸 d .ring .add (poly d (a .v)) (poly d one-row))
+      {o w : List ℕ} → 1 < row-len d (a .u) → Stands d o (𝔸 d .ring .one) → Stands d w (𝔸 d .ring .add (poly d (a .v)) (poly d o))
       → StandsPair d (record { u = a .u; v = w }) (opposite C (rows-pair d a))
   unfolding rows-pair
-  opposite-long h s =
+  opposite-long h o s =
       rw (long-opposite C (rows-pair d a) h)
       (record {
         u-stands = record { in-range = hu; stands = refl };
-        v-stands = record { in-range = s .in-range; stands = s .stands ∙ ap (𝔸 d .ring .add (poly d (a .v))) (one-stands d .stands) };
+        v-stands = record { in-range = s .in-range; stands = s .stands ∙ ap (𝔸 d .ring .add (poly d (a .v))) (o .stands) };
       })

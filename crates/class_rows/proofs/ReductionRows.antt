@@ -1,8 +1,7 @@
 -- Rows that stand for semi-reduced pairs: what the functions of a reduction require of each other, and what they promise, from what
 -- the functions on rows promise.
 use Prim.Native.Nat.{ℕ, _≤_, _<_}
-use mathlib.Core.Path.{_≡_, refl, sym, _∙_, ap, ap₂, subst}
-use mathlib.Core.List.{List}
+use mathlib.Core.{Path._≡_, Path.refl, Path.sym, Path._∙_, Path.ap, Path.ap₂, Path.subst, List.List}
 use native.Mathlib.Omega.{arith}
 use Rattle.field_laws.specs.Ring.{Ring2}
 use Rattle.char2_algebra.specs.{Polynomials.Polynomials, Lead.monic-of}
@@ -13,8 +12,8 @@ use Rattle.class_group.proofs.SemiReduced.{SemiReduced, cofactor-nonzero, step-
 use Rattle.row_theory.specs.{Field.𝔸, Field.Poly, Field.poly, Row.InRange, Row.Stands, Row.row-len}
 use Rattle.row_theory.proofs.Rows.Coefficients.{self-stands, stands-eq}
 use Rattle.row_theory.proofs.ReductionSteps.{reduce-none, reduce-once, reduce-twice}
-use Rattle.class_rows.specs.{Pair.StandsPair, Pair.rows-pair, Core.OnCurve, Core.ReducedRows, Core.SemiReducedRows, Core.StandsCounted}
-use Rattle.class_rows.specs.{internal.Cofactor.CofactorRow, declared.row.RowPair.RowPair}
+use Rattle.class_rows.specs.{Pair.StandsPair, Pair.rows-pair, Core.OnCurve, Core.ReducedRows, Core.StandsCounted}
+use Rattle.class_rows.specs.{internal.Cofactor.CofactorRow, internal.Cofactor.SemiReducedRows, declared.row.RowPair.RowPair}
 
 -- v² + v + f on a curve of f
 pub value-stands :

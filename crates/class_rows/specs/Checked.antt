@@ -1,15 +1,14 @@
 -- What the open functions answer for rows of any numbers: whether they are reduced divisors of the curve of f, and where they are, the rows
 -- of what the theory says.
-use Prim.Native.Nat.{ℕ, _≤_, _<_}
-use mathlib.Core.Path.{_≡_}
-use mathlib.Core.{Bool.Bool, Bool.true, Bool.false, List.List, Logic._↔_}
+use Prim.Native.Nat.{ℕ}
+use mathlib.Core.{Path._≡_, Bool.Bool, Bool.true, Bool.false, List.List, Logic._↔_}
+use lib.ListN.{getD}
 use Rattle.binary_field_theory.specs.Element.{Accepted}
-use Rattle.char2_algebra.specs.Lead.{Monic}
 use Rattle.class_group.specs.Curve as Theory
 use Rattle.class_group.specs.Reduction.{Counted}
-use Rattle.row_theory.specs.{Field.Poly, Field.𝔸, Field.poly, Row.InRange, Row.row-len}
-use Rattle.class_rows.specs.{Core.OnCurve, Core.ReducedRows, Core.StandsCounted, internal.Cofactor.CofactorRow}
-use Rattle.class_rows.specs.declared.{row.RowPair.RowPair, divisor.Check.Check, RowsAnswer.RowsAnswer}
+use Rattle.row_theory.specs.Field.{Poly, 𝔸}
+use Rattle.class_rows.specs.{Pair.rows-pair, Core.OnCurve, Core.ReducedRows, Core.StandsCounted, Operations.unary, Operations.binary}
+use Rattle.class_rows.specs.declared.{row.RowPair.RowPair, Unary.Unary, Binary.Binary, RowsAnswer.RowsAnswer}
 
 -- true exactly where P holds
 abbrev pub Decides : Bool → Type 0 → Type 0
@@ -26,26 +25,14 @@ pub record Gives (d : ℕ) (f : List ℕ) (asked : Type 0) (a : RowPair) (of : T
   pub stands : r .divisor ≡ true → (C : Theory.Curve (𝔸 d)) → OnCurve d f C → StandsCounted d (r .rows) (of C)
   pub else : r .divisor ≡ false → r .rows ≡ record { pair = a; steps = 0 }
 
--- ---- the private functions of the check
--- u monic of degree at most 3, v of smaller degree
-pub record FormedPair (d : ℕ) (a : RowPair) : Type 0 where
-  pub u-range : InRange d (a .u)
-  pub v-range : InRange d (a .v)
-  pub u-monic : Monic (𝔸 d) (poly d (a .u))
-  pub u-len : row-len d (a .u) ≤ 4
-  pub v-len : row-len d (a .v) < row-len d (a .u)
+-- what `unary_rows` answers, and what `binary_rows` answers
+abbrev pub UnaryAnswer : Unary → (d : ℕ) → List ℕ → RowPair → RowsAnswer → Type 0
+UnaryAnswer op d f a r = Gives d f (Divisor d f a) a (λ C. unary op C (rows-pair d a)) r
 
--- all but the division
-pub record FormedRows (d : ℕ) (f : List ℕ) (a : RowPair) : Type 0 where
-  pub degree : Accepted d
-  pub curve : (C : Theory.Curve (𝔸 d)) × OnCurve d f C
-  pub pair : FormedPair d a
+abbrev pub BinaryAnswer : Binary → (d : ℕ) → List ℕ → RowPair → RowPair → RowsAnswer → Type 0
+BinaryAnswer op d f a b r = Gives d f (Divisor d f a × Divisor d f b) a (λ C. binary op C (rows-pair d a) (rows-pair d b)) r
 
--- the verdict, and the cofactor of a divisor
-pub record CheckedRows (d : ℕ) (f : List ℕ) (a : RowPair) (r : Check) : Type 0 where
-  pub decides : Decides (r .divisor) (Divisor d f a)
-  pub cofactor : r .divisor ≡ true → CofactorRow d f a (r .w)
-
-pub record CheckedBoth (d : ℕ) (f : List ℕ) (a b : RowPair) (r : Check) : Type 0 where
-  pub decides : Decides (r .divisor) (Divisor d f a × Divisor d f b)
-  pub cofactor : r .divisor ≡ true → CofactorRow d f a (r .w)
+-- the same numbers at every place
+pub record SameRows (a b : RowPair) : Type 0 where
+  pub u-same : (i : ℕ) → getD (a .u) i 0 ≡ getD (b .u) i 0
+  pub v-same : (i : ℕ) → getD (a .v) i 0 ≡ getD (b .v) i 0

@@ -1,16 +1,10 @@
--- What the functions on pairs of rows require and promise.
-use Prim.Native.Nat.{ℕ, _≤_, _<_}
-use mathlib.Core.Path.{_≡_}
-use mathlib.Core.List.{List}
-use Rattle.char2_algebra.specs.Lead.{Monic}
-use Rattle.char2_algebra.specs.Divides.{Divides}
+-- Rows that are a reduced class of the curve of a row f, and rows with a count of steps.
+use Prim.Native.Nat.{ℕ}
+use mathlib.Core.{Path._≡_, List.List}
 use Rattle.class_group.specs.Curve as Theory
-use Rattle.class_group.specs.Mumford.{Pair, Reduced, value}
-use Rattle.class_group.specs.Reduction.{Counted}
-use Rattle.row_theory.specs.{Field.𝔸, Field.Poly, Field.poly, Row.InRange, Row.Stands}
-use Rattle.class_rows.specs.Pair.{StandsPair, rows-pair}
-use Rattle.class_rows.specs.declared.row.RowPair.{RowPair}
-use Rattle.class_rows.specs.declared.reduction.CountedRows.{CountedRows}
+use Rattle.class_group.specs.{Mumford.Reduced, Reduction.Counted}
+use Rattle.row_theory.specs.{Field.𝔸, Field.Poly, Field.poly, Row.InRange}
+use Rattle.class_rows.specs.{Pair.StandsPair, Pair.rows-pair, declared.row.RowPair.RowPair, declared.reduction.CountedRows.CountedRows}
 
 -- the row f is the f of the curve C
 pub record OnCurve (d : ℕ) (f : List ℕ) (C : Theory.Curve (𝔸 d)) : Type 0 where
@@ -24,17 +18,6 @@ pub record ReducedRows (d : ℕ) (f : List ℕ) (a : RowPair) : Type 0 where
   pub u-range : InRange d (a .u)
   pub v-range : InRange d (a .v)
   pub reduced : Reduced C (rows-pair d a)
-
--- the rows are a pair of degree at most 6 that is to be reduced
-pub record SemiReducedRows (d : ℕ) (f : List ℕ) (a : RowPair) : Type 0 where
-  pub C : Theory.Curve (𝔸 d)
-  pub on-curve : OnCurve d f C
-  pub u-range : InRange d (a .u)
-  pub v-range : InRange d (a .v)
-  pub u-monic : Monic (𝔸 d) (poly d (a .u))
-  pub u-len : 𝔸 d .len (poly d (a .u)) ≤ 7
-  pub v-len : 𝔸 d .len (poly d (a .v)) < 𝔸 d .len (poly d (a .u))
-  pub divides : Divides (𝔸 d .ring) (poly d (a .u)) (value C (poly d (a .v)))
 
 -- the rows and the count are those of a reduction
 pub record StandsCounted (d : ℕ) (r : CountedRows) (c : Counted (Poly d)) : Type 0 where

@@ -3,9 +3,7 @@ use Rattle.field_laws.specs.Field.{Field2}
 use Rattle.char2_algebra.specs.Polynomials.{Polynomials}
 use Rattle.class_group.specs.Curve.{Curve}
 use Rattle.class_group.specs.{Mumford.Pair, Mumford.opposite, Reduction.Counted, Operations.counted-sum, Operations.counted-double, Half.half, Moves.counted-double-and-add, Moves.counted-subtract-and-halve}
-use Rattle.class_rows.specs.declared.Unary.{Unary}
-use Rattle.class_rows.specs.declared.Unary.the-variants.{Opposite, Double, Half}
-use Rattle.class_rows.specs.declared.Binary.{Binary}
+use Rattle.class_rows.specs.declared.{Unary.Unary, Unary.the-variants.Opposite, Unary.the-variants.Double, Unary.the-variants.Half, Binary.Binary}
 use Rattle.class_rows.specs.declared.Binary.the-variants.{Sum, DoubleAndAdd, SubtractAndHalve}
 
 module _ {K P : Type 0} {F : Field2 K} {A : Polynomials F P} where

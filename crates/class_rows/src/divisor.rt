@@ -1,12 +1,11 @@
 // Is a pair a reduced divisor of the curve of f? The division that tells yields the cofactor w = (v² + v + f) / u besides.
 ghost use Prim.Native.Nat.{_≤_};
-ghost use Rattle.class_group.specs.{Curve.Curve as TheoryCurve, Mumford.value};
+ghost use Rattle.class_group.specs.{Curve.Curve as TheoryCurve};
 ghost use Rattle.binary_field_theory.specs.Element.{Accepted};
 ghost use Rattle.char2_algebra.specs.Lead.{Monic};
 ghost use Rattle.row_theory.specs.{Field.𝔸, Field.poly, Row.InRange, Row.Stands, Row.row-len};
 ghost use Rattle.class_rows.specs.Core.{OnCurve};
-ghost use Rattle.class_rows.specs.Checked.{Decides, FormedPair, FormedRows, CheckedRows, CheckedBoth};
-use crate::row::Division;
+ghost use Rattle.class_rows.specs.{Checked.Decides, Checked.Divisor, internal.Check.FormedPair, internal.Check.FormedRows, internal.Check.CheckedRows};
 use crate::row::Row;
 use crate::row::RowPair;
 use crate::row::add_rows;
@@ -116,20 +115,9 @@ pub(crate) fn curve_value(d: u8, f: Row, v: Row) -> Row
     add_rows(d, sum, f)
 }
 
-// v² + v + f divided by u.
-fn divided(d: u8, f: Row, a: RowPair) -> Division
-    requires { ⌜ FormedRows d f a ⌝ }
-    ensures { λ r. ⌜ ((C : TheoryCurve (𝔸 d)) → OnCurve d f C → Stands d (r .quotient) (𝔸 d .quot (value C (poly d (a .v))) (poly d (a .u))) × Stands d (r .remainder) (𝔸 d .rem (value C (poly d (a .v))) (poly d (a .u)))) ⌝ }
-{
-    let u = a.u;
-    let v = a.v;
-    let value = curve_value(d, f, v);
-    divide(d, value, u)
-}
-
-// The check of a pair.
+// The check of a pair: is v² + v + f a multiple of u?
 pub(crate) fn checked(d: u8, f: Row, a: RowPair) -> Check
-    ensures { λ r. ⌜ CheckedRows d f a r ⌝ }
+    ensures { λ r. ⌜ CheckedRows d f (Divisor d f a) a r ⌝ }
 {
     if !in_form(d, f, a) {
         return Check {
@@ -137,7 +125,10 @@ pub(crate) fn checked(d: u8, f: Row, a: RowPair) -> Check
             w: [0; 12],
         };
     }
-    let division = divided(d, f, a);
+    let u = a.u;
+    let v = a.v;
+    let value = curve_value(d, f, v);
+    let division = divide(d, value, u);
     let w = division.quotient;
     let rest = division.remainder;
     let n = length(rest);
@@ -146,7 +137,7 @@ pub(crate) fn checked(d: u8, f: Row, a: RowPair) -> Check
 
 // The check of two pairs, with the cofactor of the first.
 pub(crate) fn checked_both(d: u8, f: Row, a: RowPair, b: RowPair) -> Check
-    ensures { λ r. ⌜ CheckedBoth d f a b r ⌝ }
+    ensures { λ r. ⌜ CheckedRows d f (Divisor d f a × Divisor d f b) a r ⌝ }
 {
     let second = checked(d, f, b);
     if !second.divisor {

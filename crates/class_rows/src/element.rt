@@ -3,7 +3,7 @@ ghost use Prim.Native.Nat.{ℕ, _<_, _^_};
 ghost use mathlib.Core.Path.{_≡_};
 ghost use Rattle.binary_field_theory.specs.Element.{Accepted};
 ghost use Rattle.binary_field.specs.Answer.{element, reply};
-ghost use Rattle.row_theory.specs.{Field.degree-of, Field.F, Field.el, Row.Is};
+ghost use Rattle.row_theory.specs.{Field.degree-of, Field.F, Field.el, internal.Elements.Is};
 use binary_field::Answer;
 
 // The number of an answer that is no refusal.

@@ -7,7 +7,7 @@ ghost use Rattle.char2_algebra.specs.Square.{sqrt};
 ghost use Rattle.class_group.specs.Curve.{Curve as TheoryCurve};
 ghost use Rattle.class_group.specs.Half.{quadratic, half, half-of-degree-1, half-of-degree-2, half-of-degree-3};
 ghost use Rattle.class_group.specs.Half.{first-lift};
-ghost use Rattle.row_theory.specs.{Field.degree-of, Field.F, Field.𝔸, Field.el, Field.poly, Row.Is, Row.InRange, Row.Stands, Row.row-len};
+ghost use Rattle.row_theory.specs.{Field.degree-of, Field.F, Field.𝔸, Field.el, Field.poly, internal.Elements.Is, Row.InRange, Row.Stands, Row.row-len};
 ghost use Rattle.row_theory.specs.internal.Halving.{HalvingRows, even-quartic, root-pair, rows-triple};
 ghost use Rattle.row_theory.specs.internal.Halving.{second-square, second-remainder};
 ghost use Rattle.class_rows.specs.{Pair.StandsPair, Pair.rows-pair, internal.Cofactor.CofactorRow};
@@ -203,7 +203,7 @@ fn half_of_degree_3(d: u8, u: Row, v: Row, w: Row) -> RowPair
     RowPair { u: a, v: o }
 }
 
-// The half of a reduced pair, with w at hand.
+// The half of a reduced pair, with w at hand. The neutral class is its own half.
 pub(crate) fn half_of_reduced(d: u8, f: Row, a: RowPair, w: Row) -> RowPair
     requires { ⌜ Accepted d × ReducedRows d f a × CofactorRow d f a w ⌝ }
     ensures { λ r. ⌜ ((C : TheoryCurve (𝔸 d)) → OnCurve d f C → StandsPair d r (half C (rows-pair d a))) ⌝ }
@@ -212,7 +212,11 @@ pub(crate) fn half_of_reduced(d: u8, f: Row, a: RowPair, w: Row) -> RowPair
     let v = a.v;
     let n = length(u);
     if n <= 1 {
-        return a;
+        let unit = one();
+        return RowPair {
+            u: unit,
+            v: [0; 12],
+        };
     }
     if n == 2 {
         return half_of_degree_1(d, u, v, w);

@@ -1,7 +1,7 @@
 // Pairs of rows of coefficients, for the calls on classes by value in the crate above: whether a pair is a reduced divisor of the curve of the row
 // f, and the operations on one such pair and on two. Each function checks its rows itself, by one division for each pair, whose quotient
 // w = (v² + v + f) / u serves the double and the half; where a check fails the answer says so.
-ghost use Rattle.class_rows.specs.{Pair.rows-pair, Operations.unary, Operations.binary, Checked.Decides, Checked.Divisor, Checked.Gives};
+ghost use Rattle.class_rows.specs.Checked.{Decides, Divisor, UnaryAnswer, BinaryAnswer};
 
 mod composition;
 mod divisor;
@@ -50,7 +50,7 @@ pub fn is_divisor(d: u8, f: [u64; 12], a: RowPair) -> bool
 
 // The operation on one pair.
 pub fn unary_rows(op: Unary, d: u8, f: [u64; 12], a: RowPair) -> RowsAnswer
-    ensures { λ r. ⌜ Gives d f (Divisor d f a) a (λ C. unary op C (rows-pair d a)) r ⌝ }
+    ensures { λ r. ⌜ UnaryAnswer op d f a r ⌝ }
 {
     let check = checked(d, f, a);
     if !check.divisor {
@@ -70,7 +70,7 @@ pub fn unary_rows(op: Unary, d: u8, f: [u64; 12], a: RowPair) -> RowsAnswer
 
 // The operation on two pairs.
 pub fn binary_rows(op: Binary, d: u8, f: [u64; 12], a: RowPair, b: RowPair) -> RowsAnswer
-    ensures { λ r. ⌜ Gives d f (Divisor d f a × Divisor d f b) a (λ C. binary op C (rows-pair d a) (rows-pair d b)) r ⌝ }
+    ensures { λ r. ⌜ BinaryAnswer op d f a b r ⌝ }
 {
     let check = checked_both(d, f, a, b);
     if !check.divisor {

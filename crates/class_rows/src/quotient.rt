@@ -4,7 +4,7 @@ ghost use mathlib.Core.Path.{_≡_};
 ghost use lib.ListN.{getD};
 ghost use Rattle.binary_field_theory.specs.Element.{Accepted};
 ghost use Rattle.char2_algebra.specs.Lead.{Monic};
-ghost use Rattle.row_theory.specs.{Field.𝔸, Field.poly, Row.Is, Row.InRange, Row.Stands};
+ghost use Rattle.row_theory.specs.{Field.𝔸, Field.poly, internal.Elements.Is, Row.InRange, Row.Stands};
 use crate::element::plus;
 use crate::element::times;
 use crate::row::Row;

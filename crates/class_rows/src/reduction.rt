@@ -6,8 +6,8 @@ ghost use Rattle.class_group.specs.Curve.{Curve as TheoryCurve};
 ghost use Rattle.class_group.specs.Reduction.{reduction-step, reduce};
 ghost use Rattle.class_group.specs.Operations.{counted-double};
 ghost use Rattle.row_theory.specs.{Field.𝔸, Row.row-len};
-ghost use Rattle.class_rows.specs.{Pair.StandsPair, Pair.rows-pair, internal.Cofactor.CofactorRow, internal.Cofactor.SquaredRows};
-ghost use Rattle.class_rows.specs.Core.{OnCurve, ReducedRows, SemiReducedRows, StandsCounted};
+ghost use Rattle.class_rows.specs.{Pair.StandsPair, Pair.rows-pair, Core.OnCurve, Core.ReducedRows, Core.StandsCounted};
+ghost use Rattle.class_rows.specs.internal.Cofactor.{CofactorRow, SemiReducedRows, SquaredRows};
 use crate::divisor::curve_value;
 use crate::quotient::quotient;
 use crate::row::Row;
@@ -65,8 +65,8 @@ fn reduce_with(d: u8, f: Row, a: RowPair, w: Row) -> CountedRows
 {
     let once = step(d, f, a, w);
     let u = once.u;
-    let n = length(u);
-    if n <= 4 {
+    let left = length(u);
+    if left <= 4 {
         return CountedRows {
             pair: once,
             steps: 1,

@@ -3,7 +3,7 @@ ghost use Prim.Native.Nat.{ℕ, suc, _+_, _≤_, _<_, _^_};
 ghost use mathlib.Core.Path.{_≡_};
 ghost use Rattle.binary_field_theory.specs.Element.{Accepted};
 ghost use Rattle.char2_algebra.specs.{Lead.lead, Lead.monic-of, Square.sqrt};
-ghost use Rattle.row_theory.specs.{Field.degree-of, Field.F, Field.𝔸, Field.el, Field.poly, Row.Is, Row.InRange, Row.Stands, Row.places, Row.row-len, Row.x-power};
+ghost use Rattle.row_theory.specs.{Field.degree-of, Field.F, Field.𝔸, Field.el, Field.poly, internal.Elements.Is, Row.InRange, Row.Stands, Row.places, Row.row-len, internal.Elements.x-power};
 use crate::element::inverted;
 use crate::element::plus;
 use crate::element::root_of;

@@ -17,6 +17,7 @@ use crate::reduction::reduce_rows;
 use crate::row::RowPair;
 use crate::row::add_rows;
 use crate::row::length;
+use crate::row::one;
 
 // The sum: compose, then reduce.
 pub(crate) fn sum_of_reduced(d: u8, f: [u64; 12], a: RowPair, b: RowPair) -> CountedRows
@@ -37,9 +38,9 @@ pub(crate) fn opposite_of_reduced(d: u8, a: RowPair) -> RowPair
     if length(u) < 2 {
         return a;
     }
-    let one = [1, 0, 0, 0, 0, 0, 0, 0, 0, 0, 0, 0];
-    let w = add_rows(d, v, one);
-    RowPair { u: u, v: w }
+    let unit = one();
+    let w = add_rows(d, v, unit);
+    RowPair { u, v: w }
 }
 
 // Twice the first pair, whose cofactor is w, plus the second, with the steps of both.

@@ -5,7 +5,7 @@ use Rattle.char2_algebra.specs.Polynomial.{of-list}
 use Rattle.char2_algebra.specs.Lead.{lead, monic-of}
 use Rattle.char2_algebra.specs.Euclid.{bezout-to, bezout, bezout3}
 use Rattle.char2_algebra.specs.Square.{tail, sqrt-to, sqrt}
-use Rattle.char2_algebra.proofs.Polynomial.{polynomials}
+use Rattle.polynomial_lists.specs.Polynomials.{polynomials}
 use Rattle.class_group.specs.Mumford.{value, neutral, opposite}
 use Rattle.class_group.specs.Coefficients.{monic-7, curve-of}
 use Rattle.class_group.specs.Composition.{composed, compose, compose-double}

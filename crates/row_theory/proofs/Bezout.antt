@@ -1,13 +1,12 @@
 -- Extended Euclid on rows: what holds of the rows where the rule stops (`nought-rows`, `blank-rows`, `constant-rows`) and of one step
 -- back from the remainder (`step-rows`).
 use Prim.Native.Nat.{ℕ, max, _≤_, _<_}
-use mathlib.Core.Path.{_≡_, sym, ap, subst}
-use mathlib.Core.List.{List}
+use mathlib.Core.{Path._≡_, Path.sym, Path.ap, Path.subst, List.List}
 use native.Mathlib.Omega.{arith}
-use Rattle.char2_algebra.specs.Lead.{lead, monic-of}
+use Rattle.char2_algebra.specs.{Lead.lead, Lead.monic-of, Euclid.IsBezout}
 use Rattle.char2_algebra.proofs.{Degree.len-nought, Degree.len-zero, Degree.len-con-le, Division.len-quot-le}
-use Rattle.char2_algebra.proofs.Euclid.{IsBezout, bezout-nought-is, bezout-noughts-is, bezout-constant-is, bezout-step-is, len-substituted}
-use Rattle.row_theory.specs.{Field.F, Field.Poly, Field.𝔸, Field.el, Field.poly, Row.Is, Row.Stands, Row.row-len, internal.Bezout.BezoutRows}
+use Rattle.char2_algebra.proofs.Euclid.{bezout-nought-is, bezout-noughts-is, bezout-constant-is, bezout-step-is, len-substituted}
+use Rattle.row_theory.specs.{Field.F, Field.Poly, Field.𝔸, Field.el, Field.poly, internal.Elements.Is, Row.Stands, Row.row-len, internal.Bezout.BezoutRows}
 use Rattle.row_theory.proofs.Rows.{Coefficients.self-stands, Coefficients.stands-eq, Coefficients.stands-len, Constants.zero-stands}
 
 module _ (d : ℕ) where

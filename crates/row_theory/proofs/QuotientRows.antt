@@ -1,15 +1,14 @@
 -- The quotient alone, coefficient by coefficient. A coefficient of a product by partial sums (`Partial`), and the quotient from the top
 -- (`Divided`): from k on a + q b has no coefficient, and q none below k less the degree of b.
 use Prim.Native.Nat.{ℕ, zero, suc, _+_, _-_, _≤_, _<_}
-use mathlib.Core.Path.{_≡_, refl, sym, _∙_, ap, ap₂}
-use mathlib.Core.List.{List}
+use mathlib.Core.{Path._≡_, Path.refl, Path.sym, Path._∙_, Path.ap, Path.ap₂, List.List}
 use native.Mathlib.{Omega.arith, Decide.decLe, Decide.ℕ-discrete}
 use lib.{ListN.length, ListN.getD, ListN.set, ListN.replicate, ListN.length-set, Seq.getD-set-other}
 use Rattle.field_laws.specs.{Ring.Ring2, Field.Field2}
 use Rattle.char2_algebra.specs.{Polynomials.Polynomials, Lead.Monic, Square.tail}
 use Rattle.char2_algebra.proofs.Ring.{ring2, +-𝟘, 𝟘-+, 𝟘-·, ·-𝟘, ·-𝟙}
 use Rattle.char2_algebra.proofs.{Degree.coeff-nought, Degree.coeff-tail, Degree.len-bound, Product.coeff-mul-zero, Product.coeff-mul-suc, Division.quot-is, Lead.monic-top}
-use Rattle.row_theory.specs.{Field.K, Field.F, Field.Poly, Field.𝔸, Field.el, Field.poly, Row.Is, Row.InRange, Row.Stands, Row.row-len, Row.x-power}
+use Rattle.row_theory.specs.{Field.K, Field.F, Field.Poly, Field.𝔸, Field.el, Field.poly, internal.Elements.Is, Row.InRange, Row.Stands, Row.row-len, internal.Elements.x-power}
 use Rattle.row_theory.proofs.{Rows.Elements.el-zero, Rows.Elements.zero-is, Rows.Elements.is-eq, Rows.Coefficients.coeff-poly, Rows.Fill.range-set}
 use Rattle.row_theory.proofs.{Rows.Fill.zeros-at, Rows.Fill.zeros-range, Rows.Fill.zeros-poly, Rows.Shift.coeff-shift, Rows.Shift.coeff-shift-past}
 use Rattle.row_theory.proofs.Rows.Shift.{monomial-at, monomial-off, poly-set-zero}

@@ -7,8 +7,7 @@ use Rattle.field_laws.specs.{Ring.Ring2, Field.Field2}
 use Rattle.char2_algebra.specs.Polynomials.{Polynomials}
 use Rattle.char2_algebra.proofs.Ring.{ring2, by, both, combine}
 use Rattle.char2_algebra.proofs.{Degree.len-add-less, Degree.nonzero-of-len, Product.len-mul-le, Product.len-square, Product.mul-nonzero, Division.quot-mul, Division.len-quot, Lead.monic-nonzero}
-use Rattle.class_group.specs.{Curve.Curve, Mumford.Pair, Mumford.Reduced, Mumford.value}
-use Rattle.class_group.specs.Reduction.{reduction-step, reduce-to, reduce}
+use Rattle.class_group.specs.{Curve.Curve, Mumford.Pair, Mumford.Reduced, Mumford.value, Reduction.reduction-step, Reduction.reduce-to, Reduction.reduce}
 use Rattle.class_group.proofs.SemiReduced.{SemiReduced, semi-of-reduced, cofactor-eq, cofactor-len, step-semi, step-len, reduce-stop, reduce-go}
 use Rattle.class_group.proofs.Norm.{value-len}
 

@@ -1,14 +1,12 @@
 -- The field of a degree, the polynomials over it, and the polynomial that a row of numbers stands for, the lowest coefficient first.
 use Prim.Native.Nat.{ℕ}
-use mathlib.Core.Bool.{Bool, true, false, cond}
-use mathlib.Core.List.{List, map}
+use mathlib.Core.{Bool.Bool, Bool.true, Bool.false, Bool.cond, List.List, List.map}
 use lib.Dec.{eqb}
 use Rattle.field_laws.specs.Field.{Field2}
 use Rattle.binary_field_theory.specs.Element.{Element, Accepted}
 use Rattle.binary_field.specs.Field.{field, element}
-use Rattle.char2_algebra.specs.Polynomials.{Polynomials}
-use Rattle.char2_algebra.specs.Polynomial.{Polynomial, of-list}
-use Rattle.char2_algebra.proofs.Polynomial.{polynomials}
+use Rattle.char2_algebra.specs.{Polynomials.Polynomials, Polynomial.Polynomial, Polynomial.of-list}
+use Rattle.polynomial_lists.specs.Polynomials.{polynomials}
 
 -- 61, and 5 for every other number: no call gets past 106 with a number other than these two
 unfoldable pub degree-of : ℕ → ℕ

@@ -1,14 +1,8 @@
--- What the functions on numbers and rows promise: numbers in range that stand for elements and polynomials.
+-- Rows of numbers in range that stand for polynomials.
 use Prim.Native.Nat.{ℕ, zero, suc, _-_, _≤_, _<_, _^_}
-use mathlib.Core.Path.{_≡_}
-use mathlib.Core.List.{List, [], _∷_, _++_}
+use mathlib.Core.{Path._≡_, List.List, List.[], List._∷_, List._++_}
 use lib.ListN.{length, getD, replicate}
-use Rattle.row_theory.specs.Field.{degree-of, K, Poly, 𝔸, el, poly}
-
--- a number that stands for an element
-pub record Is (d : ℕ) (n : ℕ) (e : K d) : Type 0 where
-  pub in-range : n < 2 ^ degree-of d
-  pub stands : el d n ≡ e
+use Rattle.row_theory.specs.Field.{degree-of, Poly, 𝔸, poly}
 
 -- every number is an element of degree d
 abbrev pub InRange : ℕ → List ℕ → Type 0
@@ -36,8 +30,3 @@ places (n ∷ r) = after (places r) n
 -- the degree plus one of the polynomial that a row stands for
 abbrev pub row-len : ℕ → List ℕ → ℕ
 row-len d r = 𝔸 d .len (poly d r)
-
--- x to the power n
-unfoldable pub x-power : (d : ℕ) → ℕ → Poly d
-x-power d zero = 𝔸 d .ring .one
-x-power d (suc n) = 𝔸 d .ring .mul (𝔸 d .x) (x-power d n)

@@ -9,12 +9,9 @@ returns : tie.Need-returns
 unfolding product-reply
 returns c = refuses _ (c .before .refusal .ensures) (c .if1 .taken)
 
-product-of-requires : tie.Need-product-of-requires
-product-of-requires c κs = none-refused _ _ _ (c .before .refusal .ensures) (c .if1 .left)
-
 returns-2 : tie.Need-returns-2
 unfolding product-reply
 returns-2 c = let s = c .before in replies (s .before .refusal .ensures) (s .if1 .left) (c .product-of .ensures)
 
 pub product-spec : {M : Type 1} → statement M
-product-spec = tie.close (tie.spec (λ c κs. search needs) returns product-of-requires returns-2)
+product-spec = tie.close (tie.spec (λ c κs. search needs) returns (λ c κs. none-refused _ _ _ (c .before .refusal .ensures) (c .if1 .left)) returns-2)

@@ -1,8 +1,7 @@
 -- Repeated squaring as the loop makes it, and the powers 2^k - 1 of an element, from which its inverse is made.
 use mathlib.Core.Path.{_≡_, ap, ap₂, sym, _∙_}
 use Prim.Native.Nat.{ℕ, _+_, _-_, _*_, _^_, _<_, _≤_}
-use native.Mathlib.Numerals.{add-one}
-use native.Mathlib.Omega.{arith}
+use native.Mathlib.{Numerals.add-one, Omega.arith}
 use Rattle.binary_field_theory.specs.Element.{Accepted, product, square, squarings, power, inverse}
 use Rattle.binary_field_theory.proofs.Products.{low-lt, product-lt, square-lt}
 use Rattle.binary_field_theory.proofs.Power.{squarings-zero, squarings-suc, squarings-add, squarings-lt, power-ones-add, power-one, inverse-ones}

@@ -5,8 +5,7 @@ use Prim.Native.Nat.{ℕ, _*_, _^_, _<_}
 use native.Mathlib.Nat.{mod-eq-of-lt}
 use lib.Bits.{bitAnd, and-mask, and-comm}
 use Rattle.binary_field_theory.specs.Carryless.{_⊕_, clmul}
-use Rattle.binary_field_theory.proofs.Sums.{sums, and-sum}
-use Rattle.binary_field_theory.proofs.Clmul.{clmul-sum, sum-clmul}
+use Rattle.binary_field_theory.proofs.{Sums.sums, Sums.and-sum, Clmul.clmul-sum, Clmul.sum-clmul}
 use Rattle.binary_field_theory.proofs.Words.Parts.{ones, part, near, far}
 
 sum-mask : (a x y : ℕ) → bitAnd a (x ⊕ y) ≡ bitAnd a x ⊕ bitAnd a y

@@ -3,13 +3,10 @@
 use mathlib.Core.Path.{_≡_, refl, sym}
 use Prim.Native.Nat.{ℕ, zero, suc, _+_, _*_, _/_, _%_, _^_, _<_, _≤_}
 use native.Mathlib.Omega.{arith}
-use lib.Bits.{bitAnd}
-use lib.Pow.{pow-pos}
-use Rattle.binary_field_theory.specs.Carryless.{_⊕_, spread, digits, digits-to}
-use Rattle.binary_field_theory.specs.Spreading.{evens}
+use lib.{Bits.bitAnd, Pow.pow-pos}
+use Rattle.binary_field_theory.specs.{Carryless._⊕_, Carryless.spread, Carryless.digits, Carryless.digits-to, Spreading.evens}
 use Rattle.binary_field_theory.proofs.Sums.{bit-lt, sum-half, sum-odd, sum-shr, sum-double, sum-middle, sum-self, double-plus-sum, and-sum}
-use Rattle.binary_field_theory.proofs.Linear.{Additive, basis, same, same-at}
-use Rattle.binary_field_theory.proofs.Spread.{spread-sum}
+use Rattle.binary_field_theory.proofs.{Linear.Additive, Linear.basis, Linear.same, Linear.same-at, Spread.spread-sum}
 
 -- ---- the operations are additive
 -- runs of s digits that stand s apart are joined two by two

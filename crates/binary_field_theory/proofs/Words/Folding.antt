@@ -1,11 +1,8 @@
 -- Fast reduction in two rounds: the digits from d on, and what they carry past d once more, are folded together.
 use mathlib.Core.Path.{_≡_, refl, sym, ap, ap₂, _∙_}
 use Prim.Native.Nat.{ℕ, _+_, _-_, _*_, _/_, _%_, _^_, _<_}
-use native.Mathlib.Omega.{arith}
-use native.Mathlib.Nat.{mod-eq-of-lt, div-eq-of-lt, lt-of-lt-of-le}
-use lib.Dec.{lit<, lit≤}
-use lib.Pow.{mod-mod-pow}
-use lib.Bits.{bitAnd, and-mask}
+use native.Mathlib.{Omega.arith, Nat.mod-eq-of-lt, Nat.div-eq-of-lt, Nat.lt-of-lt-of-le}
+use lib.{Dec.lit<, Dec.lit≤, Pow.mod-mod-pow, Bits.bitAnd, Bits.and-mask}
 use Rattle.binary_field_theory.specs.Carryless.{_⊕_, clmul, remainder}
 use Rattle.binary_field_theory.proofs.{Sums.sums, Sums.zero-sum, Sums.sum-lt, Sums.sum-mod, Sums.sum-shr, Clmul.clmul-sum, Clmul.sum-clmul, Clmul.clmul-pow, Clmul.clmul-one, Remainder.remainder-fold, Remainder.remainder-small, Words.Sizes.clmul-lt}
 

@@ -1,14 +1,10 @@
 -- A number spread by its halves, as the code joins them in a word, and an element spread to two words.
 use mathlib.Core.Path.{_≡_, ap, sym, _∙_}
 use Prim.Native.Nat.{ℕ, _+_, _-_, _*_, _/_, _%_, _^_, _<_, _≤_}
-use native.Mathlib.Nat.{mod-lt}
-use native.Mathlib.Omega.{arith}
-use lib.Pow.{pow-pos, split, shl-exact, shr-lt}
-use lib.Bits.{bitXor, bitAnd, and-mask, mask-lt, xor-shifted}
-use Rattle.binary_field_theory.specs.Carryless.{spread}
-use Rattle.binary_field_theory.specs.Element.{Accepted}
-use Rattle.binary_field_theory.proofs.Spread.{spread-block, spread-lt}
-use Rattle.binary_field_theory.proofs.Degrees.{digits-61}
+use native.Mathlib.{Nat.mod-lt, Omega.arith}
+use lib.{Pow.pow-pos, Pow.split, Pow.shl-exact, Pow.shr-lt, Bits.bitXor, Bits.bitAnd, Bits.and-mask, Bits.mask-lt, Bits.xor-shifted}
+use Rattle.binary_field_theory.specs.{Carryless.spread, Element.Accepted}
+use Rattle.binary_field_theory.proofs.{Spread.spread-block, Spread.spread-lt, Degrees.digits-61}
 
 -- the k lowest digits and the rest are spread apart
 pub spread-parts : (k w : ℕ) → spread (w / 2 ^ k) * 2 ^ (k + k) + spread (bitAnd w (2 ^ k - 1)) ≡ spread w

@@ -1,15 +1,11 @@
 -- Karatsuba's rule for carry-less products, and its result as two words of 61 bits.
 use mathlib.Core.Path.{_≡_, sym, ap, ap₂, _∙_}
 use Prim.Native.Nat.{ℕ, _+_, _-_, _*_, _/_, _%_, _^_, _<_}
-use native.Mathlib.Omega.{arith}
-use native.Mathlib.Nat.{div-eq-of-lt, lt-of-lt-of-le}
-use lib.Dec.{lit≤}
-use lib.Pow.{split, mod-mod-pow}
-use lib.Bits.{bitAnd, and-mask, mask-lt}
+use native.Mathlib.{Omega.arith, Nat.div-eq-of-lt, Nat.lt-of-lt-of-le}
+use lib.{Dec.lit≤, Pow.split, Pow.mod-mod-pow, Bits.bitAnd, Bits.and-mask, Bits.mask-lt}
 use Rattle.binary_field_theory.specs.Carryless.{_⊕_, clmul}
 use Rattle.binary_field_theory.proofs.Sums.{sums, sum-shr, sum-mod, sum-shl, sum-zero, zero-sum, sum-comm, sum-split}
-use Rattle.binary_field_theory.proofs.Words.Sizes.{clmul-lt}
-use Rattle.binary_field_theory.proofs.Clmul.{clmul-sum, sum-clmul, clmul-shl, shl-clmul}
+use Rattle.binary_field_theory.proofs.{Words.Sizes.clmul-lt, Clmul.clmul-sum, Clmul.sum-clmul, Clmul.clmul-shl, Clmul.shl-clmul}
 
 pub karatsuba : (k a0 a1 b0 b1 : ℕ)
     → clmul (a1 * 2 ^ k ⊕ a0) (b1 * 2 ^ k ⊕ b0)

@@ -1,17 +1,12 @@
 -- The table of the elements squared six times. Squaring is additive, so the rule is tested at the powers of t alone, which are the
 -- digits 1, 2, 4 and 8 at each place: each is the one before it times t^64. Every other entry is tested to be the sum of those.
-use mathlib.Core.Path.{_≡_, refl, ap, sym, _∙_}
-use mathlib.Core.Bool.{Bool, true, _&&_}
-use mathlib.Core.List.{List, [], _∷_}
+use mathlib.Core.{Path._≡_, Path.refl, Path.ap, Path.sym, Path._∙_, Bool.Bool, Bool.true, Bool._&&_, List.List, List.[], List._∷_}
 use Prim.Native.Nat.{ℕ, zero, suc, _+_, _*_, _/_, _%_, _^_, _<_, _≤_}
-use native.Mathlib.Nat.{mod-lt, mod-eq-of-lt, lt-of-lt-of-le, add-zero, zero-add, le-of-suc-le-suc, not-suc-le-zero}
-use native.Mathlib.Omega.{arith}
-use lib.Dec.{T, eqb, eqb→eq}
-use lib.Bits.{bitXor, bitAnd, and-mask, mask-lt}
-use lib.Pow.{pow-pos, pow-mono, shl-lt, mod-pow-add}
+use native.Mathlib.{Nat.mod-lt, Nat.mod-eq-of-lt, Nat.lt-of-lt-of-le, Nat.add-zero, Nat.zero-add, Nat.le-of-suc-le-suc, Nat.not-suc-le-zero, Omega.arith}
+use lib.{Dec.T, Dec.eqb, Dec.eqb→eq, Bits.bitXor, Bits.bitAnd, Bits.and-mask, Bits.mask-lt, Pow.pow-pos, Pow.pow-mono, Pow.shl-lt, Pow.mod-pow-add}
 use lib.ListN.{length, getD, drop}
-use Rattle.binary_field_theory.specs.{Carryless._⊕_, Carryless.digits-to, Carryless.digits, Carryless.spread, Carryless.reduce, Carryless.remainder, Element.low, Element.product, Element.squarings, Chain.spreadings, Multisquaring.Multisquares}
-use Rattle.binary_field_theory.proofs.{Sums.sum-comm, Sums.sum-shifted, Linear.additive-zero, Linear.basis, Linear.both, Linear.combine, Linear.combine-additive, Linear.combine-at, Linear.combine-drop, Chain.spreadings-squarings, Products.low-lt, Products.two-product, Power.squarings-sum, Power.squarings-one, Power.squarings-product, Power.squarings-remainder, Words.Table.every, Words.Table.each-entry}
+use Rattle.binary_field_theory.specs.{Carryless._⊕_, Carryless.digits-to, Carryless.digits, Carryless.spread, Carryless.reduce, Carryless.remainder, Element.low, Element.product, Element.squarings, Chain.spreadings, Spreading.every, Multisquaring.Multisquares}
+use Rattle.binary_field_theory.proofs.{Sums.sum-comm, Sums.sum-shifted, Linear.additive-zero, Linear.basis, Linear.both, Linear.combine, Linear.combine-additive, Linear.combine-at, Linear.combine-drop, Chain.spreadings-squarings, Products.low-lt, Products.two-product, Power.squarings-sum, Power.squarings-one, Power.squarings-product, Power.squarings-remainder, Words.Table.each-entry}
 
 -- the entries of the digits 1, 2, 4 and 8 at k places
 unfoldable pub powers : ℕ → List ℕ → List ℕ

@@ -2,11 +2,8 @@
 -- in turn, is their carry-less product.
 use mathlib.Core.Path.{_≡_, sym, ap, ap₂, _∙_}
 use Prim.Native.Nat.{ℕ, zero, suc, _+_, _*_, _/_, _%_, _^_}
-use native.Mathlib.Omega.{arith}
-use native.Mathlib.Nat.{mod-lt, add-zero}
-use lib.Dec.{lit<, lit≤}
-use lib.Pow.{split, shl-shr, pow-pos, pow-add}
-use lib.Bits.{bitAnd, and-block, and-mask, and-zero-r}
+use native.Mathlib.{Omega.arith, Nat.mod-lt, Nat.add-zero}
+use lib.{Dec.lit<, Dec.lit≤, Pow.split, Pow.shl-shr, Pow.pow-pos, Pow.pow-add, Bits.bitAnd, Bits.and-block, Bits.and-mask, Bits.and-zero-r}
 use Rattle.binary_field_theory.specs.Carryless.{clmul}
 use Rattle.binary_field_theory.proofs.Clmul.{clmul-shl, shl-clmul}
 use Rattle.binary_field_theory.proofs.Words.Sixteens.{lows, Digits, lows-digits, digits-more, lows-shift, product-carryless}

@@ -4,8 +4,7 @@ use mathlib.Core.Path.{_≡_, ap, sym, _∙_}
 use Prim.Native.Nat.{ℕ, _+_, _-_, _*_, _/_, _%_, _^_, _<_}
 use lib.Bits.{bitAnd, mask-lt}
 use Rattle.binary_field_theory.specs.Carryless.{_⊕_, clmul, digits, digits-to}
-use Rattle.binary_field_theory.proofs.Sums.{sum-shl, sum-mod, sum-shr, sum-middle, sum-shifted, and-sum}
-use Rattle.binary_field_theory.proofs.Clmul.{sum-clmul}
+use Rattle.binary_field_theory.proofs.{Sums.sum-shl, Sums.sum-mod, Sums.sum-shr, Sums.sum-middle, Sums.sum-shifted, Sums.and-sum, Clmul.sum-clmul}
 use Rattle.binary_field_theory.proofs.Linear.{Additive, basis, same, same-at}
 
 -- moved up by k places in a word

@@ -2,14 +2,10 @@
 -- exceeds 15, so that nothing is carried, and the lowest bits of the digits are the carry-less product of A and B.
 use mathlib.Core.Path.{_≡_, refl, sym, ap, ap₂, subst, _∙_}
 use Prim.Native.Nat.{ℕ, zero, suc, _+_, _*_, _/_, _%_, _^_, _<_, _≤_, zero-le}
-use native.Mathlib.Omega.{arith}
-use native.Mathlib.Nat.{add-mod, mod-lt, zero-add, suc-add, add-suc, zero-mul, div-add-mod}
-use native.Mathlib.Numerals.{one-add}
-use lib.Dec.{lit<}
-use lib.Bits.{xor-block}
+use native.Mathlib.{Omega.arith, Nat.add-mod, Nat.mod-lt, Nat.zero-add, Nat.suc-add, Nat.add-suc, Nat.zero-mul, Nat.div-add-mod, Numerals.one-add}
+use lib.{Dec.lit<, Bits.xor-block}
 use Rattle.binary_field_theory.specs.Carryless.{_⊕_, clmul}
-use Rattle.binary_field_theory.proofs.Sums.{bit-cases}
-use Rattle.binary_field_theory.proofs.Clmul.{clmul-step, double-clmul, zero-clmul}
+use Rattle.binary_field_theory.proofs.{Sums.bit-cases, Clmul.clmul-step, Clmul.double-clmul, Clmul.zero-clmul}
 
 -- the lowest bits of the k lowest base-16 digits of n, each in its place
 unfoldable pub lows : ℕ → ℕ → ℕ

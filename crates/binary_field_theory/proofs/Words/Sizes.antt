@@ -1,15 +1,9 @@
 -- How many bits there are in a carry-less product, and in that of two elements of either degree.
 use Prim.Native.Nat.{ℕ, zero, suc, _+_, _*_, _/_, _%_, _^_, _<_}
-use native.Mathlib.Omega.{arith}
-use native.Mathlib.Nat.{zero-mul, one-mul, suc-add, pow-le-pow-right, lt-of-lt-of-le}
-use lib.Dec.{lit<, lit≤}
-use lib.Arith.{lt-one}
-use lib.Pow.{pow-pos}
-use Rattle.binary_field_theory.specs.Carryless.{clmul}
-use Rattle.binary_field_theory.specs.Element.{Accepted}
-use Rattle.binary_field_theory.proofs.Sums.{bit-cases, bit-lt, sum-lt}
-use Rattle.binary_field_theory.proofs.Clmul.{clmul-step, zero-clmul}
-use Rattle.binary_field_theory.proofs.Products.{degree-cases}
+use native.Mathlib.{Omega.arith, Nat.zero-mul, Nat.one-mul, Nat.suc-add, Nat.pow-le-pow-right, Nat.lt-of-lt-of-le}
+use lib.{Dec.lit<, Dec.lit≤, Arith.lt-one, Pow.pow-pos}
+use Rattle.binary_field_theory.specs.{Carryless.clmul, Element.Accepted}
+use Rattle.binary_field_theory.proofs.{Sums.bit-cases, Sums.bit-lt, Sums.sum-lt, Clmul.clmul-step, Clmul.zero-clmul, Products.degree-cases}
 
 -- n bits times m + 1 bits are n + m bits
 pub clmul-lt : (n m a b : ℕ) → a < 2 ^ n → b < 2 ^ suc m → clmul a b < 2 ^ (n + m)

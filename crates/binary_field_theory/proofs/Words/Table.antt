@@ -1,19 +1,10 @@
 -- The rule of a constant table, proved at all of its entries by one computed test.
-use mathlib.Core.Path.{_≡_, ap, sym, _∙_}
-use mathlib.Core.Bool.{Bool, true, _&&_}
-use mathlib.Core.List.{List, [], _∷_}
+use mathlib.Core.{Path._≡_, Path.ap, Path.sym, Path._∙_, Bool.Bool, Bool.true, Bool._&&_, List.List, List.[], List._∷_}
 use Prim.Native.Nat.{ℕ, zero, suc, _+_, _<_}
 use native.Mathlib.Nat.{add-zero, zero-add, add-suc, suc-add, le-of-suc-le-suc, not-suc-le-zero}
-use lib.Dec.{T, eqb, eqb→eq}
-use lib.ListN.{length, getD}
-use Rattle.binary_field_theory.specs.Carryless.{spread}
-use Rattle.binary_field_theory.specs.Spreading.{Spreads}
+use lib.{Dec.T, Dec.eqb, Dec.eqb→eq, ListN.length, ListN.getD}
+use Rattle.binary_field_theory.specs.{Carryless.spread, Spreading.every, Spreading.Spreads}
 use Rattle.binary_field_theory.proofs.Linear.{both}
-
--- each entry is what f gives at its place, counted from i
-unfoldable pub every : (ℕ → ℕ) → ℕ → List ℕ → Bool
-every f i [] = true
-every f i (x ∷ xs) = eqb x (f i) && every f (suc i) xs
 
 from : (f : ℕ → ℕ) (xs : List ℕ) (i : ℕ) → T (every f i xs) → (k : ℕ) → k < length xs → getD xs k 0 ≡ f (i + k)
 unfolding every

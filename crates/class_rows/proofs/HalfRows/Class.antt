@@ -1,16 +1,15 @@
 -- From a reduced class by rows to the rows that the halving rule takes, and from the rule's pair to the half of the class.
 use Prim.Native.Nat.{ℕ, zero, suc, _≤_, _<_, _+_}
-use mathlib.Core.Path.{_≡_, refl, sym, _∙_, ap, subst}
-use mathlib.Core.List.{List}
+use mathlib.Core.{Path._≡_, Path.sym, Path._∙_, Path.ap, Path.subst, List.List}
 use native.Mathlib.Omega.{arith}
 use Rattle.char2_algebra.specs.Lead.{Monic}
 use Rattle.char2_algebra.proofs.{Degree.nonzero-of-len, Division.len-quot-exact, Lead.monic-nonzero, Lead.quot-monic}
 use Rattle.class_group.specs.Curve as Theory
-use Rattle.class_group.specs.{Mumford.value, Half.triple, Half.half, Half.half-by, Half.half-of-degree-1, Half.half-of-degree-2, Half.half-of-degree-3}
-use Rattle.class_group.proofs.HalfChain.{value-len, value-monic}
+use Rattle.class_group.specs.{Mumford.value, Mumford.neutral, Half.triple, Half.half, Half.half-by, Half.half-of-degree-1, Half.half-of-degree-2, Half.half-of-degree-3}
+use Rattle.class_group.proofs.{HalfChain.value-len, HalfChain.value-monic, Adds.short-is-neutral, SemiReduced.semi-of-reduced}
 use Rattle.row_theory.specs.{Field.𝔸, Field.poly, Row.Stands, Row.row-len, internal.Halving.HalvingRows, internal.Halving.rows-triple}
 use Rattle.class_rows.specs.{Pair.StandsPair, Pair.rows-pair, Core.OnCurve, Core.ReducedRows, internal.Cofactor.CofactorRow, declared.row.RowPair.RowPair}
-use Rattle.class_rows.proofs.{DoubleRows.reduced-len, ReductionRows.stands-pair-eq}
+use Rattle.class_rows.proofs.{DoubleRows.reduced-len, ReductionRows.stands-pair-eq, ReductionRows.reduced-on}
 
 -- a reduced class that is not neutral: w is its cofactor, n the length of u
 pub record NonNeutral (d : ℕ) (f : List ℕ) (a : RowPair) (w : List ℕ) (n : ℕ) : Type 0 where
@@ -18,25 +17,32 @@ pub record NonNeutral (d : ℕ) (f : List ℕ) (a : RowPair) (w : List ℕ) (n :
   pub cofactor : CofactorRow d f a w
   pub length-is : n ≡ row-len d (a .u)
   pub more : 1 < n
+  pub short : n ≤ 4
 
 module _ (d : ℕ) {f : List ℕ} {a : RowPair} where
   -- the neutral class is its own half
-  pub half-neutral : {n : ℕ} → ReducedRows d f a → n ≡ row-len d (a .u) → n ≤ 1 → (C : Theory.Curve (𝔸 d)) → StandsPair d a (half C (rows-pair d a))
-  unfolding half half-by rows-pair
-  half-neutral {n} h e l C = subst (λ m. StandsPair d a (half-by C m (rows-pair d a))) e (go n l)
+  pub half-neutral : {n : ℕ} {r : RowPair}
+      → ReducedRows d f a
+      → n ≡ row-len d (a .u)
+      → n ≤ 1
+      → Stands d (r .u) (𝔸 d .ring .one)
+      → Stands d (r .v) (𝔸 d .ring .nought)
+      → (C : Theory.Curve (𝔸 d))
+      → OnCurve d f C
+      → StandsPair d r (half C (rows-pair d a))
+  unfolding half half-by neutral rows-pair
+  half-neutral {n} h e l su sv C on =
+      stands-pair-eq d (sym (subst (λ m. half-by C m (rows-pair d a) ≡ neutral C) e (go n l))) (record { u-stands = su; v-stands = sv })
     where
-      self : StandsPair d a (rows-pair d a)
-      self = record { u-stands = record { in-range = h .u-range; stands = refl }; v-stands = record { in-range = h .v-range; stands = refl } }
+      short : rows-pair d a ≡ neutral C
+      short = short-is-neutral C (semi-of-reduced C (reduced-on d h on)) (omega arith)
 
-      go : (n : ℕ) → n ≤ 1 → StandsPair d a (half-by C n (rows-pair d a))
-      go zero l = self
-      go (suc zero) l = self
+      go : (n : ℕ) → n ≤ 1 → half-by C n (rows-pair d a) ≡ neutral C
+      go zero l = short
+      go (suc zero) l = short
       go (suc (suc n)) l = absurd (omega arith)
 
   module _ {w : List ℕ} {n : ℕ} (c : NonNeutral d f a w n) where
-    pub degree-three : ¬ (n ≡ 2) → ¬ (n ≡ 3) → n ≡ 4
-    degree-three h k = omega (arith, reduced-len d (c .reduced) .0, c .length-is, c .more)
-
     abbrev E : Theory.Curve (𝔸 d)
     E = c .reduced .C
 

@@ -3,8 +3,5 @@
 use Rattle.class_rows.proofs.is_divisor.Statement.{statement}
 use Rattle.class_rows.proofs.is_divisor.Tie as tie
 
-returns : tie.Need-returns
-returns c = c .checked .ensures .decides
-
 pub is-divisor-spec : {M : Type 1} → statement M
-is-divisor-spec = tie.close (tie.spec (λ c κs. tt) returns)
+is-divisor-spec = tie.close (tie.spec (λ c κs. tt) (λ c. c .checked .ensures .decides))

@@ -1,13 +1,23 @@
--- What the functions of a reduction say of the cofactor w = (v² + v + f) / u, and of the composition of a double.
-use Prim.Native.Nat.{ℕ}
+-- What the functions of a reduction say of the pair to be reduced, of the cofactor w = (v² + v + f) / u, and of the composition of a double.
+use Prim.Native.Nat.{ℕ, _≤_, _<_}
 use mathlib.Core.List.{List}
 use Rattle.field_laws.specs.Ring.{Ring2}
+use Rattle.char2_algebra.specs.{Lead.Monic, Divides.Divides}
 use Rattle.class_group.specs.Curve as Theory
 use Rattle.class_group.specs.Mumford.{value}
-use Rattle.row_theory.specs.{Field.𝔸, Field.poly, Row.Stands}
-use Rattle.class_rows.specs.Core.{OnCurve}
-use Rattle.class_rows.specs.declared.row.RowPair.{RowPair}
-use Rattle.class_rows.specs.declared.reduction.Squared.{Squared}
+use Rattle.row_theory.specs.{Field.𝔸, Field.poly, Row.InRange, Row.Stands}
+use Rattle.class_rows.specs.{Core.OnCurve, declared.row.RowPair.RowPair, declared.reduction.Squared.Squared}
+
+-- the rows are a pair of degree at most 6 that is to be reduced
+pub record SemiReducedRows (d : ℕ) (f : List ℕ) (a : RowPair) : Type 0 where
+  pub C : Theory.Curve (𝔸 d)
+  pub on-curve : OnCurve d f C
+  pub u-range : InRange d (a .u)
+  pub v-range : InRange d (a .v)
+  pub u-monic : Monic (𝔸 d) (poly d (a .u))
+  pub u-len : 𝔸 d .len (poly d (a .u)) ≤ 7
+  pub v-len : 𝔸 d .len (poly d (a .v)) < 𝔸 d .len (poly d (a .u))
+  pub divides : Divides (𝔸 d .ring) (poly d (a .u)) (value C (poly d (a .v)))
 
 -- w is the cofactor of the pair
 abbrev pub CofactorRow : (d : ℕ) → List ℕ → RowPair → List ℕ → Type 0

@@ -1,13 +1,12 @@
 -- What the calls in the half of degree 1 promise, and what follows of the pair that they lead to.
 use Prim.Native.Nat.{ℕ}
-use mathlib.Core.Path.{_≡_, sym, _∙_, ap, ap₂}
-use mathlib.Core.List.{List}
+use mathlib.Core.{Path._≡_, Path.sym, Path._∙_, Path.ap, Path.ap₂, List.List}
 use native.Mathlib.Omega.{arith}
 use lib.ListN.{getD}
 use Rattle.field_laws.specs.Ring.{Ring2}
 use Rattle.char2_algebra.specs.Square.{sqrt}
 use Rattle.class_group.specs.Half.{Triple, quadratic, half-of-degree-1}
-use Rattle.row_theory.specs.{Field.F, Field.Poly, Field.𝔸, Field.el, Field.poly, Row.Is, Row.Stands, internal.Halving.HalvingRows}
+use Rattle.row_theory.specs.{Field.F, Field.Poly, Field.𝔸, Field.el, Field.poly, internal.Elements.Is, Row.Stands, internal.Halving.HalvingRows}
 use Rattle.row_theory.specs.internal.Halving.{even-quartic, root-pair, rows-triple}
 use Rattle.row_theory.proofs.{Rows.Coefficients.coeff-poly, HalfRows.Degrees12.pair-1, HalfRows.Degrees12.nonzero-1, HalfRows.Degrees12.k-1}
 use Rattle.row_theory.proofs.HalfRows.Degrees12.{m-1}

@@ -1,17 +1,15 @@
 -- What the calls in the half of degree 2 promise, and what follows of the pair that they lead to.
 use Prim.Native.Nat.{ℕ}
-use mathlib.Core.Path.{_≡_, sym, _∙_, ap, ap₂}
-use mathlib.Core.List.{List}
+use mathlib.Core.{Path._≡_, Path.sym, Path._∙_, Path.ap, Path.ap₂, List.List}
 use native.Mathlib.Omega.{arith}
 use lib.ListN.{getD}
 use Rattle.field_laws.specs.Ring.{Ring2}
 use Rattle.char2_algebra.specs.Square.{sqrt}
 use Rattle.class_group.specs.Half.{Triple, quadratic, half-of-degree-2}
-use Rattle.row_theory.specs.{Field.K, Field.F, Field.Poly, Field.𝔸, Field.el, Field.poly, Row.Is, Row.Stands, internal.Halving.HalvingRows}
+use Rattle.row_theory.specs.{Field.K, Field.F, Field.Poly, Field.𝔸, Field.el, Field.poly, internal.Elements.Is, Row.Stands, internal.Halving.HalvingRows}
 use Rattle.row_theory.specs.internal.Halving.{even-quartic, root-pair, rows-triple}
 use Rattle.row_theory.proofs.{Rows.Elements.el-zero, Rows.Elements.el-one, Rows.Elements.el-nonzero, Rows.Coefficients.coeff-poly}
-use Rattle.row_theory.proofs.HalfRows.Degrees12.{pair-2-square, nonzero-2-square, pair-2, nonzero-2}
-use Rattle.row_theory.proofs.HalfRows.Degrees12.{k-2, m-2}
+use Rattle.row_theory.proofs.HalfRows.Degrees12.{pair-2-square, nonzero-2-square, pair-2, nonzero-2, k-2, m-2}
 
 module _ (d : ℕ) (u v w : List ℕ) where
   open Ring2 (𝔸 d .ring) using (add as _⊞_, mul as _·_, nought as 𝟘, one as 𝟙)

@@ -1,14 +1,12 @@
 -- What the calls in the half of degree 3 promise, and what follows of the pair that they lead to.
 use Prim.Native.Nat.{ℕ, _≤_}
-use mathlib.Core.Path.{_≡_, sym, _∙_, ap, ap₂, subst}
-use mathlib.Core.List.{List}
+use mathlib.Core.{Path._≡_, Path.sym, Path._∙_, Path.ap, Path.ap₂, Path.subst, List.List}
 use native.Mathlib.Omega.{arith}
 use lib.ListN.{getD}
 use Rattle.field_laws.specs.Ring.{Ring2}
 use Rattle.char2_algebra.specs.Square.{sqrt}
-use Rattle.class_group.specs.Half.{Triple, quadratic, half-of-degree-3}
-use Rattle.class_group.specs.Half.{first-lift}
-use Rattle.row_theory.specs.{Field.F, Field.Poly, Field.𝔸, Field.el, Field.poly, Row.Is, Row.Stands, Row.row-len, internal.Halving.HalvingRows}
+use Rattle.class_group.specs.Half.{Triple, quadratic, half-of-degree-3, first-lift}
+use Rattle.row_theory.specs.{Field.F, Field.Poly, Field.𝔸, Field.el, Field.poly, internal.Elements.Is, Row.Stands, Row.row-len, internal.Halving.HalvingRows}
 use Rattle.row_theory.specs.internal.Halving.{root-pair, rows-triple}
 use Rattle.row_theory.proofs.{Rows.Elements.el-zero, Rows.Coefficients.coeff-poly, HalfRows.Degree3.first-lift-len, HalfRows.Degree3.pair-3-square}
 use Rattle.row_theory.proofs.HalfRows.Degree3.{nonzero-3-square}

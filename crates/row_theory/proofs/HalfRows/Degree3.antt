@@ -7,14 +7,11 @@ use Rattle.field_laws.specs.{Ring.Ring2, Field.Field2}
 use Rattle.char2_algebra.specs.{Polynomials.Polynomials, Lead.Monic, Square.sqrt}
 use Rattle.char2_algebra.proofs.{Ring.ring2, Ring.by, Ring.both, Ring.combine, Ring.+-𝟘, Ring.·-𝟘, Ring.·-𝟙, Degree.len-add, Degree.len-bound}
 use Rattle.char2_algebra.proofs.{Degree.len-con-le, Product.len-mul-le, Division.rem-is, Lead.monic-top, Lead.monic-nonzero}
-use Rattle.class_group.specs.{Mumford.Pair, Half.Triple, Half.lift, Half.step, Half.halved, Half.quadratic, Half.half-of-degree-3}
+use Rattle.class_group.specs.{Mumford.Pair, Half.Triple, Half.lift, Half.step, Half.halved, Half.quadratic, Half.half-of-degree-3, Half.first-lift}
 use Rattle.class_group.specs.{Half.stepped-of-degree-3, Half.lifted-half-of-degree-3}
 use Rattle.class_group.proofs.{Rows.row-3, Rows.row-3-square, Rows.squares-one, Rows.second-lift, EvenRoot.MonicRoot, EvenRoot.even-root}
-use Rattle.class_group.specs.Half.{first-lift}
 use Rattle.row_theory.specs.internal.Halving.{even-quartic, root-pair, second-square, second-remainder}
-use Rattle.row_theory.proofs.HalfRows.Squares.{quartic-is, quadratic-is, square-of, square-of-one}
-use Rattle.row_theory.proofs.HalfRows.Squares.{one-times, one-square, constant, halved-pair}
-use Rattle.row_theory.proofs.HalfRows.Squares.{root-nonzero}
+use Rattle.row_theory.proofs.HalfRows.Squares.{quartic-is, quadratic-is, square-of, square-of-one, one-times, one-square, constant, halved-pair, root-nonzero}
 
 module _ {B : Type 0} (R : Ring2 B) where
   open Ring2 R using (add as _⊞_, mul as _·_, nought as 𝟘, one as 𝟙)

@@ -8,8 +8,7 @@ use Rattle.class_group.specs.{Mumford.Pair, Half.Triple, Half.lift, Half.step, 
 use Rattle.class_group.specs.{Half.half-of-degree-2, Half.lifted-half-of-degree-2}
 use Rattle.class_group.proofs.Rows.{row-1, row-2, row-2-square}
 use Rattle.row_theory.specs.internal.Halving.{even-quartic, root-pair}
-use Rattle.row_theory.proofs.HalfRows.Squares.{quartic-is, square-of, square-of-one, one-times}
-use Rattle.row_theory.proofs.HalfRows.Squares.{one-square, halved-pair, root-nonzero}
+use Rattle.row_theory.proofs.HalfRows.Squares.{quartic-is, square-of, square-of-one, one-times, one-square, halved-pair, root-nonzero}
 
 module _ {B : Type 0} (R : Ring2 B) where
   open Ring2 R using (add as _⊞_, mul as _·_, one as 𝟙)

@@ -1,13 +1,10 @@
 -- What the calls in the half of degree 3 promise where there is a second lift, and what follows of the pair that they lead to.
 use Prim.Native.Nat.{ℕ}
-use mathlib.Core.Path.{_≡_, sym, _∙_, ap, ap₂}
-use mathlib.Core.List.{List}
+use mathlib.Core.{Path._≡_, Path.sym, Path._∙_, Path.ap, Path.ap₂, List.List}
 use lib.ListN.{getD}
 use Rattle.char2_algebra.specs.Square.{sqrt}
-use Rattle.class_group.specs.Mumford.{Pair}
-use Rattle.class_group.specs.Half.{Triple, half-of-degree-3}
-use Rattle.class_group.specs.Half.{first-lift}
-use Rattle.row_theory.specs.{Field.K, Field.F, Field.Poly, Field.𝔸, Field.el, Field.poly, Row.Is, Row.Stands, Row.row-len, internal.Halving.second-square}
+use Rattle.class_group.specs.{Mumford.Pair, Half.Triple, Half.half-of-degree-3, Half.first-lift}
+use Rattle.row_theory.specs.{Field.K, Field.F, Field.Poly, Field.𝔸, Field.el, Field.poly, internal.Elements.Is, Row.Stands, Row.row-len, internal.Halving.second-square}
 use Rattle.row_theory.specs.internal.Halving.{second-remainder, rows-triple}
 use Rattle.row_theory.proofs.{Rows.Elements.el-nonzero, Rows.Coefficients.coeff-poly, HalfRows.Degree3.pair-3, HalfRows.Degree3.a-len}
 use Rattle.row_theory.proofs.HalfRows.Computed3.{Computed3, w-five, r-path, t-path}

@@ -1,14 +1,12 @@
 -- What the functions of the half of degree 3 promise: the first lift, the square after the second, and the second polynomial.
 use Prim.Native.Nat.{ℕ, _≤_, _<_}
-use mathlib.Core.Path.{_≡_, sym, _∙_, ap, ap₂, subst}
-use mathlib.Core.List.{List}
+use mathlib.Core.{Path._≡_, Path.sym, Path._∙_, Path.ap, Path.ap₂, Path.subst, List.List}
 use native.Mathlib.Omega.{arith}
 use lib.ListN.{getD}
 use Rattle.field_laws.specs.Ring.{Ring2}
 use Rattle.char2_algebra.proofs.{Ring.𝟙-·, Degree.len-add, Degree.nonzero-of-len}
-use Rattle.class_group.specs.Half.{quadratic}
-use Rattle.class_group.specs.Half.{first-lift}
-use Rattle.row_theory.specs.{Field.K, Field.F, Field.Poly, Field.𝔸, Field.el, Field.poly, Row.Is, Row.Stands, Row.row-len, Row.x-power}
+use Rattle.class_group.specs.Half.{quadratic, first-lift}
+use Rattle.row_theory.specs.{Field.K, Field.F, Field.Poly, Field.𝔸, Field.el, Field.poly, internal.Elements.Is, Row.Stands, Row.row-len, internal.Elements.x-power}
 use Rattle.row_theory.specs.internal.Halving.{even-quartic, second-square, second-remainder}
 use Rattle.row_theory.proofs.{Rows.Elements.el-zero, Rows.Elements.el-one, Rows.Coefficients.coeff-poly, Rows.Coefficients.stands-eq}
 use Rattle.row_theory.proofs.HalfRows.Degree3.{first-lift-is}

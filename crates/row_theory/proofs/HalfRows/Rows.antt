@@ -1,10 +1,10 @@
 -- The rows of k2 x² + k1 x + k0 and of m2 x⁴ + m1 x² + m0, written out.
 use Prim.Native.Nat.{ℕ, zero, suc, _+_, _≤_, _<_, _^_}
-use mathlib.Core.Path.{_≡_, sym, _∙_, ap, ap₂, subst}
-use mathlib.Core.List.{List, [], _∷_, map}
+use mathlib.Core.{Path._≡_, Path.sym, Path._∙_, Path.ap, Path.ap₂, Path.subst, List.List, List.[], List._∷_, List.map}
 use native.Mathlib.Omega.{arith}
 use Rattle.field_laws.specs.Ring.{Ring2}
-use Rattle.char2_algebra.proofs.{Ring.+-𝟘, Ring.·-𝟘, Degree.con-nought, Degree.con-one, OfList.of-nil, OfList.of-cons}
+use Rattle.char2_algebra.proofs.{Ring.+-𝟘, Ring.·-𝟘, Degree.con-nought, Degree.con-one}
+use Rattle.polynomial_lists.proofs.OfList.{of-nil, of-cons}
 use Rattle.class_group.specs.{Half.quadratic}
 use Rattle.row_theory.specs.{Field.degree-of, Field.K, Field.F, Field.Poly, Field.𝔸, Field.el, Field.poly, Row.InRange, Row.Stands, Row.row-len}
 use Rattle.row_theory.specs.internal.Halving.{even-quartic}

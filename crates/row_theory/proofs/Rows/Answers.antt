@@ -5,8 +5,7 @@ use Rattle.binary_field_theory.specs.Element.{Accepted}
 use Rattle.binary_field.specs.Answer.{element, sum-reply, product-reply, square-reply, root-reply, inverse-reply}
 use Rattle.binary_field.proofs.Replies.{sum-in-field, product-in-field, square-in-field, root-in-field, inverse-in-field}
 use Rattle.char2_algebra.proofs.Ring.{·-𝟘, 𝟘-·, ·-𝟙, 𝟙-·}
-use Rattle.row_theory.specs.Field.{degree-of, accepted, K, F, el}
-use Rattle.row_theory.specs.Row.{Is}
+use Rattle.row_theory.specs.{Field.degree-of, Field.accepted, Field.K, Field.F, Field.el, internal.Elements.Is}
 use Rattle.row_theory.proofs.Rows.Elements.{degree-is, el-of, el-zero, el-one, zero-is, one-is, self-is, is-eq}
 
 module _ (d : ℕ) where

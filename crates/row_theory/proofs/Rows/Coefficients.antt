@@ -1,11 +1,10 @@
 -- The polynomial that a row stands for, by its coefficients: the i-th is the element of the i-th number. Length from the noughts at the end.
 use Prim.Native.Nat.{ℕ, suc, _≤_}
-use mathlib.Core.Path.{_≡_, refl, sym, _∙_, ap}
-use mathlib.Core.List.{List, map}
+use mathlib.Core.{Path._≡_, Path.refl, Path.sym, Path._∙_, Path.ap, List.List, List.map}
 use native.Mathlib.Omega.{arith}
 use lib.ListN.{length, getD, List·getD-map, List·getD-eq-default}
-use Rattle.char2_algebra.proofs.OfList.{coeff-of}
 use Rattle.char2_algebra.proofs.Degree.{len-bound, len-is}
+use Rattle.polynomial_lists.proofs.OfList.{coeff-of}
 use Rattle.row_theory.specs.{Field.F, Field.Poly, Field.𝔸, Field.el, Field.poly, Row.InRange, Row.Stands, Row.row-len}
 use Rattle.row_theory.proofs.Rows.Elements.{el-zero, zero-of-nought, el-nonzero}
 

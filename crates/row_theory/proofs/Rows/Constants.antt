@@ -1,7 +1,6 @@
 -- Rows of constants: a number and zeros. The polynomials 0 and 1 among them.
 use Prim.Native.Nat.{ℕ, zero, suc, _<_, _^_}
-use mathlib.Core.Path.{_≡_, sym, _∙_, ap}
-use mathlib.Core.List.{List, _∷_}
+use mathlib.Core.{Path._≡_, Path.sym, Path._∙_, Path.ap, List.List, List._∷_}
 use lib.ListN.{getD, replicate}
 use Rattle.char2_algebra.proofs.Degree.{con-nought, con-one}
 use Rattle.row_theory.specs.{Field.degree-of, Field.𝔸, Field.el, Row.Stands}

@@ -1,22 +1,17 @@
 -- The schoolbook division of rows. Each turn takes the number of the remainder at k - 1 away: a = q b + r throughout, and r has no numbers from k on.
 use Prim.Native.Nat.{ℕ, suc, _+_, _-_, _≤_, _<_}
-use mathlib.Core.Path.{_≡_, refl, sym, _∙_, ap, ap₂}
-use mathlib.Core.List.{List}
-use native.Mathlib.Omega.{arith}
-use native.Mathlib.Decide.{ℕ-discrete}
-use lib.ListN.{length, getD, set, replicate, length-set}
-use lib.Seq.{getD-set-same, getD-set-other}
+use mathlib.Core.{Path._≡_, Path.refl, Path.sym, Path._∙_, Path.ap, Path.ap₂, List.List}
+use native.Mathlib.{Omega.arith, Decide.ℕ-discrete}
+use lib.{ListN.length, ListN.getD, ListN.set, ListN.replicate, ListN.length-set, Seq.getD-set-same, Seq.getD-set-other}
 use Rattle.field_laws.specs.Ring.{Ring2}
 use Rattle.char2_algebra.specs.Lead.{lead}
-use Rattle.char2_algebra.proofs.Ring.{ring2, 𝟘-+, 𝟘-·, +-𝟘, ·-𝟘, ·-𝟙, ·-assoc, ·-comm}
-use Rattle.char2_algebra.proofs.Degree.{con-mul}
+use Rattle.char2_algebra.proofs.{Ring.ring2, Ring.𝟘-+, Ring.𝟘-·, Ring.+-𝟘, Ring.·-𝟘, Ring.·-𝟙, Ring.·-assoc, Ring.·-comm, Degree.con-mul}
 use Rattle.char2_algebra.proofs.Division.{rem-is, quot-is}
-use Rattle.row_theory.specs.{Field.K, Field.F, Field.Poly, Field.𝔸, Field.el, Field.poly, Row.Is, Row.InRange, Row.Stands, Row.row-len, Row.x-power}
-use Rattle.row_theory.proofs.{Rows.Elements.zero-lt, Rows.Elements.el-zero, Rows.Elements.zero-of-nought, Rows.Coefficients.coeff-poly}
+use Rattle.row_theory.specs.{Field.K, Field.F, Field.Poly, Field.𝔸, Field.el, Field.poly, internal.Elements.Is, Row.InRange, Row.Stands, Row.row-len, internal.Elements.x-power}
+use Rattle.row_theory.proofs.{Rows.Elements.zero-lt, Rows.Elements.el-zero, Rows.Elements.zero-of-nought, Rows.Coefficients.coeff-poly, Rows.Lead.lead-nonzero}
 use Rattle.row_theory.proofs.Rows.Coefficients.{row-len-le, zero-past, self-stands, stands-eq}
 use Rattle.row_theory.proofs.{Rows.Length.Blank, Rows.Fill.range-set, Rows.Fill.zeros-at, Rows.Fill.zeros-range, Rows.Fill.zeros-poly, Rows.Shift.x-power-add}
 use Rattle.row_theory.proofs.{Rows.Shift.poly-set-zero, Rows.Shift.poly-strike, Rows.Shift.coeff-shift-past, Rows.Lead.Leads, Rows.Lead.lead-row, Rows.Lead.row-split}
-use Rattle.row_theory.proofs.Rows.Lead.{lead-nonzero}
 
 -- q b + r, where c x^s b is added to q b and taken from r, b = low + l x^t, and the leading term c l x^s x^t is struck out
 division-turn :

@@ -1,14 +1,13 @@
 -- Numbers in range and the elements that they stand for: the accepted degrees, 0 and 1, equality, sums and products.
 use Prim.Native.Nat.{ℕ, _≤_, _<_, _^_}
-use mathlib.Core.Path.{_≡_, refl, sym, _∙_, ap}
-use mathlib.Core.Bool.{Bool, true, false, cond, _||_}
+use mathlib.Core.{Path._≡_, Path.refl, Path.sym, Path._∙_, Path.ap, Bool.Bool, Bool.true, Bool.false, Bool.cond, Bool._||_}
 use native.Mathlib.Omega.{arith}
 use lib.Dec.{T, eqb, lit<}
 use borrow.Author.Tests.{eqb-true}
 use Rattle.binary_field_theory.specs.Element.{Accepted}
 use Rattle.binary_field_theory.proofs.Elements.{element-path}
 use Rattle.binary_field.proofs.Field.{element-small, element-number, nought-number, one-number}
-use Rattle.row_theory.specs.{Field.degree-of, Field.accepted, Field.K, Field.F, Field.el, Row.Is}
+use Rattle.row_theory.specs.{Field.degree-of, Field.accepted, Field.K, Field.F, Field.el, internal.Elements.Is}
 
 -- the degree of an accepted call is the degree itself
 pub degree-is : (d : ℕ) → Accepted d → degree-of d ≡ d

@@ -1,14 +1,11 @@
 -- A row that is written from the front, number by number: below k its numbers stand for the coefficients of p, which the loop computes, and from
 -- k on for those of q, what was there before. The loops over a row have this for their invariant.
 use Prim.Native.Nat.{ℕ, zero, suc, _+_, _≤_, _<_, _^_}
-use mathlib.Core.Path.{_≡_, refl, sym, _∙_, ap, subst}
-use mathlib.Core.List.{List}
-use native.Mathlib.Omega.{arith}
-use native.Mathlib.Decide.{decLe, ℕ-discrete}
-use lib.ListN.{length, getD, set, replicate, length-set}
-use lib.Seq.{getD-set-same, getD-set-other}
+use mathlib.Core.{Path._≡_, Path.refl, Path.sym, Path._∙_, Path.ap, Path.subst, List.List}
+use native.Mathlib.{Omega.arith, Decide.decLe, Decide.ℕ-discrete}
+use lib.{ListN.length, ListN.getD, ListN.set, ListN.replicate, ListN.length-set, Seq.getD-set-same, Seq.getD-set-other}
 use Rattle.char2_algebra.proofs.Degree.{coeff-nought}
-use Rattle.row_theory.specs.{Field.degree-of, Field.F, Field.Poly, Field.𝔸, Field.el, Field.poly, Row.Is, Row.InRange, Row.Stands}
+use Rattle.row_theory.specs.{Field.degree-of, Field.F, Field.Poly, Field.𝔸, Field.el, Field.poly, internal.Elements.Is, Row.InRange, Row.Stands}
 use Rattle.row_theory.proofs.{Rows.Elements.zero-lt, Rows.Elements.el-zero, Rows.Coefficients.coeff-poly, Rows.Coefficients.stands-by}
 
 -- a store of a number in range

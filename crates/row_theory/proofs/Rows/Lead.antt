@@ -1,20 +1,14 @@
 -- The leading number of a row that does not stand for 0: where it stands, and the row without it.
 use Prim.Native.Nat.{ℕ, suc, _-_, _≤_, _<_}
-use mathlib.Core.Path.{_≡_, sym, _∙_, ap}
-use mathlib.Core.List.{List}
-use native.Mathlib.Omega.{arith}
-use native.Mathlib.Decide.{ℕ-discrete}
-use lib.ListN.{length, getD, set}
-use lib.Seq.{getD-set-same, getD-set-other}
+use mathlib.Core.{Path._≡_, Path.sym, Path._∙_, Path.ap, List.List}
+use native.Mathlib.{Omega.arith, Decide.ℕ-discrete}
+use lib.{ListN.length, ListN.getD, ListN.set, Seq.getD-set-same, Seq.getD-set-other}
 use Rattle.field_laws.specs.Ring.{Ring2}
 use Rattle.char2_algebra.specs.Lead.{lead}
-use Rattle.char2_algebra.proofs.Ring.{ring2}
-use Rattle.char2_algebra.proofs.Degree.{len-nonzero}
-use Rattle.char2_algebra.proofs.Lead.{lead-is}
-use Rattle.row_theory.specs.{Field.F, Field.Poly, Field.𝔸, Field.el, Field.poly, Row.InRange, Row.row-len, Row.x-power}
-use Rattle.row_theory.proofs.{Rows.Elements.zero-lt, Rows.Elements.el-nonzero, Rows.Coefficients.coeff-poly, Rows.Coefficients.row-len-le}
+use Rattle.char2_algebra.proofs.{Ring.ring2, Degree.len-nonzero, Lead.lead-is}
+use Rattle.row_theory.specs.{Field.F, Field.Poly, Field.𝔸, Field.el, Field.poly, Row.InRange, Row.row-len, internal.Elements.x-power}
+use Rattle.row_theory.proofs.{Rows.Elements.zero-lt, Rows.Elements.el-nonzero, Rows.Coefficients.coeff-poly, Rows.Coefficients.row-len-le, Rows.Shift.poly-strike}
 use Rattle.row_theory.proofs.{Rows.Coefficients.row-len-length, Rows.Coefficients.zero-past, Rows.Coefficients.top-nonzero, Rows.Fill.range-set}
-use Rattle.row_theory.proofs.Rows.Shift.{poly-strike}
 
 -- the leading number stands at top
 pub record Leads (d : ℕ) (r : List ℕ) (top : ℕ) : Type 0 where

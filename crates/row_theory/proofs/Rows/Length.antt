@@ -1,9 +1,7 @@
 -- The length of a row: from where on its numbers are 0.
 use Prim.Native.Nat.{ℕ, zero, suc, _-_, _≤_, _<_}
-use mathlib.Core.Path.{_≡_, refl, sym, _∙_, ap}
-use mathlib.Core.List.{List, [], _∷_}
-use native.Mathlib.Omega.{arith}
-use native.Mathlib.Decide.{decLe}
+use mathlib.Core.{Path._≡_, Path.refl, Path.sym, Path._∙_, Path.ap, List.List, List.[], List._∷_}
+use native.Mathlib.{Omega.arith, Decide.decLe}
 use lib.ListN.{length, getD, List·getD-eq-default}
 use Rattle.row_theory.specs.Row.{InRange, after, places, row-len}
 use Rattle.row_theory.proofs.Rows.Coefficients.{row-len-le, row-len-is, row-len-length}

@@ -1,14 +1,12 @@
 -- A row made monic: nothing is done where the leading number is 1, and else the other numbers are multiplied by its inverse.
 use Prim.Native.Nat.{ℕ, _<_}
-use mathlib.Core.Path.{_≡_, sym, _∙_, ap, ap₂}
-use mathlib.Core.List.{List}
+use mathlib.Core.{Path._≡_, Path.sym, Path._∙_, Path.ap, Path.ap₂, List.List}
 use native.Mathlib.Omega.{arith}
 use lib.ListN.{length, getD, set}
 use Rattle.field_laws.specs.Ring.{Ring2}
 use Rattle.char2_algebra.specs.Lead.{lead, monic-of}
-use Rattle.char2_algebra.proofs.Ring.{ring2, 𝟘-+, 𝟙-·, ·-𝟘, ·-comm}
-use Rattle.char2_algebra.proofs.Degree.{con-mul, con-one}
-use Rattle.row_theory.specs.{Field.F, Field.𝔸, Field.el, Field.poly, Row.Is, Row.Stands, Row.x-power}
+use Rattle.char2_algebra.proofs.{Ring.ring2, Ring.𝟘-+, Ring.𝟙-·, Ring.·-𝟘, Ring.·-comm, Degree.con-mul, Degree.con-one}
+use Rattle.row_theory.specs.{Field.F, Field.𝔸, Field.el, Field.poly, internal.Elements.Is, Row.Stands, internal.Elements.x-power}
 use Rattle.row_theory.proofs.{Rows.Elements.one-lt, Rows.Elements.el-zero, Rows.Elements.el-one, Rows.Coefficients.coeff-poly, Rows.Coefficients.self-stands}
 use Rattle.row_theory.proofs.{Rows.Coefficients.stands-eq, Rows.Fill.range-set, Rows.Shift.poly-set, Rows.Lead.Leads, Rows.Lead.lead-row}
 use Rattle.row_theory.proofs.Rows.Lead.{lead-nonzero, low-top, row-split}

@@ -3,10 +3,8 @@ use Prim.Native.Nat.{ℕ, zero, suc, _+_ as _+ℕ_, _≤_}
 use mathlib.Core.Path.{_≡_, sym, _∙_, ap}
 use native.Mathlib.Omega.{arith}
 use Rattle.field_laws.specs.Field.{Field2}
-use Rattle.char2_algebra.specs.Polynomials.{Polynomials}
-use Rattle.char2_algebra.specs.Square.{tail, sqrt-to, sqrt}
-use Rattle.char2_algebra.proofs.Ring.{·-𝟘}
-use Rattle.char2_algebra.proofs.Degree.{coeff-nought, coeff-tail, len-tail, coeff-con-add-x-mul, coeff-con-add-x-mul-suc}
+use Rattle.char2_algebra.specs.{Polynomials.Polynomials, Square.tail, Square.sqrt-to, Square.sqrt}
+use Rattle.char2_algebra.proofs.{Ring.·-𝟘, Degree.coeff-nought, Degree.coeff-tail, Degree.len-tail, Degree.coeff-con-add-x-mul, Degree.coeff-con-add-x-mul-suc}
 use Rattle.char2_algebra.proofs.Square.{field-square-injective}
 
 pub root-nought : {K : Type 0} (F : Field2 K) → F .root (F .ring .nought) ≡ F .ring .nought

@@ -1,14 +1,10 @@
 -- Powers of x: the coefficients of x^n and of x^n p, products of powers, and what a store adds to a row's polynomial.
 use Prim.Native.Nat.{ℕ, zero, suc, _+_, _≤_, _<_}
-use mathlib.Core.Path.{_≡_, refl, sym, _∙_, ap, ap₂}
-use mathlib.Core.List.{List}
-use native.Mathlib.Omega.{arith}
-use native.Mathlib.Decide.{ℕ-discrete}
-use lib.ListN.{length, getD, set}
-use lib.Seq.{getD-set-same, getD-set-other}
-use Rattle.char2_algebra.proofs.Ring.{+-𝟘, 𝟘-+, ·-𝟙, 𝟙-·, ·-𝟘, ·-assoc}
-use Rattle.char2_algebra.proofs.Degree.{coeff-one, coeff-one-suc}
-use Rattle.row_theory.specs.{Field.K, Field.F, Field.Poly, Field.𝔸, Field.el, Field.poly, Row.x-power}
+use mathlib.Core.{Path._≡_, Path.refl, Path.sym, Path._∙_, Path.ap, Path.ap₂, List.List}
+use native.Mathlib.{Omega.arith, Decide.ℕ-discrete}
+use lib.{ListN.length, ListN.getD, ListN.set, Seq.getD-set-same, Seq.getD-set-other}
+use Rattle.char2_algebra.proofs.{Ring.+-𝟘, Ring.𝟘-+, Ring.·-𝟙, Ring.𝟙-·, Ring.·-𝟘, Ring.·-assoc, Degree.coeff-one, Degree.coeff-one-suc}
+use Rattle.row_theory.specs.{Field.K, Field.F, Field.Poly, Field.𝔸, Field.el, Field.poly, internal.Elements.x-power}
 use Rattle.row_theory.proofs.{Rows.Elements.el-zero, Rows.Coefficients.coeff-poly, Rows.Coefficients.poly-is}
 
 module _ (d : ℕ) where

@@ -1,17 +1,12 @@
 -- Coefficients of the square and of the square root of a row's polynomial, in the words of the loops that compute them.
 use Prim.Native.Nat.{ℕ, zero, suc, _+_, _≤_}
-use mathlib.Core.Path.{_≡_, sym, _∙_, ap, ap₂}
-use mathlib.Core.List.{List}
+use mathlib.Core.{Path._≡_, Path.sym, Path._∙_, Path.ap, Path.ap₂, List.List}
 use native.Mathlib.Omega.{arith}
 use lib.ListN.{getD}
 use Rattle.field_laws.specs.Ring.{Ring2}
-use Rattle.char2_algebra.specs.Polynomials.{Polynomials}
-use Rattle.char2_algebra.proofs.Ring.{·-𝟘}
-use Rattle.char2_algebra.specs.Square.{sqrt}
-use Rattle.char2_algebra.proofs.Degree.{len-zero, len-nought}
-use Rattle.char2_algebra.proofs.Product.{len-mul-le}
-use Rattle.char2_algebra.proofs.Square.{coeff-square-even, coeff-square-odd}
-use Rattle.row_theory.specs.{Field.F, Field.Poly, Field.𝔸, Field.el, Field.poly, Row.Is}
+use Rattle.char2_algebra.specs.{Polynomials.Polynomials, Square.sqrt}
+use Rattle.char2_algebra.proofs.{Ring.·-𝟘, Degree.len-zero, Degree.len-nought, Product.len-mul-le, Square.coeff-square-even, Square.coeff-square-odd}
+use Rattle.row_theory.specs.{Field.F, Field.Poly, Field.𝔸, Field.el, Field.poly, internal.Elements.Is}
 use Rattle.row_theory.proofs.{Rows.Elements.is-eq, Rows.Coefficients.coeff-poly, Rows.Roots.root-nought, Rows.Roots.coeff-of-sqrt}
 
 module _ (d : ℕ) where

@@ -1,13 +1,11 @@
 -- Coefficients of a + c x^s b, in the words of the loops that compute them.
 use Prim.Native.Nat.{ℕ, _+_, _≤_, _<_}
-use mathlib.Core.Path.{_≡_, sym, _∙_, ap, ap₂}
-use mathlib.Core.List.{List}
+use mathlib.Core.{Path._≡_, Path.sym, Path._∙_, Path.ap, Path.ap₂, List.List}
 use lib.ListN.{getD, replicate}
 use Rattle.field_laws.specs.Ring.{Ring2}
 use Rattle.char2_algebra.specs.Polynomials.{Polynomials}
-use Rattle.char2_algebra.proofs.Ring.{+-𝟘, 𝟘-+, ·-𝟘, 𝟘-·, 𝟙-·}
-use Rattle.char2_algebra.proofs.Degree.{con-nought, con-one}
-use Rattle.row_theory.specs.{Field.K, Field.F, Field.Poly, Field.𝔸, Field.el, Field.poly, Row.Is, Row.x-power}
+use Rattle.char2_algebra.proofs.{Ring.+-𝟘, Ring.𝟘-+, Ring.·-𝟘, Ring.𝟘-·, Ring.𝟙-·, Degree.con-nought, Degree.con-one}
+use Rattle.row_theory.specs.{Field.K, Field.F, Field.Poly, Field.𝔸, Field.el, Field.poly, internal.Elements.Is, internal.Elements.x-power}
 use Rattle.row_theory.proofs.{Rows.Elements.el-zero, Rows.Elements.el-one, Rows.Elements.is-eq, Rows.Coefficients.coeff-poly, Rows.Fill.zeros-poly, Rows.Shift.coeff-shift}
 use Rattle.row_theory.proofs.Rows.Shift.{coeff-shift-below, coeff-shift-past}
 

@@ -1,7 +1,7 @@
 -- What extended Euclid promises of its rows.
 use Prim.Native.Nat.{ℕ, _≤_, max}
 use mathlib.Core.List.{List}
-use Rattle.char2_algebra.proofs.Euclid.{IsBezout}
+use Rattle.char2_algebra.specs.Euclid.{IsBezout}
 use Rattle.row_theory.specs.{Field.𝔸, Field.poly, Row.InRange, Row.row-len}
 
 -- g is the monic greatest common divisor and s a + t b; s is no longer than b and t no longer than a, or constant

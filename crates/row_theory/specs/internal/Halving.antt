@@ -1,8 +1,7 @@
 -- What the private functions of the halving rule require of their rows, and the polynomials in whose words they promise. Nothing open to
 -- callers speaks of these: `half_of_reduced` promises the half of class_group.
 use Prim.Native.Nat.{ℕ, _+_, _<_}
-use mathlib.Core.Path.{_≡_}
-use mathlib.Core.List.{List}
+use mathlib.Core.{Path._≡_, List.List}
 use Rattle.field_laws.specs.{Ring.Ring2, Field.Field2}
 use Rattle.char2_algebra.specs.{Polynomials.Polynomials, Lead.Monic, Square.sqrt}
 use Rattle.class_group.specs.{Mumford.Pair, Half.Triple, Half.quadratic}

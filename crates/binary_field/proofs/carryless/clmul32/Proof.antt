@@ -2,9 +2,7 @@
 use mathlib.Core.Path.{subst⁻¹}
 use Prim.Native.Nat.{ℕ, _+_, _*_, _^_, _<_}
 use native.Mathlib.Nat.{lt-of-le-of-lt, le-of-lt, mul-le-mul-left, mul-lt-mul-of-pos-right}
-use lib.Bits.{bitAnd, and-le-r}
-use lib.Pow.{pow-pos, pow-add}
-use lib.Dec.{T, ltb, lit<}
+use lib.{Bits.bitAnd, Bits.and-le-r, Pow.pow-pos, Pow.pow-add, Dec.T, Dec.ltb, Dec.lit<}
 use mir.Syntax.{w64}
 use mir.Val.{Fits}
 use Rattle.binary_field_theory.specs.Carryless.{_⊕_}

@@ -2,10 +2,8 @@
 use mathlib.Core.Path.{_≡_, sym, ap, subst, _∙_}
 use Prim.Native.Nat.{ℕ, _+_, _*_, _^_, _<_}
 use native.Mathlib.Omega.{arith}
-use Rattle.binary_field_theory.specs.Carryless.{_⊕_, remainder}
-use Rattle.binary_field_theory.specs.Element.{low}
-use Rattle.binary_field_theory.proofs.Degrees.{other-degree}
-use Rattle.binary_field_theory.proofs.Words.Folding.{fold-5, fold-61}
+use Rattle.binary_field_theory.specs.{Carryless._⊕_, Carryless.remainder, Element.low}
+use Rattle.binary_field_theory.proofs.{Degrees.other-degree, Words.Folding.fold-5, Words.Folding.fold-61}
 use Rattle.binary_field.proofs.carryless.fold.Statement.{statement}
 use Rattle.binary_field.proofs.carryless.fold.Tie as tie
 

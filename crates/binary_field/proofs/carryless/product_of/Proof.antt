@@ -1,9 +1,7 @@
 -- `product_of` meets its contract.
 use mathlib.Core.Path.{_∙_, ap}
-use Rattle.binary_field_theory.specs.Carryless.{remainder}
-use Rattle.binary_field_theory.specs.Element.{low, product}
-use Rattle.binary_field_theory.proofs.Degrees.{digits-61}
-use Rattle.binary_field_theory.proofs.Words.Sizes.{elements-lt}
+use Rattle.binary_field_theory.specs.{Carryless.remainder, Element.low, Element.product}
+use Rattle.binary_field_theory.proofs.{Degrees.digits-61, Words.Sizes.elements-lt}
 use Rattle.binary_field.proofs.carryless.product_of.Statement.{statement}
 use Rattle.binary_field.proofs.carryless.product_of.Tie as tie
 

@@ -13,12 +13,6 @@ low-fits a = omega (arith, mask-lt a 31)
 both-fit : (a : ℕ) → a < 2 ^ 61 → bitXor (bitAnd a (2 ^ 31 - 1)) (a / 2 ^ 31) < 2 ^ 32
 both-fit a h = xor-lt 32 (bitAnd a (2 ^ 31 - 1)) (a / 2 ^ 31) (low-fits a) (omega arith)
 
-clmul32-requires : tie.Need-clmul32-requires
-clmul32-requires c κs = (low-fits (c .args .a), low-fits (c .args .b))
-
-clmul32-requires-3 : tie.Need-clmul32-requires-3
-clmul32-requires-3 c κs = (both-fit _ (c .before .before .pre .0), both-fit _ (c .before .before .pre .1))
-
 returns : tie.Need-returns
 unfolding _⊕_
 returns c =
@@ -27,4 +21,10 @@ returns c =
     (c .before .before .clmul32 .ensures) (c .before .clmul322 .ensures) (c .clmul323 .ensures)
 
 pub wide-product-spec : {M : Type 1} → statement M
-wide-product-spec = tie.close (tie.spec clmul32-requires (λ c κs. omega arith) clmul32-requires-3 returns)
+wide-product-spec =
+    tie.close
+    (tie.spec
+    (λ c κs. (low-fits (c .args .a), low-fits (c .args .b)))
+    (λ c κs. omega arith)
+    (λ c κs. (both-fit _ (c .before .before .pre .0), both-fit _ (c .before .before .pre .1)))
+    returns)

@@ -4,12 +4,6 @@ use Rattle.binary_field_theory.proofs.Degrees.{other-degree}
 use Rattle.binary_field.proofs.inverting.inverse_of.Statement.{statement}
 use Rattle.binary_field.proofs.inverting.inverse_of.Tie as tie
 
-inverse-5-requires : tie.Need-inverse-5-requires
-inverse-5-requires c κs = (rw (c .if1 .taken) at (c .before .pre .1), c .before .pre .2)
-
-returns : tie.Need-returns
-returns c = rw (c .before .if1 .taken) (c .inverse-5 .ensures)
-
 inverse-61-requires : tie.Need-inverse-61-requires
 inverse-61-requires c κs =
     let s = c .before .before in
@@ -20,4 +14,11 @@ returns-2 : tie.Need-returns-2
 returns-2 c = let s = c .before .before .before in rw (other-degree _ (s .before .pre .0) (s .if1 .left)) (c .inverse-61 .ensures)
 
 pub inverse-of-spec : {M : Type 1} → statement M
-inverse-of-spec = tie.close (tie.spec inverse-5-requires returns (λ c κs. search needs) inverse-61-requires returns-2)
+inverse-of-spec =
+    tie.close
+    (tie.spec
+    (λ c κs. (rw (c .if1 .taken) at (c .before .pre .1), c .before .pre .2))
+    (λ c. rw (c .before .if1 .taken) (c .inverse-5 .ensures))
+    (λ c κs. search needs)
+    inverse-61-requires
+    returns-2)

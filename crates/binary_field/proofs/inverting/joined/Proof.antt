@@ -13,9 +13,6 @@ Inv-loop d x k y table r₀ i₀ r i = (i ≤ k) × ((r ≡ squarings d i x) × 
 abbrev μ-loop : tie.MeasureT-loop
 μ-loop d x k y table r₀ i₀ r i = k - i
 
-loop-holds : tie.Need-loop-holds Inv-loop μ-loop
-loop-holds c = (omega arith, none-squared _ _ (c .pre .1))
-
 square-of-requires : tie.Need-square-of-requires Inv-loop μ-loop
 square-of-requires c κs = let s = c .before in (s .before .pre .0, s .loop .inv .1 .1, s .before .pre .3)
 
@@ -34,4 +31,13 @@ returns c =
 pub joined-spec : {M : Type 1} → statement M
 joined-spec =
     tie.close
-    (tie.spec Inv-loop μ-loop loop-holds square-of-requires (λ c. omega arith) (λ c. omega arith) loop-again product-of-requires returns)
+    (tie.spec
+    Inv-loop
+    μ-loop
+    (λ c. (omega arith, none-squared _ _ (c .pre .1)))
+    square-of-requires
+    (λ c. omega arith)
+    (λ c. omega arith)
+    loop-again
+    product-of-requires
+    returns)

@@ -13,18 +13,6 @@ Inv-loop x n y sixfold r₀ i₀ r i = (i ≤ n) × ((r ≡ squarings 61 (i * 6)
 abbrev μ-loop : tie.MeasureT-loop
 μ-loop x n y sixfold r₀ i₀ r i = n - i
 
-loop-holds : tie.Need-loop-holds Inv-loop μ-loop
-loop-holds c = (omega arith, none-squared 61 _ (c .pre .0))
-
-multisquare-requires : tie.Need-multisquare-requires Inv-loop μ-loop
-multisquare-requires c κs = c .before .before .pre .2
-
-loop-again : tie.Need-loop-again Inv-loop μ-loop
-loop-again c = (omega arith, six-more _ _ (c .before .before .loop .inv .1) (c .multisquare .ensures))
-
-product-of-requires : tie.Need-product-of-requires Inv-loop μ-loop
-product-of-requires c κs = (tt, c .before .loop .inv .1 .1, c .before .before .pre .1)
-
 returns : tie.Need-returns Inv-loop μ-loop
 returns c =
     let s = c .before .before in
@@ -34,4 +22,13 @@ returns c =
 pub joined-sixfold-spec : {M : Type 1} → statement M
 joined-sixfold-spec =
     tie.close
-    (tie.spec Inv-loop μ-loop loop-holds multisquare-requires (λ c. omega arith) (λ c. omega arith) loop-again product-of-requires returns)
+    (tie.spec
+    Inv-loop
+    μ-loop
+    (λ c. (omega arith, none-squared 61 _ (c .pre .0)))
+    (λ c κs. c .before .before .pre .2)
+    (λ c. omega arith)
+    (λ c. omega arith)
+    (λ c. (omega arith, six-more _ _ (c .before .before .loop .inv .1) (c .multisquare .ensures)))
+    (λ c κs. (tt, c .before .loop .inv .1 .1, c .before .before .pre .1))
+    returns)

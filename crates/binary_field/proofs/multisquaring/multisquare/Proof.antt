@@ -13,9 +13,6 @@ Inv-loop a table r₀ i₀ r i = (i ≤ 16) × (r ≡ squarings 61 6 (a % 2 ^ (4
 abbrev μ-loop : tie.MeasureT-loop
 μ-loop a table r₀ i₀ r i = 16 - i
 
-loop-holds : tie.Need-loop-holds Inv-loop μ-loop
-loop-holds c = (omega arith, no-digit _)
-
 place : tie.Need-element-copy-out-r Inv-loop μ-loop
 place c = let s = c .before in place-lt (s .before .args .a / 2 ^ (4 * s .loop .i)) _ (c .loop-test .taken)
 
@@ -33,7 +30,7 @@ multisquare-spec =
     (tie.spec
     Inv-loop
     μ-loop
-    loop-holds
+    (λ c. (omega arith, no-digit _))
     (λ c. omega arith)
     (λ c. omega arith)
     (λ c. omega arith)

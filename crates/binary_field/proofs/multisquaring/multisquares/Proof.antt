@@ -2,8 +2,8 @@
 use mathlib.Core.Path.{refl}
 use Rattle.binary_field_theory.specs.Carryless.{_⊕_, clmul, reduce, remainder, digits, digits-to}
 use Rattle.binary_field_theory.specs.Element.{low, product}
+use Rattle.binary_field_theory.specs.Spreading.{every}
 use Rattle.binary_field_theory.proofs.Linear.{combine}
-use Rattle.binary_field_theory.proofs.Words.Table.{every}
 use Rattle.binary_field_theory.proofs.Words.Multisquares.{powers, powers-test, sums-test, by-tests}
 use Rattle.binary_field.proofs.multisquaring.multisquares.Statement.{statement}
 use Rattle.binary_field.proofs.multisquaring.multisquares.Tie as tie

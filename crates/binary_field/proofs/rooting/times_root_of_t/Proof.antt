@@ -3,19 +3,10 @@ use mathlib.Core.Path.{ap, _∙_}
 use borrow.Author.Needs.{needs}
 use native.Mathlib.Nat.{lt-of-lt-of-le}
 use lib.Dec.{lit<, lit≤}
-use Rattle.binary_field_theory.specs.Carryless.{remainder}
-use Rattle.binary_field_theory.specs.Element.{low, product}
-use Rattle.binary_field_theory.proofs.Degrees.{other-degree}
-use Rattle.binary_field_theory.proofs.Words.Roots.{times-root, root-5, root-61}
-use Rattle.binary_field_theory.proofs.Words.Sizes.{clmul-lt}
+use Rattle.binary_field_theory.specs.{Carryless.remainder, Element.low, Element.product}
+use Rattle.binary_field_theory.proofs.{Degrees.other-degree, Words.Roots.times-root, Words.Roots.root-5, Words.Roots.root-61, Words.Sizes.clmul-lt}
 use Rattle.binary_field.proofs.rooting.times_root_of_t.Statement.{statement}
 use Rattle.binary_field.proofs.rooting.times_root_of_t.Tie as tie
-
-product-of-requires : tie.Need-product-of-requires
-product-of-requires c κs = (tt, rw (c .if1 .taken) at (c .before .pre .1), lit< tt)
-
-returns : tie.Need-returns
-returns c = rw (c .before .if1 .taken) (times-root 5 tt _ _ root-5 (c .product-of .ensures))
 
 fold-requires : tie.Need-fold-requires
 fold-requires c κs =
@@ -33,4 +24,9 @@ returns-2 c =
 pub times-root-of-t-spec : {M : Type 1} → statement M
 times-root-of-t-spec =
     tie.close
-    (tie.spec product-of-requires returns (λ c κs. search needs) fold-requires returns-2)
+    (tie.spec
+    (λ c κs. (tt, rw (c .if1 .taken) at (c .before .pre .1), lit< tt))
+    (λ c. rw (c .before .if1 .taken) (times-root 5 tt _ _ root-5 (c .product-of .ensures)))
+    (λ c κs. search needs)
+    fold-requires
+    returns-2)

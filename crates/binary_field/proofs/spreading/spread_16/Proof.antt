@@ -1,13 +1,9 @@
 -- `spread_16` meets its contract: the two halves are spread apart.
 use borrow.Author.Needs.{needs}
-use lib.Bits.{mask-lt}
-use lib.Dec.{lit≤}
+use lib.{Bits.mask-lt, Dec.lit≤}
 use Rattle.binary_field_theory.proofs.Words.Halves.{spread-joined}
 use Rattle.binary_field.proofs.spreading.spread_16.Statement.{statement}
 use Rattle.binary_field.proofs.spreading.spread_16.Tie as tie
-
-spread-8-requires-2 : tie.Need-spread-8-requires-2
-spread-8-requires-2 c κs = (c .before .pre .0, mask-lt (c .before .args .w) 8)
 
 returns : tie.Need-returns
 returns c =
@@ -15,4 +11,4 @@ returns c =
     (spread-joined 8 (c .before .before .args .w) (c .before .before .pre .1) (lit≤ tt))
 
 pub spread-16-spec : {M : Type 1} → statement M
-spread-16-spec = tie.close (tie.spec (λ c κs. search needs) spread-8-requires-2 returns)
+spread-16-spec = tie.close (tie.spec (λ c κs. search needs) (λ c κs. (c .before .pre .0, mask-lt (c .before .args .w) 8)) returns)

@@ -9,8 +9,5 @@ cast-result : tie.Need-cast-result
 cast-result c =
     omega (arith, c .before .pre .0 .entry (c .before .args .w) (c .before .pre .1), spread-lt 8 (c .before .args .w) (c .before .pre .1))
 
-returns : tie.Need-returns
-returns c = c .before .pre .0 .entry (c .before .args .w) (c .before .pre .1)
-
 pub spread-8-spec : {M : Type 1} → statement M
-spread-8-spec = tie.close (tie.spec (λ c. search needs) (λ c. search needs) cast-result returns)
+spread-8-spec = tie.close (tie.spec (λ c. search needs) (λ c. search needs) cast-result (λ c. c .before .pre .0 .entry (c .before .args .w) (c .before .pre .1)))

@@ -1,7 +1,8 @@
 -- `spreads` meets its contract: the table's rule is one test, computed at each of its entries.
 use mathlib.Core.Path.{refl}
 use Rattle.binary_field_theory.specs.Carryless.{spread, digits, digits-to}
-use Rattle.binary_field_theory.proofs.Words.Table.{every, by-test}
+use Rattle.binary_field_theory.specs.Spreading.{every}
+use Rattle.binary_field_theory.proofs.Words.Table.{by-test}
 use Rattle.binary_field.proofs.spreading.spreads.Statement.{statement}
 use Rattle.binary_field.proofs.spreading.spreads.Tie as tie
 

@@ -2,16 +2,10 @@
 use mathlib.Core.Path.{ap, sym, _∙_}
 use borrow.Author.Needs.{needs}
 use lib.Bits.{mask-lt}
-use Rattle.binary_field_theory.specs.Carryless.{remainder}
-use Rattle.binary_field_theory.specs.Element.{low}
-use Rattle.binary_field_theory.proofs.Products.{square-spread}
-use Rattle.binary_field_theory.proofs.Spread.{spread-lt}
-use Rattle.binary_field_theory.proofs.Words.Halves.{spread-words}
+use Rattle.binary_field_theory.specs.{Carryless.remainder, Element.low}
+use Rattle.binary_field_theory.proofs.{Products.square-spread, Spread.spread-lt, Words.Halves.spread-words}
 use Rattle.binary_field.proofs.squaring.square_of.Statement.{statement}
 use Rattle.binary_field.proofs.squaring.square_of.Tie as tie
-
-spread-32-requires-2 : tie.Need-spread-32-requires-2
-spread-32-requires-2 c κs = (c .before .pre .2, mask-lt (c .before .args .a) 32)
 
 fold-requires : tie.Need-fold-requires
 fold-requires c κs =
@@ -27,4 +21,4 @@ returns c =
     c .fold .ensures ∙ ap (remainder (s .args .d) (low (s .args .d))) e ∙ sym (square-spread (s .args .d) (s .args .a))
 
 pub square-of-spec : {M : Type 1} → statement M
-square-of-spec = tie.close (tie.spec (λ c κs. search needs) spread-32-requires-2 fold-requires returns)
+square-of-spec = tie.close (tie.spec (λ c κs. search needs) (λ c κs. (c .before .pre .2, mask-lt (c .before .args .a) 32)) fold-requires returns)

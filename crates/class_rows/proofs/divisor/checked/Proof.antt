@@ -1,11 +1,18 @@
 -- `checked` meets its contract: the division tells, and its quotient is the cofactor.
-use mathlib.Core.Path.{refl, sym}
-use mathlib.Core.Bool.{true≢false}
+use mathlib.Core.{Path.refl, Path.sym, Bool.true≢false}
+use native.Mathlib.Omega.{arith}
 use borrow.Author.Tests.{not-true, not-false}
-use Rattle.class_rows.proofs.CheckRows.{denied, no-it-is-not, formed-divisor, division-decides}
+use Rattle.char2_algebra.proofs.Lead.{monic-nonzero}
+use Rattle.row_theory.specs.Field.{𝔸}
 use Rattle.row_theory.proofs.Rows.Length.{places-len}
+use Rattle.class_rows.specs.internal.Check.{FormedRows}
+use Rattle.class_rows.proofs.{CheckRows.denied, CheckRows.no-it-is-not, CheckRows.formed-divisor, CheckRows.division-decides, ReductionRows.cofactor-row}
 use Rattle.class_rows.proofs.divisor.checked.Statement.{statement}
 use Rattle.class_rows.proofs.divisor.checked.Tie as tie
+
+-- all but the division
+formed : (c : tie.Else1) → FormedRows (c .before .before .args .d) (c .before .before .args .f) (c .before .before .args .a)
+formed c = c .before .in-form .ensures .0 (not-false _ (c .if1 .left))
 
 returns : tie.Need-returns
 returns c =
@@ -14,18 +21,26 @@ returns c =
       cofactor = λ e. absurd (true≢false (sym e));
     }
 
-divided-requires : tie.Need-divided-requires
-divided-requires c κs = c .before .in-form .ensures .0 (not-false _ (c .if1 .left))
+curve-value-requires : tie.Need-curve-value-requires
+curve-value-requires c κs =
+    let p = formed (c .before .before) in
+    (p .degree, p .curve .1 .in-range, p .pair .v-range, omega (arith, p .pair .u-len, p .pair .v-len))
+
+divide-requires : tie.Need-divide-requires
+divide-requires c κs =
+    let p = formed (c .before .before .before) in
+    (p .degree, c .curve-value .ensures .in-range, p .pair .u-range, monic-nonzero (𝔸 _) _ (p .pair .u-monic))
 
 returns-2 : tie.Need-returns-2
 returns-2 c =
-    let after = c .before .before .before in
-    let formed = after .before .before .in-form .ensures .0 (not-false _ (after .before .if1 .left)) in
-    let rest = after .divided .ensures (formed .curve .0) (formed .curve .1) .1 in
+    let s = c .before .before .before in
+    let value = s .before .curve-value .ensures in
+    let rest = s .divide .ensures .1 in
+    let f = formed (s .before .before .before .before) in
     record {
-      decides = division-decides formed rest (places-len _ (c .length .ensures) _ (rest .in-range));
-      cofactor = λ _ C on. after .divided .ensures C on .0;
+      decides = division-decides f value rest (places-len _ (c .length .ensures) _ (rest .in-range));
+      cofactor = λ _. cofactor-row _ _ value (s .divide .ensures .0);
     }
 
 pub checked-spec : {M : Type 1} → statement M
-checked-spec = tie.close (tie.spec (λ c κs. tt) returns divided-requires (λ c κs. tt) returns-2)
+checked-spec = tie.close (tie.spec (λ c κs. tt) returns curve-value-requires divide-requires (λ c κs. tt) returns-2)

@@ -1,6 +1,5 @@
 -- `checked_both` meets its contract.
-use mathlib.Core.Path.{sym, _∙_}
-use mathlib.Core.Bool.{true≢false}
+use mathlib.Core.{Path.sym, Path._∙_, Bool.true≢false}
 use borrow.Author.Tests.{not-true, not-false}
 use Rattle.class_rows.proofs.CheckRows.{denied, no-it-is-not, also}
 use Rattle.class_rows.proofs.divisor.checked_both.Statement.{statement}

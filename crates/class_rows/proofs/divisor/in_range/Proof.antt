@@ -12,9 +12,6 @@ Inv-loop d r m i₀ i = (i ≤ 12) × Below d r i
 abbrev μ-loop : tie.MeasureT-loop
 μ-loop d r m i₀ i = 12 - i
 
-loop-holds : tie.Need-loop-holds Inv-loop μ-loop
-loop-holds c = (omega arith, below-none _)
-
 returns : tie.Need-returns Inv-loop μ-loop
 returns c =
     let e = c .before .before .before .bound .ensures in
@@ -33,7 +30,7 @@ in-range-spec =
     Inv-loop
     μ-loop
     (λ c κs. tt)
-    loop-holds
+    (λ c. (omega arith, below-none _))
     (λ c. omega arith)
     (λ c. omega arith)
     returns

@@ -9,9 +9,6 @@ use Rattle.class_rows.proofs.divisor.is_monic.Tie as tie
 returns : tie.Need-returns
 returns c = no-it-is-not refl (none-monic _ _ (sym (c .if1 .taken) ∙ places-len _ (c .before .length .ensures) _ (c .before .before .pre)))
 
-sub-result : tie.Need-sub-result
-sub-result c = omega (arith, c .if1 .left)
-
 mul-result : tie.Need-mul-result
 mul-result c =
     let l = length-le _ _ (places-len _ (c .before .length .ensures) _ (c .before .before .pre)) (c .before .before .good .1 .0 .1 .0 .1) in
@@ -27,4 +24,4 @@ returns-2 c =
     monic-decides _ _ (c .before .before .good .1 .0 .1 .0 .1) (c .before .before .pre) (places-len _ (c .before .length .ensures) _ (c .before .before .pre)) (c .if1 .left)
 
 pub is-monic-spec : {M : Type 1} → statement M
-is-monic-spec = tie.close (tie.spec (λ c κs. tt) returns sub-result mul-result array-read-result returns-2)
+is-monic-spec = tie.close (tie.spec (λ c κs. tt) returns (λ c. omega (arith, c .if1 .left)) mul-result array-read-result returns-2)

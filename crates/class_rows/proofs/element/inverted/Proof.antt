@@ -5,13 +5,10 @@ use borrow.Author.Needs.{needs}
 use Rattle.class_rows.proofs.element.inverted.Statement.{statement}
 use Rattle.class_rows.proofs.element.inverted.Tie as tie
 
-returns : tie.Need-returns
-returns c = inverse-one _ _ (c .if1 .taken)
-
 returns-2 : tie.Need-returns-2
 returns-2 c =
     let pre = c .before .before .before .pre in
     number-is _ _ (c .number .ensures _ (c .before .inverse .ensures ∙ inverse-answers _ (pre .0) _ (pre .1)))
 
 pub inverted-spec : {M : Type 1} → statement M
-inverted-spec = tie.close (tie.spec returns (λ c κs. search needs) (λ c κs. search needs) returns-2)
+inverted-spec = tie.close (tie.spec (λ c. inverse-one _ _ (c .if1 .taken)) (λ c κs. search needs) (λ c κs. search needs) returns-2)

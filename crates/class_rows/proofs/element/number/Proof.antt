@@ -4,11 +4,11 @@ use Rattle.binary_field.proofs.Replies.{element-is, no-refusal}
 use Rattle.class_rows.proofs.element.number.Statement.{statement}
 use Rattle.class_rows.proofs.element.number.Tie as tie
 
-returns : tie.Need-returns
-returns c n e = element-is (c .before .answer .given .1) e
-
-returns-2 : tie.Need-returns-2
-returns-2 c n e = absurd (no-refusal (c .enum-told .given .1) e)
-
 pub number-spec : {M : Type 1} → statement M
-number-spec = tie.close (tie.spec (λ c. search needs) (λ c. search needs) returns returns-2)
+number-spec =
+    tie.close
+    (tie.spec
+    (λ c. search needs)
+    (λ c. search needs)
+    (λ c n e. element-is (c .before .answer .given .1) e)
+    (λ c n e. absurd (no-refusal (c .enum-told .given .1) e)))

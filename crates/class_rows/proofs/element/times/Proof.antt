@@ -5,18 +5,6 @@ use borrow.Author.Needs.{needs}
 use Rattle.class_rows.proofs.element.times.Statement.{statement}
 use Rattle.class_rows.proofs.element.times.Tie as tie
 
-returns : tie.Need-returns
-returns c = zero-times _ _ _ (c .if1 .taken)
-
-returns-2 : tie.Need-returns-2
-returns-2 c = times-zero _ _ _ (c .if2 .taken)
-
-returns-3 : tie.Need-returns-3
-returns-3 c = one-times _ _ _ (c .before .before .before .pre .2) (c .if3 .taken)
-
-returns-4 : tie.Need-returns-4
-returns-4 c = times-one _ _ _ (c .before .before .before .before .pre .1) (c .if4 .taken)
-
 returns-5 : tie.Need-returns-5
 returns-5 c =
     let pre = c .before .before .before .before .before .before .pre in
@@ -25,4 +13,11 @@ returns-5 c =
 pub times-spec : {M : Type 1} → statement M
 times-spec =
     tie.close
-    (tie.spec returns returns-2 returns-3 returns-4 (λ c κs. search needs) (λ c κs. search needs) returns-5)
+    (tie.spec
+    (λ c. zero-times _ _ _ (c .if1 .taken))
+    (λ c. times-zero _ _ _ (c .if2 .taken))
+    (λ c. one-times _ _ _ (c .before .before .before .pre .2) (c .if3 .taken))
+    (λ c. times-one _ _ _ (c .before .before .before .before .pre .1) (c .if4 .taken))
+    (λ c κs. search needs)
+    (λ c κs. search needs)
+    returns-5)

@@ -4,8 +4,7 @@ use mathlib.Core.Path.{_≡_, sym, _∙_, subst}
 use native.Mathlib.Omega.{arith}
 use Rattle.char2_algebra.proofs.Degree.{nonzero-of-len}
 use Rattle.row_theory.specs.{Field.𝔸, Field.poly, Row.row-len}
-use Rattle.row_theory.proofs.Bezout.{remainder-less, quotient-le, step-rows}
-use Rattle.row_theory.proofs.Rows.Length.{places-len}
+use Rattle.row_theory.proofs.{Bezout.remainder-less, Bezout.quotient-le, Bezout.step-rows, Rows.Length.places-len}
 use borrow.Fn.Kinds.{In}
 use borrow.Fn.PlainCycle.{Measures, is, falls, and}
 use Rattle.class_rows.proofs.euclid.bezout.Reads as bezout
@@ -16,8 +15,7 @@ use Rattle.class_rows.proofs.euclid.bezout_nought.Reads as bezout-nough
 use Rattle.class_rows.proofs.euclid.substituted.Reads as substituted-reads
 use Rattle.class_rows.proofs.row.divide.Reads as divide-reads
 use Rattle.class_rows.proofs.row.length.Reads as length-reads
-use Rattle.class_rows.proofs.euclid.+bezout.{statement}
-use Rattle.class_rows.proofs.euclid.+bezout.Tie.{close}
+use Rattle.class_rows.proofs.euclid.+bezout.{statement, Tie.close}
 
 abbrev μ : Measures 0 bezout-kinds.ps ℕ
 μ κs a = row-len (a .0) (a .1 .1 .0)

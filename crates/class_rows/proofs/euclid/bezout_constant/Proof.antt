@@ -6,16 +6,10 @@ use Rattle.row_theory.proofs.{Rows.Elements.zero-lt, Rows.Elements.one-lt, Bezo
 use Rattle.class_rows.proofs.euclid.bezout_constant.Statement.{statement}
 use Rattle.class_rows.proofs.euclid.bezout_constant.Tie as tie
 
-constant-requires : tie.Need-constant-requires
-constant-requires c κs = (c .before .pre .0, zero-lt (c .before .args .d))
-
 leading-requires : tie.Need-leading-requires
 leading-requires c κs =
     let s = c .before .before in
     (s .pre .0, s .pre .1, nonzero-of-len (𝔸 (s .args .d)) (poly (s .args .d) (s .args .b)) (omega (arith, s .pre .2)))
-
-constant-requires-2 : tie.Need-constant-requires-2
-constant-requires-2 c κs = (c .before .before .before .pre .0, c .leading .ensures .1 .in-range)
 
 returns : tie.Need-returns
 returns c =
@@ -24,4 +18,11 @@ returns c =
     constant-rows (s .args .d) (s .args .b) (s .pre .2) (l .leading .ensures .1) (l .before .before .one .ensures _) (l .before .constant .ensures) (c .constant2 .ensures)
 
 pub bezout-constant-spec : {M : Type 1} → statement M
-bezout-constant-spec = tie.close (tie.spec (λ c κs. tt) constant-requires leading-requires constant-requires-2 returns)
+bezout-constant-spec =
+    tie.close
+    (tie.spec
+    (λ c κs. tt)
+    (λ c κs. (c .before .pre .0, zero-lt (c .before .args .d)))
+    leading-requires
+    (λ c κs. (c .before .before .before .pre .0, c .leading .ensures .1 .in-range))
+    returns)

@@ -3,13 +3,9 @@ use mathlib.Core.Path.{sym, _∙_}
 use native.Mathlib.Omega.{arith}
 use Rattle.char2_algebra.proofs.Degree.{nonzero-of-len}
 use Rattle.row_theory.specs.Field.{𝔸, poly}
-use Rattle.row_theory.proofs.{Rows.Elements.zero-lt, Bezout.nought-rows, Bezout.blank-rows}
-use Rattle.row_theory.proofs.Rows.Length.{places-len}
+use Rattle.row_theory.proofs.{Rows.Elements.zero-lt, Bezout.nought-rows, Bezout.blank-rows, Rows.Length.places-len}
 use Rattle.class_rows.proofs.euclid.bezout_nought.Statement.{statement}
 use Rattle.class_rows.proofs.euclid.bezout_nought.Tie as tie
-
-constant-requires : tie.Need-constant-requires
-constant-requires c κs = (c .pre .0, zero-lt (c .args .d))
 
 returns : tie.Need-returns
 returns c =
@@ -22,9 +18,6 @@ leading-requires c κs =
     let e = places-len _ (c .before .length .ensures) (s .args .d) (s .pre .1) in
     (s .pre .0, s .pre .1, nonzero-of-len (𝔸 (s .args .d)) (poly (s .args .d) (s .args .a)) (omega (arith, e, c .if1 .left)))
 
-constant-requires-2 : tie.Need-constant-requires-2
-constant-requires-2 c κs = (c .before .before .before .before .pre .0, c .leading .ensures .1 .in-range)
-
 scale-requires : tie.Need-scale-requires
 scale-requires c κs = let s = c .before .before .before .before .before in (s .pre .0, c .before .leading .ensures .1 .in-range, s .pre .1)
 
@@ -36,4 +29,13 @@ returns-2 c =
     nought-rows (s .args .d) (s .args .a) (l .leading .ensures .1) (c .scale .ensures) (c .before .constant2 .ensures) (z .constant .ensures)
 
 pub bezout-nought-spec : {M : Type 1} → statement M
-bezout-nought-spec = tie.close (tie.spec constant-requires (λ c κs. tt) returns leading-requires constant-requires-2 scale-requires returns-2)
+bezout-nought-spec =
+    tie.close
+    (tie.spec
+    (λ c κs. (c .pre .0, zero-lt (c .args .d)))
+    (λ c κs. tt)
+    returns
+    leading-requires
+    (λ c κs. (c .before .before .before .before .pre .0, c .leading .ensures .1 .in-range))
+    scale-requires
+    returns-2)

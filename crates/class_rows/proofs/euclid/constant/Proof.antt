@@ -3,8 +3,5 @@ use Rattle.row_theory.proofs.Rows.Constants.{constant-stands}
 use Rattle.class_rows.proofs.euclid.constant.Statement.{statement}
 use Rattle.class_rows.proofs.euclid.constant.Tie as tie
 
-returns : tie.Need-returns
-returns c = constant-stands (c .args .d) (c .args .c) (c .pre .1)
-
 pub constant-spec : {M : Type 1} → statement M
-constant-spec = tie.close (tie.spec returns)
+constant-spec = tie.close (tie.spec (λ c. constant-stands (c .args .d) (c .args .c) (c .pre .1)))

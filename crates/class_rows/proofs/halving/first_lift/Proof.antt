@@ -4,9 +4,6 @@ use borrow.Author.Needs.{needs}
 use Rattle.class_rows.proofs.halving.first_lift.Statement.{statement}
 use Rattle.class_rows.proofs.halving.first_lift.Tie as tie
 
-quartic-row-requires : tie.Need-quartic-row-requires
-quartic-row-requires c κs = (zero-lt (c .before .args .d), zero-lt (c .before .args .d), c .before .pre .2 3)
-
 lifted-row-requires : tie.Need-lifted-row-requires
 lifted-row-requires c κs =
     let p = c .before .before .pre in
@@ -21,6 +18,6 @@ first-lift-spec =
     (tie.spec
     (λ c. search needs)
     (λ c κs. search needs)
-    quartic-row-requires
+    (λ c κs. (zero-lt (c .before .args .d), zero-lt (c .before .args .d), c .before .pre .2 3))
     lifted-row-requires
     returns)

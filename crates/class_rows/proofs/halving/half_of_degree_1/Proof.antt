@@ -42,9 +42,6 @@ computed c =
       q-is = c .stepped-row .ensures;
     }
 
-root-of-requires : tie.Need-root-of-requires
-root-of-requires c κs = (c .pre .0, c .pre .1 .w-range 5)
-
 root-of-requires-2 : tie.Need-root-of-requires-2
 root-of-requires-2 c κs = let p = c .before .pre in (p .0, p .1 .w-range 3)
 
@@ -71,9 +68,6 @@ root-pair-requires c κs =
     let p = start (roots c) .pre in
     (p .0, c .before .lifted-row .ensures .in-range, c .stepped-row .ensures .in-range, root-nonzero-1 _ _ _ _ (computed c) (p .1))
 
-returns : tie.Need-returns
-returns c = stands-pair-eq _ (result-1 _ _ _ _ (computed (c .before))) (c .root-pair .ensures)
-
 pub half-of-degree-1-spec : {M : Type 1} → statement M
 half-of-degree-1-spec =
     tie.close
@@ -81,7 +75,7 @@ half-of-degree-1-spec =
     (λ c. search needs)
     (λ c. search needs)
     (λ c. search needs)
-    root-of-requires
+    (λ c κs. (c .pre .0, c .pre .1 .w-range 5))
     root-of-requires-2
     plus-requires
     (λ c κs. search needs)
@@ -90,4 +84,4 @@ half-of-degree-1-spec =
     lifted-row-requires
     stepped-row-requires
     root-pair-requires
-    returns)
+    (λ c. stands-pair-eq _ (result-1 _ _ _ _ (computed (c .before))) (c .root-pair .ensures)))

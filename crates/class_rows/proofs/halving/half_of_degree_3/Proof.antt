@@ -49,12 +49,6 @@ second c =
       a-is = c .root-row .ensures;
     }
 
-root-of-requires : tie.Need-root-of-requires
-root-of-requires c κs = (c .pre .0, c .pre .1 .w-range 3)
-
-root-of-requires-2 : tie.Need-root-of-requires-2
-root-of-requires-2 c κs = (c .before .before .pre .0, c .first-lift .ensures .in-range 1)
-
 stepped-row-requires : tie.Need-stepped-row-requires
 stepped-row-requires c κs =
     let p = start (c .before .before) .pre in
@@ -108,10 +102,10 @@ half-of-degree-3-spec =
     tie.close
     (tie.spec
     (λ c. search needs)
-    root-of-requires
+    (λ c κs. (c .pre .0, c .pre .1 .w-range 3))
     (λ c κs. search needs)
     (λ c. search needs)
-    root-of-requires-2
+    (λ c κs. (c .before .before .pre .0, c .first-lift .ensures .in-range 1))
     (λ c κs. search needs)
     stepped-row-requires
     root-pair-requires

@@ -58,9 +58,6 @@ computed c =
       q-is = c .stepped-row .ensures;
     }
 
-inverted-requires : tie.Need-inverted-requires
-inverted-requires c κs = (c .pre .0, c .pre .1 .u-range 1, c .pre .2)
-
 times-requires : tie.Need-times-requires
 times-requires c κs = let p = c .before .before .pre in (p .0, p .1 .w-range 3, c .before .inverted .ensures .in-range)
 
@@ -108,7 +105,7 @@ lifted-half-of-degree-2-spec =
     (λ c. search needs)
     (λ c. search needs)
     (λ c. search needs)
-    inverted-requires
+    (λ c κs. (c .pre .0, c .pre .1 .u-range 1, c .pre .2))
     (λ c κs. search needs)
     times-requires
     (λ c κs. search needs)

@@ -6,9 +6,6 @@ use borrow.Author.Needs.{needs}
 use Rattle.class_rows.proofs.halving.second_remainder.Statement.{statement}
 use Rattle.class_rows.proofs.halving.second_remainder.Tie as tie
 
-divide-requires : tie.Need-divide-requires
-divide-requires c κs = (c .pre .0, c .pre .3, c .pre .4, divisor-nonzero _ _ (c .pre .9))
-
 quadratic-row-requires : tie.Need-quadratic-row-requires
 quadratic-row-requires c κs = (zero-lt (c .before .before .args .d), one-lt (c .before .before .args .d), c .before .before .pre .7)
 
@@ -42,7 +39,7 @@ pub second-remainder-spec : {M : Type 1} → statement M
 second-remainder-spec =
     tie.close
     (tie.spec
-    divide-requires
+    (λ c κs. (c .pre .0, c .pre .3, c .pre .4, divisor-nonzero _ _ (c .pre .9)))
     quadratic-row-requires
     multiply-requires
     divide-requires-2

@@ -11,9 +11,6 @@ Inv-loop d from k q b sum₀ j₀ sum j = Partial d q b k j sum
 abbrev μ-loop : tie.MeasureT-loop
 μ-loop d from k q b sum₀ j₀ sum j = k + 1 - j
 
-loop-holds : tie.Need-loop-holds Inv-loop μ-loop
-loop-holds c = partial-start _ (c .pre .4)
-
 times-requires : tie.Need-times-requires Inv-loop μ-loop
 times-requires c κs = let p = c .before .before .pre in (p .0, p .1 _, p .2 _)
 
@@ -23,16 +20,13 @@ plus-requires c κs = (c .before .before .before .pre .0, c .before .before .loo
 loop-again : tie.Need-loop-again Inv-loop μ-loop
 loop-again c = partial-turn _ (c .before .before .before .loop .inv) (omega arith) (c .before .times .ensures) (c .plus .ensures)
 
-returns : tie.Need-returns Inv-loop μ-loop
-returns c = partial-end _ (c .before .loop .inv) (omega arith)
-
 pub product-at-spec : {M : Type 1} → statement M
 product-at-spec =
     tie.close
     (tie.spec
     Inv-loop
     μ-loop
-    loop-holds
+    (λ c. partial-start _ (c .pre .4))
     (λ c. omega arith)
     (λ c. omega arith)
     (λ c. omega arith)
@@ -42,4 +36,4 @@ product-at-spec =
     (λ c. omega arith)
     (λ c. omega arith)
     loop-again
-    returns)
+    (λ c. partial-end _ (c .before .loop .inv) (omega arith)))

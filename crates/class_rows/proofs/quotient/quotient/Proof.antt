@@ -4,8 +4,7 @@ use mathlib.Core.Path.{_≡_}
 use native.Mathlib.Omega.{arith}
 use Rattle.char2_algebra.proofs.{Lead.monic-nonzero, Degree.len-nonzero}
 use Rattle.row_theory.specs.{Field.𝔸, Row.row-len}
-use Rattle.row_theory.proofs.{Rows.Coefficients.row-len-length, QuotientRows.Divided, QuotientRows.divided-start, QuotientRows.divided-turn}
-use Rattle.row_theory.proofs.QuotientRows.{divided-end}
+use Rattle.row_theory.proofs.{Rows.Coefficients.row-len-length, QuotientRows.Divided, QuotientRows.divided-start, QuotientRows.divided-turn, QuotientRows.divided-end}
 use Rattle.row_theory.proofs.Rows.Length.{places-len}
 use Rattle.class_rows.proofs.quotient.quotient.Statement.{statement}
 use Rattle.class_rows.proofs.quotient.quotient.Tie as tie

@@ -1,7 +1,6 @@
 -- `double_of_reduced` promises the definition's double: the composition, reduced by no step where u is no longer than 2, and else by `reduce_with`.
 use native.Mathlib.Omega.{arith}
-use Rattle.class_rows.proofs.ReductionRows.{none-counted}
-use Rattle.class_rows.proofs.DoubleRows.{squared-len, squared-semi, double-counted}
+use Rattle.class_rows.proofs.{ReductionRows.none-counted, DoubleRows.squared-len, DoubleRows.squared-semi, DoubleRows.double-counted}
 use Rattle.row_theory.proofs.Rows.Length.{places-len}
 use Rattle.class_rows.proofs.reduction.double_of_reduced.Statement.{statement}
 use Rattle.class_rows.proofs.reduction.double_of_reduced.Tie as tie

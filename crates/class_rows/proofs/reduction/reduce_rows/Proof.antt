@@ -11,17 +11,11 @@ returns c =
     let n = places-len _ (c .before .length .ensures) _ (p .1 .u-range) in
     none-counted _ (p .1) (omega (arith, n, c .if1 .taken))
 
-cofactor-requires : tie.Need-cofactor-requires
-cofactor-requires c κs = c .before .before .before .pre
-
 reduce-with-requires : tie.Need-reduce-with-requires
 reduce-with-requires c κs =
     let p = c .before .before .before .before .pre in
     let n = places-len _ (c .before .before .length .ensures) _ (p .1 .u-range) in
     (p .0, p .1, omega (arith, n, c .before .if1 .left), c .cofactor .ensures)
 
-returns-2 : tie.Need-returns-2
-returns-2 c = c .reduce-with .ensures
-
 pub reduce-rows-spec : {M : Type 1} → statement M
-reduce-rows-spec = tie.close (tie.spec (λ c κs. tt) returns cofactor-requires reduce-with-requires returns-2)
+reduce-rows-spec = tie.close (tie.spec (λ c κs. tt) returns (λ c κs. c .before .before .before .pre) reduce-with-requires (λ c. c .reduce-with .ensures))

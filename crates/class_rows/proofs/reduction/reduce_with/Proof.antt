@@ -5,9 +5,6 @@ use Rattle.row_theory.proofs.Rows.Length.{places-len}
 use Rattle.class_rows.proofs.reduction.reduce_with.Statement.{statement}
 use Rattle.class_rows.proofs.reduction.reduce_with.Tie as tie
 
-step-requires : tie.Need-step-requires
-step-requires c κs = (c .pre .0, c .pre .1, c .pre .3)
-
 returns : tie.Need-returns
 returns c =
     let p = c .before .before .before .before .pre in
@@ -29,4 +26,4 @@ returns-2 c =
     twice-counted _ (p .1) (p .2) t (omega (arith, n, c .before .before .if1 .left)) (c .step2 .ensures)
 
 pub reduce-with-spec : {M : Type 1} → statement M
-reduce-with-spec = tie.close (tie.spec step-requires (λ c κs. tt) returns cofactor-requires step-requires-2 returns-2)
+reduce-with-spec = tie.close (tie.spec (λ c κs. (c .pre .0, c .pre .1, c .pre .3)) (λ c κs. tt) returns cofactor-requires step-requires-2 returns-2)

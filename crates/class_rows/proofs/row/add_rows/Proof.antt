@@ -9,8 +9,5 @@ add-multiple-requires c κs =
     let len = row-len-length (c .args .d) (c .args .b) 12 (c .good .1 .1 .0 .1 .0 .1) in
     (c .pre .0, c .pre .1, one-lt _, c .pre .2, omega arith)
 
-returns : tie.Need-returns
-returns c = stands-eq _ (multiple-one _ _ _) (c .add-multiple .ensures)
-
 pub add-rows-spec : {M : Type 1} → statement M
-add-rows-spec = tie.close (tie.spec add-multiple-requires returns)
+add-rows-spec = tie.close (tie.spec add-multiple-requires (λ c. stands-eq _ (multiple-one _ _ _) (c .add-multiple .ensures)))

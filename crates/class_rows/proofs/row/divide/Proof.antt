@@ -17,15 +17,6 @@ abbrev μ-loop : tie.MeasureT-loop
 at-top : (c : tie.After-leading Inv-loop μ-loop) → Leads (c .before .args .d) (c .before .args .b) (c .leading .result .top)
 at-top c = leads-at _ _ (c .before .good .1 .1 .0 .1 .0 .1) (c .before .pre .2) (c .leading .ensures .0)
 
-leading-requires : tie.Need-leading-requires Inv-loop μ-loop
-leading-requires c κs = (c .pre .0, c .pre .2, c .pre .3)
-
-mul-low : tie.Need-mul-low Inv-loop μ-loop
-mul-low c = omega (arith, at-top c .top-lt)
-
-array-write-low : tie.Need-array-write-low Inv-loop μ-loop
-array-write-low c = omega (arith, at-top c .top-lt)
-
 loop-holds : tie.Need-loop-holds Inv-loop μ-loop
 loop-holds c =
     let s = c .before .before in
@@ -67,9 +58,9 @@ divide-spec =
     (tie.spec
     Inv-loop
     μ-loop
-    leading-requires
-    mul-low
-    array-write-low
+    (λ c κs. (c .pre .0, c .pre .2, c .pre .3))
+    (λ c. omega (arith, at-top c .top-lt))
+    (λ c. omega (arith, at-top c .top-lt))
     (λ c κs. tt)
     loop-holds
     (λ c. omega arith)

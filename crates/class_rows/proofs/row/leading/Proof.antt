@@ -13,12 +13,6 @@ sub-top c = let s = c .before in length-pos _ _ (places-len _ (c .length .ensure
 at-top : (c : tie.After-length) → Leads (c .before .args .d) (c .before .args .t2) (c .length .result - 1)
 at-top c = let s = c .before in leads _ _ (s .good .1 .0 .1 .0 .1) (s .pre .1) (places-len _ (c .length .ensures) _ (s .pre .1)) (s .pre .2)
 
-mul-inverted : tie.Need-mul-inverted
-mul-inverted c = omega (arith, at-top c .top-lt)
-
-array-read-inverted : tie.Need-array-read-inverted
-array-read-inverted c = omega (arith, at-top c .top-lt)
-
 inverted-requires : tie.Need-inverted-requires
 inverted-requires c κs = let s = at-top c in (c .before .pre .0, s .range _, s .nonzero)
 
@@ -26,4 +20,4 @@ returns : tie.Need-returns
 returns c = let s = at-top (c .before) in (s .len, is-eq _ (ap (F _ .inverse) (sym (lead-row s))) (c .inverted .ensures))
 
 pub leading-spec : {M : Type 1} → statement M
-leading-spec = tie.close (tie.spec (λ c κs. tt) sub-top mul-inverted array-read-inverted inverted-requires returns)
+leading-spec = tie.close (tie.spec (λ c κs. tt) sub-top (λ c. omega (arith, at-top c .top-lt)) (λ c. omega (arith, at-top c .top-lt)) inverted-requires returns)

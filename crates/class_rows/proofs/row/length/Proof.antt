@@ -12,15 +12,6 @@ Inv-loop a n₀ n = (n ≤ 12) × Blank a n
 abbrev μ-loop : tie.MeasureT-loop
 μ-loop a n₀ n = n
 
-loop-holds : tie.Need-loop-holds Inv-loop μ-loop
-loop-holds c = (omega arith, blank-start (c .good .0 .1 .0 .1))
-
-returns : tie.Need-returns Inv-loop μ-loop
-returns c = places-is (c .before .before .loop .inv .1) (λ _. c .if1 .taken)
-
-loop-again : tie.Need-loop-again Inv-loop μ-loop
-loop-again c = (omega arith, blank-less (c .before .before .loop .inv .1) (c .if1 .left))
-
 returns-2 : tie.Need-returns-2 Inv-loop μ-loop
 returns-2 c =
     let n : c .before .loop .n ≤ 0 = omega arith in
@@ -28,4 +19,17 @@ returns-2 c =
     sym z ∙ places-is (c .before .loop .inv .1) (λ h. absurd (omega arith))
 
 pub length-spec : {M : Type 1} → statement M
-length-spec = tie.close (tie.spec Inv-loop μ-loop loop-holds (λ c. omega arith) (λ c. omega arith) (λ c. omega arith) returns (λ c. omega arith) (λ c. omega arith) loop-again returns-2)
+length-spec =
+    tie.close
+    (tie.spec
+    Inv-loop
+    μ-loop
+    (λ c. (omega arith, blank-start (c .good .0 .1 .0 .1)))
+    (λ c. omega arith)
+    (λ c. omega arith)
+    (λ c. omega arith)
+    (λ c. places-is (c .before .before .loop .inv .1) (λ _. c .if1 .taken))
+    (λ c. omega arith)
+    (λ c. omega arith)
+    (λ c. (omega arith, blank-less (c .before .before .loop .inv .1) (c .if1 .left)))
+    returns-2)

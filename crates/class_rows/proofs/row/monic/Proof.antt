@@ -11,23 +11,21 @@ at-top c = leads-at _ _ (c .before .good .1 .0 .1 .0 .1) (c .before .pre .1) (c 
 returns : tie.Need-returns
 returns c = let l = c .before in monic-already (at-top l) (l .leading .ensures .1) (c .if1 .taken)
 
-mul-low : tie.Need-mul-low
-mul-low c = omega (arith, at-top (c .before) .top-lt)
-
-array-write-low : tie.Need-array-write-low
-array-write-low c = omega (arith, at-top (c .before) .top-lt)
-
 scale-requires : tie.Need-scale-requires
 scale-requires c κs = let l = c .before in (l .before .pre .0, l .leading .ensures .1 .in-range, low-range (at-top l))
-
-mul-r : tie.Need-mul-r
-mul-r c = omega (arith, at-top (c .before .before) .top-lt)
-
-array-write-r : tie.Need-array-write-r
-array-write-r c = omega (arith, at-top (c .before .before) .top-lt)
 
 returns-2 : tie.Need-returns-2
 returns-2 c = let l = c .before .before in monic-made (at-top l) (l .leading .ensures .1) (c .scale .ok .1 .0 .1) (c .scale .ensures)
 
 pub monic-spec : {M : Type 1} → statement M
-monic-spec = tie.close (tie.spec (λ c κs. c .pre) returns mul-low array-write-low scale-requires mul-r array-write-r returns-2)
+monic-spec =
+    tie.close
+    (tie.spec
+    (λ c κs. c .pre)
+    returns
+    (λ c. omega (arith, at-top (c .before) .top-lt))
+    (λ c. omega (arith, at-top (c .before) .top-lt))
+    scale-requires
+    (λ c. omega (arith, at-top (c .before .before) .top-lt))
+    (λ c. omega (arith, at-top (c .before .before) .top-lt))
+    returns-2)

@@ -5,9 +5,8 @@ use native.Mathlib.Omega.{arith}
 use lib.ListN.{replicate}
 use Rattle.char2_algebra.specs.Square.{sqrt}
 use Rattle.row_theory.specs.Field.{𝔸, poly}
-use Rattle.row_theory.proofs.{Rows.Length.length-le, Rows.Fill.Filled, Rows.Fill.zeros-range, Rows.Fill.coeff-zeros, Rows.Fill.filled-start}
+use Rattle.row_theory.proofs.{Rows.Length.length-le, Rows.Fill.Filled, Rows.Fill.zeros-range, Rows.Fill.coeff-zeros, Rows.Fill.filled-start, Rows.Length.places-len}
 use Rattle.row_theory.proofs.{Rows.Fill.filled-turn, Rows.Fill.filled-end, Rows.Squares.root-at, Rows.Squares.root-past}
-use Rattle.row_theory.proofs.Rows.Length.{places-len}
 use Rattle.class_rows.proofs.row.root_row.Statement.{statement}
 use Rattle.class_rows.proofs.row.root_row.Tie as tie
 

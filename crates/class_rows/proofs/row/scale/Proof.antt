@@ -9,8 +9,5 @@ add-multiple-requires c κs =
     let len = row-len-length (c .args .d) (c .args .a) 12 (c .good .1 .1 .0 .1 .0 .1) in
     (c .pre .0, zeros-range _ 12, c .pre .1, c .pre .2, omega arith)
 
-returns : tie.Need-returns
-returns c = stands-eq _ (multiple-alone _ _ _) (c .add-multiple .ensures)
-
 pub scale-spec : {M : Type 1} → statement M
-scale-spec = tie.close (tie.spec add-multiple-requires returns)
+scale-spec = tie.close (tie.spec add-multiple-requires (λ c. stands-eq _ (multiple-alone _ _ _) (c .add-multiple .ensures)))

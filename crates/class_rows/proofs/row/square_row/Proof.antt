@@ -4,10 +4,8 @@ use mathlib.Core.Path.{refl, sym, _∙_}
 use native.Mathlib.Omega.{arith}
 use lib.ListN.{replicate}
 use Rattle.row_theory.specs.Field.{𝔸, poly}
-use Rattle.row_theory.proofs.Rows.Fill.{Filled, zeros-range, coeff-zeros, filled-start, filled-turn}
+use Rattle.row_theory.proofs.Rows.{Fill.Filled, Fill.zeros-range, Fill.coeff-zeros, Fill.filled-start, Fill.filled-turn, Squares.squared-past, Length.places-len}
 use Rattle.row_theory.proofs.{Rows.Fill.filled-skip, Rows.Fill.filled-to, Rows.Fill.filled-end, Rows.Squares.squared-at, Rows.Squares.squared-odd}
-use Rattle.row_theory.proofs.Rows.Squares.{squared-past}
-use Rattle.row_theory.proofs.Rows.Length.{places-len}
 use Rattle.class_rows.proofs.row.square_row.Statement.{statement}
 use Rattle.class_rows.proofs.row.square_row.Tie as tie
 

@@ -9,15 +9,6 @@ sum-of-reduced-requires c κs = let p = c .before .before .pre in (p .0, p .1, p
 subtract-and-halve-of-reduced-requires : tie.Need-subtract-and-halve-of-reduced-requires
 subtract-and-halve-of-reduced-requires c κs = let p = c .before .before .pre in (p .0, p .1, p .3)
 
-returns : tie.Need-returns
-returns c C on = rw (c .before .enum-told .given .1) (c .sum-of-reduced .ensures C on)
-
-returns-2 : tie.Need-returns-2
-returns-2 c C on = rw (c .before .enum-told2 .given .1) (c .double-and-add-of-reduced .ensures C on)
-
-returns-3 : tie.Need-returns-3
-returns-3 c C on = rw (c .before .enum-told3 .given .1) (c .subtract-and-halve-of-reduced .ensures C on)
-
 pub binary-of-reduced-spec : {M : Type 1} → statement M
 binary-of-reduced-spec =
     tie.close
@@ -28,6 +19,6 @@ binary-of-reduced-spec =
     (λ c κs. search needs)
     (λ c. search needs)
     subtract-and-halve-of-reduced-requires
-    returns
-    returns-2
-    returns-3)
+    (λ c C on. rw (c .before .enum-told .given .1) (c .sum-of-reduced .ensures C on))
+    (λ c C on. rw (c .before .enum-told2 .given .1) (c .double-and-add-of-reduced .ensures C on))
+    (λ c C on. rw (c .before .enum-told3 .given .1) (c .subtract-and-halve-of-reduced .ensures C on)))

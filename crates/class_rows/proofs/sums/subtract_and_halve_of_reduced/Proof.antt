@@ -1,12 +1,8 @@
 -- `subtract_and_halve_of_reduced` meets its contract.
 use Rattle.class_rows.specs.Core.{ReducedRows}
-use Rattle.class_rows.proofs.DoubleRows.{reduced-semi}
-use Rattle.class_rows.proofs.MoveRows.{opposed-reduced, summed-reduced, subtract-and-halve-stands}
+use Rattle.class_rows.proofs.{DoubleRows.reduced-semi, MoveRows.opposed-reduced, MoveRows.summed-reduced, MoveRows.subtract-and-halve-stands}
 use Rattle.class_rows.proofs.sums.subtract_and_halve_of_reduced.Statement.{statement}
 use Rattle.class_rows.proofs.sums.subtract_and_halve_of_reduced.Tie as tie
-
-opposite-of-reduced-requires : tie.Need-opposite-of-reduced-requires
-opposite-of-reduced-requires c κs = (c .pre .0, c .pre .2 .u-range, c .pre .2 .v-range)
 
 sum-of-reduced-requires : tie.Need-sum-of-reduced-requires
 sum-of-reduced-requires c κs =
@@ -41,7 +37,7 @@ pub subtract-and-halve-of-reduced-spec : {M : Type 1} → statement M
 subtract-and-halve-of-reduced-spec =
     tie.close
     (tie.spec
-    opposite-of-reduced-requires
+    (λ c κs. (c .pre .0, c .pre .2 .u-range, c .pre .2 .v-range))
     sum-of-reduced-requires
     cofactor-requires
     half-of-reduced-requires

@@ -7,9 +7,6 @@ use Rattle.class_rows.proofs.ReductionRows.{pair-eq, reduced-on, semi-r
 use Rattle.class_rows.proofs.sums.sum_of_reduced.Statement.{statement}
 use Rattle.class_rows.proofs.sums.sum_of_reduced.Tie as tie
 
-compose-rows-requires : tie.Need-compose-rows-requires
-compose-rows-requires c κs = c .pre
-
 reduce-rows-requires : tie.Need-reduce-rows-requires
 reduce-rows-requires c κs =
     let s = c .before in
@@ -27,4 +24,4 @@ returns c =
     subst (λ D. StandsCounted d (c .reduce-rows .result) (reduce C D)) (pair-eq d (c .before .compose-rows .ensures C on)) (c .reduce-rows .ensures C on)
 
 pub sum-of-reduced-spec : {M : Type 1} → statement M
-sum-of-reduced-spec = tie.close (tie.spec compose-rows-requires reduce-rows-requires returns)
+sum-of-reduced-spec = tie.close (tie.spec (λ c κs. c .pre) reduce-rows-requires returns)

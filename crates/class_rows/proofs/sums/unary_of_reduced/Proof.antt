@@ -10,9 +10,6 @@ opposite-of-reduced-requires c κs = let p = c .before .before .pre in (p .0, p 
 returns : tie.Need-returns
 returns c C on = rw (c .before .enum-told .given .1) (record { pair-stands = c .opposite-of-reduced .ensures C; steps-is = refl })
 
-returns-2 : tie.Need-returns-2
-returns-2 c C on = rw (c .before .enum-told2 .given .1) (c .double-of-reduced .ensures C on)
-
 returns-3 : tie.Need-returns-3
 returns-3 c C on = rw (c .before .enum-told3 .given .1) (record { pair-stands = c .half-of-reduced .ensures C on; steps-is = refl })
 
@@ -27,5 +24,5 @@ unary-of-reduced-spec =
     (λ c. search needs)
     (λ c κs. search needs)
     returns
-    returns-2
+    (λ c C on. rw (c .before .enum-told2 .given .1) (c .double-of-reduced .ensures C on))
     returns-3)

@@ -1,14 +1,12 @@
 -- What polynomial a list of coefficients stands for, in the words of the record `polynomials F`: the lists need not be trimmed.
 use Prim.Native.Nat.{ℕ}
-use mathlib.Core.Path.{_≡_, refl}
-use mathlib.Core.List.{List, [], _∷_}
+use mathlib.Core.{Path._≡_, Path.refl, List.List, List.[], List._∷_}
 use lib.ListN.{getD}
 use Rattle.field_laws.specs.Field.{Field2}
-use Rattle.char2_algebra.specs.Polynomials.{Polynomials}
-use Rattle.char2_algebra.specs.Polynomial.{of-list}
+use Rattle.char2_algebra.specs.{Polynomials.Polynomials, Polynomial.of-list}
 use Rattle.char2_algebra.proofs.PolynomialRing.{coeff-of-list}
-use Rattle.char2_algebra.proofs.Polynomial.{polynomials}
 use Rattle.char2_algebra.proofs.ListDivision
+use Rattle.polynomial_lists.specs.Polynomials.{polynomials}
 
 module _ {K : Type 0} (F : Field2 K) where
   open Field2 F using (ring as K-ring)

@@ -1,0 +1,2 @@
+-- Lists of coefficients as polynomials.
+pub mod Polynomials

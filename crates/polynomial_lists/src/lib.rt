@@ -1,0 +1,1 @@
+// No code: the trimmed lists of coefficients as the polynomials over a field.

@@ -1,0 +1,14 @@
+-- What the private functions on numbers promise, and powers of x.
+use Prim.Native.Nat.{ℕ, zero, suc, _<_, _^_}
+use mathlib.Core.Path.{_≡_}
+use Rattle.row_theory.specs.Field.{degree-of, K, Poly, 𝔸, el}
+
+-- a number that stands for an element
+pub record Is (d : ℕ) (n : ℕ) (e : K d) : Type 0 where
+  pub in-range : n < 2 ^ degree-of d
+  pub stands : el d n ≡ e
+
+-- x to the power n
+unfoldable pub x-power : (d : ℕ) → ℕ → Poly d
+x-power d zero = 𝔸 d .ring .one
+x-power d (suc n) = 𝔸 d .ring .mul (𝔸 d .x) (x-power d n)
