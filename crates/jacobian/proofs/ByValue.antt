@@ -9,4 +9,3 @@ pub mod Pairs
 pub mod Passing
 pub mod Answers
 pub mod Refusals
-pub mod Halved

@@ -4,4 +4,5 @@ pub mod Representation
 pub mod Computing
 pub mod Examples
 pub mod Calls
+pub mod Moves
 pub mod Refusals

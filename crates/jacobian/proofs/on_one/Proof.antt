@@ -7,9 +7,7 @@ use Rattle.jacobian.proofs.on_one.Statement.{statement}
 use Rattle.jacobian.proofs.on_one.Tie as tie
 
 returns : tie.Need-returns
-returns c =
-    let e = form-first _ _ (c .before .before .curve-and-form-refusal .ensures) (c .before .if1 .taken) in
-    record { answer = at-refusal _ _ e (c .refused .ensures _ _); three = λ z. absurd (c .before .if1 .taken (e ∙ z)) }
+returns c = at-refusal _ _ (form-first _ _ (c .before .before .curve-and-form-refusal .ensures) (c .before .if1 .taken)) (c .refused .ensures _ _)
 
 to-rows-requires : tie.Need-to-rows-requires
 to-rows-requires c κs =
@@ -26,12 +24,8 @@ returns-2 c =
     let f = after .before .before .f-row .ensures in
     let rows = after .before .to-rows .ensures in
     let gives = after .unary-rows .ensures in
-    record {
-      answer =
-          at-refusal d _ (one-due (s .args .curve) (s .args .a) (z .1) (z .0) f rows (gives .decides))
-          (c .settled .ensures d _ (λ held. rw (rows-pair-is d rows) at (gives .stands held (curve (s .args .curve)) (on-curve _ (curve-passes _ (z .0)) f))));
-      three = λ _. rows .three;
-    }
+    at-refusal d _ (one-due (s .args .curve) (s .args .a) (z .1) (z .0) f rows (gives .decides))
+    (c .settled .ensures d _ (λ held. rw (rows-pair-is d rows) at (gives .stands held (curve (s .args .curve)) (on-curve _ (curve-passes _ (z .0)) f))))
 
 pub on-one-spec : {M : Type 1} → statement M
 on-one-spec = tie.close (tie.spec (λ c κs. search needs) (λ c κs. search needs) returns (λ c κs. search needs) to-rows-requires (λ c κs. search needs) (λ c κs. search needs) returns-2)
