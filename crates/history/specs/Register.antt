@@ -3,7 +3,7 @@ use Prim.Native.Nat.{ℕ, zero, suc, _+_, _-_}
 use mathlib.Core.{Path._≡_, Bool.cond}
 use lib.Dec.{eqb, leb}
 use Rattle.class_group.specs.Moves.{double-and-add, subtract-and-halve}
-use Rattle.jacobian.specs.{Checks.unless, Checks._or-else_, Curves.curve-refusal, Curves.curve, Classes.pair, Classes.class-of, Classes.class-refusal}
+use Rattle.jacobian.specs.{Checks.unless, Checks._or-else_, Refusals.IsRefusal, Curves.curve-refusal, Curves.curve, Classes.pair, Classes.class-of, Classes.class-refusal}
 use Rattle.jacobian.specs.Answer.{Verdict, accepted, refused, verdict, neutral-class, Result}
 use Rattle.jacobian.specs.declared.{Curve.Curve, Class.Class}
 use Rattle.stored_form.specs.Fields.{count-limit}
@@ -85,3 +85,8 @@ commit-answer = step-answer Commit
 
 abbrev pub undo-answer : Register → Class → RegisterReply
 undo-answer = step-answer Undo
+
+-- told apart: an acceptance with the register that follows, or a refusal with one of the numbers and the register given
+pub data StepTold (given : Register) : RegisterReply → Type 0 where
+  acceptance : (next : Register) → StepTold given (record { outcome = accepted; register = next })
+  refusal : (n : ℕ) → IsRefusal n → StepTold given (record { outcome = refused n; register = given })

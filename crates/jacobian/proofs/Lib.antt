@@ -6,3 +6,4 @@ pub mod Examples
 pub mod Calls
 pub mod Moves
 pub mod Refusals
+pub mod Told
