@@ -3,7 +3,6 @@ pub mod Threes
 pub mod Degrees
 pub mod Checks
 pub mod Below
-pub mod Curves
 pub mod Filled
 pub mod Pairs
 pub mod Passing

@@ -1,5 +1,5 @@
 // Reduced divisor classes on y² + y = f(x) over GF(2^5) and GF(2^61), by value.
-// A call makes its checks in the stored order: 106 and 107 for the curve, then 104, 110 and 111 for each class.
+// A refusal is the first that is due in the stored order: 106 and 107 for the curve, then 104, 110 and 111 for each class.
 // On a refusal the class of the answer is the neutral one, and no step was made.
 ghost use Prim.Native.Nat.{ℕ};
 ghost use mathlib.Core.Path.{_≡_};
