@@ -3,40 +3,21 @@ use Prim.Native.Nat.{ℕ, _+_, _*_, _≤_, _<_}
 use mathlib.Core.Path.{_≡_, refl, ap}
 use mathlib.Core.List.{List, [], _∷_, _++_}
 use native.Mathlib.Omega.{arith}
-use lib.ListN.{length, take, length-append, length-take, length-reverse}
+use lib.ListN.{length, length-append}
 use Rattle.class_group.specs.Walk.{All, none, more}
-use Rattle.jacobian.specs.{Classes.Three, Curves.coefficients, declared.Curve.Curve, declared.Class.Class}
-use Rattle.stored_form.specs.{Number.bytes-of, Number.Bytes, Reading.found, Head.class-room, Head.count-length, Head.first-fields-length, Head.head-bytes, Head.stored, Elements.element-length, Elements.element-bytes, Fields.degree-field, Fields.count-limit}
-use Rattle.stored_form.specs.{Fields.drawing-field, Fields.count-field, Classes.curve-field, Classes.curve-first-fields, Classes.row-written, Classes.class-field}
-use Rattle.stored_form.proofs.{Bodies.length-stored, ElementBytes.length-element-bytes}
+use Rattle.jacobian.specs.{Answer.Accepts, Curves.coefficients, declared.Curve.Curve, declared.Class.Class}
+use Rattle.stored_form.specs.{Number.bytes-of, Number.Bytes, Reading.found, Head.class-room, Head.count-length, Head.first-fields-length, Head.head-bytes, Head.stored, Elements.element-bytes, Fields.degree-field, Fields.count-limit}
+use Rattle.stored_form.specs.{Fields.drawing-field, Fields.count-field, Classes.curve-field, Classes.curve-first-fields, Classes.class-field}
+use Rattle.stored_form.proofs.{Bodies.length-stored, ClassRoundTrips.class-short}
 use Rattle.archive.specs.Archive.{Archive, read-archive}
-use Rattle.archive.specs.Written.{operation-fields, archive-bytes, Allowed, Storable}
+use Rattle.archive.specs.Written.{operation-fields, archive-bytes, Storable}
 use Rattle.archive.proofs.ArchiveRoundTrips.{archive-written}
 
-row-short : (n : ℕ) (r : List ℕ) → length r ≡ 3 → length (element-bytes (row-written n r)) ≤ 3 * element-length
-unfolding row-written
-row-short n r h =
-    let e : length (row-written n r) ≡ length (take n r) = length-reverse (take n r) in
-    omega (arith, length-element-bytes (row-written n r), length-take n r)
-
-class-short : (tag : ℕ) (a : Class) → Three a → length (class-field tag a) ≤ class-room
-unfolding class-field
-class-short tag a h =
-    let us : List ℕ = element-bytes (row-written (a .degree) (a .u)) in
-    let vs : List ℕ = element-bytes (row-written (a .degree) (a .v)) in
-    omega (
-      arith,
-      length-stored tag (us ++ vs),
-      length-append us vs,
-      row-short (a .degree) (a .u) (h .u-three),
-      row-short (a .degree) (a .v) (h .v-three),
-    )
-
-operations-short : {c : Curve} (ops : List Class) → All (Allowed c) ops → length (operation-fields ops) ≤ class-room * length ops
+operations-short : {c : Curve} (ops : List Class) → All (Accepts c) ops → length (operation-fields ops) ≤ class-room * length ops
 unfolding operation-fields
 operations-short [] none = omega arith
-operations-short (a ∷ older) (more h hs) =
-    omega (arith, length-append (class-field 0x44 a) (operation-fields older), class-short 0x44 a (h .three), operations-short older hs)
+operations-short {c} (a ∷ older) (more h hs) =
+    omega (arith, length-append (class-field 0x44 a) (operation-fields older), class-short 0x44 c a (h .none), operations-short older hs)
 
 first-length : (c : Curve) → length (curve-first-fields c) ≡ first-fields-length
 unfolding curve-first-fields degree-field curve-field coefficients stored head-bytes element-bytes bytes-of
@@ -63,7 +44,7 @@ stored-short a ok =
       first-length (a .curve),
       length-stored 0x46 (a .drawing),
       count-field-length (length (a .operations)),
-      class-short 0x43 (a .seal) (ok .seal-allowed .three),
+      class-short 0x43 (a .curve) (a .seal) (ok .seal-allowed .none),
       operations-short (a .operations) (ok .operations-allowed),
     )
 

@@ -6,39 +6,34 @@ use mathlib.Core.List.{List, [], _∷_}
 use native.Mathlib.Omega.{arith}
 use lib.ListN.{length, drop, length-take}
 use Rattle.class_group.specs.Walk.{All, none, more}
-use Rattle.jacobian.specs.{Answer.refusal, declared.Curve.Curve, declared.Class.Class}
+use Rattle.jacobian.specs.{Answer.Accepts, declared.Curve.Curve, declared.Class.Class}
 use Rattle.stored_form.specs.{Number.Bytes, Number.part, Reading.found, Fields.drawing-field}
-use Rattle.stored_form.specs.{Fields.count-limit, Fields.count-field, Classes.curve-first-fields, Classes.class-at, Classes.class-field}
+use Rattle.stored_form.specs.{Fields.count-limit, Fields.count-field, Classes.curve-first-fields, Classes.class-field}
 use Rattle.stored_form.proofs.{Readings.then-found, Readings.both-found, Readings.same-found, Lengths.class-lengths, Lengths.operation-lengths}
 use Rattle.stored_form.proofs.RoundTrips.{Field, behind, apart, up-to, whole, is-whole, end-written, end-read-back, count-written, count-read-back, drawing-written, drawing-read-back}
 use Rattle.stored_form.proofs.CurveRoundTrips.{curve-first-written, curve-first-read-back}
-use Rattle.stored_form.proofs.ClassRoundTrips.{class-three, class-written, class-read-back}
+use Rattle.stored_form.proofs.ClassRoundTrips.{class-written, class-read-back}
 use Rattle.archive.specs.Archive.{Archive, operations-at, read-archive}
-use Rattle.archive.specs.Written.{operation-fields, archive-bytes, Allowed, Storable}
+use Rattle.archive.specs.Written.{operation-fields, archive-bytes, Storable}
 use Rattle.archive.proofs.Operations.{newest}
 use Rattle.archive.proofs.ArchiveFields.{fields-found, found-fields}
-
--- ---- one class
-
-class-allowed : (tag : ℕ) (c : Curve) (s : List ℕ) (at : ℕ) {a : Class} {next : ℕ} → class-at tag c s at ≡ found a next → refusal c a ≡ 0 → Allowed c a
-class-allowed tag c s at h ok = record { three = class-three tag c s at h; passes = ok }
 
 -- ---- the operations
 
 module _ (c : Curve) (s : List ℕ) where
-  pub operations-read-back : (at : ℕ) (ops : List Class) {end : ℕ} → All (Allowed c) ops → Field s at (operation-fields ops) end →
+  pub operations-read-back : (at : ℕ) (ops : List Class) {end : ℕ} → All (Accepts c) ops → Field s at (operation-fields ops) end →
       operations-at (length ops) c s at ≡ found ops end
   unfolding operations-at operation-fields
   operations-read-back at [] none h = ap (found []) (let e = h .ends in omega arith)
   operations-read-back at (a ∷ older) (more p ps) h =
       let f = apart (class-field 0x44 a) (operation-fields older) h in
-      then-found _ (up-to (f .1) (class-read-back 0x44 operation-lengths c s at a (p .three) (p .passes)))
+      then-found _ (up-to (f .1) (class-read-back 0x44 operation-lengths c s at a (p .none)))
       ∙ then-found _ (operations-read-back (f .0) older ps (f .2))
 
   -- operations that stand at a place
   pub record Listed (n at : ℕ) (ops : List Class) (end : ℕ) : Type 0 where
     pub counted : length ops ≡ n
-    pub each : All (Allowed c) ops
+    pub each : All (Accepts c) ops
     pub field : Field s at (operation-fields ops) end
 
   pub operations-written : (n at : ℕ) {ops : List Class} {end : ℕ} → Bytes s → operations-at n c s at ≡ found ops end → Listed n at ops end
@@ -53,7 +48,7 @@ module _ (c : Curve) (s : List ℕ) where
       subst (λ (ops : List Class). Listed (suc n) at ops end) (sym (m .all))
       (record {
         counted = ap suc (rest .counted);
-        each = more (class-allowed 0x44 c s at (m .this) (this .0)) (rest .each);
+        each = more (record { none = this .0 }) (rest .each);
         field = behind (class-field 0x44 (m .class)) (operation-fields (m .older)) (this .1) (rest .field);
       })
 
@@ -78,7 +73,7 @@ archive-read-back a ok =
       curve-found = up-to (f₂ .1) (curve-first-read-back s 0 c (ok .curve-allowed));
       drawing-found = up-to (f₂ .2) (drawing-read-back s (f₂ .0) (a .drawing) (ok .drawing-printable) (ok .drawing-short));
       count-found = up-to (f₃ .2) (count-read-back s (f₃ .0) (length (a .operations)) (ok .count-within));
-      seal-found = up-to (f₄ .2) (class-read-back 0x43 class-lengths c s (f₄ .0) (a .seal) (ok .seal-allowed .three) (ok .seal-allowed .passes));
+      seal-found = up-to (f₄ .2) (class-read-back 0x43 class-lengths c s (f₄ .0) (a .seal) (ok .seal-allowed .none));
       operations-found = operations-read-back c s (f₅ .0) (a .operations) (ok .operations-allowed) (f₅ .2);
       end-found = end-read-back s (length s) (omega arith);
     })
@@ -104,7 +99,7 @@ archive-written s {a} {end} b h =
         drawing-printable = name .0;
         drawing-short = name .1;
         count-within = subst (λ (n : ℕ). n ≤ count-limit) (sym (ops .counted)) (count .0);
-        seal-allowed = class-allowed 0x43 (a .curve) s (f .after-count) (f .seal-found) (seal .0);
+        seal-allowed = record { none = seal .0 };
         operations-allowed = ops .each;
       },
     )

@@ -7,11 +7,12 @@ use Rattle.field_laws.specs.{Ring.Ring2, Field.Field2}
 use Rattle.char2_algebra.specs.{Polynomials.Polynomials, Divides.Divides, Lead.monic-of, Euclid.Bezout3}
 use Rattle.char2_algebra.proofs.{Ring.ring2, Ring.·-𝟙, Degree.len-zero, Degree.len-one, Product.mul-nonzero, Product.cancel-left, Lead.monic-constant, Lead.monic-nonzero, Lead.len-monic-of}
 use Rattle.char2_algebra.proofs.Divides.{divides-eq, divides-refl, one-divides, divides-nought}
+use Rattle.class_group.specs.Composition.{Combines, composed-monic}
 use Rattle.class_group.specs.{Curve.Curve, Composition.composed, Group.CommutativeGroup}
 use Rattle.class_group.specs.Mumford.{Pair, Reduced, value, neutral, opposite}
 use Rattle.class_group.proofs.{PairIdeal.pair-ideal-ideal, PairIdeal.pair-ideal-one, Uniqueness.reduced-unique, SemiReduced.SemiReduced, SemiReduced.semi-of-reduced}
 use Rattle.class_group.proofs.Ideal.{Product, Equivalent, ~-sym, ~-product, product-comm, product-assoc, product-assoc⁻¹, product-whole, product-whole⁻¹, product-within}
-use Rattle.class_group.proofs.Composed.{Combines, composed-monic, composed-semi, composed-u-divides}
+use Rattle.class_group.proofs.Composed.{composed-semi, composed-u-divides}
 use Rattle.class_group.proofs.Closed.{opposite-long, opposite-short, opposite-reduced, neutral-reduced}
 use Rattle.class_group.proofs.Classes.{functions, ideal, equal-class, transitive, composed-class}
 

@@ -4,12 +4,13 @@ use Rattle.field_laws.specs.{Ring.Ring2, Field.Field2}
 use Rattle.char2_algebra.specs.{Polynomials.Polynomials, Divides.Divides, Lead.monic-of, Euclid.Bezout3}
 use Rattle.char2_algebra.proofs.{Ring.+-comm, Degree.one-nonzero, Product.cancel-left, Division.rem-divides}
 use Rattle.char2_algebra.proofs.{Divides.divides-eq, Divides.divides-trans, Lead.monic-of-divides, Lead.divides-monic-of, Lead.monic-of-nonzero}
+use Rattle.class_group.specs.Composition.{Combines, composed-monic}
 use Rattle.class_group.specs.{Curve.Curve, Mumford.Pair, Mumford.value, Composition.composed, Reduction.reduction-step, Reduction.reduce}
 use Rattle.class_group.proofs.{Coordinate.coordinate, Norm.coordinate-domain, Norm.coordinate-one, Reduction.~-step, Composition.~-composed}
 use Rattle.class_group.proofs.PairIdeal.{pair-ideal, pair-ideal-modulo, pair-ideal-divisor}
 use Rattle.class_group.proofs.Ideal.{Within, Product, Equivalent, ~-of-equal, ~-trans}
 use Rattle.class_group.proofs.SemiReduced.{SemiReduced, cofactor-eq, cofactor-nonzero, reduce-keeps}
-use Rattle.class_group.proofs.Composed.{Combines, composed-monic, full-v, composition, composed-v}
+use Rattle.class_group.proofs.Composed.{full-v, composition, composed-v}
 
 module _ {K P : Type 0} {F : Field2 K} {A : Polynomials F P} (C : Curve A) where
   open Polynomials A using (ring as R, len, quot, rem)

@@ -11,7 +11,7 @@ use Rattle.char2_algebra.proofs.{Degree.one-nonzero, Product.len-mul, Product.m
 use Rattle.char2_algebra.proofs.Ring.{ring2, ·-comm, ·-𝟘, ·-𝟙}
 use Rattle.char2_algebra.proofs.Division.{quot-exact, quot-mul, rem-divides, divides-len}
 use Rattle.char2_algebra.proofs.Lead.{monic-nonzero, monic-mul, monic-cofactor, monic-of-monic, monic-of-divides, divides-monic-of, monic-antisym, monic-one, len-monic-of}
-use Rattle.class_group.specs.{Curve.Curve, Mumford.Pair, Mumford.Reduced, Mumford.value, Composition.composed, Composition.compose, Composition.compose-double, Reduction.reduce}
+use Rattle.class_group.specs.{Curve.Curve, Mumford.Pair, Mumford.Reduced, Mumford.value, Composition.Combines, Composition.composed, Composition.composed-monic, Composition.compose, Composition.compose-double, Reduction.reduce}
 use Rattle.class_group.proofs.Composition.{Composed, numerator-divides, composed-divides, composed-nonzero as parts-nonzero, Identities.double-bezout}
 use Rattle.class_group.proofs.SemiReduced.{SemiReduced, semi-of-reduced, value-congruent, Ended, reduce-ended}
 
@@ -22,14 +22,7 @@ module _ {K P : Type 0} {F : Field2 K} {A : Polynomials F P} (C : Curve A) where
 
   infixl 60 _+_
   infixl 70 _·_
-  -- e is a combination of u1, u2 and v1 + v2 + 1 and divides them; it need not be monic
-  pub record Combines (D E : Pair P) (b : Bezout3 P) : Type 0 where
-    pub combination : b .e ≡ b .s1 · D .u + b .s2 · E .u + b .s3 · (D .v + E .v + 𝟙)
-    pub divides-first : Divides R (b .e) (D .u)
-    pub divides-second : Divides R (b .e) (E .u)
-    pub divides-third : Divides R (b .e) (D .v + E .v + 𝟙)
-
-  pub bezout3-combines : (D E : Pair P) → Combines D E (bezout3 A (D .u) (E .u) (D .v + E .v + 𝟙))
+  pub bezout3-combines : (D E : Pair P) → Combines C D E (bezout3 A (D .u) (E .u) (D .v + E .v + 𝟙))
   bezout3-combines D E =
       let i = bezout3-is A (D .u) (E .u) (D .v + E .v + 𝟙) in
       record {
@@ -43,11 +36,7 @@ module _ {K P : Type 0} {F : Field2 K} {A : Polynomials F P} (C : Curve A) where
   unfoldable pub full-v : Bezout3 P → Pair P → Pair P → P
   full-v b D E = quot (b .s1 · D .u · E .v + b .s2 · E .u · D .v + b .s3 · (D .v · E .v + f)) (b .e)
 
-  -- the composed pair with u made monic; where e is monic, u is so already
-  unfoldable pub composed-monic : Bezout3 P → Pair P → Pair P → Pair P
-  composed-monic b D E = record { u = monic-of A (composed C b D E .u); v = composed C b D E .v }
-
-  module _ {D E : Pair P} {b : Bezout3 P} (r : SemiReduced C D) (s : SemiReduced C E) (B : Combines D E b) where
+  module _ {D E : Pair P} {b : Bezout3 P} (r : SemiReduced C D) (s : SemiReduced C E) (B : Combines C D E b) where
     open Pair D using (u as u₁, v as v₁)
     open Pair E using (u as u₂, v as v₂)
     open Bezout3 b using (e, s1, s2, s3)
@@ -126,7 +115,7 @@ module _ {K P : Type 0} {F : Field2 K} {A : Polynomials F P} (C : Curve A) where
     unfolding composed
     composed-v-len = A .rem-len _ _ composed-nonzero
 
-    pub composed-semi : SemiReduced C (composed-monic b D E)
+    pub composed-semi : SemiReduced C (composed-monic C b D E)
     unfolding composed-monic value
     composed-semi =
         let l : len (composed C b D E .v) < len (composed C b D E .u) = composed-v-len in
@@ -138,7 +127,7 @@ module _ {K P : Type 0} {F : Field2 K} {A : Polynomials F P} (C : Curve A) where
         }
 
     -- where e is monic, so is u
-    pub composed-monic-is : Monic A e → composed-monic b D E ≡ composed C b D E
+    pub composed-monic-is : Monic A e → composed-monic C b D E ≡ composed C b D E
     unfolding composed-monic
     composed-monic-is m =
         let U = composed C b D E .u in
@@ -153,7 +142,7 @@ module _ {K P : Type 0} {F : Field2 K} {A : Polynomials F P} (C : Curve A) where
         }
 
   -- of two reduced classes, however e was found: u of degree at most 6
-  pub composed-monic-len : {D E : Pair P} {b : Bezout3 P} → Reduced C D → Reduced C E → Combines D E b → len (composed-monic b D E .u) ≤ 7
+  pub composed-monic-len : {D E : Pair P} {b : Bezout3 P} → Reduced C D → Reduced C E → Combines C D E b → len (composed-monic C b D E .u) ≤ 7
   unfolding composed-monic
   composed-monic-len {D} {E} {b} r s B =
       let l : suc (len (composed C b D E .u)) ≤ len (D .u) +ℕ len (E .u) = composed-len (semi-of-reduced C r) (semi-of-reduced C s) B in
@@ -162,12 +151,12 @@ module _ {K P : Type 0} {F : Field2 K} {A : Polynomials F P} (C : Curve A) where
       let k : len (E .u) ≤ 4 = s .u-len in
       omega arith
 
-  pub composed-reduces : {D E : Pair P} {b : Bezout3 P} → Reduced C D → Reduced C E → Combines D E b → Ended C 2 (reduce C (composed-monic b D E))
+  pub composed-reduces : {D E : Pair P} {b : Bezout3 P} → Reduced C D → Reduced C E → Combines C D E b → Ended C 2 (reduce C (composed-monic C b D E))
   composed-reduces r s B = reduce-ended C (composed-semi (semi-of-reduced C r) (semi-of-reduced C s) B) (composed-monic-len r s B)
 
   -- Cantor's composition by Euclid's rule
   pub compose-is : {D E : Pair P} → Reduced C D → Reduced C E
-      → compose C D E ≡ composed-monic (bezout3 A (D .u) (E .u) (D .v + E .v + 𝟙)) D E
+      → compose C D E ≡ composed-monic C (bezout3 A (D .u) (E .u) (D .v + E .v + 𝟙)) D E
   unfolding compose
   compose-is {D} {E} r s =
       sym
@@ -178,7 +167,7 @@ module _ {K P : Type 0} {F : Field2 K} {A : Polynomials F P} (C : Curve A) where
   unfoldable pub unit-bezout : Bezout3 P
   unit-bezout = record { e = 𝟙; s1 = 𝟘; s2 = 𝟘; s3 = 𝟙 }
 
-  pub unit-combines : (D : Pair P) → Combines D D unit-bezout
+  pub unit-combines : (D : Pair P) → Combines C D D unit-bezout
   unfolding unit-bezout
   unit-combines D = record {
     combination = double-bezout R (D .u) (D .v);
@@ -200,7 +189,7 @@ module _ {K P : Type 0} {F : Field2 K} {A : Polynomials F P} (C : Curve A) where
       only : (u v g : P) → 𝟘 · u · v + 𝟘 · u · v + 𝟙 · (v · v + g) ≡ v · v + g
       only u v g = simp (ring2, R)
 
-  pub compose-double-is : {D : Pair P} → Reduced C D → compose-double C D ≡ composed-monic unit-bezout D D
+  pub compose-double-is : {D : Pair P} → Reduced C D → compose-double C D ≡ composed-monic C unit-bezout D D
   unfolding unit-bezout
   compose-double-is {D} r =
       compose-double-composed D ∙ sym (composed-monic-is (semi-of-reduced C r) (semi-of-reduced C r) (unit-combines D) (monic-one A))

@@ -7,13 +7,14 @@ use native.Mathlib.{Omega.arith, Decide.decLe}
 use Rattle.field_laws.specs.{Ring.Ring2, Field.Field2}
 use Rattle.char2_algebra.specs.{Polynomials.Polynomials, Euclid.Bezout3, Euclid.bezout3}
 use Rattle.char2_algebra.proofs.{Ring.ring2, Ring.by, Ring.combine, Degree.one-nonzero}
+use Rattle.class_group.specs.Composition.{Combines, composed-monic}
 use Rattle.class_group.specs.{Curve.Curve, Reduction.reduce, Group.CommutativeGroup, Group.Doubling}
 use Rattle.class_group.specs.Mumford.{Pair, Reduced, neutral, opposite}
 use Rattle.class_group.specs.Operations.{counted-sum, counted-double, sum, double}
 use Rattle.class_group.proofs.{Ideal.Product, Ideal.Equivalent, Ideal.~-sym, Uniqueness.reduced-unique, SemiReduced.semi-of-reduced}
 use Rattle.class_group.proofs.{Closed.opposite-long, Closed.sum-reduced, Adds.Adds, Adds.adds-group, Adds.short-is-neutral}
 use Rattle.class_group.proofs.GroupLaws.{opposite-unique, doubling-injective}
-use Rattle.class_group.proofs.Composed.{Combines, composed-monic, composed-semi, composed-reduces, compose-is, compose-double-is, bezout3-combines, unit-combines}
+use Rattle.class_group.proofs.Composed.{composed-semi, composed-reduces, compose-is, compose-double-is, bezout3-combines, unit-combines}
 use Rattle.class_group.proofs.Classes.{functions, ideal, transitive, composed-class, reduce-class}
 
 module _ {K P : Type 0} {F : Field2 K} {A : Polynomials F P} (C : Curve A) where

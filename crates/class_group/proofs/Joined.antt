@@ -10,10 +10,10 @@ use Rattle.char2_algebra.proofs.{Ring.ring2, Ring.·-𝟙, Ring.by, Ring.combin
 use Rattle.char2_algebra.proofs.{Divides.divides-eq, Division.quot-exact, Division.quot-mul, Division.rem-divides, Division.rem-congruent, Lead.monic-nonzero, Lead.monic-constant}
 use Rattle.char2_algebra.specs.Euclid.{IsBezout, IsBezout3}
 use Rattle.char2_algebra.proofs.Euclid.{bezout3-is, bezout3-unique, bezout3-nonzero, bezout-twice, bezout-coprime}
-use Rattle.class_group.specs.{Curve.Curve, Mumford.Pair, Mumford.Reduced, Mumford.value, Composition.composed, Composition.compose, Composition.joined}
+use Rattle.class_group.specs.{Curve.Curve, Mumford.Pair, Mumford.Reduced, Mumford.value, Composition.Combines, Composition.composed, Composition.compose, Composition.joined}
 use Rattle.class_group.proofs.{Coordinate.coordinate, Coordinate.constant-mul, PairIdeal.pair-ideal-y₁, SemiReduced.SemiReduced, SemiReduced.semi-of-reduced}
 use Rattle.class_group.proofs.Composition.{Composed, composed-within, composed-within⁻¹, divisor-nonzero, Identities.congruent-eq}
-use Rattle.class_group.proofs.Composed.{Combines, full-v, e-nonzero, composition, composition-e, composed-nonzero}
+use Rattle.class_group.proofs.Composed.{full-v, e-nonzero, composition, composition-e, composed-nonzero}
 
 -- identities over plain variables
 module _ {P : Type 0} (R : Ring2 P) where

@@ -21,6 +21,6 @@ module _ {L : Type 0} (R : Ring2 L) where
 
 module _ {K P : Type 0} {F : Field2 K} {A : Polynomials F P} (C : Curve A) where
   -- demand 3 ('on every accepted curve'): no curve has to be refused for its shape
-  pub non-singular : {L : Type 0} (E : Over (F .ring) L) (x y : L) → ¬ Singular C E x y
+  pub non-singular : {L : Type 0} (E : Over K L) (x y : L) → ¬ Singular C E x y
   unfolding equation-over
   non-singular E x y s = E .one≢nought (sym (derivative-by-y-is-one (E .ring) _ x y) ∙ s .by-y)

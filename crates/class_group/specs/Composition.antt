@@ -1,8 +1,7 @@
 -- Cantor's composition, in Koblitz's form for even characteristic (document 01, 'Curves and classes', Sum and Double).
-use Rattle.field_laws.specs.Ring.{Ring2}
-use Rattle.field_laws.specs.Field.{Field2}
-use Rattle.char2_algebra.specs.Polynomials.{Polynomials}
-use Rattle.char2_algebra.specs.Euclid.{Bezout3, bezout3}
+use mathlib.Core.Path.{_≡_}
+use Rattle.field_laws.specs.{Ring.Ring2, Field.Field2}
+use Rattle.char2_algebra.specs.{Polynomials.Polynomials, Divides.Divides, Lead.monic-of, Euclid.Bezout3, Euclid.bezout3}
 use Rattle.class_group.specs.Curve.{Curve}
 use Rattle.class_group.specs.Mumford.{Pair}
 
@@ -20,6 +19,17 @@ module _ {K P : Type 0} {F : Field2 K} {A : Polynomials F P} (C : Curve A) where
       let u = quot (D .u · E .u) (b .e · b .e) in
       let n = b .s1 · D .u · E .v + b .s2 · E .u · D .v + b .s3 · (D .v · E .v + f) in
       record { u = u; v = rem (quot n (b .e)) u }
+
+  -- e is a combination of u1, u2 and v1 + v2 + 1 and divides them; it need not be monic
+  pub record Combines (D E : Pair P) (b : Bezout3 P) : Type 0 where
+    pub combination : b .e ≡ b .s1 · D .u + b .s2 · E .u + b .s3 · (D .v + E .v + 𝟙)
+    pub divides-first : Divides ring (b .e) (D .u)
+    pub divides-second : Divides ring (b .e) (E .u)
+    pub divides-third : Divides ring (b .e) (D .v + E .v + 𝟙)
+
+  -- the composed pair with u made monic; where e is monic, u is so already
+  unfoldable pub composed-monic : Bezout3 P → Pair P → Pair P → Pair P
+  composed-monic b D E = record { u = monic-of A (composed b D E .u); v = composed b D E .v }
 
   -- e is the greatest common divisor of u1, u2 and v1 + v2 + 1
   unfoldable pub compose : Pair P → Pair P → Pair P

@@ -10,14 +10,11 @@ use Rattle.field_laws.specs.Field.{Field2}
 use Rattle.char2_algebra.specs.Polynomials.{Polynomials}
 use Rattle.class_group.specs.{Curve.Curve, Multiples.multiple}
 
--- a ring of characteristic 2 with 1 ≠ 0, and the homomorphism by which it lies over the ring R
-pub record Over {K : Type 0} (R : Ring2 K) (L : Type 0) : Type 0 where
+-- a ring of characteristic 2 with 1 ≠ 0, and the map that takes the coefficients to it: an inclusion of fields, or any other
+pub record Over (K L : Type 0) : Type 0 where
   pub ring : Ring2 L
   pub one≢nought : ¬ (ring .one ≡ ring .nought)
   pub embed : K → L
-  pub embed-one : embed (R .one) ≡ ring .one
-  pub embed-add : (a b : K) → embed (R .add a b) ≡ ring .add (embed a) (embed b)
-  pub embed-mul : (a b : K) → embed (R .mul a b) ≡ ring .mul (embed a) (embed b)
 
 -- the first n values of a function
 unfoldable pub values : {X : Type 0} → ℕ → (ℕ → X) → List X
@@ -64,11 +61,11 @@ module _ {K P : Type 0} {F : Field2 K} {A : Polynomials F P} (C : Curve A) where
   open Curve C using (f)
 
   -- the curve's equation, its coefficients taken to L
-  unfoldable pub equation-over : {L : Type 0} → Over (F .ring) L → List (List L)
+  unfoldable pub equation-over : {L : Type 0} → Over K L → List (List L)
   equation-over E = equation (E .ring) (map (E .embed) (values (len f) (coeff f)))
 
   -- a singular point lies on the curve, and both partial derivatives vanish there
-  pub record Singular {L : Type 0} (E : Over (F .ring) L) (x y : L) : Type 0 where
+  pub record Singular {L : Type 0} (E : Over K L) (x y : L) : Type 0 where
     pub on-curve : evaluate-at (E .ring) (equation-over E) x y ≡ E .ring .nought
     pub by-x : evaluate-at (E .ring) (derivative-by-x (E .ring) (equation-over E)) x y ≡ E .ring .nought
     pub by-y : evaluate-at (E .ring) (derivative-by-y (E .ring) (equation-over E)) x y ≡ E .ring .nought

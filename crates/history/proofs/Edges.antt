@@ -3,38 +3,28 @@
 use Prim.Native.Nat.{suc, _≤_, _<_}
 use mathlib.Core.Path.{_≡_, _∙_, ap}
 use native.Mathlib.Omega.{arith}
-use borrow.Author.Tests.{lt-leb, le-leb, eq-eqb}
-use Rattle.jacobian.specs.{Checks.unless, Checks._or-else_, Curves.curve-refusal, Classes.class-refusal, Answer.accepted, Answer.refused}
+use Rattle.jacobian.specs.{Checks._or-else_, Answer.accepted, Answer.refused, Answer.refusal-of-two}
 use Rattle.jacobian.specs.declared.Class.{Class}
-use Rattle.history.specs.Register.{limit, register-refusal, edge, edge-refusal, step-refusal, moved, stepped, RegisterReply, follows, step-answer, commit-answer, undo-answer}
+use Rattle.jacobian.proofs.{Representation.accepts-curve, Calls.two-accept}
+use Rattle.history.specs.Register.{limit, edge, edge-refusal, moved, stepped, RegisterReply, follows, step-answer, commit-answer, undo-answer}
 use Rattle.history.specs.declared.{Register.Register, Step.Step, Step.the-variants.Commit, Step.the-variants.Undo}
-use Rattle.history.proofs.Registers.{passes-step, follows-zero}
+use Rattle.history.proofs.{Registers.follows-zero, Numbers.step-above, Numbers.step-at, Numbers.step-off}
 
--- all but the count passes
-pub record PassesButCount (r : Register) (a : Class) : Type 0 where
-  pub curve-passes : curve-refusal (r .curve) ≡ 0
-  pub seal-passes : class-refusal (r .curve) (r .seal) ≡ 0
-  pub class-passes : class-refusal (r .curve) a ≡ 0
-
-module _ (r : Register) (a : Class) (p : PassesButCount r a) where
+module _ (r : Register) (a : Class) (none : refusal-of-two (r .curve) (r .seal) a ≡ 0) where
   -- ---- either step
   off-edge : (k : Step) → r .count ≤ limit → ¬ (r .count ≡ edge k) → step-answer k r a ≡ record { outcome = accepted; register = stepped k r a }
   unfolding step-answer
-  off-edge k l h =
-      follows-zero _ r (stepped k r a)
-      (passes-step k r a (record {
-        register = record { curve-passes = p .curve-passes; count-passes = l; seal-passes = p .seal-passes };
-        class-passes = p .class-passes;
-        off-edge = h;
-      }))
+  off-edge k l h = follows-zero _ r (stepped k r a) (step-off k r a l h ∙ none)
 
   at-edge : (k : Step) → r .count ≤ limit → r .count ≡ edge k → step-answer k r a ≡ follows (edge-refusal k) r (stepped k r a)
-  unfolding step-answer step-refusal register-refusal unless _or-else_
-  at-edge k l e = rw (p .curve-passes, p .seal-passes, p .class-passes, le-leb (r .count) limit l, eq-eqb (r .count) (edge k) e)
+  unfolding step-answer _or-else_
+  at-edge k l e = ap (λ n. follows n r (stepped k r a)) (step-at k r a l e ∙ ap (λ n. n or-else edge-refusal k) none)
 
   above : (k : Step) → limit < r .count → step-answer k r a ≡ record { outcome = refused 109; register = r }
-  unfolding step-answer step-refusal register-refusal unless _or-else_ follows
-  above k h = rw (p .curve-passes, lt-leb (r .count) limit h)
+  unfolding step-answer refusal-of-two _or-else_ follows
+  above k h =
+      ap (λ n. follows n r (stepped k r a))
+      (step-above k r a h ∙ ap (λ n. n or-else 109) (accepts-curve (two-accept (r .curve) (r .seal) a none .0)))
 
   -- ---- a commit
   pub commit-below-limit : r .count < limit → commit-answer r a ≡ record { outcome = accepted; register = stepped Commit r a }

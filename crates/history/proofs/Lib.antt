@@ -13,3 +13,4 @@ pub mod WalkingBack
 pub mod Edges
 pub mod Numbers
 pub mod Answers
+pub mod Told

@@ -3,11 +3,12 @@
 use Prim.Native.Nat.{ℕ, _≤_}
 use mathlib.Core.Path.{_≡_, refl, _∙_, ap, ap₂}
 use native.Mathlib.Omega.{arith}
-use Rattle.jacobian.specs.{Classes.Three, Answer.accepted}
+use Rattle.jacobian.specs.Answer.{accepted, Accepts}
 use Rattle.jacobian.specs.declared.Class.{Class}
-use Rattle.history.specs.Register.{limit, Sound, moved, edge, stepped, other, RegisterReply, step-answer}
+use Rattle.jacobian.proofs.Representation.{accepts-class, accepts-both}
+use Rattle.history.specs.Register.{limit, moved, edge, stepped, other, RegisterReply, step-answer}
 use Rattle.history.specs.declared.{Register.Register, Step.Step, Step.the-variants.Commit, Step.the-variants.Undo}
-use Rattle.history.proofs.Seals.{commit-three, undo-three, commit-sound, undo-sound, undo-of-commit, commit-of-undo}
+use Rattle.history.proofs.Seals.{commit-sound, undo-sound, undo-of-commit, commit-of-undo}
 use Rattle.history.proofs.Registers.{Passes, Passing, step-passes, passes-step, follows-accepted, follows-zero}
 
 -- the answer of an accepted call
@@ -20,35 +21,30 @@ unfolding stepped moved
 stepped-curve Commit r a = refl
 stepped-curve Undo r a = refl
 
-pub stepped-fits : (k : Step) (r : Register) (a : Class) → Three (stepped k r a .seal)
-unfolding stepped moved
-stepped-fits Commit r a = commit-three (r .curve) (r .seal) a
-stepped-fits Undo r a = undo-three (r .curve) (r .seal) a
-
-moved-passes : (n : ℕ) (s : Class) (r : Register) → Passes r → n ≤ limit → Sound (r .curve) s → Passes (moved n s r)
+moved-passes : (n : ℕ) (s : Class) (r : Register) → Passes r → n ≤ limit → Accepts (r .curve) s → Passes (moved n s r)
 unfolding moved
-moved-passes n s r p h k = record { curve-passes = p .curve-passes; count-passes = h; seal-passes = k .unrefused }
+moved-passes n s r p h k = record { curve-passes = p .curve-passes; count-passes = h; seal-passes = accepts-class k }
 
 moved-to-itself : (n : ℕ) (s : Class) (r : Register) → n ≡ r .count → s ≡ r .seal → moved n s r ≡ r
 unfolding moved
 moved-to-itself n s r e f = ap₂ (λ m t. moved m t r) e f
 
 -- ---- a step that passes, and the other one after it
-module _ (r : Register) (a : Class) (fr : Three (r .seal)) (fa : Three a) where
-  seal-sound : {k : Step} → Passing k r a → Sound (r .curve) (r .seal)
-  seal-sound p = record { three = fr; unrefused = p .register .seal-passes }
+module _ (r : Register) (a : Class) where
+  seal-sound : {k : Step} → Passing k r a → Accepts (r .curve) (r .seal)
+  seal-sound p = accepts-both (r .curve) (r .seal) (p .register .curve-passes) (p .register .seal-passes)
 
-  class-sound : {k : Step} → Passing k r a → Sound (r .curve) a
-  class-sound p = record { three = fa; unrefused = p .class-passes }
+  class-sound : {k : Step} → Passing k r a → Accepts (r .curve) a
+  class-sound p = accepts-both (r .curve) a (p .register .curve-passes) (p .class-passes)
 
   pub stepped-passes : (k : Step) → Passing k r a → Passes (stepped k r a)
   unfolding stepped edge
   stepped-passes Commit p =
       let l = p .register .count-passes in
-      moved-passes _ _ r (p .register) (omega (arith, p .off-edge)) (commit-sound (p .register .curve-passes) (seal-sound p) (class-sound p))
+      moved-passes _ _ r (p .register) (omega (arith, p .off-edge)) (commit-sound (seal-sound p) (class-sound p))
   stepped-passes Undo p =
       let l = p .register .count-passes in
-      moved-passes _ _ r (p .register) (omega arith) (undo-sound (p .register .curve-passes) (seal-sound p) (class-sound p))
+      moved-passes _ _ r (p .register) (omega arith) (undo-sound (seal-sound p) (class-sound p))
 
   class-still : (k : Step) → Passing k r a → ¬ (stepped k r a .count ≡ edge (other k)) → Passing (other k) (stepped k r a) a
   class-still k p h = record { register = stepped-passes k p; class-passes = rw (stepped-curve k r a) (p .class-passes); off-edge = h }
@@ -60,8 +56,8 @@ module _ (r : Register) (a : Class) (fr : Three (r .seal)) (fa : Three a) where
 
   stepped-back : (k : Step) → Passing k r a → stepped (other k) (stepped k r a) a ≡ r
   unfolding stepped moved edge other
-  stepped-back Commit p = moved-to-itself _ _ r (omega arith) (undo-of-commit (p .register .curve-passes) (seal-sound p) (class-sound p))
-  stepped-back Undo p = moved-to-itself _ _ r (omega (arith, p .off-edge)) (commit-of-undo (p .register .curve-passes) (seal-sound p) (class-sound p))
+  stepped-back Commit p = moved-to-itself _ _ r (omega arith) (undo-of-commit (seal-sound p) (class-sound p))
+  stepped-back Undo p = moved-to-itself _ _ r (omega (arith, p .off-edge)) (commit-of-undo (seal-sound p) (class-sound p))
 
   -- demand 3: the other step with the same class takes an accepted step back and is not refused
   pub step-taken-back : (k : Step) → step-answer k r a .outcome ≡ accepted → step-answer (other k) (step-answer k r a .register) a ≡ taken r

@@ -1,43 +1,49 @@
 -- What holds of registers and classes along a list of calls (document 01, 'The register').
--- `last-passes`: a register that passes its own checks goes on passing them. `accepted-class-reduced`: the class of an accepted call is a reduced class.
+-- `last-passes`: a register that passes its own checks goes on passing them. `accepted-class`, `accepted-class-reduced`: an accepted call has
+-- an accepted class, a reduced one. `accepted-step`: an accepted step leaves a register that passes its checks, and the other step gives back the one given.
 -- `accepted-classes`: no check refuses a class of the accepted calls of a list.
 use mathlib.Core.Path.{_≡_, refl, _∙_, subst}
 use mathlib.Core.List.{List}
 use Rattle.class_group.specs.Walk.{All}
 use Rattle.class_group.specs.Mumford.{Reduced}
-use Rattle.jacobian.specs.{Curves.curve, Classes.pair, Classes.Three, Classes.class-refusal, Answer.Verdict, Answer.accepted, Answer.refused}
-use Rattle.jacobian.proofs.Representation.{accepted-reduced}
-use Rattle.history.specs.Register.{register-refusal}
+use Rattle.jacobian.specs.{Curves.curve, Classes.pair, Classes.class-refusal, Answer.Verdict, Answer.accepted, Answer.refused, Answer.Accepts, declared.Class.Class}
+use Rattle.jacobian.proofs.Representation.{accepts-both, accepted-reduced}
+use Rattle.history.specs.Register.{register-refusal, other, step-answer}
 use Rattle.history.specs.Machine as definition
-use Rattle.history.specs.Calls.{Call, Fits, answer, registers, last, newest}
-use Rattle.history.specs.declared.Register.{Register}
-use Rattle.history.proofs.All.{every, all-reverse}
+use Rattle.history.specs.Calls.{Call, answer, registers, last, newest}
+use Rattle.history.specs.declared.{Register.Register, Step.Step}
+use Rattle.class_group.proofs.All.{all-reverse}
 use Rattle.history.proofs.Machine.Run.{run-all, last-holds, all-accepted}
 use Rattle.history.proofs.Registers.{Passes, register-passes, passes-register}
+use Rattle.history.proofs.OneStep.{step-taken-back}
 use Rattle.history.proofs.OneCall as call
 
-answer-passes : (r : Register) (c : Call) → Three (r .seal) → Three (c .class) → Passes r → Passes (answer r c .register)
-answer-passes r c fr fc p = go (answer r c .outcome) refl
+answer-passes : (r : Register) (c : Call) → Passes r → Passes (answer r c .register)
+answer-passes r c p = go (answer r c .outcome) refl
   where
     go : (v : Verdict) → answer r c .outcome ≡ v → Passes (answer r c .register)
-    go accepted e = call.accepted-passes r c e fr fc
+    go accepted e = call.accepted-passes r c e
     go (refused n) e = rw (call.refused-stays r c n e) p
 
 -- a register that passes its own checks goes on passing them
-pub last-passes : (r : Register) (cs : List Call) → Fits r cs → register-refusal r ≡ 0 → register-refusal (last r cs) ≡ 0
-last-passes r cs fits e =
-    passes-register (last r cs)
-    (last-holds registers {Holds = λ t. Three (t .seal) × Passes t} (λ t c h f. (call.answer-fits t c (h .0), answer-passes t c (h .0) f (h .1)))
-    (fits .seal-fits, register-passes r e) (fits .classes-fit) .1)
+pub last-passes : (r : Register) (cs : List Call) → register-refusal r ≡ 0 → register-refusal (last r cs) ≡ 0
+last-passes r cs e = passes-register (last r cs) (last-holds registers Passes answer-passes cs (register-passes r e))
 
--- the class of an accepted call is accepted, and is a reduced class
-pub accepted-class : (r : Register) (c : Call) → answer r c .outcome ≡ accepted → Passes r × (class-refusal (r .curve) (c .class) ≡ 0)
-accepted-class = call.accepted-class
+-- an accepted call has a register that passes its checks, and an accepted class
+pub accepted-class : (r : Register) (c : Call) → answer r c .outcome ≡ accepted → (register-refusal r ≡ 0) × Accepts (r .curve) (c .class)
+accepted-class r c e =
+    let p = call.accepted-class r c e in
+    (passes-register r (p .0), accepts-both (r .curve) (c .class) (p .0 .curve-passes) (p .1))
 
-pub accepted-class-reduced : (r : Register) (c : Call) → Three (c .class) → answer r c .outcome ≡ accepted → Reduced (curve (r .curve)) (pair (r .curve .degree) (c .class))
-accepted-class-reduced r c fc e =
-    let p = accepted-class r c e in
-    accepted-reduced (r .curve) (p .0 .curve-passes) (c .class) fc (p .1)
+-- it leaves a register that passes its checks, and the other step with the same class gives back the register given
+pub accepted-step : (k : Step) (r : Register) (a : Class) → step-answer k r a .outcome ≡ accepted
+    → (register-refusal (step-answer k r a .register) ≡ 0) × (step-answer (other k) (step-answer k r a .register) a ≡ record { outcome = accepted; register = r })
+unfolding answer
+accepted-step k r a e =
+    (passes-register _ (call.accepted-passes r (record { step = k; class = a }) e), step-taken-back r a k e)
+
+pub accepted-class-reduced : (r : Register) (c : Call) → answer r c .outcome ≡ accepted → Reduced (curve (r .curve)) (pair (r .curve .degree) (c .class))
+accepted-class-reduced r c e = accepted-reduced (r .curve) (c .class) (accepted-class r c e .1)
 
 -- no check refuses a class of an accepted call
 pub accepted-classes : (r : Register) (cs : List Call) → All (λ e. class-refusal (r .curve) (e .call .class) ≡ 0) (newest r cs)
@@ -45,5 +51,5 @@ unfolding definition.newest definition.event
 accepted-classes r cs =
     all-reverse
     (all-accepted
-    (run-all registers {Holds = λ t. t .curve ≡ r .curve} {Fits = λ c. Unit {0}} (λ t c h _. call.answer-curve t c ∙ h)
-    (λ t c h _ e. subst (λ d. class-refusal d (c .class) ≡ 0) h (accepted-class t c e .1)) refl (every (λ c. tt) cs)))
+    (run-all registers (λ t. t .curve ≡ r .curve) (λ t c h. call.answer-curve t c ∙ h)
+    (λ t c h e. subst (λ d. class-refusal d (c .class) ≡ 0) h (call.accepted-class t c e .1)) cs refl))

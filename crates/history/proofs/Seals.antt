@@ -1,52 +1,37 @@
--- The two rules on seals by value: on an accepted curve, from an accepted seal and an accepted class, each gives an accepted class (`commit-sound`,
--- `undo-sound`), and they take each other back (`undo-of-commit`, `commit-of-undo`).
-use mathlib.Core.Path.{_≡_, _∙_, ap}
-use Rattle.class_group.specs.Mumford.{Reduced}
-use Rattle.class_group.specs.Moves.{double-and-add, subtract-and-halve}
-use Rattle.class_group.proofs.Moves.{double-and-add-reduced, subtract-and-halve-reduced, subtract-double-and-add, double-subtract-and-halve}
-use Rattle.jacobian.specs.{Curves.curve-refusal, Curves.curve, Classes.pair, Classes.class-of, Classes.Three}
+-- The two rules on seals by value: from an accepted seal and an accepted class each gives an accepted class (`commit-sound`, `undo-sound`), and they
+-- take each other back (`undo-of-commit`, `commit-of-undo`). The rules are those of jacobian's calls.
+use mathlib.Core.Path.{_≡_, sym, _∙_, ap, subst}
+use Rattle.jacobian.specs.Answer.{Accepts, Result, double-and-add-answer, subtract-and-halve-answer}
 use Rattle.jacobian.specs.declared.{Curve.Curve, Class.Class}
-use Rattle.jacobian.proofs.Representation.{accepted-reduced, class-of-accepted, class-of-pair}
-use Rattle.jacobian.proofs.Representation.Form.{pair-class-of, class-of-three}
-use Rattle.history.specs.Register.{commit-seal, undo-seal, Sound}
+use Rattle.jacobian.proofs.Moves as moves
+use Rattle.history.specs.Register.{commit-seal, undo-seal}
 
--- both are values of the code's type
-module _ (c : Curve) (s a : Class) where
-  pub commit-three : Three (commit-seal c s a)
+module _ {c : Curve} {s a : Class} (hs : Accepts c s) (ha : Accepts c a) where
+  commit-is : double-and-add-answer c s a .class ≡ commit-seal c s a
   unfolding commit-seal
-  commit-three = class-of-three (c .degree) _
+  commit-is = ap (λ (r : Result). r .class) (moves.double-and-add-gives hs ha)
 
-  pub undo-three : Three (undo-seal c s a)
+  undo-is : subtract-and-halve-answer c s a .class ≡ undo-seal c s a
   unfolding undo-seal
-  undo-three = class-of-three (c .degree) _
+  undo-is = ap (λ (r : Result). r .class) (moves.subtract-and-halve-gives hs ha)
 
-module _ {c : Curve} (ok : curve-refusal c ≡ 0) {s a : Class} (hs : Sound c s) (ha : Sound c a) where
-  seal : Reduced (curve c) (pair (c .degree) s)
-  seal = accepted-reduced c ok s (hs .three) (hs .unrefused)
+  pub commit-sound : Accepts c (commit-seal c s a)
+  commit-sound = subst (Accepts c) commit-is (moves.double-and-add-accepts hs ha)
 
-  operation : Reduced (curve c) (pair (c .degree) a)
-  operation = accepted-reduced c ok a (ha .three) (ha .unrefused)
+  pub undo-sound : Accepts c (undo-seal c s a)
+  undo-sound = subst (Accepts c) undo-is (moves.subtract-and-halve-accepts hs ha)
 
-  pub commit-sound : Sound c (commit-seal c s a)
-  unfolding commit-seal
-  commit-sound = record { three = commit-three c s a; unrefused = class-of-accepted c ok _ (double-and-add-reduced (curve c) seal operation) }
-
-  pub undo-sound : Sound c (undo-seal c s a)
-  unfolding undo-seal
-  undo-sound = record { three = undo-three c s a; unrefused = class-of-accepted c ok _ (subtract-and-halve-reduced (curve c) seal operation) }
-
+module _ {c : Curve} {s a : Class} (hs : Accepts c s) (ha : Accepts c a) where
   -- demand 3: half of (2 S + C) - C is S
   pub undo-of-commit : undo-seal c (commit-seal c s a) a ≡ s
-  unfolding commit-seal undo-seal
   undo-of-commit =
-      ap (λ D. class-of (c .degree) (subtract-and-halve (curve c) D (pair (c .degree) a))) (pair-class-of (c .degree) (curve c) _ (double-and-add-reduced (curve c) seal operation))
-      ∙ ap (class-of (c .degree)) (subtract-double-and-add (curve c) seal operation)
-      ∙ class-of-pair c ok s (hs .three) (hs .unrefused)
+      sym (undo-is (commit-sound hs ha) ha)
+      ∙ ap (λ x. subtract-and-halve-answer c x a .class) (sym (commit-is hs ha))
+      ∙ ap (λ (r : Result). r .class) (moves.subtract-of-double-and-add hs ha)
 
   -- demand 3: twice the half of S - C, plus C, is S
   pub commit-of-undo : commit-seal c (undo-seal c s a) a ≡ s
-  unfolding commit-seal undo-seal
   commit-of-undo =
-      ap (λ D. class-of (c .degree) (double-and-add (curve c) D (pair (c .degree) a))) (pair-class-of (c .degree) (curve c) _ (subtract-and-halve-reduced (curve c) seal operation))
-      ∙ ap (class-of (c .degree)) (double-subtract-and-halve (curve c) seal operation)
-      ∙ class-of-pair c ok s (hs .three) (hs .unrefused)
+      sym (commit-is (undo-sound hs ha) ha)
+      ∙ ap (λ x. double-and-add-answer c x a .class) (sym (undo-is hs ha))
+      ∙ ap (λ (r : Result). r .class) (moves.double-of-subtract-and-halve hs ha)

@@ -5,64 +5,50 @@
 use mathlib.Core.Path.{_≡_, refl, _∙_, subst}
 use mathlib.Core.List.{List, map}
 use Rattle.class_group.specs.Walk.{All}
-use Rattle.jacobian.specs.{Classes.Three, Answer.accepted}
-use Rattle.history.specs.Machine.{accepted-of, event}
-use Rattle.history.specs.Calls.{Call, Fits, back, registers, run, last, newest, backs, taken-back, turned}
+use Rattle.jacobian.specs.Answer.{accepted}
+use Rattle.history.specs.Machine.{event}
+use Rattle.history.specs.Calls.{Call, back, registers, run, last, newest, backs, taken-back, turned}
 use Rattle.history.specs.Machine as definition
 use Rattle.history.specs.declared.Register.{Register}
-use Rattle.history.proofs.All.{every, all-reverse}
 use Rattle.history.proofs.Machine.Run.{run-all, last-holds}
-use Rattle.history.proofs.Machine.Run as machine-run
 use Rattle.history.proofs.Machine.TakingBack as machine
-use Rattle.history.proofs.OneCall.{answer-curve, answer-fits, reversible}
+use Rattle.history.proofs.OneCall.{answer-curve, reversible}
 
 -- degree and curve never change, whatever the values
 pub curve-kept : (r : Register) (cs : List Call) → All (λ e. e .left .curve ≡ r .curve) (run r cs)
 unfolding event
 curve-kept r cs =
-    run-all registers {Holds = λ t. t .curve ≡ r .curve} {Fits = λ c. Unit {0}} (λ t c h _. answer-curve t c ∙ h)
-    (λ t c h _. answer-curve t c ∙ h) refl (every (λ c. tt) cs)
+    run-all registers (λ t. t .curve ≡ r .curve) (λ t c h. answer-curve t c ∙ h) (λ t c h. answer-curve t c ∙ h) cs refl
 
 pub last-curve : (r : Register) (cs : List Call) → last r cs .curve ≡ r .curve
-last-curve r cs = last-holds registers {Holds = λ t. t .curve ≡ r .curve} {Fits = λ c. Unit {0}} (λ t c h _. answer-curve t c ∙ h) refl (every (λ c. tt) cs)
+last-curve r cs = last-holds registers (λ t. t .curve ≡ r .curve) (λ t c h. answer-curve t c ∙ h) cs refl
 
 pub taken-back-curve : (r : Register) (cs : List Call) → All (λ e. e .left .curve ≡ r .curve) (taken-back r cs)
 unfolding definition.taken-back
 taken-back-curve r cs =
     subst (λ d. All (λ e. e .left .curve ≡ d) (taken-back r cs)) (last-curve r cs) (curve-kept (last r cs) (backs (newest r cs)))
 
-module _ (r : Register) (cs : List Call) (fits : Fits r cs) where
-  -- rows of three along the list
-  pub last-fits : Three (last r cs .seal)
-  last-fits = last-holds registers {Holds = λ t. Three (t .seal)} {Fits = λ c. Unit {0}} (λ t c h _. answer-fits t c h) (fits .seal-fits) (every (λ c. tt) cs)
-
-  run-fit : All (λ e. Three (e .call .class)) (accepted-of (run r cs))
-  run-fit = machine-run.accepted-fit registers r (fits .classes-fit)
-
-  pub accepted-fit : All (λ e. Three (e .call .class)) (newest r cs)
-  unfolding definition.newest
-  accepted-fit = all-reverse run-fit
-
+module _ (r : Register) (cs : List Call) where
   -- the calls that take the accepted ones back are these, turned back
   pub taken-back-turned : taken-back r cs ≡ map turned (newest r cs)
-  taken-back-turned = machine.taken-back-turned registers back reversible cs (fits .seal-fits) run-fit
+  taken-back-turned = machine.taken-back-turned registers back reversible r cs
 
   -- none is refused
   pub taken-back-accepted : All (λ e. e .outcome ≡ accepted) (taken-back r cs)
-  taken-back-accepted = machine.taken-back-accepted registers back reversible cs (fits .seal-fits) run-fit
+  taken-back-accepted = machine.taken-back-accepted registers back reversible r cs
 
   -- what they hand back are, one by one, the registers just before the accepted calls, newest first
   pub taken-back-registers : map (λ e. e .left) (taken-back r cs) ≡ map (λ e. e .before) (newest r cs)
-  taken-back-registers = machine.taken-back-states registers back reversible cs (fits .seal-fits) run-fit (λ t. t)
+  taken-back-registers = machine.taken-back-states registers back reversible r cs (λ t. t)
 
   -- so their seals
   pub taken-back-seals : map (λ e. e .left .seal) (taken-back r cs) ≡ map (λ e. e .before .seal) (newest r cs)
-  taken-back-seals = machine.taken-back-states registers back reversible cs (fits .seal-fits) run-fit (λ t. t .seal)
+  taken-back-seals = machine.taken-back-states registers back reversible r cs (λ t. t .seal)
 
   -- and their counts
   pub taken-back-counts : map (λ e. e .left .count) (taken-back r cs) ≡ map (λ e. e .before .count) (newest r cs)
-  taken-back-counts = machine.taken-back-states registers back reversible cs (fits .seal-fits) run-fit (λ t. t .count)
+  taken-back-counts = machine.taken-back-states registers back reversible r cs (λ t. t .count)
 
   -- with all of them taken back the register is the first one
   pub taken-back-all : last (last r cs) (backs (newest r cs)) ≡ r
-  taken-back-all = machine.taken-back-all registers back reversible cs (fits .seal-fits) run-fit
+  taken-back-all = machine.taken-back-all registers back reversible r cs

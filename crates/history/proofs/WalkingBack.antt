@@ -10,7 +10,7 @@ use Rattle.class_group.specs.Walk.{All, none, more, walk}
 use Rattle.jacobian.specs.Answer.{accepted, Result}
 use Rattle.history.specs.Register.{limit, undo-seal, other}
 use Rattle.history.specs.Machine as definition
-use Rattle.history.specs.Calls.{Call, undo, back, Fits, Event, run, last, newest, backs, taken-back, turned, classes, OnlyCommits, seals-back, walk-back, steps-back, met}
+use Rattle.history.specs.Calls.{Call, undo, back, Event, run, last, newest, backs, taken-back, turned, classes, OnlyCommits, seals-back, walk-back, steps-back, met}
 use Rattle.history.specs.declared.Register.{Register}
 use Rattle.history.proofs.All.{all-map}
 use Rattle.history.proofs.Steps.{undos-steps, undos-few, steps-walk, walk-at, steps-take}
@@ -22,14 +22,14 @@ unfolding definition.backs classes back other
 backs-of-commits [] none = refl
 backs-of-commits (e ∷ es) (more h hs) = ap₂ (λ k l. record { step = other k; class = e .call .class } ∷ l) h (backs-of-commits es hs)
 
-module _ (r : Register) (cs : List Call) (fits : Fits r cs) (only : OnlyCommits (newest r cs)) where
+module _ (r : Register) (cs : List Call) (only : OnlyCommits (newest r cs)) where
   -- the taking back is a run of accepted undos
   undos-are : taken-back r cs ≡ run (last r cs) (map undo (classes (newest r cs)))
   unfolding definition.taken-back
   undos-are = ap (run (last r cs)) (backs-of-commits (newest r cs) only)
 
   undos-accepted : All (λ e. e .outcome ≡ accepted) (run (last r cs) (map undo (classes (newest r cs))))
-  undos-accepted = rw undos-are at (taken-back-accepted r cs fits)
+  undos-accepted = rw undos-are at (taken-back-accepted r cs)
 
   -- the steps of the walk are all accepted, and answer the seals just before the commits
   pub walk-steps : steps-back (r .curve) (last r cs .seal) (classes (newest r cs)) ≡ map met (newest r cs)
@@ -37,7 +37,7 @@ module _ (r : Register) (cs : List Call) (fits : Fits r cs) (only : OnlyCommits 
   walk-steps =
       ap (λ c. steps-back c (last r cs .seal) (classes (newest r cs))) (sym (last-curve r cs))
       ∙ undos-steps (last r cs) (classes (newest r cs)) undos-accepted
-      ∙ ap (map (λ e. record { outcome = accepted; class = e .left .seal })) (sym undos-are ∙ taken-back-turned r cs fits)
+      ∙ ap (map (λ e. record { outcome = accepted; class = e .left .seal })) (sym undos-are ∙ taken-back-turned r cs)
       ∙ map-map (λ e. record { outcome = accepted; class = e .left .seal }) turned (newest r cs)
 
   -- all seals of the walk, the last seal first

@@ -2,7 +2,7 @@
 use mathlib.Core.Path.{_≡_}
 use mathlib.Core.List.{List, [], _∷_, map}
 use Rattle.class_group.specs.Walk.{All, after}
-use Rattle.jacobian.specs.{Classes.Three, Answer.accepted, Answer.Result, Answer.result, Answer.subtract-and-halve-answer}
+use Rattle.jacobian.specs.{Answer.accepted, Answer.Result, Answer.result, Answer.subtract-and-halve-answer}
 use Rattle.jacobian.specs.declared.{Curve.Curve, Class.Class}
 use Rattle.history.specs.Register.{RegisterReply, step-answer, other, undo-seal}
 use Rattle.history.specs.Machine as machine
@@ -26,11 +26,6 @@ back c = record { step = other (c .step); class = c .class }
 
 unfoldable pub answer : Register → Call → RegisterReply
 answer r c = step-answer (c .step) r (c .class)
-
--- the rows of the seal and of each class have three numbers: every value of the code's types is so
-pub record Fits (r : Register) (cs : List Call) : Type 0 where
-  pub seal-fits : Three (r .seal)
-  pub classes-fit : All (λ c. Three (c .class)) cs
 
 -- ---- the register as a machine
 abbrev pub registers : Machine Register Call

@@ -3,7 +3,7 @@ use Prim.Native.Nat.{ℕ, zero, suc, _+_, _-_}
 use mathlib.Core.{Path._≡_, Bool.cond}
 use lib.Dec.{eqb, leb}
 use Rattle.class_group.specs.Moves.{double-and-add, subtract-and-halve}
-use Rattle.jacobian.specs.{Checks.unless, Checks._or-else_, Curves.curve-refusal, Curves.curve, Classes.pair, Classes.class-of, Classes.class-refusal, Classes.Three}
+use Rattle.jacobian.specs.{Checks.unless, Checks._or-else_, Refusals.IsRefusal, Curves.curve-refusal, Curves.curve, Classes.pair, Classes.class-of, Classes.class-refusal}
 use Rattle.jacobian.specs.Answer.{Verdict, accepted, refused, verdict, neutral-class, Result}
 use Rattle.jacobian.specs.declared.{Curve.Curve, Class.Class}
 use Rattle.stored_form.specs.Fields.{count-limit}
@@ -21,11 +21,6 @@ commit-seal c seal a = let d = c .degree in class-of d (double-and-add (curve c)
 -- the seal after an undo: the class is subtracted from the seal first, and the half of that difference is the new seal
 unfoldable pub undo-seal : Curve → Class → Class → Class
 undo-seal c seal a = let d = c .degree in class-of d (subtract-and-halve (curve c) (pair d seal) (pair d a))
-
--- a class in rows of three numbers, as is every value of the code's type, that no check refuses on a curve
-pub record Sound (c : Curve) (a : Class) : Type 0 where
-  pub three : Three a
-  pub unrefused : class-refusal c a ≡ 0
 
 -- the seal where no refusal is due, and else the refusal with the neutral class
 unfoldable pub sealed : ℕ → Class → Result
@@ -90,3 +85,8 @@ commit-answer = step-answer Commit
 
 abbrev pub undo-answer : Register → Class → RegisterReply
 undo-answer = step-answer Undo
+
+-- told apart: an acceptance with the register that follows, or a refusal with one of the numbers and the register given
+pub data StepTold (given : Register) : RegisterReply → Type 0 where
+  acceptance : (next : Register) → StepTold given (record { outcome = accepted; register = next })
+  refusal : (n : ℕ) → IsRefusal n → StepTold given (record { outcome = refused n; register = given })

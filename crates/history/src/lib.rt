@@ -1,5 +1,5 @@
 // The history register by value: a commit and an undo hand back the register that follows, or the refusal that is due with the register as it was given.
-// Checks are made in the stored order: 106 and 107 for the curve, 109 for the count, then 104, 110 and 111 for the seal and for the class, then 113 or 114.
+// A refusal is the first that is due in the stored order: 106 and 107 for the curve, 109 for the count, then 104, 110 and 111 for the seal and for the class, then 113 or 114.
 // One step of a walk, which has no register, is jacobian::subtract_and_halve.
 ghost use Prim.Native.Nat.{ℕ};
 ghost use mathlib.Core.Path.{_≡_};

@@ -3,10 +3,8 @@ pub mod Threes
 pub mod Degrees
 pub mod Checks
 pub mod Below
-pub mod Curves
 pub mod Filled
 pub mod Pairs
 pub mod Passing
 pub mod Answers
 pub mod Refusals
-pub mod Halved

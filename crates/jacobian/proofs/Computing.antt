@@ -16,7 +16,7 @@ use Rattle.row_theory.specs.Field.{degree-of, accepted, F, 𝔸, el, poly}
 use Rattle.jacobian.specs.Curves.{coefficients, curve-with, f-row, degree-refusal, coefficient-refusal, curve-refusal, curve}
 use Rattle.jacobian.specs.Checks.{unless, _or-else_, blank}
 use Rattle.binary_field.specs.Answer.{below}
-use Rattle.jacobian.specs.Classes.{u-row, pair, numbers, class-of, shape-refusal, range-refusal, class-refusal}
+use Rattle.jacobian.specs.Classes.{u-row, pair, numbers, class-of, padded, shape-refusal, range-refusal, class-refusal}
 use Rattle.jacobian.specs.Answer.{refusal, refusal-of-two, verdict-of, neutral-class, answered, membership-answer, opposite-answer, double-answer, half-answer, sum-answer}
 
 unfoldable pub elements : Unit {0}
@@ -36,7 +36,7 @@ unfolding lift step halved quadratic half-of-degree-1 lifted-half-of-degree-2 ha
 halving = tt
 
 unfoldable pub by-value : Unit {0}
-unfolding monic-7 curve-of unless _or-else_ below blank coefficients curve-with f-row degree-refusal coefficient-refusal curve-refusal curve u-row pair numbers class-of shape-refusal range-refusal class-refusal
+unfolding monic-7 curve-of unless _or-else_ below blank coefficients curve-with f-row degree-refusal coefficient-refusal curve-refusal curve u-row pair numbers class-of padded shape-refusal range-refusal class-refusal
 by-value = tt
 
 unfoldable pub answers : Unit {0}

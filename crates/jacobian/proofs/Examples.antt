@@ -3,7 +3,7 @@
 use Prim.Native.Nat.{ℕ}
 use mathlib.Core.Bool.{Bool, true, _&&_}
 use mathlib.Core.List.{List, [], _∷_}
-use lib.Dec.{T}
+use lib.Dec.{T, eqb, eqb→eq}
 use mir.Facts.{and-yes}
 use Rattle.binary_field_theory.specs.Element.{Accepted}
 use Rattle.class_group.specs.Mumford.{Pair}
@@ -27,7 +27,7 @@ gives c D s r = alike-pairs (c .degree) D (pair (c .degree) r) && alike-results 
 
 abbrev test : Example → Bool
 test (twice-is c a r) = gives c (double (curve c) (pair (c .degree) a)) (result (double-answer c a)) r
-test (half-is c a r) = gives c (half (curve c) (pair (c .degree) a)) (result (half-answer c a)) r
+test (half-is c a r n) = gives c (half (curve c) (pair (c .degree) a)) (result (half-answer c a)) r && eqb (double-answer c r .steps) n
 test (sum-is c a b r) = gives c (sum (curve c) (pair (c .degree) a) (pair (c .degree) b)) (result (sum-answer c a b)) r
 test (on-and-not-on c e a) = alike-verdicts (membership-answer c a) accepted && alike-verdicts (membership-answer e a) (refused 111)
 
@@ -48,7 +48,9 @@ gives-gives c D s r t =
 
 test-holds : (e : Example) → T (test e) → Holds e
 test-holds (twice-is c a r) t = gives-gives c _ _ r t
-test-holds (half-is c a r) t = gives-gives c _ _ r t
+test-holds (half-is c a r n) t =
+    let h = and-yes (gives c (half (curve c) (pair (c .degree) a)) (result (half-answer c a)) r) (eqb (double-answer c r .steps) n) t in
+    (gives-gives c _ _ r (h .0), eqb→eq (double-answer c r .steps) n (h .1))
 test-holds (sum-is c a b r) t = gives-gives c _ _ r t
 test-holds (on-and-not-on c e a) t =
     let h = and-yes (alike-verdicts (membership-answer c a) accepted) (alike-verdicts (membership-answer e a) (refused 111)) t in

@@ -4,4 +4,6 @@ pub mod Representation
 pub mod Computing
 pub mod Examples
 pub mod Calls
+pub mod Moves
 pub mod Refusals
+pub mod Told

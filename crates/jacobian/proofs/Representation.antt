@@ -15,10 +15,10 @@ use Rattle.row_theory.proofs.Rows.Elements.{degree-is}
 use Rattle.jacobian.specs.declared.Curve.{Curve}
 use Rattle.jacobian.specs.declared.Class.{Class}
 use Rattle.jacobian.specs.Curves.{curve-refusal, curve}
-use Rattle.jacobian.specs.Classes.{Three, pair, class-of, class-refusal}
-use Rattle.jacobian.proofs.ByValue.Checks.{curve-passes, class-passes}
+use Rattle.jacobian.specs.{Classes.pair, Classes.class-of, Classes.class-refusal, Answer.refusal, Answer.Accepts}
+use Rattle.jacobian.proofs.ByValue.Checks.{then-zero, curve-passes, class-passes}
 use Rattle.jacobian.proofs.Representation.Form.{Formed, passes-formed, formed-reduced, u-monic, class-of-formed, class-of-is-formed, pair-class-of}
-use Rattle.jacobian.proofs.Representation.Unrefused.{passes-unrefused}
+use Rattle.jacobian.proofs.Representation.Unrefused.{zero-then, passes-unrefused}
 pub mod Form
 pub mod Unrefused
 
@@ -30,10 +30,10 @@ module _ (c : Curve) (ok : curve-refusal c ≡ 0) where
   range-in r h i = rw bound-is at (h i)
 
   -- what is accepted is of the right form, and what is of the right form is accepted where u divides v² + v + f
-  accepted-formed : (a : Class) → Three a → class-refusal c a ≡ 0 → Formed (c .degree) a
-  accepted-formed a three e =
+  accepted-formed : (a : Class) → class-refusal c a ≡ 0 → Formed (c .degree) a
+  accepted-formed a e =
       let p = class-passes c a e in
-      passes-formed (c .degree) (curve-passes c ok .accepted) a three (p .shape) (p .range)
+      passes-formed (c .degree) (curve-passes c ok .accepted) a (p .shape) (p .range)
 
   formed-accepted : (a : Class) → Formed (c .degree) a
       → Divides (𝔸 (c .degree) .ring) (pair (c .degree) a .u) (value (curve c) (pair (c .degree) a .v))
@@ -49,30 +49,45 @@ module _ (c : Curve) (ok : curve-refusal c ≡ 0) where
         divides = ap (P .len) (rem-of-divides P (D .u) nonzero (value (curve c) (D .v)) k) ∙ len-nought P;
       })
 
-  -- ---- the theorems
+-- ---- what is accepted: a curve and a class that no check refuses
+pub accepts-curve : {c : Curve} {a : Class} → Accepts c a → curve-refusal c ≡ 0
+unfolding refusal
+accepts-curve h = then-zero _ _ (h .none) .0
+
+pub accepts-class : {c : Curve} {a : Class} → Accepts c a → class-refusal c a ≡ 0
+unfolding refusal
+accepts-class h = then-zero _ _ (h .none) .1
+
+pub accepts-both : (c : Curve) (a : Class) → curve-refusal c ≡ 0 → class-refusal c a ≡ 0 → Accepts c a
+unfolding refusal
+accepts-both c a ok e = record { none = zero-then _ _ ok e }
+
+-- ---- the theorems
+module _ (c : Curve) where
   -- what is accepted stands for a reduced class
-  pub accepted-reduced : (a : Class) → Three a → class-refusal c a ≡ 0 → Reduced (curve c) (pair (c .degree) a)
-  accepted-reduced a three e = formed-reduced (c .degree) a (accepted-formed a three e) (curve c) (class-passes c a e .divides)
+  pub accepted-reduced : (a : Class) → Accepts c a → Reduced (curve c) (pair (c .degree) a)
+  accepted-reduced a e =
+      formed-reduced (c .degree) a (accepted-formed c (accepts-curve e) a (accepts-class e)) (curve c) (class-passes c a (accepts-class e) .divides)
 
   -- the value of a reduced class is accepted, and stands for it
-  pub class-of-accepted : (D : Pair (Poly (c .degree))) → Reduced (curve c) D → class-refusal c (class-of (c .degree) D) ≡ 0
-  class-of-accepted D h =
-      formed-accepted (class-of (c .degree) D) (class-of-is-formed (c .degree) (curve c) D h)
-      (rw (pair-class-of (c .degree) (curve c) D h) (h .divides))
+  pub class-of-accepted : curve-refusal c ≡ 0 → (D : Pair (Poly (c .degree))) → Reduced (curve c) D → Accepts c (class-of (c .degree) D)
+  class-of-accepted ok D h =
+      accepts-both c _ ok
+      (formed-accepted c ok (class-of (c .degree) D) (class-of-is-formed (c .degree) (curve c) D h)
+      (rw (pair-class-of (c .degree) (curve c) D h) (h .divides)))
 
   -- what is accepted is the value of the class that it stands for
-  pub class-of-pair : (a : Class) → Three a → class-refusal c a ≡ 0 → class-of (c .degree) (pair (c .degree) a) ≡ a
-  class-of-pair a three e = class-of-formed (c .degree) a (accepted-formed a three e)
+  pub class-of-pair : (a : Class) → Accepts c a → class-of (c .degree) (pair (c .degree) a) ≡ a
+  class-of-pair a e = class-of-formed (c .degree) a (accepted-formed c (accepts-curve e) a (accepts-class e))
 
   -- so a reduced class has one value only
-  pub pair-injective : (a b : Class) → Three a → Three b → class-refusal c a ≡ 0 → class-refusal c b ≡ 0
-      → pair (c .degree) a ≡ pair (c .degree) b → a ≡ b
-  pair-injective a b p q h k e = sym (class-of-pair a p h) ∙ ap (class-of (c .degree)) e ∙ class-of-pair b q k
+  pub pair-injective : (a b : Class) → Accepts c a → Accepts c b → pair (c .degree) a ≡ pair (c .degree) b → a ≡ b
+  pair-injective a b h k e = sym (class-of-pair a h) ∙ ap (class-of (c .degree)) e ∙ class-of-pair b k
 
-  -- the values that are accepted are those of the reduced classes
-  pub accepted-iff : (a : Class) → Three a
-      → (class-refusal c a ≡ 0) ↔ ((D : Pair (Poly (c .degree))) × Reduced (curve c) D × (a ≡ class-of (c .degree) D))
-  accepted-iff a three = (
-    λ e. (pair (c .degree) a, accepted-reduced a three e, sym (class-of-pair a three e)),
-    λ t. rw (t .2) (class-of-accepted (t .0) (t .1)),
+  -- on an accepted curve the values that are accepted are those of the reduced classes
+  pub accepted-iff : curve-refusal c ≡ 0 → (a : Class)
+      → Accepts c a ↔ ((D : Pair (Poly (c .degree))) × Reduced (curve c) D × (a ≡ class-of (c .degree) D))
+  accepted-iff ok a = (
+    λ e. (pair (c .degree) a, accepted-reduced a e, sym (class-of-pair a e)),
+    λ t. rw (t .2) (class-of-accepted ok (t .0) (t .1)),
   )

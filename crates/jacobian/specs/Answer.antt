@@ -2,7 +2,7 @@
 use Prim.Native.Nat.{ℕ, zero, suc}
 use mathlib.Core.Path.{_≡_}
 use mathlib.Core.List.{[], _∷_}
-use Rattle.class_group.specs.{Reduction.Counted, Operations.double}
+use Rattle.class_group.specs.{Reduction.Counted, Operations.double, Moves.double-and-add}
 use Rattle.row_theory.specs.Field.{Poly}
 use Rattle.class_rows.specs.{Operations.unary, Operations.binary, declared.Unary.Unary, declared.Binary.Binary}
 use Rattle.class_rows.specs.declared.Unary.the-variants.{Opposite, Double, Half}
@@ -28,6 +28,10 @@ outcome-refusal (Refused n) = n
 -- the refusal that is due to a call on one class, and to a call on two: 0 where none is
 unfoldable pub refusal : Curve → Class → ℕ
 refusal c a = curve-refusal c or-else class-refusal c a
+
+-- a class that no check refuses on a curve
+pub record Accepts (c : Curve) (a : Class) : Type 0 where
+  pub none : refusal c a ≡ 0
 
 unfoldable pub refusal-of-two : Curve → Class → Class → ℕ
 refusal-of-two c a b = refusal c a or-else class-refusal c b
@@ -59,6 +63,10 @@ pub record Result : Type 0 where
 abbrev pub result : Reply → Result
 result r = record { outcome = r .outcome; class = r .class }
 
+-- acceptance with a class
+abbrev pub gives : Class → Result
+gives a = record { outcome = accepted; class = a }
+
 -- the class and its steps where no refusal is due, and else the refusal with the neutral class and no step
 unfoldable pub answered : (d : ℕ) → ℕ → Counted (Poly d) → Reply
 answered d zero D = record { outcome = accepted; class = class-of d (D .class); steps = D .steps }
@@ -84,10 +92,16 @@ double-answer c a = unary-answer Double c a
 unfoldable pub half-answer : Curve → Class → Reply
 half-answer c a = unary-answer Half c a
 
--- half promises besides that where its answer is accepted, the double of the answer's class is the class given
+-- the one accepted class of which P holds
+pub record Only (c : Curve) (P : Class → Type 0) (a : Class) : Type 0 where
+  pub accepts : Accepts c a
+  pub holds : P a
+  pub only : (b : Class) → Accepts c b → P b → b ≡ a
+
+-- half promises besides that where it accepts, its answer is the one accepted class whose double is the class given
 pub record HalfAnswers (c : Curve) (a : Class) (r : Reply) : Type 0 where
   pub answer : r ≡ half-answer c a
-  pub doubled : refusal c a ≡ 0 → double (curve c) (pair (c .degree) (r .class)) ≡ pair (c .degree) a
+  pub is-half : refusal c a ≡ 0 → Only c (λ h. double (curve c) (pair (c .degree) h) ≡ pair (c .degree) a) (r .class)
 
 -- on two classes: the theory's sum, and the rules by which a commit and an undo move a seal: twice a class plus another, and the half of a
 -- class less another
@@ -102,3 +116,9 @@ double-and-add-answer c a b = binary-answer DoubleAndAdd c a b
 
 unfoldable pub subtract-and-halve-answer : Curve → Class → Class → Reply
 subtract-and-halve-answer c a b = binary-answer SubtractAndHalve c a b
+
+-- subtract_and_halve promises besides that where it accepts, its answer is the one accepted class that double_and_add of b takes to a
+pub record SubtractAndHalveAnswers (c : Curve) (a b : Class) (r : Reply) : Type 0 where
+  pub answer : r ≡ subtract-and-halve-answer c a b
+  pub taken-back : refusal-of-two c a b ≡ 0
+      → Only c (λ h. double-and-add (curve c) (pair (c .degree) h) (pair (c .degree) b) ≡ pair (c .degree) a) (r .class)

@@ -1,6 +1,5 @@
 -- A class by value, and the pair that it stands for (document 01, 'Curves and classes', 'The register', 'In checking order').
 use Prim.Native.Nat.{ℕ, _-_, _^_}
-use mathlib.Core.Path.{_≡_}
 use mathlib.Core.{Bool.Bool, Bool.cond, Bool._&&_, List.List, List.[], List._∷_, List._++_}
 use lib.{Dec.eqb, Dec.ltb, Dec.leb, ListN.getD, ListN.length, ListN.take, ListN.drop}
 use Rattle.class_group.specs.Mumford.{Pair, value}
@@ -36,9 +35,13 @@ same-row r s = eqb (getD r 0 0) (getD s 0 0) && (eqb (getD r 1 0) (getD s 1 0) &
 unfoldable pub same-class : Class → Class → Bool
 same-class a b = eqb (a .degree) (b .degree) && (same-row (a .u) (b .u) && same-row (a .v) (b .v))
 
--- 104 for a degree above 3 or a number other than 0 at or past the degree
+-- three numbers, 0 at place n and past it
+unfoldable pub padded : ℕ → List ℕ → Bool
+padded n r = eqb (length r) 3 && blank (drop n r)
+
+-- 104 for a degree above 3 or a row that is not three numbers, 0 at and past the degree
 unfoldable pub shape-refusal : Class → ℕ
-shape-refusal a = unless (leb (a .degree) 3 && blank (drop (a .degree) (a .u)) && blank (drop (a .degree) (a .v))) 104
+shape-refusal a = unless (leb (a .degree) 3 && padded (a .degree) (a .u) && padded (a .degree) (a .v)) 104
 
 -- 110 for a number of 2^d or more
 unfoldable pub range-refusal : ℕ → Class → ℕ
@@ -50,8 +53,3 @@ class-refusal c a =
     let d = c .degree in
     let D = pair d a in
     shape-refusal a or-else range-refusal d a or-else unless (eqb (𝔸 d .len (𝔸 d .rem (value (curve c) (D .v)) (D .u))) 0) 111
-
--- rows of three numbers, as in every value of the code's type
-pub record Three (a : Class) : Type 0 where
-  pub u-three : length (a .u) ≡ 3
-  pub v-three : length (a .v) ≡ 3

@@ -13,11 +13,11 @@ use Rattle.jacobian.specs.Curves.{curve, curve-with}
 use Rattle.jacobian.specs.Classes.{pair}
 use Rattle.jacobian.specs.Answer.{Result, result, accepted, refused, membership-answer, double-answer, half-answer, sum-answer}
 
--- A row: on a curve, twice a class, the half of a class, or the sum of two is the class that comes last;
--- a class is on the first curve and not on the second.
+-- A row: on a curve, twice a class, the half of a class, or the sum of two is the class that comes last, and the double of that half takes so many
+-- reduction steps; a class is on the first curve and not on the second.
 pub data Example : Type 0 where
   twice-is : Curve → Class → Class → Example
-  half-is : Curve → Class → Class → Example
+  half-is : Curve → Class → Class → ℕ → Example
   sum-is : Curve → Class → Class → Class → Example
   on-and-not-on : Curve → Curve → Class → Example
 
@@ -28,7 +28,7 @@ Gives c D s r = (D ≡ pair (c .degree) r) × (s ≡ record { outcome = accepted
 -- what a row says; 111 is the refusal where u does not divide v² + v + f
 abbrev pub Holds : Example → Type 0
 Holds (twice-is c a r) = Gives c (double (curve c) (pair (c .degree) a)) (result (double-answer c a)) r
-Holds (half-is c a r) = Gives c (half (curve c) (pair (c .degree) a)) (result (half-answer c a)) r
+Holds (half-is c a r n) = Gives c (half (curve c) (pair (c .degree) a)) (result (half-answer c a)) r × (double-answer c r .steps ≡ n)
 Holds (sum-is c a b r) = Gives c (sum (curve c) (pair (c .degree) a) (pair (c .degree) b)) (result (sum-answer c a b)) r
 Holds (on-and-not-on c e a) = (membership-answer c a ≡ accepted) × (membership-answer e a ≡ refused 111)
 
@@ -89,10 +89,10 @@ table d =
     twice-is (A d) [x|0] [x²|0]
     ∷ twice-is (A d) [x²|0] [x³|1]
     ∷ twice-is (A d) [x³|1] [x|0]
-    ∷ half-is (A d) [1|0] [1|0]
-    ∷ half-is (B d) [x²+1|x+1] [x+1|0]
-    ∷ half-is (B d) [x³+x²+1|0] [x²+1|x+1]
-    ∷ half-is (B d) [x³+x²+x+1|x] [x³+x²+1|0]
+    ∷ half-is (A d) [1|0] [1|0] 0
+    ∷ half-is (B d) [x²+1|x+1] [x+1|0] 0
+    ∷ half-is (B d) [x³+x²+1|0] [x²+1|x+1] 1
+    ∷ half-is (B d) [x³+x²+x+1|x] [x³+x²+1|0] 2
     ∷ sum-is (A d) [x|0] [x|1] [1|0]
     ∷ sum-is (A d) [x³|0] [x³|0] [x|1]
     ∷ sum-is (B d) [x²+1|x+1] [x+1|1] [x+1|0]

@@ -6,4 +6,5 @@ pub mod Curves
 pub mod Classes
 pub mod Examples
 pub mod Answer
+pub mod Told
 pub mod internal

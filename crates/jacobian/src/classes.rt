@@ -1,13 +1,14 @@
 // A class by value: its checks, and its pair as rows.
 ghost use Prim.Native.Nat.{ℕ, _≤_};
 ghost use mathlib.Core.Path.{_≡_};
-ghost use lib.ListN.{drop};
+ghost use mathlib.Core.List.{[], _∷_, _++_};
+ghost use lib.ListN.{take};
 ghost use Rattle.binary_field_theory.specs.Element.{Accepted};
-ghost use Rattle.row_theory.specs.Row.{InRange};
+ghost use Rattle.row_theory.specs.Row.{InRange, filled};
 ghost use Rattle.class_rows.specs.Pair.{rows-pair};
 ghost use Rattle.binary_field.specs.Answer.{below};
-ghost use Rattle.jacobian.specs.{Checks.blank, Curves.curve-refusal, internal.Refusals.form-refusal};
-ghost use Rattle.jacobian.specs.{Classes.same-row, Classes.same-class, Classes.class-of, Classes.shape-refusal, Classes.range-refusal, Classes.class-refusal, internal.ClassRows.Led, internal.ClassRows.Widened, internal.ClassRows.RowsOf, internal.ClassRows.first};
+ghost use Rattle.jacobian.specs.{Curves.curve-refusal, internal.Refusals.form-refusal};
+ghost use Rattle.jacobian.specs.{Classes.same-row, Classes.same-class, Classes.class-of, Classes.padded, Classes.shape-refusal, Classes.range-refusal, Classes.class-refusal, internal.ClassRows.RowsOf, internal.ClassRows.first};
 use crate::Class;
 use crate::Curve;
 use crate::curves;
@@ -17,7 +18,7 @@ use class_rows::row::RowPair;
 
 // Is every number from place n on 0?
 fn blank_from(n: u64, r: [u64; 3]) -> bool
-    ensures { λ t. ⌜ t ≡ blank (drop n r) ⌝ }
+    ensures { λ t. ⌜ t ≡ padded n r ⌝ }
 {
     let mut i = n;
     while i < 3 {
@@ -75,7 +76,7 @@ pub fn same_class(a: Class, b: Class) -> bool
 // The first n numbers, then 1.
 fn leading_one(n: u64, r: [u64; 3]) -> [u64; 12]
     requires { ⌜ n ≤ 3 ⌝ }
-    ensures { λ t. ⌜ Led n r t ⌝ }
+    ensures { λ t. ⌜ t ≡ filled (take n r ++ 1 ∷ []) ⌝ }
 {
     if n == 0 {
         return [1, 0, 0, 0, 0, 0, 0, 0, 0, 0, 0, 0];
@@ -93,7 +94,7 @@ fn leading_one(n: u64, r: [u64; 3]) -> [u64; 12]
 
 // The three numbers in a longer row.
 fn widened(r: [u64; 3]) -> [u64; 12]
-    ensures { λ t. ⌜ Widened r t ⌝ }
+    ensures { λ t. ⌜ t ≡ filled r ⌝ }
 {
     [r[0], r[1], r[2], 0, 0, 0, 0, 0, 0, 0, 0, 0]
 }

@@ -1,4 +1,5 @@
-// A curve by value: its coefficients, its checks, and its f as a row. Only `coefficients`, `curve_with` and `f_row` name f3, f1 and f0.
+// A curve by value: its coefficients, its checks, and its f as a row. Of the functions of this crate only `coefficients`, `curve_with` and `f_row` name
+// the struct's f3, f1 and f0.
 ghost use mathlib.Core.Path.{_≡_};
 ghost use Rattle.jacobian.specs.Checks.{unless};
 ghost use Rattle.binary_field.specs.Answer.{below};

@@ -1,5 +1,5 @@
 // Reduced divisor classes on y² + y = f(x) over GF(2^5) and GF(2^61), by value.
-// A call makes its checks in the stored order: 106 and 107 for the curve, then 104, 110 and 111 for each class.
+// A refusal is the first that is due in the stored order: 106 and 107 for the curve, then 104, 110 and 111 for each class.
 // On a refusal the class of the answer is the neutral one, and no step was made.
 ghost use Prim.Native.Nat.{ℕ};
 ghost use mathlib.Core.Path.{_≡_};
@@ -7,8 +7,8 @@ ghost use mathlib.Core.Bool.{true};
 ghost use Rattle.class_group.specs.Reduction.{Counted};
 ghost use Rattle.row_theory.specs.Field.{Poly};
 ghost use Rattle.class_rows.specs.Core.{StandsCounted};
-ghost use Rattle.jacobian.specs.{Checks.unless, Checks._or-else_, Curves.curve-refusal, internal.Refusals.form-refusal, internal.Refusals.FormRefusalOfTwo, internal.Calls.OnOne};
-ghost use Rattle.jacobian.specs.Answer.{outcome-refusal, neutral-class, refusal, verdict, verdict-of, reply, answered, curve-answer, membership-answer, opposite-answer, double-answer, HalfAnswers, binary-answer, sum-answer, double-and-add-answer, subtract-and-halve-answer};
+ghost use Rattle.jacobian.specs.{Checks.unless, Checks._or-else_, Curves.curve-refusal, internal.Refusals.form-refusal, internal.Refusals.FormRefusalOfTwo};
+ghost use Rattle.jacobian.specs.Answer.{outcome-refusal, neutral-class, refusal, verdict, verdict-of, reply, answered, curve-answer, membership-answer, unary-answer, opposite-answer, double-answer, HalfAnswers, binary-answer, sum-answer, double-and-add-answer, SubtractAndHalveAnswers};
 
 pub mod classes;
 pub mod curves;
@@ -150,7 +150,7 @@ fn settled(divisor: bool, pair: RowPair, steps: u32) -> ClassAnswer
 
 // The body of the calls on one class.
 fn on_one(op: Unary, curve: Curve, a: Class) -> ClassAnswer
-    ensures { λ r. ⌜ OnOne op curve a r ⌝ }
+    ensures { λ r. ⌜ reply r ≡ unary-answer op curve a ⌝ }
 {
     let n = curve_and_form_refusal(curve, a);
     if n != 0 {
@@ -223,7 +223,7 @@ pub fn double_and_add(curve: Curve, a: Class, b: Class) -> ClassAnswer
 
 // The half of a class less another, as an undo takes a seal to the one before.
 pub fn subtract_and_halve(curve: Curve, a: Class, b: Class) -> ClassAnswer
-    ensures { λ r. ⌜ reply r ≡ subtract-and-halve-answer curve a b ⌝ }
+    ensures { λ r. ⌜ SubtractAndHalveAnswers curve a b (reply r) ⌝ }
 {
     on_two(Binary::SubtractAndHalve, curve, a, b)
 }

@@ -8,10 +8,9 @@ use mathlib.Core.List.{List, _++_}
 use native.Mathlib.Omega.{arith}
 use lib.ListN.{length, take, drop, take-append-drop}
 use lib.Seq.{take-append-seam, take-at, drop-at}
-use Rattle.jacobian.specs.{Checks._or-else_, Curves.curve-refusal, Curves.coefficients, Answer.Result, Answer.result, Answer.refusal, Answer.double-answer, Answer.half-answer}
+use Rattle.jacobian.specs.{Curves.coefficients, Answer.Result, Answer.gives, Answer.result, Answer.double-answer, Answer.half-answer}
 use Rattle.jacobian.specs.declared.{Curve.Curve, Class.Class}
-use Rattle.jacobian.proofs.ByValue.Checks.{then-zero}
-use Rattle.jacobian.proofs.Calls.{Accepts, gives, double-gives, half-gives, double-accepts, half-accepts, double-of-half, half-of-double}
+use Rattle.jacobian.proofs.Calls.{double-gives, half-gives, double-accepts, half-accepts, double-of-half, half-of-double}
 use Rattle.stored_form.specs.{Number.Bytes, Number.bytes-of, Reading.found, Head.class-room, Head.first-fields-length, Head.stored, Head.head-bytes, Elements.element-bytes, Fields.degree-field}
 use Rattle.stored_form.specs.{Classes.curve-field, Classes.curve-first-fields, Classes.class-field, Passing.ClassPasses, Held.read-record, Held.class-record}
 use Rattle.stored_form.specs.Effect.{Effect, write, on, class-handed, put, byte-call}
@@ -20,7 +19,7 @@ use Rattle.stored_form.proofs.{ClassRoundTrips.class-short, Effects.call-found,
 use Rattle.seal.specs.Records.{class-held, class-record-bytes, ClassStored}
 use Rattle.seal.specs.Rebuilt.{first-fields, last-field, class-rebuilt}
 use Rattle.seal.specs.Calls.{answered, double-call, half-call}
-use Rattle.seal.proofs.Written.{curve-passes, class-record-written, class-record-back}
+use Rattle.seal.proofs.Written.{class-record-written, class-record-back}
 
 rebuilt-write : (s bytes out : List ℕ) → class-rebuilt s (write bytes out) ≡ first-fields s ++ bytes
 unfolding class-rebuilt write
@@ -38,9 +37,6 @@ module _ {s : List ℕ} {h : Held} (w : ClassStored s h) where
   abbrev c : Curve
   c = w .curve
 
-  abbrev ok : curve-refusal (w .curve) ≡ 0
-  ok = curve-passes (w .passes)
-
   first-is : first-fields s ≡ curve-first-fields c
   unfolding class-record-bytes
   first-is = ap (take first-fields-length) (w .bytes) ∙ take-at (curve-first-fields c) _ first-fields-length (first-length c)
@@ -49,20 +45,12 @@ module _ {s : List ℕ} {h : Held} (w : ClassStored s h) where
   unfolding class-record-bytes
   last-is = ap (drop first-fields-length) (w .bytes) ∙ drop-at (curve-first-fields c) _ first-fields-length (first-length c)
 
-  accepts : Accepts c ok (w .class)
-  unfolding refusal
-  accepts = record { three = w .passes .three; passes = then-zero _ _ (w .passes .none) .1 }
-
-  accepted-passes : {x : Class} → Accepts c ok x → ClassPasses c x
-  unfolding refusal _or-else_
-  accepted-passes a = record { three = a .three; none = rw ok (a .passes) }
-
   -- what a call writes whose answer gives an accepted class
   call-writes : (f : Curve → Class → Result) (out : List ℕ) → class-room ≤ length out → {x : Class} → ClassPasses c x → f c (w .class) ≡ gives x →
       class-call f s out ≡ write (class-field 0x43 x) out
   unfolding class-handed on
   call-writes f out room {x} p e =
-      let short : length (class-field 0x43 x) ≤ class-room = class-short 0x43 c x (p .three) (p .none) in
+      let short : length (class-field 0x43 x) ≤ class-room = class-short 0x43 c x (p .none) in
       call-found class-room class-record _ s out room (class-record-back w)
       ∙ ap (λ (k : Held). put (class-handed (f (k .curve) (k .class))) out) (w .held)
       ∙ ap (λ (r : Result). put (class-handed r) out) e
@@ -81,7 +69,7 @@ module _ {s : List ℕ} {h : Held} (w : ClassStored s h) where
       class-call f s out .answer ≤ class-room
   unfolding write
   answers-length f out room p e =
-      subst (λ (n : ℕ). n ≤ class-room) (sym (ap (λ (o : Effect). o .answer) (call-writes f out room p e))) (class-short 0x43 c _ (p .three) (p .none))
+      subst (λ (n : ℕ). n ≤ class-room) (sym (ap (λ (o : Effect). o .answer) (call-writes f out room p e))) (class-short 0x43 c _ (p .none))
 
 module _ {s : List ℕ} {h : Held} (w : ClassStored s h) (f g : Curve → Class → Result) (out last : List ℕ) (room : class-room ≤ length out) (room' : class-room ≤ length last) where
   -- where one answer takes the other back, so does its call
@@ -107,16 +95,16 @@ module _ (s : List ℕ) (bytes : Bytes s) {h : Held} {end : ℕ} (read : read-re
   is-stored = class-record-written bytes read .0
 
   doubled : result (double-answer (is-stored .curve) (is-stored .class)) ≡ gives (double-answer (is-stored .curve) (is-stored .class) .class)
-  doubled = gives-class (double-gives (is-stored .curve) (ok is-stored) (accepts is-stored))
+  doubled = gives-class (double-gives (is-stored .curve) (is-stored .passes))
 
   halved : result (half-answer (is-stored .curve) (is-stored .class)) ≡ gives (half-answer (is-stored .curve) (is-stored .class) .class)
-  halved = gives-class (half-gives (is-stored .curve) (ok is-stored) (accepts is-stored))
+  halved = gives-class (half-gives (is-stored .curve) (is-stored .passes))
 
   double-passes : ClassPasses (is-stored .curve) (double-answer (is-stored .curve) (is-stored .class) .class)
-  double-passes = accepted-passes is-stored (double-accepts (is-stored .curve) (ok is-stored) (accepts is-stored))
+  double-passes = double-accepts (is-stored .curve) (is-stored .passes)
 
   half-passes : ClassPasses (is-stored .curve) (half-answer (is-stored .curve) (is-stored .class) .class)
-  half-passes = accepted-passes is-stored (half-accepts (is-stored .curve) (ok is-stored) (accepts is-stored))
+  half-passes = half-accepts (is-stored .curve) (is-stored .passes)
 
   module _ (out : List ℕ) (room : class-room ≤ length out) where
     -- the answer is the length of a class field
@@ -132,12 +120,12 @@ module _ (s : List ℕ) (bytes : Bytes s) {h : Held} {end : ℕ} (read : read-re
       pub half-of-double-bytes : half-call (class-rebuilt s (double-call s out)) last ≡ write (last-field s) last
       unfolding answered
       half-of-double-bytes =
-          let w = is-stored in taken-back w doubles halves out last room room' double-passes doubled (half-of-double (w .curve) (ok w) (accepts w))
+          let w = is-stored in taken-back w doubles halves out last room room' double-passes doubled (half-of-double (w .curve) (w .passes))
 
       pub double-of-half-bytes : double-call (class-rebuilt s (half-call s out)) last ≡ write (last-field s) last
       unfolding answered
       double-of-half-bytes =
-          let w = is-stored in taken-back w halves doubles out last room room' half-passes halved (double-of-half (w .curve) (ok w) (accepts w))
+          let w = is-stored in taken-back w halves doubles out last room room' half-passes halved (double-of-half (w .curve) (w .passes))
 
       -- the half's record is the only one that has the same degree and curve and whose double is the input's class field
       pub only-half-bytes : (t : List ℕ) → first-fields t ≡ first-fields s → double-call s out ≡ write (last-field t) out → s ≡ class-rebuilt t (half-call t last)

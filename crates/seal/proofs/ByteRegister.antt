@@ -8,12 +8,12 @@ use mathlib.Core.List.{List, _++_}
 use native.Mathlib.Omega.{arith}
 use lib.ListN.{length, length-append}
 use lib.Seq.{take-append-seam}
-use Rattle.jacobian.specs.{Checks._or-else_, Curves.curve-refusal, Classes.Three, Classes.class-refusal, Answer.accepted, Answer.refused, Answer.refusal}
+use Rattle.jacobian.specs.{Checks._or-else_, Curves.curve-refusal, Classes.class-refusal, Answer.accepted, Answer.refused, Answer.refusal}
 use Rattle.jacobian.specs.declared.{Curve.Curve, Class.Class}
 use Rattle.history.specs.declared.{Register.Register, Step.Step, Step.the-variants.Commit, Step.the-variants.Undo}
 use Rattle.history.specs.Register.{RegisterReply, step-refusal, stepped, other, step-answer, commit-answer, undo-answer}
 use Rattle.history.proofs.Registers.{Passes, Passing, step-passes, follows-accepted, follows-zero}
-use Rattle.history.proofs.OneStep.{taken, stepped-curve, stepped-fits, stepped-passes, step-taken-back}
+use Rattle.history.proofs.OneStep.{taken, stepped-curve, stepped-passes, step-taken-back}
 use Rattle.stored_form.specs.{Number.Bytes, Reading.found, Fields.count-field, Classes.curve-first-fields, Classes.class-field, Passing.ClassPasses, Held.read-record, Held.register-record}
 use Rattle.stored_form.specs.Effect.{Effect, refuse, write, on, put, byte-call, register-room}
 use Rattle.stored_form.specs.declared.Held.{Held}
@@ -54,17 +54,17 @@ module _ (s out : List ℕ) (room : register-room ≤ length out) {h : Held} {en
 
 -- ---- values in stored form that the register call accepts
 
-passes-of : (c : Curve) {a : Class} → curve-refusal c ≡ 0 → Three a → class-refusal c a ≡ 0 → ClassPasses c a
+passes-of : (c : Curve) {a : Class} → curve-refusal c ≡ 0 → class-refusal c a ≡ 0 → ClassPasses c a
 unfolding refusal _or-else_
-passes-of c ok three h = record { three = three; none = rw ok h }
+passes-of c ok h = record { none = rw ok h }
 
 -- the fields of a register that passes have room
-fields-short : (g : Register) → Passes g → Three (g .seal) → length (register-fields g) ≤ register-room
-fields-short g p three =
-    let seal = passes-of (g .curve) (p .curve-passes) three (p .seal-passes) in
-    omega (arith, length-append (count-field (g .count)) (class-field 0x43 (g .seal)), length-count (g .count), class-short 0x43 (g .curve) (g .seal) (seal .three) (seal .none))
+fields-short : (g : Register) → Passes g → length (register-fields g) ≤ register-room
+fields-short g p =
+    let seal = passes-of (g .curve) (p .curve-passes) (p .seal-passes) in
+    omega (arith, length-append (count-field (g .count)) (class-field 0x43 (g .seal)), length-count (g .count), class-short 0x43 (g .curve) (g .seal) (seal .none))
 
-module _ (k : Step) (g : Register) (a : Class) (threes : Three (g .seal) × Three a) (e : step-answer k g a .outcome ≡ accepted) where
+module _ (k : Step) (g : Register) (a : Class) (e : step-answer k g a .outcome ≡ accepted) where
   none-due : step-refusal k g a ≡ 0
   unfolding step-answer
   none-due = follows-accepted (step-refusal k g a) g (stepped k g a) e
@@ -76,7 +76,7 @@ module _ (k : Step) (g : Register) (a : Class) (threes : Three (g .seal) × Thre
   follows-fits : length (register-fields (step-answer k g a .register)) ≤ register-room
   follows-fits =
       subst (λ (x : RegisterReply). length (register-fields (x .register)) ≤ register-room) (sym accepted-is)
-      (fields-short (stepped k g a) (stepped-passes g a (threes .0) (threes .1) k (step-passes k g a none-due)) (stepped-fits k g a))
+      (fields-short (stepped k g a) (stepped-passes g a k (step-passes k g a none-due)))
 
   stored : RegisterStored (register-record-bytes g a) (register-held g a)
   stored =
@@ -88,8 +88,8 @@ module _ (k : Step) (g : Register) (a : Class) (threes : Three (g .seal) × Thre
         held = refl;
         bytes = refl;
         count-passes = p .register .count-passes;
-        seal-passes = passes-of (g .curve) ok (threes .0) (p .register .seal-passes);
-        class-passes = passes-of (g .curve) ok (threes .1) (p .class-passes);
+        seal-passes = passes-of (g .curve) ok (p .register .seal-passes);
+        class-passes = passes-of (g .curve) ok (p .class-passes);
       }
 
   -- what is written for an accepted step
@@ -99,14 +99,14 @@ module _ (k : Step) (g : Register) (a : Class) (threes : Three (g .seal) × Thre
   step-accepts : (out : List ℕ) → register-room ≤ length out → step-call k (register-record-bytes g a) out ≡ write (register-fields (step-answer k g a .register)) out
   step-accepts out room = of-record (register-record-bytes g a) out room (register-record-back stored) k ∙ step-written out room
 
-module _ (g : Register) (a : Class) (threes : Three (g .seal) × Three a) (out : List ℕ) (room : register-room ≤ length out) where
+module _ (g : Register) (a : Class) (out : List ℕ) (room : register-room ≤ length out) where
   pub commit-accepts : commit-answer g a .outcome ≡ accepted → commit-call (register-record-bytes g a) out ≡ write (register-fields (commit-answer g a .register)) out
   unfolding answered
-  commit-accepts e = step-accepts Commit g a threes e out room
+  commit-accepts e = step-accepts Commit g a e out room
 
   pub undo-accepts : undo-answer g a .outcome ≡ accepted → undo-call (register-record-bytes g a) out ≡ write (register-fields (undo-answer g a .register)) out
   unfolding answered
-  undo-accepts e = step-accepts Undo g a threes e out room
+  undo-accepts e = step-accepts Undo g a e out room
 
 -- ---- taking back
 
@@ -116,11 +116,6 @@ rebuilt-write g k a out same = rw (take-append-seam (register-fields k) _, same)
 
 module _ (s out last : List ℕ) (room : register-room ≤ length out) (room' : register-room ≤ length last) (bytes : Bytes s) {h : Held} {end : ℕ}
     (read : read-record register-record s ≡ found h end) where
-  fits : Three (h .class) × Three (h .operation)
-  fits =
-      let w = register-record-written bytes read .0 in
-      subst (λ (x : Held). Three (x .class) × Three (x .operation)) (sym (w .held)) (w .seal-passes .three, w .class-passes .three)
-
   -- the other step with the record rebuilt from an accepted step's output writes the record's count and seal
   taken-back : (k : Step) → step-answer k (register h) (h .operation) .outcome ≡ accepted →
       step-call (other k) (register-rebuilt (register h) (h .operation) (step-call k s out)) last ≡ write (register-fields (register h)) last
@@ -128,12 +123,12 @@ module _ (s out last : List ℕ) (room : register-room ≤ length out) (room' : 
       let g = register h in
       let a = h .operation in
       let next = stepped k g a in
-      let is = accepted-is k g a fits e in
-      let back = ap (λ (x : RegisterReply). step-answer (other k) (x .register) a) (sym is) ∙ step-taken-back g a (fits .0) (fits .1) k e in
+      let is = accepted-is k g a e in
+      let back = ap (λ (x : RegisterReply). step-answer (other k) (x .register) a) (sym is) ∙ step-taken-back g a k e in
       ap (λ (o : Effect). step-call (other k) (register-rebuilt g a o) last)
-      (of-record s out room read k ∙ step-written k g a fits e out room ∙ ap (λ (x : RegisterReply). write (register-fields (x .register)) out) is)
+      (of-record s out room read k ∙ step-written k g a e out room ∙ ap (λ (x : RegisterReply). write (register-fields (x .register)) out) is)
       ∙ ap (λ (l : List ℕ). step-call (other k) l last) (rebuilt-write g next a out (stepped-curve k g a))
-      ∙ step-accepts (other k) next a (stepped-fits k g a, fits .1) (ap (λ (x : RegisterReply). x .outcome) back) last room'
+      ∙ step-accepts (other k) next a (ap (λ (x : RegisterReply). x .outcome) back) last room'
       ∙ ap (λ (x : RegisterReply). write (register-fields (x .register)) last) back
 
   pub undo-of-commit-bytes : commit-answer (register h) (h .operation) .outcome ≡ accepted →

@@ -13,7 +13,7 @@ use Rattle.class_group.specs.Walk.{All, none, more, walk}
 use Rattle.jacobian.specs.Answer.{accepted, refused, verdict-of}
 use Rattle.history.specs.Register.{RegisterReply, register-reply, register-refusal, undo-seal, step-answer}
 use Rattle.history.specs.Machine as machine
-use Rattle.history.specs.Calls.{Call, Fits, answer, registers, Event, run, last, newest, backs, turned, classes, OnlyCommits, walk-back, steps-back, met, seals-back}
+use Rattle.history.specs.Calls.{Call, answer, registers, Event, run, last, newest, backs, turned, classes, OnlyCommits, walk-back, steps-back, met, seals-back}
 use Rattle.history.specs.declared.{Register.Register, RegisterAnswer.RegisterAnswer}
 use Rattle.history.proofs.{All.all-map, OneCall.refused-stays, Failing.failing-run, Failing.failing-last, Machine.Carried.run-carried, Machine.Carried.last-carried, Machine.Carried.newest-carried}
 use Rattle.history.proofs.TakingBack as history
@@ -73,7 +73,7 @@ module _ (r : Register) (fails : ¬ (register-refusal r ≡ 0)) (ms : List Made)
   pub failing-stays : left-by r ms ≡ r
   failing-stays = left-by-last r ms s ∙ failing-last r fails (calls ms)
 
-module _ (r : Register) (ms : List Made) (s : Session r ms) (fits : Fits r (calls ms)) where
+module _ (r : Register) (ms : List Made) (s : Session r ms) where
   -- whatever holds of the accepted calls and of the last register with all calls by value
   as-by-value : (P : List Event → Register → Type 0) → P (newest r (calls ms)) (last r (calls ms)) → P (newest-made r ms) (left-by r ms)
   as-by-value P h = rw (newest-is r ms s, left-by-last r ms s) h
@@ -84,7 +84,7 @@ module _ (r : Register) (ms : List Made) (s : Session r ms) (fits : Fits r (call
     unfolding machine.taken-back
     taken-back-turned =
         happened-run (left-by r ms) bs back ∙ ap (run (left-by r ms)) takes
-        ∙ as-by-value (λ es t. run t (backs es) ≡ map turned es) (history.taken-back-turned r (calls ms) fits)
+        ∙ as-by-value (λ es t. run t (backs es) ≡ map turned es) (history.taken-back-turned r (calls ms))
 
     -- none is refused
     pub taken-back-accepted : All (λ e. e .outcome ≡ accepted) (happened (left-by r ms) bs)
@@ -100,7 +100,7 @@ module _ (r : Register) (ms : List Made) (s : Session r ms) (fits : Fits r (call
     pub taken-back-all : left-by (left-by r ms) bs ≡ r
     taken-back-all =
         left-by-last (left-by r ms) bs back ∙ ap (last (left-by r ms)) takes
-        ∙ as-by-value (λ es t. last t (backs es) ≡ r) (history.taken-back-all r (calls ms) fits)
+        ∙ as-by-value (λ es t. last t (backs es) ≡ r) (history.taken-back-all r (calls ms))
 
   -- the walk back, where only commits were accepted
   module _ (only : OnlyCommits (newest-made r ms)) where
@@ -109,13 +109,13 @@ module _ (r : Register) (ms : List Made) (s : Session r ms) (fits : Fits r (call
 
     -- no step is refused, and each answers the seal just before its commit
     pub walk-steps : steps-back (r .curve) (left-by r ms .seal) (classes (newest-made r ms)) ≡ map met (newest-made r ms)
-    walk-steps = as-by-value (λ es t. steps-back (r .curve) (t .seal) (classes es) ≡ map met es) (walking.walk-steps r (calls ms) fits only-by-value)
+    walk-steps = as-by-value (λ es t. steps-back (r .curve) (t .seal) (classes es) ≡ map met es) (walking.walk-steps r (calls ms) only-by-value)
 
     -- all seals of the walk, the last seal first
     pub walk-meets : walk (undo-seal (r .curve)) (left-by r ms .seal) (classes (newest-made r ms)) ≡ left-by r ms .seal ∷ map (λ e. e .before .seal) (newest-made r ms)
     unfolding seals-back
     walk-meets =
-        as-by-value (λ es t. walk (undo-seal (r .curve)) (t .seal) (classes es) ≡ t .seal ∷ map (λ e. e .before .seal) es) (walking.walk-meets r (calls ms) fits only-by-value)
+        as-by-value (λ es t. walk (undo-seal (r .curve)) (t .seal) (classes es) ≡ t .seal ∷ map (λ e. e .before .seal) es) (walking.walk-meets r (calls ms) only-by-value)
 
     -- the walk over the k newest classes ends in the seal just before the k-th newest commit, and for k = 0 in the last seal
     pub walk-ends : (k : ℕ) → k ≤ length (newest-made r ms)
@@ -123,9 +123,9 @@ module _ (r : Register) (ms : List Made) (s : Session r ms) (fits : Fits r (call
     unfolding seals-back
     walk-ends =
         as-by-value (λ es t. (k : ℕ) → k ≤ length es → walk-back (r .curve) (t .seal) (take k (classes es)) ≡ getD (t .seal ∷ map (λ e. e .before .seal) es) k (t .seal))
-        (walking.walk-ends r (calls ms) fits only-by-value)
+        (walking.walk-ends r (calls ms) only-by-value)
 
     -- and no step of it is refused
     pub walk-part : (k : ℕ) → steps-back (r .curve) (left-by r ms .seal) (take k (classes (newest-made r ms))) ≡ take k (map met (newest-made r ms))
     walk-part =
-        as-by-value (λ es t. (k : ℕ) → steps-back (r .curve) (t .seal) (take k (classes es)) ≡ take k (map met es)) (walking.walk-part r (calls ms) fits only-by-value)
+        as-by-value (λ es t. (k : ℕ) → steps-back (r .curve) (t .seal) (take k (classes es)) ≡ take k (map met es)) (walking.walk-part r (calls ms) only-by-value)

@@ -5,12 +5,12 @@ use mathlib.Core.{Bool.Bool, Bool.true, Bool.false, List.List, List.[], List._�
 use native.Mathlib.{Numerals.add-one, Omega.arith}
 use lib.{Dec.leb, ListN.length, ListN.take, ListN.getD, Seq.take-nil, Seq.take-length, Seq.take-suc}
 use borrow.Author.Tests.{leb-true, leb-false, lt-leb, le-leb}
-use Rattle.class_group.specs.Walk.{All, none, more, after}
-use Rattle.jacobian.specs.{Checks.unless, Checks._or-else_, Curves.curve-refusal, Classes.class-refusal, Classes.Three}
-use Rattle.jacobian.specs.Answer.{Verdict, accepted, refused, verdict-of, outcome-refusal, neutral-class, refusal, refusal-of-two, Result, reply, result, subtract-and-halve-answer}
+use Rattle.class_group.specs.Walk.{after}
+use Rattle.jacobian.specs.{Checks.unless, Checks._or-else_, Curves.curve-refusal, Classes.class-refusal}
+use Rattle.jacobian.specs.Answer.{Verdict, accepted, refused, verdict-of, outcome-refusal, neutral-class, Accepts, refusal, refusal-of-two, Result, reply, result, subtract-and-halve-answer}
 use Rattle.jacobian.specs.declared.{Curve.Curve, Class.Class, ClassAnswer.ClassAnswer}
-use Rattle.jacobian.proofs.ByValue.Checks.{then-zero}
-use Rattle.history.specs.Register.{limit, undo-seal, Sound, sealed}
+use Rattle.jacobian.proofs.{ByValue.Checks.then-zero, Representation.accepts-class, Representation.accepts-both}
+use Rattle.history.specs.Register.{limit, undo-seal, sealed}
 use Rattle.history.specs.Calls.{walk-back}
 use Rattle.history.proofs.{Seals.undo-sound, Answers.sealed-outcome, Answers.answer-refusal, Answers.subtract-and-halve-sealed, Numbers.then-positive, Numbers.then-none}
 use Rattle.seal_register.specs.RowWalk.{classes-refusal, row-refusal, row-walk-answer, opening-refusal, turns-due, onward}
@@ -79,10 +79,6 @@ then-above zero n s = refl
 then-above (suc a) n s = refl
 
 -- ---- rows
-all-three : (l : List Class) (d : Class) → ((j : ℕ) → j < length l → Three (getD l j d)) → All Three l
-all-three [] d h = none
-all-three (a ∷ l) d h = more (h 0 (omega arith)) (all-three l d (λ j k. h (suc j) (omega arith)))
-
 -- one step more leads over the next element
 module _ {X Y : Type 0} (rule : X → Y → X) where
   after-last : (x : X) (l : List Y) (a : Y) → after rule x (l ++ a ∷ []) ≡ rule (after rule x l) a
@@ -120,9 +116,9 @@ module _ (c : Curve) where
 
   -- from an accepted seal, the steps lead along the walk to the first class that is refused, or to its end
   module _ (ok : curve-refusal c ≡ 0) where
-    next-refusal : (s a : Class) → Sound c s → refusal-of-two c s a ≡ class-refusal c a
+    next-refusal : (s a : Class) → Accepts c s → refusal-of-two c s a ≡ class-refusal c a
     unfolding refusal-of-two refusal _or-else_
-    next-refusal s a h = rw (ok, h .unrefused)
+    next-refusal s a h = rw (ok, accepts-class h)
 
     going : (n : ℕ) (t : Class) (ops : List Class) → (n ≡ 0 → after (onward c) (sealed 0 t) ops ≡ sealed (classes-refusal c ops) (walk-back c t ops))
         → after (onward c) (sealed n t) ops ≡ sealed (n or-else classes-refusal c ops) (walk-back c t ops)
@@ -130,12 +126,12 @@ module _ (c : Curve) where
     going zero t ops h = h refl
     going (suc n) t ops h = refused-stands n t ops
 
-    sound-walk : (s : Class) (ops : List Class) → Sound c s → All Three ops → after (onward c) (sealed 0 s) ops ≡ sealed (classes-refusal c ops) (walk-back c s ops)
+    sound-walk : (s : Class) (ops : List Class) → Accepts c s → after (onward c) (sealed 0 s) ops ≡ sealed (classes-refusal c ops) (walk-back c s ops)
     unfolding after walk-back classes-refusal
-    sound-walk s [] h none = refl
-    sound-walk s (a ∷ ops) h (more t ts) =
+    sound-walk s [] h = refl
+    sound-walk s (a ∷ ops) h =
         ap (λ x. after (onward c) x ops) (step-sealed s a ∙ ap (λ n. sealed n (undo-seal c s a)) (next-refusal s a h))
-        ∙ going (class-refusal c a) (undo-seal c s a) ops (λ e. sound-walk (undo-seal c s a) ops (undo-sound ok h (record { three = t; unrefused = e })) ts)
+        ∙ going (class-refusal c a) (undo-seal c s a) ops (λ e. sound-walk (undo-seal c s a) ops (undo-sound h (accepts-both c a ok e)))
 
   -- ---- all steps
   first-refusal : (n : ℕ) (s a : Class) → refusal c s ≡ suc n → refusal-of-two c s a ≡ suc n
@@ -143,11 +139,11 @@ module _ (c : Curve) where
   first-refusal n s a e = rw e
 
   -- the first step checks the curve and the last seal
-  opens-sound : (n : ℕ) (s a : Class) (ops : List Class) → refusal c s ≡ n → Three s → All Three (a ∷ ops)
+  opens-sound : (n : ℕ) (s a : Class) (ops : List Class) → refusal c s ≡ n
       → after (onward c) (sealed 0 s) (a ∷ ops) ≡ sealed (n or-else classes-refusal c (a ∷ ops)) (walk-back c s (a ∷ ops))
   unfolding refusal _or-else_ after
-  opens-sound zero s a ops e h ts = let p = then-zero _ _ e in sound-walk (p .0) s (a ∷ ops) (record { three = h; unrefused = p .1 }) ts
-  opens-sound (suc n) s a ops e h ts =
+  opens-sound zero s a ops e = sound-walk (then-zero _ _ e .0) s (a ∷ ops) (record { none = e })
+  opens-sound (suc n) s a ops e =
       ap (λ x. after (onward c) x ops) (step-sealed s a ∙ ap (λ k. sealed k (undo-seal c s a)) (first-refusal n s a e))
       ∙ refused-stands n (undo-seal c s a) ops
       ∙ sealed-refused (suc n) _ _ (λ z. omega arith)
@@ -163,19 +159,19 @@ module _ (c : Curve) where
       sealed-refused (curve-refusal c or-else 109) s (walk-back c s ops) (then-positive (curve-refusal c) 109 (λ z. omega arith))
       ∙ rw (lt-leb (length ops) limit h) (ap (λ n. sealed n (walk-back c s ops)) (then-above (curve-refusal c) 108 (class-refusal c s or-else classes-refusal c ops)))
 
-  module _ (s : Class) (h : Three s) where
-    by-length : (a : Class) (ops : List Class) (x : Result) (n : ℕ) (d : Class) (b : Bool) → leb (length (a ∷ ops)) limit ≡ b
+  module _ (s : Class) where
+    by-length : (a : Class) (ops : List Class) (x : Result) (n : ℕ) (b : Bool) → leb (length (a ∷ ops)) limit ≡ b
         → x ≡ sealed (opening-refusal c s (length (a ∷ ops))) s → n ≡ turns-due (x .outcome) (length (a ∷ ops))
-        → ((j : ℕ) → j < n → Three (getD (a ∷ ops) j d)) → after (onward c) x (take n (a ∷ ops)) ≡ row-walk-answer c s (a ∷ ops)
+        → after (onward c) x (take n (a ∷ ops)) ≡ row-walk-answer c s (a ∷ ops)
     unfolding turns-due sealed after
-    by-length a ops x n d true l e m ts =
+    by-length a ops x n true l e m =
         let within = leb-true _ _ l in
         let start : x ≡ sealed 0 s = e ∙ ap (λ k. sealed k s) (sym (opening-within c s (length (a ∷ ops)) (λ z. omega arith) within)) in
         let all : n ≡ length (a ∷ ops) = m ∙ ap (λ (y : Result). turns-due (y .outcome) (length (a ∷ ops))) start in
         ap₂ (after (onward c)) start (ap (λ k. take k (a ∷ ops)) all ∙ take-length (a ∷ ops))
-        ∙ opens-sound (refusal c s) s a ops refl h (all-three (a ∷ ops) d (λ j k. ts j (omega arith)))
+        ∙ opens-sound (refusal c s) s a ops refl
         ∙ row-within s (a ∷ ops) within
-    by-length a ops x n d false l e m ts =
+    by-length a ops x n false l e m =
         let above = leb-false _ _ l in
         let k = curve-refusal c or-else 109 in
         let start : x ≡ sealed k s = e ∙ ap (λ k. sealed k s) (sym (opening-above c s (length (a ∷ ops)) above)) in
@@ -186,8 +182,8 @@ module _ (c : Curve) where
         ap₂ (λ (y : Result) (j : ℕ). after (onward c) y (take j (a ∷ ops))) start still ∙ row-above s (a ∷ ops) above
 
     -- the steps that are due after the opening x answer the walk over the row
-    pub row-walked : (ops : List Class) (x : Result) (n : ℕ) (d : Class) → x ≡ sealed (opening-refusal c s (length ops)) s → n ≡ turns-due (x .outcome) (length ops)
-        → ((j : ℕ) → j < n → Three (getD ops j d)) → after (onward c) x (take n ops) ≡ row-walk-answer c s ops
+    pub row-walked : (ops : List Class) (x : Result) (n : ℕ) → x ≡ sealed (opening-refusal c s (length ops)) s → n ≡ turns-due (x .outcome) (length ops)
+        → after (onward c) x (take n ops) ≡ row-walk-answer c s ops
     unfolding after opening-refusal classes-refusal walk-back
-    row-walked [] x n d e m ts = ap (after (onward c) x) (take-nil n) ∙ e ∙ ap (λ k. sealed k s) (sym (then-none (refusal c s))) ∙ row-within s [] (omega arith)
-    row-walked (a ∷ ops) x n d e m ts = by-length a ops x n d (leb (length (a ∷ ops)) limit) refl e m ts
+    row-walked [] x n e m = ap (after (onward c) x) (take-nil n) ∙ e ∙ ap (λ k. sealed k s) (sym (then-none (refusal c s))) ∙ row-within s [] (omega arith)
+    row-walked (a ∷ ops) x n e m = by-length a ops x n (leb (length (a ∷ ops)) limit) refl e m

@@ -11,7 +11,7 @@ use Rattle.class_group.specs.Walk.{All, none, more}
 use Rattle.jacobian.specs.{Checks.unless, Checks._or-else_, Curves.curve-refusal, Classes.class-refusal, Answer.accepted, Answer.verdict-of, Answer.Result}
 use Rattle.jacobian.specs.declared.{Curve.Curve, Class.Class}
 use Rattle.history.specs.Register.{limit, register-refusal, sealed}
-use Rattle.history.specs.Calls.{Call, Fits, Event, last, newest, classes, OnlyCommits, seals-back, walk-back}
+use Rattle.history.specs.Calls.{Call, Event, last, newest, classes, OnlyCommits, seals-back, walk-back}
 use Rattle.history.specs.declared.Register.{Register}
 use Rattle.history.proofs.{Registers.Passes, Registers.register-passes, TakingBack.last-curve, Preserved.last-passes, Preserved.accepted-classes, WalkingBack.walk-ends, WalkingBack.accepted-few}
 use Rattle.seal_register.specs.RowWalk.{classes-refusal, row-refusal, reached, row-walk-answer}
@@ -36,15 +36,15 @@ unfolding verdict-of
 accepted-zero zero e = refl
 accepted-zero (suc n) e = let z : _≡_ {A = ℕ} 0 1 = cc in absurd (omega arith)
 
-module _ (r : Register) (cs : List Call) (fits : Fits r cs) (only : OnlyCommits (newest r cs)) (ok : register-refusal r ≡ 0) where
+module _ (r : Register) (cs : List Call) (only : OnlyCommits (newest r cs)) (ok : register-refusal r ≡ 0) where
   passes : Passes (last r cs)
-  passes = register-passes (last r cs) (last-passes r cs fits ok)
+  passes = register-passes (last r cs) (last-passes r cs ok)
 
   within : (k : ℕ) → k ≤ length (newest r cs) → length (take k (classes (newest r cs))) ≤ limit
   unfolding classes
   within k h =
       let e : length (take k (classes (newest r cs))) ≡ k = length-take-le k (classes (newest r cs)) (rw length-map h) in
-      let f : length (newest r cs) ≤ limit = accepted-few r cs fits only in
+      let f : length (newest r cs) ≤ limit = accepted-few r cs only in
       omega arith
 
   pub row-walk-meets : (k : ℕ) → k ≤ length (newest r cs)
@@ -55,7 +55,7 @@ module _ (r : Register) (cs : List Call) (fits : Fits r cs) (only : OnlyCommits 
       (subst (λ c. class-refusal c (last r cs .seal) ≡ 0) (last-curve r cs) (passes .seal-passes))
       (within k h)
       (unrefused (r .curve) (newest r cs) k (accepted-classes r cs))
-      ∙ ap (λ a. record { outcome = accepted; class = a }) (walk-ends r cs fits only k h)
+      ∙ ap (λ a. record { outcome = accepted; class = a }) (walk-ends r cs only k h)
 
   pub row-walk-answers : (k : ℕ) → k ≤ length (newest r cs) → (w : RowWalk) → reached w ≡ row-walk-answer (r .curve) (last r cs .seal) (take k (classes (newest r cs)))
       → (w .refusal ≡ 0) × (w .seal ≡ getD (seals-back r cs) k (last r cs .seal))

@@ -9,7 +9,6 @@ use lib.ListN.{length, getD, take, drop, length-append, length-take, length-drop
 use lib.Seq.{take-at, drop-at}
 use Rattle.jacobian.specs.{Answer.refusal, declared.Curve.Curve, declared.Class.Class}
 use Rattle.jacobian.proofs.{ByValue.Degrees.by-degree, ByValue.Threes.by-three, ByValue.Answers.passes}
-use Rattle.jacobian.specs.Classes.{Three}
 use Rattle.stored_form.specs.{Number.Bytes, Reading.found, Head.class-room, Head.class-limit, Head.allowed, Head.class-length, Head.body-at, Head.stored, Head.StandsAt}
 use Rattle.stored_form.specs.{Elements.elements, Elements.element-bytes}
 use Rattle.stored_form.specs.Classes.{row-said, class-said, class-at, row-written, class-field}
@@ -68,19 +67,21 @@ class-body-said body ok b =
 
 -- a class by value whose coefficients fit, three places to a row and 0 past the degree
 record Shaped (a : Class) : Type 0 where
-  three : Three a
+  u-three : length (a .u) ≡ 3
+  v-three : length (a .v) ≡ 3
   low : a .degree ≤ 3
   u-blank : (i : ℕ) → a .degree ≤ i → getD (a .u) i 0 ≡ 0
   v-blank : (i : ℕ) → a .degree ≤ i → getD (a .v) i 0 ≡ 0
   u-fits : Small (a .u)
   v-fits : Small (a .v)
 
-shaped : (c : Curve) (a : Class) → Three a → refusal c a ≡ 0 → Shaped a
-shaped c a three ok =
+shaped : (c : Curve) (a : Class) → refusal c a ≡ 0 → Shaped a
+shaped c a ok =
     let p = passes c a (sym ok) refl in
     let small = by-degree (λ d. 2 ^ d ≤ 2 ^ 61) (lit≤ tt) (lit≤ tt) (c .degree) (p .0 .accepted) in
     record {
-      three = three;
+      u-three = p .1 .shape .u-three;
+      v-three = p .1 .shape .v-three;
       low = p .1 .shape .low;
       u-blank = p .1 .shape .u-blank;
       v-blank = p .1 .shape .v-blank;
@@ -92,9 +93,9 @@ length-body : (a : Class) → Shaped a → length (body-of a) ≡ 16 * a .degree
 length-body a h =
     let n = a .degree in
     let x : length (element-bytes (row-written n (a .u))) ≡ 8 * n =
-    length-element-bytes (row-written n (a .u)) ∙ ap (λ (k : ℕ). 8 * k) (length-row n (a .u) (h .three .u-three) (h .low)) in
+    length-element-bytes (row-written n (a .u)) ∙ ap (λ (k : ℕ). 8 * k) (length-row n (a .u) (h .u-three) (h .low)) in
     let y : length (element-bytes (row-written n (a .v))) ≡ 8 * n =
-    length-element-bytes (row-written n (a .v)) ∙ ap (λ (k : ℕ). 8 * k) (length-row n (a .v) (h .three .v-three) (h .low)) in
+    length-element-bytes (row-written n (a .v)) ∙ ap (λ (k : ℕ). 8 * k) (length-row n (a .v) (h .v-three) (h .low)) in
     length-append (element-bytes (row-written n (a .u))) (element-bytes (row-written n (a .v))) ∙ omega arith
 
 row-small : (n : ℕ) (r : List ℕ) → Small r → Small (row-written n r)
@@ -108,8 +109,8 @@ body-elements a h =
     let n = a .degree in
     let us = row-written n (a .u) in
     let vs = row-written n (a .v) in
-    let u : length us ≡ n = length-row n (a .u) (h .three .u-three) (h .low) in
-    let v : length vs ≡ n = length-row n (a .v) (h .three .v-three) (h .low) in
+    let u : length us ≡ n = length-row n (a .u) (h .u-three) (h .low) in
+    let v : length vs ≡ n = length-row n (a .v) (h .v-three) (h .low) in
     let both : length (us ++ vs) ≡ n + n = length-append us vs ∙ omega arith in
     ap₂ (λ (k : ℕ) (bs : List ℕ). elements k bs) (sym both) (sym (element-bytes-append us vs))
     ∙ elements-bytes (us ++ vs) (small-append us vs (row-small n (a .u) (h .u-fits)) (row-small n (a .v) (h .v-fits)))
@@ -120,15 +121,15 @@ class-said-field a h =
     let n = a .degree in
     let us = row-written n (a .u) in
     let vs = row-written n (a .v) in
-    let u : length us ≡ n = length-row n (a .u) (h .three .u-three) (h .low) in
+    let u : length us ≡ n = length-row n (a .u) (h .u-three) (h .low) in
     let count : length (body-of a) / 16 ≡ n = omega (arith, length-body a h) in
     rw (
       count,
       body-elements a h,
       take-at us vs n u,
       drop-at us vs n u,
-      row-ahead n (a .u) (h .three .u-three) (h .low) (h .u-blank),
-      row-ahead n (a .v) (h .three .v-three) (h .low) (h .v-blank),
+      row-ahead n (a .u) (h .u-three) (h .low) (h .u-blank),
+      row-ahead n (a .v) (h .v-three) (h .low) (h .v-blank),
     )
 
 class-length-of : (n : ℕ) → n ≤ 3 → class-length (16 * n) ≡ true
@@ -139,42 +140,23 @@ class-length-of (suc (suc zero)) h = refl
 class-length-of (suc (suc (suc zero))) h = refl
 class-length-of (suc (suc (suc (suc n)))) h = absurd (omega arith)
 
-row-three : (es : List ℕ) → length (row-said es) ≡ 3
-unfolding row-said
-row-three es =
-    let all : List ℕ = reverse es ++ 0 ∷ 0 ∷ 0 ∷ [] in
-    let long : length all ≡ length (reverse es) + 3 = length-append (reverse es) (0 ∷ 0 ∷ 0 ∷ []) in
-    length-take 3 all ∙ omega arith
-
 -- what the body of a class that is not refused says is the class
-module _ (c : Curve) (a : Class) (three : Three a) (ok : refusal c a ≡ 0) where
+module _ (c : Curve) (a : Class) (ok : refusal c a ≡ 0) where
   pub body-said : class-said (body-of a) ≡ a
-  body-said = class-said-field a (shaped c a three ok)
+  body-said = class-said-field a (shaped c a ok)
 
   pub body-allowed : class-length (length (body-of a)) ≡ true
-  body-allowed = let k = shaped c a three ok in ap class-length (length-body a k) ∙ class-length-of (a .degree) (k .low)
-
-pub said-three : (body : List ℕ) → Three (class-said body)
-unfolding class-said
-said-three body = record { u-three = row-three _; v-three = row-three _ }
+  body-allowed = let k = shaped c a ok in ap class-length (length-body a k) ∙ class-length-of (a .degree) (k .low)
 
 -- the field of a class that is not refused has room in a row
-pub class-short : (tag : ℕ) (c : Curve) (a : Class) → Three a → refusal c a ≡ 0 → length (class-field tag a) ≤ class-room
+pub class-short : (tag : ℕ) (c : Curve) (a : Class) → refusal c a ≡ 0 → length (class-field tag a) ≤ class-room
 unfolding class-field
-class-short tag c a three ok =
-    let k = shaped c a three ok in
+class-short tag c a ok =
+    let k = shaped c a ok in
     let low : a .degree ≤ 3 = k .low in
     let body : length (body-of a) ≡ 16 * a .degree = length-body a k in
     let all : length (stored tag (body-of a)) ≡ 3 + length (body-of a) = length-stored tag (body-of a) in
     omega arith
-
--- a class that is read has three numbers in each row
-pub class-three : (tag : ℕ) (c : Curve) (s : List ℕ) (at : ℕ) {a : Class} {next : ℕ} → class-at tag c s at ≡ found a next → Three a
-unfolding class-at
-class-three tag c s at h =
-    let p = both-found _ (body-at tag s at) h in
-    let q = checked-found (refusal c (class-said (p .0))) (found (class-said (p .0)) (p .1)) (p .3) in
-    subst Three (same-found (q .1) .0) (said-three (p .0))
 
 module _ (tag : ℕ) (lengths : (n : ℕ) → allowed tag n ≡ class-length n) (c : Curve) (s : List ℕ) (at : ℕ) where
   pub class-written : {a : Class} {next : ℕ} → Bytes s → class-at tag c s at ≡ found a next → (refusal c a ≡ 0) × Field s at (class-field tag a) next
@@ -190,9 +172,9 @@ module _ (tag : ℕ) (lengths : (n : ℕ) → allowed tag n ≡ class-length n) 
             (subst (λ (bs : List ℕ). Field s at bs (p .1)) (sym said) (record { stands = w .stands; ends = w .ends })),
       )
 
-  pub class-read-back : (a : Class) → Three a → refusal c a ≡ 0 → StandsAt s at (class-field tag a) → class-at tag c s at ≡ found a (at + length (class-field tag a))
+  pub class-read-back : (a : Class) → refusal c a ≡ 0 → StandsAt s at (class-field tag a) → class-at tag c s at ≡ found a (at + length (class-field tag a))
   unfolding class-at class-field
-  class-read-back a three ok h =
-      let fits = body-allowed c a three ok in
+  class-read-back a ok h =
+      let fits = body-allowed c a ok in
       then-found _ (body-read tag s at (body-of a) (lengths (length (body-of a)) ∙ fits) (omega (arith, class-length-le (length (body-of a)) fits)) h)
-      ∙ rw (body-said c a three ok) (checked-none _ _ ok)
+      ∙ rw (body-said c a ok) (checked-none _ _ ok)

@@ -17,7 +17,7 @@ use Rattle.stored_form.proofs.Readings.{then-found, then-same, then-ass
 use Rattle.stored_form.proofs.FieldReadings.{read-degree, read-curve, read-count, read-class, read-operation}
 use Rattle.stored_form.proofs.RoundTrips.{Field, up-to, whole, is-whole, end-written, end-read-back, count-written, count-read-back}
 use Rattle.stored_form.proofs.{Lengths.class-lengths, Lengths.operation-lengths, CurveRoundTrips.curve-first-written, CurveRoundTrips.curve-first-read-back}
-use Rattle.stored_form.proofs.ClassRoundTrips.{class-three, class-written, class-read-back}
+use Rattle.stored_form.proofs.ClassRoundTrips.{class-written, class-read-back}
 
 -- ---- the fields of a record by the readings of their tags
 
@@ -75,13 +75,13 @@ module _ (tags : List ℕ) (h : Held) (s : List ℕ) (at : ℕ) {end : Held} {ne
   class-found e =
       let p = both-found _ (class-at 0x43 (h .curve) s at) (sym (class-then tags h s at) ∙ e) in
       let w = class-written 0x43 class-lengths (h .curve) s at b (p .2) in
-      record { value = p .0; middle = p .1; passes = record { three = class-three 0x43 (h .curve) s at (p .2); none = w .0 }; field = w .1; rest = p .3 }
+      record { value = p .0; middle = p .1; passes = record { none = w .0 }; field = w .1; rest = p .3 }
 
   pub operation-found : read-fields (0x44 ∷ tags) h s at ≡ found end next → Leads (ClassPasses (h .curve)) (class-field 0x44) (λ a. with-operation a h) tags s at end next
   operation-found e =
       let p = both-found _ (class-at 0x44 (h .curve) s at) (sym (operation-then tags h s at) ∙ e) in
       let w = class-written 0x44 operation-lengths (h .curve) s at b (p .2) in
-      record { value = p .0; middle = p .1; passes = record { three = class-three 0x44 (h .curve) s at (p .2); none = w .0 }; field = w .1; rest = p .3 }
+      record { value = p .0; middle = p .1; passes = record { none = w .0 }; field = w .1; rest = p .3 }
 
 -- ---- a field that stands there as it is written
 
@@ -95,11 +95,11 @@ module _ (tags : List ℕ) (h : Held) (s : List ℕ) {at middle : ℕ} where
 
   pub class-back : {a : Class} → ClassPasses (h .curve) a → Field s at (class-field 0x43 a) middle →
       read-fields (0x43 ∷ tags) h s at ≡ read-fields tags (with-class a h) s middle
-  class-back {a} ok f = class-then tags h s at ∙ then-found _ (up-to f (class-read-back 0x43 class-lengths (h .curve) s at a (ok .three) (ok .none)))
+  class-back {a} ok f = class-then tags h s at ∙ then-found _ (up-to f (class-read-back 0x43 class-lengths (h .curve) s at a (ok .none)))
 
   pub operation-back : {a : Class} → ClassPasses (h .curve) a → Field s at (class-field 0x44 a) middle →
       read-fields (0x44 ∷ tags) h s at ≡ read-fields tags (with-operation a h) s middle
-  operation-back {a} ok f = operation-then tags h s at ∙ then-found _ (up-to f (class-read-back 0x44 operation-lengths (h .curve) s at a (ok .three) (ok .none)))
+  operation-back {a} ok f = operation-then tags h s at ∙ then-found _ (up-to f (class-read-back 0x44 operation-lengths (h .curve) s at a (ok .none)))
 
 -- ---- the whole record
 

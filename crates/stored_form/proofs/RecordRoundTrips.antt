@@ -9,7 +9,7 @@ use native.Mathlib.Nat.{add-zero, le-refl}
 use native.Mathlib.Omega.{arith}
 use lib.Dec.{eqb}
 use lib.ListN.{length}
-use Rattle.jacobian.specs.{Curves.coefficients, Curves.curve-with, Curves.curve-refusal, Answer.refusal, Classes.Three, declared.Curve.Curve, declared.Class.Class}
+use Rattle.jacobian.specs.{Curves.coefficients, Curves.curve-with, Curves.curve-refusal, Answer.refusal, declared.Curve.Curve, declared.Class.Class}
 use Rattle.stored_form.specs.{Number.number-of, Number.bytes-of, Number.Bytes, Reading.found, Reading.checked, Elements.elements, Elements.element-bytes}
 use Rattle.stored_form.specs.{Head.degree-length, Head.count-length, Head.allowed, Head.body-at, Head.stored, Head.StandsAt, Fields.end-refusal, Classes.class-said, Classes.curve-said}
 use Rattle.stored_form.specs.Held.{drawing-name, drawing-said, nothing-held, curve-of-degree, hold, field-refusal, read-field, read-fields, ended, read-record}

@@ -6,12 +6,12 @@ use mathlib.Core.List.{List, _∷_, _++_, append-assoc}
 use lib.Dec.{eqb, lit<}
 use lib.ListN.{length}
 use borrow.Author.Tests.{leb-true, le-leb}
-use Rattle.jacobian.specs.{Checks.unless, Curves.coefficients, Curves.curve-with, Curves.degree-refusal, Curves.curve-refusal, Answer.refusal, Classes.Three, declared.Curve.Curve, declared.Class.Class}
+use Rattle.jacobian.specs.{Checks.unless, Curves.coefficients, Curves.curve-with, Curves.degree-refusal, Curves.curve-refusal, Answer.refusal, declared.Curve.Curve, declared.Class.Class}
 use Rattle.stored_form.specs.{Head.degree-length, Head.count-length, Head.drawing-limit, Head.allowed, Elements.element-bytes, Fields.degree-field, Fields.count-limit, Fields.count-refusal, Fields.printable, Fields.drawing-refusal, Classes.curve-said, Classes.curve-field, Classes.curve-first-fields, Classes.class-said}
 use Rattle.stored_form.specs.Held.{drawing-said, drawing-name, nothing-held, curve-of-degree, with-curve, with-drawing, with-count, with-class, with-operation, hold, field-refusal}
 use Rattle.stored_form.specs.declared.Held.{Held}
 use Rattle.stored_form.proofs.{Digits.length-bytes, Digits.number-bytes-small, ElementBytes.length-element-bytes, Readings.test-passed, FieldReadings.name-said, RoundTrips.degree-small, RoundTrips.count-small}
-use Rattle.stored_form.proofs.{Lengths.class-lengths, Lengths.operation-lengths, CurveRoundTrips.degree-passes, CurveRoundTrips.curve-said-field, ClassRoundTrips.body-of, ClassRoundTrips.body-said, ClassRoundTrips.body-allowed, ClassRoundTrips.said-three}
+use Rattle.stored_form.proofs.{Lengths.class-lengths, Lengths.operation-lengths, CurveRoundTrips.degree-passes, CurveRoundTrips.curve-said-field, ClassRoundTrips.body-of, ClassRoundTrips.body-said, ClassRoundTrips.body-allowed}
 use Rattle.stored_form.proofs.RecordRoundTrips.{field-body, field-bytes, Says, Run, more}
 
 module _ (h : Held) where
@@ -54,23 +54,23 @@ module _ (h : Held) where
         fits = rw (length-bytes count-length n) refl;
       }
 
-  module _ (a : Class) (three : Three a) (ok : refusal (h .curve) a ≡ 0) where
+  module _ (a : Class) (ok : refusal (h .curve) a ≡ 0) where
     pub says-class : Says 0x43 h (with-class a h)
     unfolding field-body hold field-refusal
     says-class =
         record {
-          kept = ap (λ (k : Class). with-class k h) (sym (body-said (h .curve) a three ok));
+          kept = ap (λ (k : Class). with-class k h) (sym (body-said (h .curve) a ok));
           passes = ok;
-          fits = class-lengths (length (body-of a)) ∙ body-allowed (h .curve) a three ok;
+          fits = class-lengths (length (body-of a)) ∙ body-allowed (h .curve) a ok;
         }
 
     pub says-operation : Says 0x44 h (with-operation a h)
     unfolding field-body hold field-refusal
     says-operation =
         record {
-          kept = ap (λ (k : Class). with-operation k h) (sym (body-said (h .curve) a three ok));
+          kept = ap (λ (k : Class). with-operation k h) (sym (body-said (h .curve) a ok));
           passes = ok;
-          fits = operation-lengths (length (body-of a)) ∙ body-allowed (h .curve) a three ok;
+          fits = operation-lengths (length (body-of a)) ∙ body-allowed (h .curve) a ok;
         }
 
   -- ---- what is said are such values
@@ -95,19 +95,17 @@ module _ (h : Held) where
       leb-true _ _ (test-passed _ (lit< tt) (says .passes)),
     )
 
-    pub said-class : Says 0x43 h m → (m ≡ with-class (m .class) h) × Three (m .class) × (refusal (h .curve) (m .class) ≡ 0)
+    pub said-class : Says 0x43 h m → (m ≡ with-class (m .class) h) × (refusal (h .curve) (m .class) ≡ 0)
     unfolding hold field-refusal
     said-class says = (
       says .kept ∙ ap (λ (a : Class). with-class a h) (sym (ap (λ (k : Held). k .class) (says .kept))),
-      subst Three (sym (ap (λ (k : Held). k .class) (says .kept))) (said-three _),
       ap (λ (c : Curve). refusal c (m .class)) (sym (ap (λ (k : Held). k .curve) (says .kept))) ∙ says .passes,
     )
 
-    pub said-operation : Says 0x44 h m → (m ≡ with-operation (m .operation) h) × Three (m .operation) × (refusal (h .curve) (m .operation) ≡ 0)
+    pub said-operation : Says 0x44 h m → (m ≡ with-operation (m .operation) h) × (refusal (h .curve) (m .operation) ≡ 0)
     unfolding hold field-refusal
     said-operation says = (
       says .kept ∙ ap (λ (a : Class). with-operation a h) (sym (ap (λ (k : Held). k .operation) (says .kept))),
-      subst Three (sym (ap (λ (k : Held). k .operation) (says .kept))) (said-three _),
       ap (λ (c : Curve). refusal c (m .operation)) (sym (ap (λ (k : Held). k .curve) (says .kept))) ∙ says .passes,
     )
 

@@ -1,7 +1,7 @@
 -- What the values of a record's fields pass (document 01, 'In checking order').
 use Prim.Native.Nat.{ℕ, _≤_}
 use mathlib.Core.Path.{_≡_}
-use Rattle.jacobian.specs.{Curves.curve-refusal, Classes.Three, Answer.refusal}
+use Rattle.jacobian.specs.{Curves.curve-refusal, Answer.Accepts}
 use Rattle.jacobian.specs.declared.{Curve.Curve, Class.Class}
 use Rattle.stored_form.specs.Fields.{count-limit}
 
@@ -11,7 +11,5 @@ CurvePasses c = curve-refusal c ≡ 0
 abbrev pub CountPasses : ℕ → Type 0
 CountPasses n = n ≤ count-limit
 
--- a value of the code's type that no check refuses on its curve
-pub record ClassPasses (c : Curve) (a : Class) : Type 0 where
-  pub three : Three a
-  pub none : refusal c a ≡ 0
+abbrev pub ClassPasses : Curve → Class → Type 0
+ClassPasses = Accepts

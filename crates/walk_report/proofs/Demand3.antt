@@ -7,7 +7,7 @@ use mathlib.Core.Path.{_≡_, refl, ap}
 use mathlib.Core.Bool.{true}
 use mathlib.Core.List.{List}
 use lib.ListN.{length, getD}
-use Rattle.history.specs.{Register.register-refusal, Calls.Call, Calls.Fits, Calls.OnlyCommits, Calls.last, Calls.newest, Calls.classes, Calls.seals-back, declared.Register.Register}
+use Rattle.history.specs.{Register.register-refusal, Calls.Call, Calls.OnlyCommits, Calls.last, Calls.newest, Calls.classes, Calls.seals-back, declared.Register.Register}
 use Rattle.history.proofs.WalkingBack.{walk-meets}
 use Rattle.stored_form.specs.{Reading.found, Head.drawing-limit, Fields.printable}
 use Rattle.archive.specs.{Archive.Archive, Archive.read-archive, Written.archive-bytes}
@@ -15,10 +15,10 @@ use Rattle.archive.proofs.{ArchiveRoundTrips.archive-read-back, ArchiveBytes.ar
 use Rattle.walk_report.specs.{Walk.seals, Demand3.Keeps, Demand3.kept-archive, Demand3.Encodes}
 use Rattle.walk_report.proofs.Kept.{kept-storable}
 
-module _ (r : Register) (cs : List Call) (fits : Fits r cs) (only : OnlyCommits (newest r cs)) where
+module _ (r : Register) (cs : List Call) (only : OnlyCommits (newest r cs)) where
   walk-seals : seals (r .curve) (last r cs .seal) (classes (newest r cs)) ≡ seals-back r cs
   unfolding seals
-  walk-seals = walk-meets r cs fits only
+  walk-seals = walk-meets r cs only
 
   module _ (s : List ℕ) {a : Archive} {end : ℕ} (reads : read-archive s ≡ found a end) (keeps : Keeps a r cs) where
     pub archive-seals : seals (a .curve) (a .seal) (a .operations) ≡ seals-back r cs
@@ -33,5 +33,5 @@ module _ (r : Register) (cs : List Call) (fits : Fits r cs) (only : OnlyCommits 
   archive-exists passes drawing clean short =
       let a : Archive = kept-archive r cs drawing in
       let keeps : Keeps a r cs = record { curve-kept = refl; seal-kept = refl; operations-kept = refl } in
-      let reads = archive-read-back a (kept-storable r cs fits only passes drawing clean short) in
+      let reads = archive-read-back a (kept-storable r cs only passes drawing clean short) in
       record { named = refl; keeps = keeps; bytes = archive-is-bytes a clean; reads = reads; meets = archive-seals (archive-bytes a) reads keeps }

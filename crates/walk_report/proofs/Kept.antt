@@ -6,38 +6,34 @@ use mathlib.Core.Bool.{true}
 use mathlib.Core.List.{List, [], _∷_}
 use lib.ListN.{length, length-map}
 use Rattle.class_group.specs.Walk.{All, none, more}
-use Rattle.jacobian.specs.{Curves.curve-refusal, Classes.Three, Classes.class-refusal, Answer.refusal, declared.Curve.Curve, declared.Class.Class}
-use Rattle.jacobian.proofs.Representation.Unrefused.{zero-then}
-use Rattle.history.specs.{Register.register-refusal, Calls.Call, Calls.Fits, Calls.Event, Calls.last, Calls.newest, Calls.classes, Calls.OnlyCommits, declared.Register.Register}
-use Rattle.history.proofs.{Registers.register-passes, TakingBack.last-curve, TakingBack.last-fits, TakingBack.accepted-fit}
+use Rattle.jacobian.specs.{Curves.curve-refusal, Classes.class-refusal, Answer.Accepts, declared.Curve.Curve}
+use Rattle.jacobian.proofs.Representation.{accepts-both}
+use Rattle.history.specs.{Register.register-refusal, Calls.Call, Calls.Event, Calls.last, Calls.newest, Calls.classes, Calls.OnlyCommits, declared.Register.Register}
+use Rattle.history.proofs.{Registers.register-passes, TakingBack.last-curve}
 use Rattle.history.proofs.{Preserved.last-passes, Preserved.accepted-classes, WalkingBack.accepted-few}
 use Rattle.stored_form.specs.{Head.drawing-limit, Fields.printable}
-use Rattle.archive.specs.Written.{Allowed, Storable}
+use Rattle.archive.specs.Written.{Storable}
 use Rattle.walk_report.specs.Demand3.{kept-archive}
 
 module _ (c : Curve) (ok : curve-refusal c ≡ 0) where
-  allowed : {a : Class} → Three a → class-refusal c a ≡ 0 → Allowed c a
-  unfolding refusal
-  allowed three passes = record { three = three; passes = zero-then _ _ ok passes }
-
-  allowed-classes : (es : List Event) → All (λ e. Three (e .call .class)) es → All (λ e. class-refusal c (e .call .class) ≡ 0) es → All (Allowed c) (classes es)
+  allowed-classes : (es : List Event) → All (λ e. class-refusal c (e .call .class) ≡ 0) es → All (Accepts c) (classes es)
   unfolding classes
-  allowed-classes [] none none = none
-  allowed-classes (e ∷ es) (more f fs) (more p ps) = more (allowed f p) (allowed-classes es fs ps)
+  allowed-classes [] none = none
+  allowed-classes (e ∷ es) (more p ps) = more (accepts-both c (e .call .class) ok p) (allowed-classes es ps)
 
-pub kept-storable : (r : Register) (cs : List Call) → Fits r cs → OnlyCommits (newest r cs) → register-refusal r ≡ 0 →
+pub kept-storable : (r : Register) (cs : List Call) → OnlyCommits (newest r cs) → register-refusal r ≡ 0 →
     (drawing : List ℕ) → printable drawing ≡ true → length drawing ≤ drawing-limit → Storable (kept-archive r cs drawing)
 unfolding kept-archive classes
-kept-storable r cs fits only passes drawing clean short =
+kept-storable r cs only passes drawing clean short =
     let curve-ok = register-passes r passes .curve-passes in
-    let left = register-passes (last r cs) (last-passes r cs fits passes) in
+    let left = register-passes (last r cs) (last-passes r cs passes) in
     record {
       curve-allowed = curve-ok;
       drawing-printable = clean;
       drawing-short = short;
-      count-within = rw length-map (accepted-few r cs fits only);
+      count-within = rw length-map (accepted-few r cs only);
       seal-allowed =
-          allowed (r .curve) curve-ok (last-fits r cs fits)
+          accepts-both (r .curve) (last r cs .seal) curve-ok
           (subst (λ (c : Curve). class-refusal c (last r cs .seal) ≡ 0) (last-curve r cs) (left .seal-passes));
-      operations-allowed = allowed-classes (r .curve) curve-ok (newest r cs) (accepted-fit r cs fits) (accepted-classes r cs);
+      operations-allowed = allowed-classes (r .curve) curve-ok (newest r cs) (accepted-classes r cs);
     }

@@ -6,12 +6,12 @@ use mathlib.Core.List.{List, [], _∷_}
 use native.Mathlib.Omega.{arith}
 use lib.Dec.{eqb, ltb}
 use lib.ListN.{length, getD}
-use Rattle.jacobian.specs.{Checks.unless, Curves.curve-refusal, Answer.Result, Answer.refusal, Answer.refusal-of-two, Answer.neutral-class, Answer.subtract-and-halve-answer, declared.Curve.Curve, declared.Class.Class}
-use Rattle.jacobian.proofs.{ByValue.Checks.then-zero, Representation.Unrefused.zero-then}
+use Rattle.jacobian.specs.{Checks.unless, Curves.curve-refusal, Answer.Result, Answer.Accepts, Answer.refusal, Answer.refusal-of-two, Answer.neutral-class, Answer.subtract-and-halve-answer, declared.Curve.Curve, declared.Class.Class}
+use Rattle.jacobian.proofs.{Representation.accepts-class, Representation.Unrefused.zero-then}
 use Rattle.stored_form.specs.{Number.number-of, Reading.Reading, Reading.found, Reading.refused, Reading.refuse, Reading.checked, Reading._then_, Reading.reading-refusal, Head.allowed, Head.body-length, Head.head-at, Head.body-at, Fields.degree-at, Fields.drawing-refusal, Fields.drawing-at, Fields.count-refusal, Fields.count-at, Fields.end-refusal, Classes.curve-said, Classes.curve-at, Classes.curve-first, Classes.class-said, Classes.class-at}
 use Rattle.stored_form.specs.{Held.drawing-name, Held.nothing-held, Held.with-operation, Held.read-field, Held.read-fields, Held.archive-opening, declared.Held.Held}
-use Rattle.stored_form.proofs.{Readings.then-found, Readings.both-found, Readings.checked-found, Readings.same-found, FieldReadings.read-operation, ClassRoundTrips.class-three}
-use Rattle.history.specs.Register.{undo-seal, sealed, Sound}
+use Rattle.stored_form.proofs.{Readings.then-found, Readings.both-found, Readings.checked-found, Readings.same-found, FieldReadings.read-operation}
+use Rattle.history.specs.Register.{undo-seal, sealed}
 use Rattle.history.proofs.{Seals.undo-sound, Answers.subtract-and-halve-sealed}
 use Rattle.archive.specs.{Archive.Archive, Archive.operations-at, Archive.read-archive, Archive.archive-refusal, Reader.reader, Reader.operations-due, Reader.step, Reader.opening, Reader.read-opened, Reader.archive-of, declared.Due.Due, declared.Reader.Reader}
 use Rattle.archive.specs.Reader as reading
@@ -109,13 +109,8 @@ module _ (tag : ℕ) (c : Curve) (s : List ℕ) (at : ℕ) {a : Class} {next : �
       let q = checked-found (refusal c (class-said (p .0))) (found (class-said (p .0)) (p .1)) (p .3) in
       subst (λ (b : Class). refusal c b ≡ 0) (same-found (q .1) .0) (q .0)
 
-  class-sound : Sound c a
-  unfolding refusal
-  class-sound = record { three = class-three tag c s at e; unrefused = then-zero _ _ class-unrefused .1 }
-
-  curve-accepted : curve-refusal c ≡ 0
-  unfolding refusal
-  curve-accepted = then-zero _ _ class-unrefused .0
+  class-sound : Accepts c a
+  class-sound = record { none = class-unrefused }
 
 operations-counted : (n : ℕ) (c : Curve) (s : List ℕ) (at : ℕ) {ops : List Class} {end : ℕ} → operations-at n c s at ≡ found ops end → length ops ≡ n
 operations-counted zero c s at e = ap length (no-operations c s at e)
@@ -124,10 +119,10 @@ operations-counted (suc n) c s at e =
     ap length (m .all) ∙ ap suc (operations-counted n c s (m .next) (m .rest))
 
 -- the rule's answer is the seal
-answer-is : (c : Curve) (seal a : Class) → curve-refusal c ≡ 0 → Sound c seal → Sound c a → subtract-and-halve-answer c seal a .class ≡ undo-seal c seal a
-unfolding refusal-of-two refusal sealed
-answer-is c seal a ok hs ha =
-    let z : refusal-of-two c seal a ≡ 0 = zero-then _ _ (zero-then _ _ ok (hs .unrefused)) (ha .unrefused) in
+answer-is : (c : Curve) (seal a : Class) → Accepts c seal → Accepts c a → subtract-and-halve-answer c seal a .class ≡ undo-seal c seal a
+unfolding refusal-of-two sealed
+answer-is c seal a hs ha =
+    let z : refusal-of-two c seal a ≡ 0 = zero-then _ _ (hs .none) (accepts-class ha) in
     ap (λ (x : Result). x .class) (subtract-and-halve-sealed c seal a ∙ ap (λ (n : ℕ). sealed n (undo-seal c seal a)) z)
 
 -- ---- the report's lines, behind the one of a seal
@@ -211,7 +206,7 @@ module _ (s : List ℕ) where
   -- all lines behind the one of a seal
 
   walk-made : (n : ℕ) (stage : Stage) (h : Held) (seal b : Class) (at k : ℕ) {ops : List Class} {end : ℕ} → operations-at n (h .curve) s at ≡ found ops end →
-      h .count ≡ k + n → Sound (h .curve) seal →
+      h .count ≡ k + n → Accepts (h .curve) seal →
       let m = advanced (report stage (reader (operations-due n) h) seal b) s at in texts n (m .report) s (m .next .at) ≡ later-lines (h .curve) k seal ops
   unfolding texts later-lines letters
   walk-made zero stage h seal b at k e counted hs = ap (later-lines (h .curve) k seal) (sym (no-operations (h .curve) s at e))
@@ -221,14 +216,13 @@ module _ (s : List ℕ) where
       let a : Class = m .class in
       let ops : List Class = m .older in
       let next : ℕ = m .next in
-      let ok = curve-accepted 0x44 c s at (m .this) in
       let ha = class-sound 0x44 c s at (m .this) in
       let before : Class = undo-seal c seal a in
       let more : Held = with-operation a h in
       ap (λ (x : Moved). texts (suc n) (x .report) s (x .next .at)) (advanced-more n stage h seal b at (m .this))
-      ∙ undo-made n more seal a next k (m .rest) counted (answer-is c seal a ok hs ha)
+      ∙ undo-made n more seal a next k (m .rest) counted (answer-is c seal a hs ha)
       ∙ ap (λ (l : List (List ℕ)). line (k + 1) (letter c a ops) before ∷ l)
-      (walk-made n Undo more before a next (k + 1) (m .rest) (omega (arith, counted)) (undo-sound ok hs ha))
+      (walk-made n Undo more before a next (k + 1) (m .rest) (omega (arith, counted)) (undo-sound hs ha))
       ∙ sym (lines-from c (k + 1) (letter c a ops) before ops)
       ∙ ap (later-lines c k seal) (sym (m .all))
 
@@ -285,7 +279,7 @@ module _ (s : List ℕ) where
       let c : Curve = h .curve in
       let ops : List Class = p .operations in
       let f = found-fields s e in
-      let hs : Sound c (h .class) = subst (λ (x : Archive). Sound (x .curve) (x .seal)) (p .archive) (class-sound 0x43 (a .curve) s (f .after-count) (f .seal-found)) in
+      let hs : Accepts c (h .class) = subst (λ (x : Archive). Accepts (x .curve) (x .seal)) (p .archive) (class-sound 0x43 (a .curve) s (f .after-count) (f .seal-found)) in
       let counted = operations-counted (h .count) c s (p .first) (p .operations-read) in
       ap (λ (m : Moved). texts (lines-left (m .report)) (m .report) s (m .next .at)) (opened-first (ap reading-refusal e) (p .opening-read))
       ∙ first-made (h .count) h (h .class) neutral-class (p .first)

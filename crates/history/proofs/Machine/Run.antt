@@ -27,18 +27,13 @@ module _ {State Call : Type 0} (M : Machine State Call) where
   unfolding last
   last-append s cs ds = after-append (M .next) s cs ds
 
-  module _ {Holds : State → Type 0} {Fits : Call → Type 0} (keeps : (s : State) (c : Call) → Holds s → Fits c → Holds (M .next s c)) where
-    pub last-holds : {s : State} {cs : List Call} → Holds s → All Fits cs → Holds (last M s cs)
+  module _ (Holds : State → Type 0) (keeps : (s : State) (c : Call) → Holds s → Holds (M .next s c)) where
+    pub last-holds : {s : State} (cs : List Call) → Holds s → Holds (last M s cs)
     unfolding last after
-    last-holds h none = h
-    last-holds {s} h (more {a = c} f fs) = last-holds (keeps s c h f) fs
+    last-holds [] h = h
+    last-holds {s} (c ∷ cs) h = last-holds cs (keeps s c h)
 
-    pub run-all : {P : Event State Call → Type 0} → ((s : State) (c : Call) → Holds s → Fits c → P (event M s c)) → {s : State} {cs : List Call} → Holds s → All Fits cs → All P (run M s cs)
+    pub run-all : {P : Event State Call → Type 0} → ((s : State) (c : Call) → Holds s → P (event M s c)) → {s : State} (cs : List Call) → Holds s → All P (run M s cs)
     unfolding run
-    run-all p h none = none
-    run-all p {s} h (more {a = c} f fs) = more (p s c h f) (run-all p (keeps s c h f) fs)
-
-  -- what holds of all calls of a list holds of the accepted ones
-  pub accepted-fit : {Fits : Call → Type 0} (s : State) {cs : List Call} → All Fits cs → All (λ e. Fits (e .call)) (accepted-of (run M s cs))
-  unfolding event
-  accepted-fit s fits = all-accepted (run-all {Holds = λ t. Unit {0}} (λ t c h f. tt) (λ t c h f e. f) tt fits)
+    run-all p [] h = none
+    run-all p {s} (c ∷ cs) h = more (p s c h) (run-all p cs (keeps s c h))

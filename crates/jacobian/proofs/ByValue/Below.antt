@@ -1,14 +1,15 @@
 -- The numbers of a row below a bound, and those that are 0 from a place on, tested one after the other.
 use Prim.Native.Nat.{ℕ, zero, suc, _+_, _≤_, _<_}
-use mathlib.Core.Path.{_≡_, refl, subst, _∙_}
-use mathlib.Core.{Bool.Bool, Bool.true, Bool.false, Bool.and-false, List.List, List.[], List._∷_}
+use mathlib.Core.Path.{_≡_, refl, sym, subst, _∙_}
+use mathlib.Core.{Bool.Bool, Bool.true, Bool.false, Bool._&&_, Bool.and-false, List.List, List.[], List._∷_}
 use native.Mathlib.Omega.{arith}
 use native.Mathlib.Decide.{decLe}
 use lib.ListN.{getD, length, drop, List·getD-eq-default}
+use lib.Dec.{eqb}
 use lib.Seq.{getD-drop}
 use borrow.Author.Tests.{lt-ltb, le-ltb, eq-eqb}
 use Rattle.binary_field.specs.Answer.{below}
-use Rattle.jacobian.specs.Checks.{blank}
+use Rattle.jacobian.specs.{Checks.blank, Classes.padded}
 use Rattle.jacobian.proofs.ByValue.Checks.{blank-past}
 
 -- the numbers before place i are below m
@@ -60,16 +61,18 @@ at-blank (n ∷ r) h = rw (eq-eqb n 0 (h 0)) (at-blank r (λ i. h (suc i)))
 pub from-blank : (n : ℕ) (r : List ℕ) → ((i : ℕ) → n ≤ i → getD r i 0 ≡ 0) → blank (drop n r) ≡ true
 from-blank n r h = at-blank (drop n r) (λ i. getD-drop n r i 0 ∙ h (n + i) (omega arith))
 
-pub blank-all : (n : ℕ) (r : List ℕ) {i : ℕ} → BlankTo n r i → length r ≤ i → blank (drop n r) ≡ true
-blank-all n r {i} b l = from-blank n r (λ j h. go j h (decLe i j))
+pub padded-all : (n : ℕ) (r : List ℕ) {i : ℕ} → BlankTo n r i → length r ≡ 3 → 3 ≤ i → true ≡ padded n r
+unfolding padded
+padded-all n r {i} b l k = rw (eq-eqb (length r) 3 l, from-blank n r (λ j h. go j h (decLe i j)))
   where
     go : (j : ℕ) → n ≤ j → Dec (i ≤ j) → getD r j 0 ≡ 0
-    go j h (no k) = b .at j h (omega arith)
-    go j h (yes k) = List·getD-eq-default r 0 (omega arith)
+    go j h (no m) = b .at j h (omega arith)
+    go j h (yes m) = List·getD-eq-default r 0 (omega arith)
 
-pub blank-fails : (n : ℕ) (r : List ℕ) (i : ℕ) → n ≤ i → ¬ (getD r i 0 ≡ 0) → blank (drop n r) ≡ false
-blank-fails n r i h k = go (blank (drop n r)) refl
+pub padded-fails : (n : ℕ) (r : List ℕ) (i : ℕ) → n ≤ i → ¬ (getD r i 0 ≡ 0) → false ≡ padded n r
+unfolding padded
+padded-fails n r i h k = go (blank (drop n r)) refl
   where
-    go : (b : Bool) → blank (drop n r) ≡ b → blank (drop n r) ≡ false
+    go : (b : Bool) → blank (drop n r) ≡ b → false ≡ (eqb (length r) 3 && b)
     go true e = absurd (k (blank-past n r e i h))
-    go false e = e
+    go false e = sym (and-false (eqb (length r) 3))

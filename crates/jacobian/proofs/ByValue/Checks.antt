@@ -3,12 +3,12 @@ use Prim.Native.Nat.{ℕ, zero, suc, _^_, _≤_, _<_}
 use mathlib.Core.Path.{_≡_, refl}
 use mathlib.Core.{Bool.Bool, Bool.true, Bool.false, Bool._&&_, List.List, List.[], List._∷_}
 use native.Mathlib.Omega.{arith}
-use lib.{Dec.T, Dec.eqb, Dec.ltb, Dec.lit<, Dec.lit≤, ListN.getD, ListN.drop, Pow.pow-pos}
+use lib.{Dec.T, Dec.eqb, Dec.ltb, Dec.lit<, Dec.lit≤, ListN.getD, ListN.length, ListN.drop, Pow.pow-pos}
 use borrow.Author.Tests.{ltb-true, leb-true, eqb-true}
 use Rattle.binary_field_theory.specs.Element.{Accepted}
 use Rattle.class_group.specs.Mumford.{value}
 use Rattle.row_theory.specs.Field.{𝔸}
-use Rattle.jacobian.specs.{Checks.unless, Checks._or-else_, Checks.blank, Curves.coefficients, Curves.degree-refusal, Curves.coefficient-refusal, Curves.curve-refusal, Curves.f-row, Curves.curve, Classes.pair, Classes.shape-refusal, Classes.range-refusal, Classes.class-refusal, declared.Curve.Curve, declared.Class.Class}
+use Rattle.jacobian.specs.{Checks.unless, Checks._or-else_, Checks.blank, Curves.coefficients, Curves.degree-refusal, Curves.coefficient-refusal, Curves.curve-refusal, Curves.f-row, Curves.curve, Classes.pair, Classes.padded, Classes.shape-refusal, Classes.range-refusal, Classes.class-refusal, declared.Curve.Curve, declared.Class.Class}
 use Rattle.binary_field.specs.Answer.{below}
 use Rattle.jacobian.proofs.ByValue.Degrees.{by-degree}
 
@@ -96,6 +96,8 @@ curve-passes c e =
 -- ---- a class that no check refuses
 pub record ShapePasses (a : Class) : Type 0 where
   pub low : a .degree ≤ 3
+  pub u-three : length (a .u) ≡ 3
+  pub v-three : length (a .v) ≡ 3
   pub u-blank : (i : ℕ) → a .degree ≤ i → getD (a .u) i 0 ≡ 0
   pub v-blank : (i : ℕ) → a .degree ≤ i → getD (a .v) i 0 ≡ 0
 
@@ -109,14 +111,18 @@ pub record ClassPasses (c : Curve) (a : Class) : Type 0 where
   pub divides : 𝔸 (c .degree) .len (𝔸 (c .degree) .rem (value (curve c) (pair (c .degree) a .v)) (pair (c .degree) a .u)) ≡ 0
 
 pub shape-passes : (a : Class) → shape-refusal a ≡ 0 → ShapePasses a
-unfolding shape-refusal
+unfolding shape-refusal padded
 shape-passes a e =
     let shape = both _ _ (unless-zero _ 104 (lit< tt) e) in
     let degree = both _ _ (shape .0) in
+    let u = both _ _ (degree .1) in
+    let v = both _ _ (shape .1) in
     record {
       low = leb-true _ _ (degree .0);
-      u-blank = blank-past (a .degree) (a .u) (degree .1);
-      v-blank = blank-past (a .degree) (a .v) (shape .1);
+      u-three = eqb-true _ _ (u .0);
+      v-three = eqb-true _ _ (v .0);
+      u-blank = blank-past (a .degree) (a .u) (u .1);
+      v-blank = blank-past (a .degree) (a .v) (v .1);
     }
 
 pub range-passes : (d : ℕ) (a : Class) → range-refusal d a ≡ 0 → RangePasses d a

@@ -9,7 +9,7 @@ use Rattle.row_theory.specs.{Field.𝔸, Field.Poly, Field.poly, Row.InRange, R
 use Rattle.class_rows.specs.{Pair.rows-pair, Core.OnCurve, Core.ReducedRows, Checked.Decides, Checked.Divisor, declared.row.RowPair.RowPair}
 use Rattle.row_theory.proofs.Rows.Elements.{degree-is, el-one}
 use Rattle.class_rows.proofs.{CheckRows.by-number, ReductionRows.reduced-on}
-use Rattle.jacobian.specs.{Curves.f-row, Curves.curve, Classes.Three, internal.ClassRows.RowsOf, Classes.u-row, Classes.pair, declared.Curve.Curve, declared.Class.Class}
+use Rattle.jacobian.specs.{Curves.f-row, Curves.curve, internal.ClassRows.RowsOf, Classes.u-row, Classes.pair, declared.Curve.Curve, declared.Class.Class}
 use Rattle.jacobian.proofs.{ByValue.Checks.CurvePasses, ByValue.Checks.ShapePasses, ByValue.Checks.RangePasses, ByValue.Checks.ClassPasses, ByValue.Filled.getD-filled, ByValue.Filled.poly-filled, Representation.Form.Formed, Representation.Form.passes-formed, Representation.Form.formed-reduced, Representation.Form.u-row-range, Representation.Form.u-monic}
 
 pub filled-range : (d : ℕ) (r : List ℕ) → InRange d r → InRange d (filled r)
@@ -41,13 +41,13 @@ module _ (d : ℕ) {a : Class} (h : Formed d a) {r : RowPair} (rows : RowsOf a r
   v-range = rw (rows .v-is) (filled-range d (a .v) (h .v-range))
 
 -- the rows of a class that passes its checks
-pub class-formed : {c : Curve} {a : Class} → CurvePasses c → ClassPasses c a → Three a → Formed (c .degree) a
-class-formed {c} {a} h k three = passes-formed (c .degree) (h .accepted) a three (k .shape) (k .range)
+pub class-formed : {c : Curve} {a : Class} → CurvePasses c → ClassPasses c a → Formed (c .degree) a
+class-formed {c} {a} h k = passes-formed (c .degree) (h .accepted) a (k .shape) (k .range)
 
 pub rows-reduced :
     (c : Curve) (a : Class) → CurvePasses c → ClassPasses c a → {f : List ℕ} → f ≡ filled (f-row c) → {r : RowPair} → RowsOf a r → ReducedRows (c .degree) f r
 rows-reduced c a h k e rows =
-    let formed = class-formed h k (rows .three) in
+    let formed = class-formed h k in
     record {
       C = curve c;
       on-curve = on-curve c h e;
@@ -63,7 +63,7 @@ pub divides-decides :
 divides-decides c a h shape range {f} e {r} rows =
     let d = c .degree in
     let D = pair d a in
-    let formed = passes-formed d (h .accepted) a (rows .three) shape range in
+    let formed = passes-formed d (h .accepted) a shape range in
     let nonzero = monic-nonzero (𝔸 d) (D .u) (u-monic d a formed) in
     by-number
     (λ z. record { degree = h .accepted; reduced = rows-reduced c a h (record { shape = shape; range = range; divides = z }) e rows })

@@ -16,13 +16,12 @@ use Rattle.row_theory.specs.{Field.degree-of, Field.K, Field.Poly, Field.F, Fie
 use Rattle.row_theory.proofs.Rows.Elements.{degree-is, el-number, el-of, el-zero, el-one}
 use Rattle.row_theory.proofs.{Rows.Elements.zero-lt, Rows.Elements.one-lt, Rows.Coefficients.coeff-poly, Rows.Coefficients.row-len-le}
 use Rattle.jacobian.specs.declared.Class.{Class}
-use Rattle.jacobian.specs.Classes.{Three, u-row, pair, numbers, class-of}
+use Rattle.jacobian.specs.Classes.{u-row, pair, numbers, class-of}
 use Rattle.jacobian.proofs.ByValue.Checks.{ShapePasses, RangePasses}
 use Rattle.binary_field_theory.specs.Element.{Accepted}
 
 -- the form of a class by value: rows of three numbers in range, 0 at and past the degree, which is at most 3
 pub record Formed (d : ℕ) (a : Class) : Type 0 where
-  pub three : Three a
   pub shape : ShapePasses a
   pub u-range : InRange d (a .u)
   pub v-range : InRange d (a .v)
@@ -51,7 +50,7 @@ module _ (a : Class) (long : a .degree ≤ length (a .u)) where
 -- ---- the pair of a class
 module _ (d : ℕ) (a : Class) (h : Formed d a) where
   long : a .degree ≤ length (a .u)
-  long = let e : length (a .u) ≡ 3 = h .three .u-three in omega arith
+  long = let e : length (a .u) ≡ 3 = h .shape .u-three in omega arith
 
   -- the row of u is in range
   pub u-row-range : InRange d (u-row a)
@@ -102,10 +101,9 @@ module _ (d : ℕ) (a : Class) (h : Formed d a) where
       }
 
 -- what passes the checks of shape and range is of the right form
-pub passes-formed : (d : ℕ) → Accepted d → (a : Class) → Three a → ShapePasses a → RangePasses d a → Formed d a
-passes-formed d ok a three shape range =
+pub passes-formed : (d : ℕ) → Accepted d → (a : Class) → ShapePasses a → RangePasses d a → Formed d a
+passes-formed d ok a shape range =
     record {
-      three = three;
       shape = shape;
       u-range = λ i. rw (degree-is d ok) (range .u-below i);
       v-range = λ i. rw (degree-is d ok) (range .v-below i);
@@ -158,19 +156,15 @@ module _ (d : ℕ) (a : Class) (h : Formed d a) where
       let D = pair d a in
       let n-is : 𝔸 d .len (D .u) - 1 ≡ a .degree = rw (u-len d a h) (omega arith) in
       let u-is : numbers d (a .degree) (D .u) ≡ a .u =
-      row-back (a .u) (D .u) (h .three .u-three) (h .u-range) (h .shape .u-blank) (coeff-u-below d a h) in
+      row-back (a .u) (D .u) (h .shape .u-three) (h .u-range) (h .shape .u-blank) (coeff-u-below d a h) in
       let v-is : numbers d (a .degree) (D .v) ≡ a .v =
-      row-back (a .v) (D .v) (h .three .v-three) (h .v-range) (h .shape .v-blank) (λ i _. coeff-v d a h i) in
+      row-back (a .v) (D .v) (h .shape .v-three) (h .v-range) (h .shape .v-blank) (λ i _. coeff-v d a h i) in
       ap (λ n. as-class n (numbers d n (D .u)) (numbers d n (D .v))) n-is ∙ ap₂ (as-class (a .degree)) u-is v-is
     where
       as-class : ℕ → List ℕ → List ℕ → Class
       as-class n u v = record { degree = n; u = u; v = v }
 
--- ---- the value of a pair, and of a reduced class
-pub class-of-three : (d : ℕ) (D : Pair (Poly d)) → Three (class-of d D)
-unfolding class-of
-class-of-three d D = record { u-three = numbers-length d _ (D .u); v-three = numbers-length d _ (D .v) }
-
+-- ---- the value of a reduced class
 module _ (d : ℕ) (C : Theory.Curve (𝔸 d)) (D : Pair (Poly d)) (h : Reduced C D) where
   degree-suc : 𝔸 d .len (D .u) ≡ suc (𝔸 d .len (D .u) - 1)
   degree-suc = let l : 𝔸 d .len (D .v) < 𝔸 d .len (D .u) = h .v-len in omega arith
@@ -183,8 +177,13 @@ module _ (d : ℕ) (C : Theory.Curve (𝔸 d)) (D : Pair (Poly d)) (h : Reduced 
   class-of-is-formed =
       let n = 𝔸 d .len (D .u) - 1 in
       record {
-        three = class-of-three d D;
-        shape = record { low = degree-le-3; u-blank = numbers-past d n (D .u); v-blank = numbers-past d n (D .v) };
+        shape = record {
+          low = degree-le-3;
+          u-three = numbers-length d n (D .u);
+          v-three = numbers-length d n (D .v);
+          u-blank = numbers-past d n (D .u);
+          v-blank = numbers-past d n (D .v);
+        };
         u-range = numbers-range d n (D .u) degree-le-3;
         v-range = numbers-range d n (D .v) degree-le-3;
       }

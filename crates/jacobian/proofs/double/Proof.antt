@@ -6,7 +6,7 @@ use Rattle.jacobian.proofs.double.Tie as tie
 
 returns : tie.Need-returns
 unfolding double-answer
-returns c = c .on-one .ensures .answer
+returns c = c .on-one .ensures
 
 pub double-spec : {M : Type 1} → statement M
 double-spec = tie.close (tie.spec (λ c κs. search needs) returns)

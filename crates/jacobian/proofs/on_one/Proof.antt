@@ -1,15 +1,14 @@
 -- `on_one` meets its contract: what no check before the division refuses goes through the rows, and the division settles it.
 use mathlib.Core.Path.{sym, _∙_}
-use Rattle.jacobian.specs.Curves.{curve}
+use Rattle.class_rows.specs.Operations.{unary}
+use Rattle.jacobian.specs.{Curves.curve, Classes.pair}
 use Rattle.jacobian.proofs.{ByValue.Checks.then-zero, ByValue.Checks.curve-passes, ByValue.Passing.on-curve, ByValue.Passing.rows-pair-is, ByValue.Refusals.form-first, ByValue.Refusals.form-shape, ByValue.Refusals.one-due, ByValue.Answers.at-refusal}
 use borrow.Author.Needs.{needs}
 use Rattle.jacobian.proofs.on_one.Statement.{statement}
 use Rattle.jacobian.proofs.on_one.Tie as tie
 
 returns : tie.Need-returns
-returns c =
-    let e = form-first _ _ (c .before .before .curve-and-form-refusal .ensures) (c .before .if1 .taken) in
-    record { answer = at-refusal _ _ e (c .refused .ensures _ _); three = λ z. absurd (c .before .if1 .taken (e ∙ z)) }
+returns c = at-refusal _ _ (form-first _ _ (c .before .before .curve-and-form-refusal .ensures) (c .before .if1 .taken)) (c .refused .ensures _ _)
 
 to-rows-requires : tie.Need-to-rows-requires
 to-rows-requires c κs =
@@ -22,16 +21,13 @@ returns-2 c =
     let left = after .before .before .before in
     let s = left .before .before in
     let d = s .args .curve .degree in
+    let C = curve (s .args .curve) in
     let z = then-zero _ _ (sym (left .before .curve-and-form-refusal .ensures) ∙ left .if1 .left) in
     let f = after .before .before .f-row .ensures in
     let rows = after .before .to-rows .ensures in
     let gives = after .unary-rows .ensures in
-    record {
-      answer =
-          at-refusal d _ (one-due (s .args .curve) (s .args .a) (z .1) (z .0) f rows (gives .decides))
-          (c .settled .ensures d _ (λ held. rw (rows-pair-is d rows) at (gives .stands held (curve (s .args .curve)) (on-curve _ (curve-passes _ (z .0)) f))));
-      three = λ _. rows .three;
-    }
+    at-refusal d (unary (s .args .op) C (pair d (s .args .a))) (one-due (s .args .curve) (s .args .a) (z .1) (z .0) f rows (gives .decides))
+    (c .settled .ensures d _ (λ held. rw (rows-pair-is d rows) at (gives .stands held C (on-curve (s .args .curve) (curve-passes _ (z .0)) f))))
 
 pub on-one-spec : {M : Type 1} → statement M
 on-one-spec = tie.close (tie.spec (λ c κs. search needs) (λ c κs. search needs) returns (λ c κs. search needs) to-rows-requires (λ c κs. search needs) (λ c κs. search needs) returns-2)

@@ -1,5 +1,6 @@
 -- `on_two` meets its contract: what no check before the divisions refuses goes through the rows, and the divisions settle it.
-use Rattle.jacobian.specs.Curves.{curve}
+use Rattle.class_rows.specs.Operations.{binary}
+use Rattle.jacobian.specs.{Curves.curve, Classes.pair}
 use Rattle.jacobian.proofs.{ByValue.Checks.curve-passes, ByValue.Passing.on-curve, ByValue.Passing.rows-pair-is, ByValue.Refusals.form-shape, ByValue.Refusals.two-due, ByValue.Answers.at-refusal}
 use borrow.Author.Needs.{needs}
 use Rattle.jacobian.proofs.on_two.Statement.{statement}
@@ -27,15 +28,16 @@ returns-2 c =
     let left = after .before .before .before .before in
     let s = left .before .before in
     let d = s .args .curve .degree in
+    let C = curve (s .args .curve) in
     let z = left .before .form-refusal-of-two .ensures .none (left .if1 .left) in
     let f = after .before .before .before .f-row .ensures in
     let first = after .before .before .to-rows .ensures in
     let second = after .before .to-rows2 .ensures in
     let gives = after .binary-rows .ensures in
-    at-refusal d _
+    at-refusal d (binary (s .args .op) C (pair d (s .args .a)) (pair d (s .args .b)))
     (two-due (s .args .curve) (s .args .a) (s .args .b) (z .0) (z .1) (z .2) f first second (gives .decides))
     (c .settled .ensures d _
-    (λ held. rw (rows-pair-is d first, rows-pair-is d second) at (gives .stands held (curve (s .args .curve)) (on-curve _ (curve-passes _ (z .0)) f))))
+    (λ held. rw (rows-pair-is d first, rows-pair-is d second) at (gives .stands held C (on-curve (s .args .curve) (curve-passes _ (z .0)) f))))
 
 pub on-two-spec : {M : Type 1} → statement M
 on-two-spec = tie.close (tie.spec (λ c κs. search needs) refused-requires returns (λ c κs. search needs) to-rows-requires to-rows-requires-2 (λ c κs. search needs) (λ c κs. search needs) returns-2)

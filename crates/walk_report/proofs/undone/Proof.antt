@@ -14,7 +14,7 @@ returns c =
     let mark = due .before in
     let m = mark .before .before .before in
     let step = m .before .before in
-    undone-made _ _ _ (ap (λ (x : Reply). x .class) (step .subtract-and-halve .ensures)) (m .advanced .ensures) (mark .letter-before .ensures)
+    undone-made _ _ _ (ap (λ (x : Reply). x .class) (step .subtract-and-halve .ensures .answer)) (m .advanced .ensures) (mark .letter-before .ensures)
     (due .older .ensures) (count .undone-of .ensures) (line .seal-line .ensures)
 
 pub undone-spec : {M : Type 1} → statement M

@@ -60,7 +60,7 @@ returns-4 c =
     let within : s .args .self .count ≤ limit = omega arith in
     step-follows (s .args .step) (s .args .self) (s .args .class) within (λ e. m .if2 .left (e ∙ sym (m .before .edge-count .ensures)))
     (sym (ap (λ k. stepped k (s .args .self) (s .args .class)) (c .before .before .enum-told2 .given .1)))
-    (c .followed2 .ensures _ _ (ap result (c .before .subtract-and-halve .ensures) ∙ subtract-and-halve-sealed _ _ _))
+    (c .followed2 .ensures _ _ (ap result (c .before .subtract-and-halve .ensures .answer) ∙ subtract-and-halve-sealed _ _ _))
 
 pub step-spec : {M : Type 1} → statement M
 step-spec =

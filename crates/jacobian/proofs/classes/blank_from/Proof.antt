@@ -1,8 +1,7 @@
 -- `blank_from` meets its contract. The invariant: the numbers from place n to place i are 0.
 use Prim.Native.Nat.{_-_, _≤_}
-use mathlib.Core.Path.{sym}
 use native.Mathlib.Omega.{arith}
-use Rattle.jacobian.proofs.ByValue.Below.{BlankTo, blank-none, blank-more, blank-all, blank-fails}
+use Rattle.jacobian.proofs.ByValue.Below.{BlankTo, blank-none, blank-more, padded-all, padded-fails}
 use Rattle.jacobian.proofs.classes.blank_from.Statement.{statement}
 use Rattle.jacobian.proofs.classes.blank_from.Tie as tie
 
@@ -15,7 +14,7 @@ abbrev μ-loop : tie.MeasureT-loop
 returns : tie.Need-returns Inv-loop μ-loop
 returns c =
     let s = c .before .before .before .args in
-    sym (blank-fails (s .n) (s .t2) (c .before .before .loop .i) (c .before .before .loop .inv .0) (c .if1 .taken))
+    padded-fails (s .n) (s .t2) (c .before .before .loop .i) (c .before .before .loop .inv .0) (c .if1 .taken)
 
 loop-again : tie.Need-loop-again Inv-loop μ-loop
 loop-again c = (omega arith, blank-more (c .before .before .loop .inv .1) (c .if1 .left))
@@ -24,7 +23,7 @@ returns-2 : tie.Need-returns-2 Inv-loop μ-loop
 returns-2 c =
     let s = c .before .before in
     let size = s .good .1 .0 .1 .0 .1 in
-    sym (blank-all (s .args .n) (s .args .t2) (c .before .loop .inv .1) (omega (arith, size)))
+    padded-all (s .args .n) (s .args .t2) (c .before .loop .inv .1) size (omega arith)
 
 pub blank-from-spec : {M : Type 1} → statement M
 blank-from-spec =

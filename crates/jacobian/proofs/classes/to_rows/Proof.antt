@@ -6,10 +6,7 @@ use Rattle.jacobian.proofs.classes.to_rows.Tie as tie
 
 returns : tie.Need-returns
 unfolding u-row
-returns c =
-    let u = c .before .leading-one .ensures in
-    let v = c .widened .ensures in
-    record { u-is = u .is; v-is = v .is; three = record { u-three = u .three; v-three = v .three } }
+returns c = record { u-is = c .before .leading-one .ensures; v-is = c .widened .ensures }
 
 pub to-rows-spec : {M : Type 1} → statement M
 to-rows-spec = tie.close (tie.spec (λ c κs. search needs) (λ c κs. search needs) returns)

@@ -16,7 +16,7 @@ returns-2 c =
     let s = c .before .before .before .before .before .before in
     let x = c .before .before .subtract-and-halve .result in
     ap (λ n. record { outcome = verdict-of n; class = x .class }) (c .before .outcome-refusal .ensures)
-    ∙ stepped (s .args .curve) (s .args .w .refusal) (s .args .w .seal) (s .args .a) x (c .before .before .before .before .if1 .left) (c .before .before .subtract-and-halve .ensures)
+    ∙ stepped (s .args .curve) (s .args .w .refusal) (s .args .w .seal) (s .args .a) x (c .before .before .before .before .if1 .left) (c .before .before .subtract-and-halve .ensures .answer)
 
 pub walked-on-spec : {M : Type 1} → statement M
 walked-on-spec = tie.close (tie.spec returns (λ c κs. search needs) (λ c κs. search needs) returns-2)

@@ -1,0 +1,39 @@
+-- Demand 1 of the register by value: a commit or an undo answers an acceptance, or a refusal with one of the numbers and the register given (`step-told`).
+-- What the checks of a register and of a step say is 0 or one of the numbers: `register-refusal-told`, `step-refusal-told`.
+use Prim.Native.Nat.{ℕ, zero, suc}
+use mathlib.Core.{Path.refl, Bool.Bool, Bool.true, Bool.false, Bool.cond, Logic.inl, Logic.inr}
+use native.Mathlib.Omega.{arith}
+use lib.Dec.{eqb}
+use Rattle.jacobian.specs.{Refusals.refusals, Refusals.listed, Refusals.IsRefusal, Refusals.Told, declared.Class.Class}
+use Rattle.jacobian.proofs.{Refusals.told-unless, Refusals.told-or-else, Told.curve-refusal-told, Told.class-refusal-told}
+use Rattle.history.specs.Register.{register-refusal, edge, edge-refusal, step-refusal, stepped, follows, step-answer, StepTold}
+use Rattle.history.specs.Register as register
+use Rattle.history.specs.declared.{Register.Register, Step.Step, Step.the-variants.Commit, Step.the-variants.Undo}
+
+-- ---- the checks
+pub register-refusal-told : (r : Register) → Told (register-refusal r)
+unfolding register-refusal IsRefusal refusals listed
+register-refusal-told r =
+    told-or-else _ _ (curve-refusal-told (r .curve)) (told-or-else _ _ (told-unless _ 109 refl) (class-refusal-told (r .curve) (r .seal)))
+
+edge-told : (k : Step) (at : Bool) → Told (cond at (edge-refusal k) 0)
+unfolding Told edge-refusal IsRefusal refusals listed
+edge-told k false = inl refl
+edge-told Commit true = inr refl
+edge-told Undo true = inr refl
+
+pub step-refusal-told : (k : Step) (r : Register) (a : Class) → Told (step-refusal k r a)
+unfolding step-refusal
+step-refusal-told k r a =
+    told-or-else _ _ (register-refusal-told r) (told-or-else _ _ (class-refusal-told (r .curve) a) (edge-told k (eqb (r .count) (edge k))))
+
+-- ---- the calls
+follows-told : (n : ℕ) (given next : Register) → Told n → StepTold given (follows n given next)
+unfolding Told follows
+follows-told zero given next t = register.StepTold.acceptance next
+follows-told (suc n) given next (inl e) = absurd (omega arith)
+follows-told (suc n) given next (inr r) = register.StepTold.refusal (suc n) r
+
+pub step-told : (k : Step) (r : Register) (a : Class) → StepTold r (step-answer k r a)
+unfolding step-answer
+step-told k r a = follows-told _ r (stepped k r a) (step-refusal-told k r a)

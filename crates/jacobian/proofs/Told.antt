@@ -1,0 +1,72 @@
+-- Demand 1 of the calls by value: each answers an acceptance or a refusal with one of the numbers, and with a refusal the neutral class and no step
+-- (`curve-told`, `membership-told`, `unary-told` of opposite, double and half, `binary-told` of sum and of the two rules that move a seal). What the
+-- checks say is 0 or one of the numbers: `curve-refusal-told`, `class-refusal-told`, `refusal-told`, `refusal-of-two-told`, and of elements
+-- `element-refusal-told`.
+use Prim.Native.Nat.{ℕ, zero, suc, _^_}
+use mathlib.Core.{Path.refl, Bool.Bool, Bool.true, Bool.false, Bool.cond, Bool._||_, Logic.inl, Logic.inr, List.List}
+use native.Mathlib.Omega.{arith}
+use lib.Dec.{eqb}
+use Rattle.binary_field.specs.Answer.{below, element-refusal}
+use Rattle.class_group.specs.Reduction.{Counted}
+use Rattle.row_theory.specs.Field.{Poly}
+use Rattle.class_rows.specs.{declared.Unary.Unary, declared.Binary.Binary}
+use Rattle.jacobian.specs.{Refusals.refusals, Refusals.listed, Refusals.IsRefusal, Refusals.Told, Curves.degree-refusal, Curves.coefficient-refusal, Curves.curve-refusal, Classes.shape-refusal, Classes.range-refusal, Classes.class-refusal}
+use Rattle.jacobian.specs.Answer.{verdict-of, refusal, refusal-of-two, answered, curve-answer, membership-answer, unary-answer, binary-answer}
+use Rattle.jacobian.specs.Told.{VerdictTold, ReplyTold}
+use Rattle.jacobian.specs.Told as told
+use Rattle.jacobian.specs.declared.{Curve.Curve, Class.Class}
+use Rattle.jacobian.proofs.Refusals.{told-unless, told-or-else}
+
+-- ---- the checks
+pub curve-refusal-told : (c : Curve) → Told (curve-refusal c)
+unfolding curve-refusal degree-refusal coefficient-refusal IsRefusal refusals listed
+curve-refusal-told c = told-or-else _ _ (told-unless _ 106 refl) (told-unless _ 107 refl)
+
+pub class-refusal-told : (c : Curve) (a : Class) → Told (class-refusal c a)
+unfolding class-refusal shape-refusal range-refusal IsRefusal refusals listed
+class-refusal-told c a = told-or-else _ _ (told-unless _ 104 refl) (told-or-else _ _ (told-unless _ 110 refl) (told-unless _ 111 refl))
+
+pub refusal-told : (c : Curve) (a : Class) → Told (refusal c a)
+unfolding refusal
+refusal-told c a = told-or-else _ _ (curve-refusal-told c) (class-refusal-told c a)
+
+pub refusal-of-two-told : (c : Curve) (a b : Class) → Told (refusal-of-two c a b)
+unfolding refusal-of-two
+refusal-of-two-told c a b = told-or-else _ _ (refusal-told c a) (class-refusal-told c b)
+
+either-told : (x y : Bool) → Told (cond x (cond y 0 110) 106)
+unfolding Told IsRefusal refusals listed
+either-told true true = inl refl
+either-told true false = inr refl
+either-told false y = inr refl
+
+pub element-refusal-told : (d : ℕ) (ns : List ℕ) → Told (element-refusal d ns)
+unfolding element-refusal
+element-refusal-told d ns = either-told (eqb d 5 || eqb d 61) (below (2 ^ d) ns)
+
+-- ---- the calls
+pub verdict-told : (n : ℕ) → Told n → VerdictTold (verdict-of n)
+unfolding Told verdict-of
+verdict-told zero t = told.VerdictTold.acceptance
+verdict-told (suc n) (inl e) = absurd (omega arith)
+verdict-told (suc n) (inr r) = told.VerdictTold.refusal (suc n) r
+
+answered-told : (d n : ℕ) (D : Counted (Poly d)) → Told n → ReplyTold (answered d n D)
+unfolding Told answered
+answered-told d zero D t = told.ReplyTold.acceptance _ _
+answered-told d (suc n) D (inl e) = absurd (omega arith)
+answered-told d (suc n) D (inr r) = told.ReplyTold.refusal (suc n) r
+
+pub curve-told : (c : Curve) → VerdictTold (curve-answer c)
+unfolding curve-answer
+curve-told c = verdict-told _ (curve-refusal-told c)
+
+pub membership-told : (c : Curve) (a : Class) → VerdictTold (membership-answer c a)
+unfolding membership-answer
+membership-told c a = verdict-told _ (refusal-told c a)
+
+pub unary-told : (op : Unary) (c : Curve) (a : Class) → ReplyTold (unary-answer op c a)
+unary-told op c a = answered-told (c .degree) _ _ (refusal-told c a)
+
+pub binary-told : (op : Binary) (c : Curve) (a b : Class) → ReplyTold (binary-answer op c a b)
+binary-told op c a b = answered-told (c .degree) _ _ (refusal-of-two-told c a b)
