@@ -1,12 +1,15 @@
--- The lengths that a tag allows, where no test before the last one held.
-use Prim.Native.Nat.{ℕ, _*_, _/_, _≤_, _^_, _<_}
+-- The lengths that a tag allows, where no test before the last one held, and the length of a field.
+use Prim.Native.Nat.{ℕ, _+_, _*_, _/_, _≤_, _^_, _<_}
 use mathlib.Core.Path.{_≡_, refl, sym, subst, _∙_}
 use native.Mathlib.Decide.{ℕ-discrete}
 use mathlib.Core.Bool.{Bool, true, false, cond, _||_, false≢true}
+use mathlib.Core.List.{List}
 use native.Mathlib.Omega.{arith}
 use lib.Dec.{eqb, lit≤}
+use lib.ListN.{length}
 use borrow.Author.Tests.{ne-eqb, eqb-true, leb-true}
-use Rattle.stored_form.specs.Head.{degree-length, curve-length, count-length, drawing-limit, class-length, class-limit, longest-body, allowed}
+use Rattle.stored_form.specs.Head.{degree-length, curve-length, count-length, drawing-limit, class-length, class-limit, longest-body, allowed, head-bytes, stored}
+use Rattle.stored_form.specs.Number.{bytes-of}
 
 pub class-length-last : (n : ℕ) → (n ≡ 0 → ⊥) → (n ≡ 16 → ⊥) → (n ≡ 32 → ⊥) → class-length n ≡ eqb n 48
 unfolding class-length
@@ -106,3 +109,9 @@ allowed-short t n h =
     (λ e. omega (arith, class-length-le n (sym (class-lengths n) ∙ e)))
     (λ e. omega (arith, class-length-le n (sym (operation-lengths n) ∙ e)))
     t n h h
+
+-- ---- the length of a field
+
+pub length-stored : (tag : ℕ) (body : List ℕ) → length (stored tag body) ≡ 3 + length body
+unfolding stored head-bytes bytes-of
+length-stored tag body = omega arith

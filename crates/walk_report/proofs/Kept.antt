@@ -11,16 +11,16 @@ use Rattle.jacobian.proofs.Representation.Unrefused.{zero-then}
 use Rattle.history.specs.{Register.register-refusal, Calls.Call, Calls.Fits, Calls.Event, Calls.last, Calls.newest, Calls.classes, Calls.OnlyCommits, declared.Register.Register}
 use Rattle.history.proofs.{Registers.register-passes, TakingBack.last-curve, TakingBack.last-fits, TakingBack.accepted-fit}
 use Rattle.history.proofs.{Preserved.last-passes, Preserved.accepted-classes, WalkingBack.accepted-few}
-use Rattle.stored_form.specs.{Head.drawing-limit, Fields.printable}
-use Rattle.archive.specs.Written.{Allowed, Storable}
+use Rattle.stored_form.specs.{Head.drawing-limit, Fields.printable, Passing.ClassPasses}
+use Rattle.archive_theorems.specs.Written.{Storable}
 use Rattle.walk_report.specs.Demand3.{kept-archive}
 
 module _ (c : Curve) (ok : curve-refusal c ≡ 0) where
-  allowed : {a : Class} → Three a → class-refusal c a ≡ 0 → Allowed c a
+  allowed : {a : Class} → Three a → class-refusal c a ≡ 0 → ClassPasses c a
   unfolding refusal
-  allowed three passes = record { three = three; passes = zero-then _ _ ok passes }
+  allowed three passes = record { three = three; none = zero-then _ _ ok passes }
 
-  allowed-classes : (es : List Event) → All (λ e. Three (e .call .class)) es → All (λ e. class-refusal c (e .call .class) ≡ 0) es → All (Allowed c) (classes es)
+  allowed-classes : (es : List Event) → All (λ e. Three (e .call .class)) es → All (λ e. class-refusal c (e .call .class) ≡ 0) es → All (ClassPasses c) (classes es)
   unfolding classes
   allowed-classes [] none none = none
   allowed-classes (e ∷ es) (more f fs) (more p ps) = more (allowed f p) (allowed-classes es fs ps)

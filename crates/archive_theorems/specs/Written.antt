@@ -5,9 +5,9 @@ use mathlib.Core.Bool.{true}
 use mathlib.Core.List.{List, [], _∷_, _++_}
 use lib.ListN.{length}
 use Rattle.class_group.specs.Walk.{All}
-use Rattle.jacobian.specs.{Curves.curve-refusal, Classes.Three, Answer.refusal, declared.Curve.Curve, declared.Class.Class}
-use Rattle.stored_form.specs.{Head.drawing-limit, Fields.drawing-field, Fields.count-field, Fields.printable, Fields.count-limit, Classes.curve-first-fields, Classes.class-field}
+use Rattle.jacobian.specs.declared.Class.{Class}
+use Rattle.stored_form.specs.{Head.drawing-limit, Fields.drawing-field, Fields.count-field, Fields.printable, Classes.curve-first-fields, Classes.class-field, Passing.CurvePasses, Passing.CountPasses, Passing.ClassPasses}
 use Rattle.archive.specs.Archive.{Archive}
 
 -- one 0x44 for each operation, newest first
 unfoldable pub operation-fields : List Class → List ℕ
@@ -23,16 +23,11 @@ archive-bytes a =
     ++ class-field 0x43 (a .seal)
     ++ operation-fields (a .operations)
 
--- a class in rows of three that no check refuses on a curve
-pub record Allowed (c : Curve) (a : Class) : Type 0 where
-  pub three : Three a
-  pub passes : refusal c a ≡ 0
-
 -- values that no check of an archive refuses
 pub record Storable (a : Archive) : Type 0 where
-  pub curve-allowed : curve-refusal (a .curve) ≡ 0
+  pub curve-allowed : CurvePasses (a .curve)
   pub drawing-printable : printable (a .drawing) ≡ true
   pub drawing-short : length (a .drawing) ≤ drawing-limit
-  pub count-within : length (a .operations) ≤ count-limit
-  pub seal-allowed : Allowed (a .curve) (a .seal)
-  pub operations-allowed : All (Allowed (a .curve)) (a .operations)
+  pub count-within : CountPasses (length (a .operations))
+  pub seal-allowed : ClassPasses (a .curve) (a .seal)
+  pub operations-allowed : All (ClassPasses (a .curve)) (a .operations)
