@@ -1,23 +1,18 @@
 -- The steps and the archive's value say the same of the input: each is what the opening and the operations make (`steps-are`, `archive-is`), and so
 -- they are refused with the same number (`steps-refusal`).
-use Prim.Native.Nat.{ℕ, zero, suc, _+_, _≤_, min}
-use mathlib.Core.Path.{_≡_, refl, sym, ap, _∙_, subst}
+use Prim.Native.Nat.{ℕ, zero, suc}
+use mathlib.Core.Path.{_≡_, refl, sym, ap, _∙_}
 use mathlib.Core.List.{List, [], _∷_}
-use native.Mathlib.Omega.{arith}
-use lib.Dec.{lit<}
-use lib.ListN.{length, drop, replicate, length-take}
-use borrow.Author.Tests.{leb-true}
+use lib.ListN.{replicate}
 use Rattle.jacobian.specs.declared.{Curve.Curve, Class.Class}
 use Rattle.jacobian.specs.{Curves.curve-with, Answer.neutral-class}
-use Rattle.stored_form.specs.{Reading.Reading, Reading.found, Reading.refused, Reading.checked, Reading._then_, Reading.reading-refusal, Number.number-of, Number.part, Head.drawing-limit, Head.head-at, Head.body-at, Fields.end-refusal, Fields.count-limit, Fields.count-refusal, Fields.drawing-refusal, Fields.degree-at, Fields.drawing-at, Fields.count-at, Classes.curve-at, Classes.curve-first, Classes.class-at}
-use Rattle.stored_form.specs.Held.{drawing-said, drawing-name, curve-of-degree, nothing-held, with-curve, with-drawing, with-count, with-class, with-operation, read-field, read-fields, archive-opening}
+use Rattle.stored_form.specs.{Reading.Reading, Reading.found, Reading.refused, Reading.checked, Reading._then_, Reading.reading-refusal, Fields.end-refusal, Fields.degree-at, Fields.drawing-at, Fields.count-at, Classes.curve-at, Classes.curve-first, Classes.class-at}
+use Rattle.stored_form.specs.Held.{drawing-said, curve-of-degree, nothing-held, with-curve, with-drawing, with-count, with-class, with-operation, read-field, read-fields, archive-opening}
 use Rattle.stored_form.specs.declared.Held.{Held}
-use Rattle.stored_form.proofs.{Readings.then-same, Readings.then-assoc, Readings.checked-then, Readings.test-passed, Readings.both-found, Readings.checked-found, Readings.same-found, Heads.head-found, Lengths.is-drawing-length}
+use Rattle.stored_form.proofs.{Readings.then-same, Readings.then-assoc, Readings.checked-then}
 use Rattle.stored_form.proofs.FieldReadings.{name-said, read-degree, read-curve, read-drawing, read-count, read-class, read-operation}
-use Rattle.archive.specs.declared.Due.the-variants.{Nothing}
-use Rattle.archive.specs.declared.Reader.{Reader}
-use Rattle.archive.specs.Archive.{Archive, operations-at, read-archive, archive-refusal}
-use Rattle.archive.specs.Reader.{reader, read-end, read-steps, Opened, read-opened, with-operations, last-state, archive-of}
+use Rattle.archive.specs.Archive.{operations-at, read-archive, archive-refusal}
+use Rattle.archive.specs.Reader.{read-end, read-steps, Opened, read-opened, with-operations, last-state, archive-of}
 
 -- a field of a reader, and what follows it
 module _ {A B : Type 0} (x : Reading A) (with : A → Held) (F : Held → ℕ → Reading B) {y : Reading Held} where

@@ -1,21 +1,21 @@
 -- Reading by steps: one step of what is left to read, that a step leaves less to read, and what the code's answer says of a step.
 use Prim.Native.Nat.{ℕ, zero, suc, _+_, _*_, _-_, _≤_, _<_}
-use mathlib.Core.Path.{_≡_, refl, sym, ap, _∙_, subst}
+use mathlib.Core.Path.{_≡_, refl, sym, ap, _∙_}
 use mathlib.Core.Bool.{Bool, true, false, cond, true≢false, false≢true}
-use mathlib.Core.List.{List, [], _∷_}
+use mathlib.Core.List.{List, []}
 use native.Mathlib.Omega.{arith}
 use lib.Dec.{ltb}
 use lib.ListN.{length, getD, drop, replicate}
 use lib.Seq.{drop-cons}
 use borrow.Author.Tests.{lt-ltb, le-ltb, ltb-true, ltb-false}
-use Rattle.stored_form.specs.{Reading.Reading, Reading.found, Reading.refused, Reading.checked, Reading._then_, Reading.reading-refusal, Fields.end-refusal}
+use Rattle.stored_form.specs.{Reading.Reading, Reading.found, Reading.refused, Reading._then_, Reading.reading-refusal, Fields.end-refusal}
 use Rattle.stored_form.specs.Held.{nothing-held, read-field, read-fields, archive-opening, place-refusal}
 use Rattle.stored_form.specs.declared.{Held.Held, Cursor.Cursor, Place.Place}
 use Rattle.stored_form.specs.declared.Place.the-variants.{Next, Refused}
-use Rattle.stored_form.proofs.{Readings.then-found, Readings.then-refused, Readings.both-found, Readings.same-found, Readings.checked-found, Readings.checked-then, Readings.then-same, Readings.then-assoc, Readers.placed, Readers.drop-all, FieldReadings.field-within}
+use Rattle.stored_form.proofs.{Readings.then-found, Readings.then-refused, Readings.both-found, Readings.same-found, Readings.checked-found, Readings.checked-then, Readings.then-same, Readings.then-assoc, Readers.placed, Readers.answer-found, Readers.answer-refused, Readers.answer-refusal, Readers.drop-all, FieldReadings.field-within}
 use Rattle.archive.specs.declared.{Due.Due, Reader.Reader, Advance.Advance}
 use Rattle.archive.specs.declared.Due.the-variants.{Opening, Operations, End, Nothing}
-use Rattle.archive.specs.Reader.{reader, start, operations-due, after-opening, read-opening, read-operation, read-end, read-due, step, pending, read-steps, advance-of}
+use Rattle.archive.specs.Reader.{reader, start, operations-due, after-opening, read-opening, read-operation, read-end, read-due, pending, read-steps, advance-of}
 
 -- ---- one step of what is left to read
 
@@ -162,24 +162,17 @@ module _ (s : List ℕ) (h : Held) (at : ℕ) {r : Reader} {next : ℕ} where
 
 -- ---- what the code's answer says of a step
 
-said-back : (x : Reading Reader) → placed (advance-of x .place) (advance-of x .reader) ≡ x
+advance-back : (x : Reading Reader) → placed (advance-of x .place) (advance-of x .reader) ≡ x
 unfolding advance-of placed
-said-back (found r n) = refl
-said-back (refused n) = refl
+advance-back (found r n) = refl
+advance-back (refused n) = refl
 
 module _ (t : Advance) {x : Reading Reader} (e : t ≡ advance-of x) where
-  said : x ≡ placed (t .place) (t .reader)
-  said = sym (ap (λ (q : Advance). placed (q .place) (q .reader)) e ∙ said-back x)
-
   pub advance-found : {next : Cursor} → t .place ≡ Next next → x ≡ found (t .reader) (next .at)
-  unfolding placed
-  advance-found f = said ∙ ap (λ (p : Place). placed p (t .reader)) f
+  advance-found = answer-found (λ q. q .place) (λ q. q .reader) advance-of advance-back t x e
 
   pub advance-refused : {n : ℕ} → t .place ≡ Refused n → x ≡ refused n
-  unfolding placed
-  advance-refused f = said ∙ ap (λ (p : Place). placed p (t .reader)) f
+  advance-refused = answer-refused (λ q. q .place) (λ q. q .reader) advance-of advance-back t x e
 
-pub place-number : (x : Reading Reader) → place-refusal (advance-of x .place) ≡ reading-refusal x
-unfolding advance-of
-place-number (found r n) = refl
-place-number (refused n) = refl
+pub advance-refusal : (t : Advance) (x : Reading Reader) → t ≡ advance-of x → place-refusal (t .place) ≡ reading-refusal x
+advance-refusal = answer-refusal (λ q. q .place) (λ q. q .reader) advance-of advance-back

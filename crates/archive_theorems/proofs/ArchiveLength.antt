@@ -1,5 +1,5 @@
 -- Every accepted archive is shorter than 65,536 bytes (document 01, 'The walk report'): the first fields, the drawing number, the count, and the room of each class.
-use Prim.Native.Nat.{ℕ, _+_, _*_, _≤_, _<_}
+use Prim.Native.Nat.{ℕ, _*_, _≤_, _<_}
 use mathlib.Core.Path.{_≡_, refl, ap}
 use mathlib.Core.List.{List, [], _∷_, _++_}
 use native.Mathlib.Omega.{arith}

@@ -1,6 +1,6 @@
 -- An archive's bytes and its values determine each other.
 -- `archive-read-back`: what is written of values that no check refuses is read so. `archive-written`: what is read was written so, and no check refuses it.
-use Prim.Native.Nat.{ℕ, zero, suc, _≤_}
+use Prim.Native.Nat.{ℕ, zero, suc}
 use mathlib.Core.Path.{_≡_, refl, sym, ap, _∙_, subst, subst₂}
 use mathlib.Core.List.{List, [], _∷_, _++_}
 use native.Mathlib.Nat.{le-refl}
@@ -8,9 +8,9 @@ use native.Mathlib.Omega.{arith}
 use lib.ListN.{length}
 use Rattle.class_group.specs.Walk.{All, none, more}
 use Rattle.jacobian.specs.declared.{Curve.Curve, Class.Class}
-use Rattle.stored_form.specs.{Number.Bytes, Reading.found, Fields.drawing-field, Fields.count-field, Fields.end-refusal, Classes.curve-first-fields, Classes.class-field, Passing.CurvePasses, Passing.DrawingPasses, Passing.CountPasses, Passing.ClassPasses}
+use Rattle.stored_form.specs.{Number.Bytes, Reading.found, Fields.drawing-field, Fields.count-field, Classes.curve-first-fields, Classes.class-field, Passing.CurvePasses, Passing.DrawingPasses, Passing.CountPasses, Passing.ClassPasses}
 use Rattle.stored_form.specs.{Held.drawing-said, Held.drawing-name, Held.nothing-held, Held.with-curve, Held.with-drawing, Held.with-count, Held.with-class, Held.read-fields, Held.archive-opening, declared.Held.Held}
-use Rattle.stored_form.proofs.{Readings.then-found, Readings.both-found, Readings.checked-found, Readings.checked-none, Readings.same-found, FieldReadings.name-said}
+use Rattle.stored_form.proofs.{Readings.then-found, Readings.checked-none, Readings.same-found, FieldReadings.name-said}
 use Rattle.stored_form_theorems.specs.{Fields.Field, Records.Leads}
 use Rattle.stored_form_theorems.specs.Records as records
 use Rattle.stored_form_theorems.proofs.{Places.behind, Places.apart, Places.up-to, Places.whole, Places.is-whole, Places.end-written, Places.end-read-back, RoundTrips.operation-written, RoundTrips.operation-read-back}
@@ -19,7 +19,7 @@ use Rattle.stored_form_theorems.proofs.FieldLaws as fields
 use Rattle.archive.specs.{Archive.Archive, Archive.operations-at, Archive.read-archive, Reader.read-opened, Reader.archive-of}
 use Rattle.archive.proofs.Agreement.{archive-is}
 use Rattle.archive_theorems.specs.Written.{operation-fields, archive-bytes, Storable}
-use Rattle.archive_theorems.proofs.Operations.{newest, Opening, opening-of}
+use Rattle.archive_theorems.proofs.Operations.{newest, opening-of}
 
 -- ---- the operations
 

@@ -11,8 +11,8 @@ use Rattle.stored_form.specs.Held.{nothing-held, with-curve, with-count, with-c
 use Rattle.stored_form.specs.declared.Held.{Held}
 use Rattle.stored_form_theorems.proofs.{RecordRoundTrips.record-written, RecordRoundTrips.record-read-back, FieldLaws.more, FieldLaws.first-value, FieldLaws.no-more}
 use Rattle.stored_form_theorems.proofs.FieldValues.{count-law, class-law, operation-law, curve-more, first-curve}
-use Rattle.stored_form_theorems.specs.Records.{Stored, none}
-use Rattle.seal.specs.Records.{class-held, sum-held, register-held, class-record-bytes, sum-record-bytes, register-record-bytes, register-fields, ClassStored, SumStored, RegisterStored}
+use Rattle.stored_form_theorems.specs.Records.{none}
+use Rattle.seal.specs.Records.{class-held, class-record-bytes, sum-record-bytes, register-record-bytes, ClassStored, SumStored, RegisterStored}
 
 -- a class is refused where its curve is
 pub curve-passes : {c : Curve} {a : Class} → ClassPasses c a → curve-refusal c ≡ 0

@@ -1,12 +1,12 @@
 -- Numbers as bytes, high byte first: the number of bytes is bounded by their count, and one more byte is one more digit.
-use Prim.Native.Nat.{ℕ, zero, suc, _+_, _*_, _/_, _%_, _^_, _≤_, _<_}
+use Prim.Native.Nat.{ℕ, zero, suc, _+_, _*_, _^_, _≤_, _<_}
 use mathlib.Core.Path.{_≡_, refl, sym, ap, ap₂, _∙_}
 use mathlib.Core.List.{List, [], _∷_, _++_}
-use native.Mathlib.Nat.{pow-suc, pow-succ', mul-assoc, mod-eq-of-lt, mul-add-div-right, mul-add-mod-self-right, pow-le-pow-right, lt-of-lt-of-le}
+use native.Mathlib.Nat.{pow-suc, pow-succ', mul-assoc, pow-le-pow-right, lt-of-lt-of-le}
 use native.Mathlib.Numerals.{add-one}
 use native.Mathlib.Omega.{arith}
 use lib.Dec.{lit<}
-use lib.Arith.{digits-lt, digits-div, mod-mul}
+use lib.Arith.{digits-lt}
 use lib.ListN.{length, getD, take, drop, length-append, length-take, length-drop}
 use lib.Seq.{take-suc, getD-drop}
 use Rattle.stored_form.specs.Number.{number-of, bytes-of, Bytes, part}

@@ -1,5 +1,5 @@
 -- The lengths that a tag allows, where no test before the last one held, and the length of a field.
-use Prim.Native.Nat.{ℕ, _+_, _*_, _/_, _≤_, _^_, _<_}
+use Prim.Native.Nat.{ℕ, _+_, _*_, _/_, _≤_}
 use mathlib.Core.Path.{_≡_, refl, sym, subst, _∙_}
 use native.Mathlib.Decide.{ℕ-discrete}
 use mathlib.Core.Bool.{Bool, true, false, cond, _||_, false≢true}

@@ -1,13 +1,12 @@
 -- Parts of a list.
 use Prim.Native.Nat.{ℕ, zero, suc, _+_, _-_, _≤_, _<_}
-use mathlib.Core.Path.{_≡_, sym, ap}
+use mathlib.Core.Path.{_≡_, sym}
 use mathlib.Core.List.{List, [], _∷_, _++_}
 use native.Mathlib.Numerals.{add-one}
 use native.Mathlib.Omega.{arith}
 use lib.ListN.{length, getD, take, drop, length-take, length-drop}
-use lib.Seq.{take-nil, take-take, drop-drop, take-add, take-suc, drop-cons, getD-take, getD-drop}
+use lib.Seq.{take-nil, take-suc, getD-drop}
 use Rattle.stored_form.specs.Number.{part}
-use Rattle.stored_form.specs.Head.{StandsAt}
 
 pub drop-take : (i k : ℕ) (l : List ℕ) → drop i (take k l) ≡ take (k - i) (drop i l)
 drop-take zero k l = let e : k - 0 ≡ k = omega arith in rw e

@@ -11,12 +11,12 @@ use borrow.Author.Tests.{eqb-true, leb-true, le-leb}
 use Rattle.jacobian.specs.{Checks.unless, Curves.coefficients, Curves.curve-with, Curves.f-row, Curves.degree-refusal, Curves.curve-refusal, Answer.refusal, Classes.Three, declared.Curve.Curve, declared.Class.Class}
 use Rattle.jacobian.proofs.ByValue.{Degrees.by-degree, Checks.curve-passes, Checks.then-zero}
 use Rattle.stored_form.specs.{Head.degree-length, Head.count-length, Head.drawing-limit, Head.allowed, Elements.element-bytes, Passing.DegreePasses, Passing.CurvePasses, Passing.CountPasses, Passing.DrawingPasses, Passing.ClassPasses}
-use Rattle.stored_form.specs.Fields.{degree-field, count-field, count-limit, count-refusal, printable, drawing-field, drawing-refusal}
-use Rattle.stored_form.specs.Classes.{curve-said, curve-field, curve-first-fields, class-said, class-field}
+use Rattle.stored_form.specs.Fields.{degree-field, count-field, count-limit, count-refusal, drawing-field, drawing-refusal}
+use Rattle.stored_form.specs.Classes.{curve-said, curve-field, curve-first-fields, class-field}
 use Rattle.stored_form.specs.Held.{drawing-said, drawing-name, nothing-held, curve-of-degree, with-curve, with-drawing, with-count, with-class, with-operation, hold, field-refusal}
 use Rattle.stored_form.specs.declared.Held.{Held}
 use Rattle.stored_form.proofs.{Digits.length-bytes, ElementBytes.length-element-bytes, Readings.test-passed, FieldReadings.name-said, Lengths.class-lengths, Lengths.operation-lengths, Lengths.is-drawing-length}
-use Rattle.stored_form_theorems.specs.{Fields.class-body, Fields.field-body, Fields.field-bytes, Fields.Says, Records.Leads}
+use Rattle.stored_form_theorems.specs.{Fields.class-body, Fields.field-body, Fields.field-bytes, Records.Leads}
 use Rattle.stored_form_theorems.proofs.{Numbers.number-bytes-small, Elements.Small, Elements.elements-bytes, Elements.fits, ClassRoundTrips.body-said, ClassRoundTrips.body-allowed, ClassRoundTrips.said-three}
 use Rattle.stored_form_theorems.proofs.FieldLaws.{FieldLaw, more, first-value}
 

@@ -1,10 +1,9 @@
 -- A record's bytes and what is held determine each other, for every list of tags: what is read was written so (`record-written`), and what is written so is read so
 -- (`record-read-back`). For fields that do not end the input: `begin-written`, `begin-read-back`.
-use Prim.Native.Nat.{ℕ, _+_}
-use mathlib.Core.Path.{_≡_, refl, sym, ap, _∙_, subst, subst₂}
+use Prim.Native.Nat.{ℕ}
+use mathlib.Core.Path.{_≡_, refl, sym, _∙_, subst, subst₂}
 use mathlib.Core.List.{List, [], _∷_, _++_}
 use native.Mathlib.Nat.{le-refl}
-use native.Mathlib.Omega.{arith}
 use lib.ListN.{length}
 use Rattle.stored_form.specs.{Number.Bytes, Reading.found, Fields.end-refusal, Held.nothing-held, Held.read-field, Held.read-fields, Held.ended, Held.read-record, declared.Held.Held}
 use Rattle.stored_form.proofs.Readings.{then-found, both-found, checked-found, checked-none, same-found}

@@ -1,6 +1,6 @@
 -- `read_operation` meets its contract.
 use borrow.Author.Needs.{needs}
-use mathlib.Core.Path.{_≡_, sym, ap, _∙_}
+use mathlib.Core.Path.{sym, ap, _∙_}
 use Prim.Native.Nat.{ℕ, _-_}
 use Rattle.stored_form.proofs.Readers.{place-found, place-refused-as}
 use Rattle.archive.specs.Reader.{operations-due, advance-of}
