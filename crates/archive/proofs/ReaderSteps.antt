@@ -5,14 +5,14 @@ use mathlib.Core.Bool.{Bool, true, false, cond, true≢false, false≢true}
 use mathlib.Core.List.{List, []}
 use native.Mathlib.Omega.{arith}
 use lib.Dec.{ltb}
-use lib.ListN.{length, getD, drop, replicate}
+use lib.ListN.{length, getD, drop, replicate, drop-of-length-le}
 use lib.Seq.{drop-cons}
 use borrow.Author.Tests.{lt-ltb, le-ltb, ltb-true, ltb-false}
 use Rattle.stored_form.specs.{Reading.Reading, Reading.found, Reading.refused, Reading._then_, Reading.reading-refusal, Fields.end-refusal}
 use Rattle.stored_form.specs.Held.{nothing-held, read-field, read-fields, archive-opening, place-refusal}
-use Rattle.stored_form.specs.declared.{Held.Held, Cursor.Cursor, Place.Place}
+use Rattle.stored_form.specs.declared.{Held.Held, Cursor.Cursor}
 use Rattle.stored_form.specs.declared.Place.the-variants.{Next, Refused}
-use Rattle.stored_form.proofs.{Readings.then-found, Readings.then-refused, Readings.both-found, Readings.same-found, Readings.checked-found, Readings.checked-then, Readings.then-same, Readings.then-assoc, Readers.placed, Readers.answer-found, Readers.answer-refused, Readers.answer-refusal, Readers.drop-all, FieldReadings.field-within}
+use Rattle.stored_form.proofs.{Readings.then-found, Readings.then-refused, Readings.both-found, Readings.same-found, Readings.checked-found, Readings.checked-then, Readings.then-same, Readings.then-assoc, Readers.placed, Readers.answer-found, Readers.answer-refused, Readers.answer-refusal, FieldReadings.field-within}
 use Rattle.archive.specs.declared.{Due.Due, Reader.Reader, Advance.Advance}
 use Rattle.archive.specs.declared.Due.the-variants.{Opening, Operations, End, Nothing}
 use Rattle.archive.specs.Reader.{reader, start, operations-due, after-opening, read-opening, read-operation, read-end, read-due, pending, read-steps, advance-of}
@@ -51,7 +51,7 @@ module _ (s : List ℕ) where
     last : length archive-opening ≤ suc i → from-opening (drop (suc i) archive-opening) h at ≡ left (operations-due (h .count)) h at
     unfolding from-opening read-fields _then_
     last le =
-        ap (λ (l : List ℕ). read-fields l h s at then λ h next. from-operations (h .count) h next) (drop-all (suc i) archive-opening le)
+        ap (λ (l : List ℕ). read-fields l h s at then λ h next. from-operations (h .count) h next) (drop-of-length-le archive-opening le)
         ∙ operations-next (h .count) h at
 
   opening-next : (i : ℕ) (h : Held) (at : ℕ) → from-opening (drop (suc i) archive-opening) h at ≡ left (after-opening i (h .count)) h at
@@ -81,14 +81,6 @@ module _ (s : List ℕ) where
   nothing-left Nothing h at e = refl
 
 -- ---- the step of a field, as the code makes it
-
-pub tag-past : (i : ℕ) → length archive-opening ≤ i → 0 ≡ getD archive-opening i 0
-tag-past zero h = absurd (omega arith)
-tag-past (suc zero) h = absurd (omega arith)
-tag-past (suc (suc zero)) h = absurd (omega arith)
-tag-past (suc (suc (suc zero))) h = absurd (omega arith)
-tag-past (suc (suc (suc (suc zero)))) h = absurd (omega arith)
-tag-past (suc (suc (suc (suc (suc i))))) h = refl
 
 pub some-due : (n : ℕ) → (n ≡ 0 → ⊥) → Operations n ≡ operations-due n
 unfolding operations-due
@@ -126,17 +118,15 @@ module _ (h : Held) (s : List ℕ) (at : ℕ) where
 -- ---- a step leaves less to read
 
 weight : Due → ℕ
-weight (Opening i) = 1
-weight (Operations n) = 1
-weight End = 1
-weight Nothing = 0
+weight d = cond (pending d) 1 0
 
 light : (d : Due) → weight d ≤ 1
 unfolding weight
-light (Opening i) = omega arith
-light (Operations n) = omega arith
-light End = omega arith
-light Nothing = omega arith
+light d = go (pending d)
+  where
+    go : (b : Bool) → cond b 1 0 ≤ 1
+    go true = omega arith
+    go false = omega arith
 
 -- bytes that are left, and whether anything is due
 pub rank : List ℕ → Due → ℕ → ℕ

@@ -1,10 +1,10 @@
 -- What is held: as the code makes it by tags, as a reader answers it, and as a record's fields give it one after the other.
-use Prim.Native.Nat.{ℕ, zero, suc, _+_, _≤_, _<_}
+use Prim.Native.Nat.{ℕ, suc, _+_, _≤_, _<_}
 use mathlib.Core.Path.{_≡_, refl, sym, ap, _∙_}
 use mathlib.Core.Bool.{true}
 use mathlib.Core.List.{List, [], _∷_}
 use native.Mathlib.Omega.{arith}
-use lib.ListN.{length, getD, drop}
+use lib.ListN.{length, getD, drop, drop-of-length-le}
 use lib.Seq.{drop-cons}
 use borrow.Author.Tests.{ne-eqb}
 use Rattle.jacobian.specs.Answer.{refusal}
@@ -103,12 +103,6 @@ module _ (r : Read) {x : Reading Held} (e : r ≡ read-of x) where
 pub read-refusal : (r : Read) (x : Reading Held) → r ≡ read-of x → place-refusal (r .place) ≡ reading-refusal x
 read-refusal = answer-refusal (λ q. q .place) (λ q. q .held) read-of read-back
 
-pub drop-all : (i : ℕ) (l : List ℕ) → length l ≤ i → drop i l ≡ []
-drop-all zero [] h = refl
-drop-all zero (x ∷ l) h = absurd (omega arith)
-drop-all (suc i) [] h = refl
-drop-all (suc i) (x ∷ l) h = drop-all i l (omega arith)
-
 -- ---- fields one after the other: those from the i-th on
 
 module _ (tags s : List ℕ) (h : Held) (at i : ℕ) where
@@ -127,4 +121,4 @@ module _ (tags s : List ℕ) (h : Held) (at i : ℕ) where
 
   pub fields-ended : length tags ≤ i → read-fields (drop i tags) h s at ≡ found h at
   unfolding read-fields
-  fields-ended le = ap (λ (l : List ℕ). read-fields l h s at) (drop-all i tags le)
+  fields-ended le = ap (λ (l : List ℕ). read-fields l h s at) (drop-of-length-le tags le)

@@ -8,17 +8,17 @@ use native.Mathlib.Omega.{arith}
 use lib.Dec.{eqb, lit<, lit≤}
 use lib.ListN.{length}
 use borrow.Author.Tests.{eqb-true, leb-true, le-leb}
-use Rattle.jacobian.specs.{Checks.unless, Curves.coefficients, Curves.curve-with, Curves.f-row, Curves.degree-refusal, Curves.curve-refusal, Answer.refusal, Classes.Three, declared.Curve.Curve, declared.Class.Class}
+use Rattle.jacobian.specs.{Checks.unless, Curves.coefficients, Curves.curve-with, Curves.f-row, Curves.degree-refusal, Curves.curve-refusal, declared.Curve.Curve}
 use Rattle.jacobian.proofs.ByValue.{Degrees.by-degree, Checks.curve-passes, Checks.then-zero}
-use Rattle.stored_form.specs.{Head.degree-length, Head.count-length, Head.drawing-limit, Head.allowed, Elements.element-bytes, Passing.DegreePasses, Passing.CurvePasses, Passing.CountPasses, Passing.DrawingPasses, Passing.ClassPasses}
+use Rattle.stored_form.specs.{Number.number-of, Number.bytes-of, Head.degree-length, Head.count-length, Head.drawing-limit, Head.allowed, Elements.element-bytes, Passing.DegreePasses, Passing.CurvePasses, Passing.CountPasses, Passing.DrawingPasses, Passing.ClassPasses}
 use Rattle.stored_form.specs.Fields.{degree-field, count-field, count-limit, count-refusal, drawing-field, drawing-refusal}
-use Rattle.stored_form.specs.Classes.{curve-said, curve-field, curve-first-fields, class-field}
+use Rattle.stored_form.specs.Classes.{curve-said, curve-field, curve-first-fields, class-said, class-field}
 use Rattle.stored_form.specs.Held.{drawing-said, drawing-name, nothing-held, curve-of-degree, with-curve, with-drawing, with-count, with-class, with-operation, hold, field-refusal}
 use Rattle.stored_form.specs.declared.Held.{Held}
 use Rattle.stored_form.proofs.{Digits.length-bytes, ElementBytes.length-element-bytes, Readings.test-passed, FieldReadings.name-said, Lengths.class-lengths, Lengths.operation-lengths, Lengths.is-drawing-length}
-use Rattle.stored_form_theorems.specs.{Fields.class-body, Fields.field-body, Fields.field-bytes, Records.Leads}
+use Rattle.stored_form_theorems.specs.{Fields.class-body, Fields.field-body, Records.Leads}
 use Rattle.stored_form_theorems.proofs.{Numbers.number-bytes-small, Elements.Small, Elements.elements-bytes, Elements.fits, ClassRoundTrips.body-said, ClassRoundTrips.body-allowed, ClassRoundTrips.said-three}
-use Rattle.stored_form_theorems.proofs.FieldLaws.{FieldLaw, more, first-value}
+use Rattle.stored_form_theorems.proofs.FieldLaws.{FieldLaw, field-law, more, first-value}
 
 -- ---- values that pass fit
 
@@ -53,104 +53,52 @@ degree-passes c ok = test-passed _ (lit< tt) (then-zero _ _ ok .0)
 
 module _ (h : Held) where
   pub degree-law : FieldLaw 0x40 h DegreePasses degree-field (λ d. with-curve (curve-of-degree d) h) (λ m. m .curve .degree)
-  unfolding field-bytes field-body hold field-refusal curve-of-degree curve-with degree-refusal degree-field unless allowed
+  unfolding field-body hold field-refusal curve-of-degree curve-with degree-refusal degree-field unless allowed
   degree-law =
-      record {
-        valued = λ d. refl;
-        written = λ m. refl;
-        says = λ d ok. record {
-          kept = ap (λ (n : ℕ). with-curve (curve-of-degree n) h) (sym (number-bytes-small degree-length d (degree-small d ok)));
-          passes = rw ok;
-          fits = rw (length-bytes degree-length d) refl;
-        };
-        said = λ says. (
-          test-passed _ (lit< tt) (says .passes),
-          says .kept ∙ ap (λ (d : ℕ). with-curve (curve-of-degree d) h) (sym (ap (λ (k : Held). k .curve .degree) (says .kept))),
-        );
-      }
+      field-law 0x40 h DegreePasses (bytes-of degree-length) number-of (λ d. with-curve (curve-of-degree d) h) (λ m. m .curve .degree)
+      (λ m. refl) (λ d. refl) (λ b. refl)
+      (λ d ok. (number-bytes-small degree-length d (degree-small d ok), rw ok, rw (length-bytes degree-length d) refl))
+      (λ b none fits. test-passed _ (lit< tt) none)
 
   pub curve-law : FieldLaw 0x41 h (λ c. (c .degree ≡ h .curve .degree) × CurvePasses c) curve-field (λ c. with-curve c h) (λ m. m .curve)
-  unfolding field-bytes field-body hold field-refusal curve-field curve-said curve-with coefficients allowed
+  unfolding field-body hold field-refusal curve-field curve-said curve-with coefficients allowed
   curve-law =
-      record {
-        valued = λ c. refl;
-        written = λ m. refl;
-        says = λ c ok. record {
-          kept = ap (λ (k : Curve). with-curve k h) (sym (ap (λ (d : ℕ). curve-said d (element-bytes (coefficients c))) (sym (ok .0)) ∙ curve-said-field c (ok .1)));
-          passes = ok .1;
-          fits = rw (length-element-bytes (coefficients c)) refl;
-        };
-        said = λ says. (
-          (ap (λ (k : Held). k .curve .degree) (says .kept), says .passes),
-          says .kept ∙ ap (λ (c : Curve). with-curve c h) (sym (ap (λ (k : Held). k .curve) (says .kept))),
-        );
-      }
+      field-law 0x41 h _ (λ c. element-bytes (coefficients c)) (curve-said (h .curve .degree)) (λ c. with-curve c h) (λ m. m .curve)
+      (λ m. refl) (λ c. refl) (λ b. refl)
+      (λ c ok.
+      let said = ap (λ (d : ℕ). curve-said d (element-bytes (coefficients c))) (sym (ok .0)) ∙ curve-said-field c (ok .1) in
+      (said, ok .1, rw (length-element-bytes (coefficients c)) refl))
+      (λ b none fits. (refl, none))
 
   pub drawing-law : FieldLaw 0x46 h DrawingPasses drawing-field (λ xs. with-drawing (drawing-said xs) h) (λ m. drawing-name (m .drawing))
-  unfolding field-bytes field-body hold field-refusal drawing-field drawing-refusal unless allowed
+  unfolding field-body hold field-refusal drawing-field drawing-refusal unless allowed
   drawing-law =
-      record {
-        valued = name-said;
-        written = λ m. refl;
-        says = λ xs ok. record {
-          kept = ap (λ (l : List ℕ). with-drawing (drawing-said l) h) (sym (name-said xs));
-          passes = rw (name-said xs, ok .0);
-          fits = rw (name-said xs) (le-leb (length xs) drawing-limit (ok .1));
-        };
-        said = λ says. ((test-passed _ (lit< tt) (says .passes), is-drawing-length (says .fits)), says .kept);
-      }
+      field-law 0x46 h DrawingPasses (λ xs. xs) (λ b. b) (λ xs. with-drawing (drawing-said xs) h) (λ m. drawing-name (m .drawing))
+      (λ m. refl) name-said (λ b. refl)
+      (λ xs ok. (refl, rw (name-said xs, ok .0), le-leb (length xs) drawing-limit (ok .1)))
+      (λ b none fits. (test-passed _ (lit< tt) (ap drawing-refusal (sym (name-said b)) ∙ none), is-drawing-length fits))
 
   pub count-law : FieldLaw 0x42 h CountPasses count-field (λ n. with-count n h) (λ m. m .count)
-  unfolding field-bytes field-body hold field-refusal count-field count-refusal unless allowed
+  unfolding field-body hold field-refusal count-field count-refusal unless allowed
   count-law =
-      record {
-        valued = λ n. refl;
-        written = λ m. refl;
-        says = λ n ok. record {
-          kept = ap (λ (k : ℕ). with-count k h) (sym (number-bytes-small count-length n (count-small n ok)));
-          passes = rw (le-leb n count-limit ok);
-          fits = rw (length-bytes count-length n) refl;
-        };
-        said = λ says. (leb-true _ _ (test-passed _ (lit< tt) (says .passes)), says .kept ∙ ap (λ (n : ℕ). with-count n h) (sym (ap (λ (k : Held). k .count) (says .kept))));
-      }
+      field-law 0x42 h CountPasses (bytes-of count-length) number-of (λ n. with-count n h) (λ m. m .count)
+      (λ m. refl) (λ n. refl) (λ b. refl)
+      (λ n ok. (number-bytes-small count-length n (count-small n ok), rw (le-leb n count-limit ok), rw (length-bytes count-length n) refl))
+      (λ b none fits. leb-true _ _ (test-passed _ (lit< tt) none))
 
   pub class-law : FieldLaw 0x43 h (ClassPasses (h .curve)) (class-field 0x43) (λ a. with-class a h) (λ m. m .class)
-  unfolding field-bytes field-body hold field-refusal class-field
+  unfolding field-body hold field-refusal class-field
   class-law =
-      record {
-        valued = λ a. refl;
-        written = λ m. refl;
-        says = λ a ok. record {
-          kept = ap (λ (k : Class). with-class k h) (sym (body-said (h .curve) a (ok .three) (ok .none)));
-          passes = ok .none;
-          fits = class-lengths (length (class-body a)) ∙ body-allowed (h .curve) a (ok .three) (ok .none);
-        };
-        said = λ {m} says.
-            let class = ap (λ (k : Held). k .class) (says .kept) in
-            let curve = ap (λ (k : Held). k .curve) (says .kept) in (
-              record { three = subst Three (sym class) (said-three _); none = ap (λ (c : Curve). refusal c (m .class)) (sym curve) ∙ says .passes },
-              says .kept ∙ ap (λ (a : Class). with-class a h) (sym class),
-            );
-      }
+      field-law 0x43 h (ClassPasses (h .curve)) class-body class-said (λ a. with-class a h) (λ m. m .class) (λ m. refl) (λ a. refl) (λ b. refl)
+      (λ a ok. (body-said (h .curve) a (ok .three) (ok .none), ok .none, class-lengths (length (class-body a)) ∙ body-allowed (h .curve) a (ok .three) (ok .none)))
+      (λ b none fits. record { three = said-three b; none = none })
 
   pub operation-law : FieldLaw 0x44 h (ClassPasses (h .curve)) (class-field 0x44) (λ a. with-operation a h) (λ m. m .operation)
-  unfolding field-bytes field-body hold field-refusal class-field
+  unfolding field-body hold field-refusal class-field
   operation-law =
-      record {
-        valued = λ a. refl;
-        written = λ m. refl;
-        says = λ a ok. record {
-          kept = ap (λ (k : Class). with-operation k h) (sym (body-said (h .curve) a (ok .three) (ok .none)));
-          passes = ok .none;
-          fits = operation-lengths (length (class-body a)) ∙ body-allowed (h .curve) a (ok .three) (ok .none);
-        };
-        said = λ {m} says.
-            let class = ap (λ (k : Held). k .operation) (says .kept) in
-            let curve = ap (λ (k : Held). k .curve) (says .kept) in (
-              record { three = subst Three (sym class) (said-three _); none = ap (λ (c : Curve). refusal c (m .operation)) (sym curve) ∙ says .passes },
-              says .kept ∙ ap (λ (a : Class). with-operation a h) (sym class),
-            );
-      }
+      field-law 0x44 h (ClassPasses (h .curve)) class-body class-said (λ a. with-operation a h) (λ m. m .operation) (λ m. refl) (λ a. refl) (λ b. refl)
+      (λ a ok. (body-said (h .curve) a (ok .three) (ok .none), ok .none, operation-lengths (length (class-body a)) ∙ body-allowed (h .curve) a (ok .three) (ok .none)))
+      (λ b none fits. record { three = said-three b; none = none })
 
 -- ---- the degree and the curve, with which every record begins
 
