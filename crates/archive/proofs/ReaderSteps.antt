@@ -96,24 +96,16 @@ module _ (i count : ℕ) where
   unfolding after-opening
   opening-over le e = rw (le-ltb (suc i) (length archive-opening) le) e
 
-module _ (h : Held) (s : List ℕ) (at : ℕ) where
-  pub opening-refused : (i : ℕ) {n : ℕ} → read-field (getD archive-opening i 0) h s at ≡ refused n → refused n ≡ read-opening i h s at
-  unfolding read-opening
-  opening-refused i e = sym (then-refused _ e)
+module _ (tag : ℕ) (due : Held → Due) (h : Held) (s : List ℕ) (at : ℕ) where
+  -- a field, and what is due then
+  abbrev field-step : Reading Reader
+  field-step = read-field tag h s at then λ more next. found (reader (due more) more) next
 
-  pub opening-found : (i : ℕ) {more : Held} {next : ℕ} {d : Due} → read-field (getD archive-opening i 0) h s at ≡ found more next → d ≡ after-opening i (more .count) →
-      found (reader d more) next ≡ read-opening i h s at
-  unfolding read-opening
-  opening-found i {more} {next} e f = ap (λ (d : Due). found (reader d more) next) f ∙ sym (then-found _ e)
+  pub step-refused : {n : ℕ} → read-field tag h s at ≡ refused n → refused n ≡ field-step
+  step-refused e = sym (then-refused _ e)
 
-  pub operation-refused : (n : ℕ) {k : ℕ} → read-field 0x44 h s at ≡ refused k → refused k ≡ read-operation n h s at
-  unfolding read-operation
-  operation-refused n e = sym (then-refused _ e)
-
-  pub operation-found : (n : ℕ) {more : Held} {next : ℕ} {d : Due} → read-field 0x44 h s at ≡ found more next → d ≡ operations-due (n - 1) →
-      found (reader d more) next ≡ read-operation n h s at
-  unfolding read-operation
-  operation-found n {more} {next} e f = ap (λ (d : Due). found (reader d more) next) f ∙ sym (then-found _ e)
+  pub step-found : {more : Held} {next : ℕ} {d : Due} → read-field tag h s at ≡ found more next → d ≡ due more → found (reader d more) next ≡ field-step
+  step-found {more} {next} e f = ap (λ (d : Due). found (reader d more) next) f ∙ sym (then-found _ e)
 
 -- ---- a step leaves less to read
 
