@@ -1,23 +1,18 @@
--- The steps and the archive's value say the same of the input: each is what the opening and the operations make (`steps-are`, `archive-is`), and what was opened keeps
--- the limits (`opening-bounded`).
-use Prim.Native.Nat.{ℕ, zero, suc, _+_, _≤_, min}
-use mathlib.Core.Path.{_≡_, refl, sym, ap, _∙_, subst}
+-- The steps and the archive's value say the same of the input: each is what the opening and the operations make (`steps-are`, `archive-is`), and so
+-- they are refused with the same number (`steps-refusal`).
+use Prim.Native.Nat.{ℕ, zero, suc}
+use mathlib.Core.Path.{_≡_, refl, sym, ap, _∙_}
 use mathlib.Core.List.{List, [], _∷_}
-use native.Mathlib.Omega.{arith}
-use lib.Dec.{lit<}
-use lib.ListN.{length, drop, replicate, length-take}
-use borrow.Author.Tests.{leb-true}
+use lib.ListN.{replicate}
 use Rattle.jacobian.specs.declared.{Curve.Curve, Class.Class}
 use Rattle.jacobian.specs.{Curves.curve-with, Answer.neutral-class}
-use Rattle.stored_form.specs.{Reading.Reading, Reading.found, Reading.refused, Reading.checked, Reading._then_, Reading.reading-refusal, Number.number-of, Number.part, Head.drawing-limit, Head.head-at, Head.body-at, Fields.end-refusal, Fields.count-limit, Fields.count-refusal, Fields.drawing-refusal, Fields.degree-at, Fields.drawing-at, Fields.count-at, Classes.curve-at, Classes.curve-first, Classes.class-at}
-use Rattle.stored_form.specs.Held.{drawing-said, drawing-name, curve-of-degree, nothing-held, with-curve, with-drawing, with-count, with-class, with-operation, read-field, read-fields, archive-opening}
+use Rattle.stored_form.specs.{Reading.Reading, Reading.found, Reading.refused, Reading.checked, Reading._then_, Reading.reading-refusal, Fields.end-refusal, Fields.degree-at, Fields.drawing-at, Fields.count-at, Classes.curve-at, Classes.curve-first, Classes.class-at}
+use Rattle.stored_form.specs.Held.{drawing-said, curve-of-degree, nothing-held, with-curve, with-drawing, with-count, with-class, with-operation, read-field, read-fields, archive-opening}
 use Rattle.stored_form.specs.declared.Held.{Held}
-use Rattle.stored_form.proofs.{Readings.then-same, Readings.then-assoc, Readings.checked-then, Readings.test-passed, Readings.both-found, Readings.checked-found, Readings.same-found, Heads.head-found, Lengths.is-drawing-length}
+use Rattle.stored_form.proofs.{Readings.then-same, Readings.then-assoc, Readings.checked-then}
 use Rattle.stored_form.proofs.FieldReadings.{name-said, read-degree, read-curve, read-drawing, read-count, read-class, read-operation}
-use Rattle.archive.specs.declared.Due.the-variants.{Nothing}
-use Rattle.archive.specs.declared.Reader.{Reader}
-use Rattle.archive.specs.Archive.{Archive, operations-at, read-archive, archive-refusal}
-use Rattle.archive.specs.Reader.{reader, read-end, read-steps, Opened, read-opened, with-operations, last-state, archive-of}
+use Rattle.archive.specs.Archive.{operations-at, read-archive, archive-refusal}
+use Rattle.archive.specs.Reader.{read-end, read-steps, Opened, read-opened, with-operations, last-state, archive-of}
 
 -- a field of a reader, and what follows it
 module _ {A B : Type 0} (x : Reading A) (with : A → Held) (F : Held → ℕ → Reading B) {y : Reading Held} where
@@ -39,7 +34,7 @@ module _ {B : Type 0} (s : List ℕ) (F : Held → ℕ → Reading B) where
   one tag tags h at x with G e rest =
       then-assoc (read-field tag h s at) _ F ∙ field-then x with (λ m next. read-fields tags m s next then F) e ∙ then-same _ x rest
 
-  pub opening-then : (read-fields archive-opening nothing-held s 0 then F) ≡
+  opening-then : (read-fields archive-opening nothing-held s 0 then F) ≡
       (curve-first s 0 then λ c next.
       drawing-at s next then λ name next.
       count-at s next then λ n next.
@@ -126,41 +121,3 @@ unfolding archive-refusal
 steps-refusal s =
     ap reading-refusal (steps-are s) ∙ same-refusal (read-opened s) last-state
     ∙ sym (ap reading-refusal (archive-is s) ∙ same-refusal (read-opened s) archive-of)
-
--- ---- what was opened keeps the limits
-
-count-bounded : (s : List ℕ) (at : ℕ) {n next : ℕ} → count-at s at ≡ found n next → n ≤ count-limit
-unfolding count-at count-refusal
-count-bounded s at e =
-    let p = both-found _ (body-at 0x42 s at) e in
-    let q = checked-found (count-refusal (number-of (p .0))) (found (number-of (p .0)) (p .1)) (p .3) in
-    subst (λ (k : ℕ). k ≤ count-limit) (same-found (q .1) .0) (leb-true _ _ (test-passed _ (lit< tt) (q .0)))
-
-name-bounded : (s : List ℕ) (at : ℕ) {xs : List ℕ} {next : ℕ} → drawing-at s at ≡ found xs next → length xs ≤ drawing-limit
-unfolding drawing-at body-at
-name-bounded s at {xs} e =
-    let p = both-found _ (body-at 0x46 s at) e in
-    let q = checked-found (drawing-refusal (p .0)) (found (p .0) (p .1)) (p .3) in
-    let head = both-found _ (head-at 0x46 s at) (p .2) in
-    let n = head .0 in
-    let long : length (part s (at + 3) n) ≡ length xs = ap length (same-found (head .3) .0 ∙ same-found (q .1) .0) in
-    let most : length (part s (at + 3) n) ≡ min n (length (drop (at + 3) s)) = length-take n (drop (at + 3) s) in
-    omega (arith, is-drawing-length (head-found 0x46 s at (head .2) .allows))
-
-then-itself : {A : Type 0} (x : Reading A) → (x then found) ≡ x
-unfolding _then_
-then-itself (found a n) = refl
-then-itself (refused n) = refl
-
-pub opening-bounded : (s : List ℕ) {h : Held} {first : ℕ} → read-fields archive-opening nothing-held s 0 ≡ found h first →
-    (h .count ≤ count-limit) × (h .drawing .len ≤ drawing-limit)
-unfolding drawing-said
-opening-bounded s {h} e =
-    let c = both-found _ (curve-first s 0) (sym (opening-then s found) ∙ then-itself _ ∙ e) in
-    let name = both-found _ (drawing-at s (c .1)) (c .3) in
-    let n = both-found _ (count-at s (name .1)) (name .3) in
-    let seal = both-found _ (class-at 0x43 (c .0) s (n .1)) (n .3) in
-    let same = same-found (seal .3) .0 in (
-      subst (λ (k : Held). k .count ≤ count-limit) same (count-bounded s (name .1) (n .2)),
-      subst (λ (k : Held). k .drawing .len ≤ drawing-limit) same (name-bounded s (c .1) (name .2)),
-    )

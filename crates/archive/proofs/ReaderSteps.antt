@@ -1,21 +1,21 @@
 -- Reading by steps: one step of what is left to read, that a step leaves less to read, and what the code's answer says of a step.
 use Prim.Native.Nat.{ℕ, zero, suc, _+_, _*_, _-_, _≤_, _<_}
-use mathlib.Core.Path.{_≡_, refl, sym, ap, _∙_, subst}
+use mathlib.Core.Path.{_≡_, refl, sym, ap, _∙_}
 use mathlib.Core.Bool.{Bool, true, false, cond, true≢false, false≢true}
-use mathlib.Core.List.{List, [], _∷_}
+use mathlib.Core.List.{List, []}
 use native.Mathlib.Omega.{arith}
 use lib.Dec.{ltb}
-use lib.ListN.{length, getD, drop, replicate}
+use lib.ListN.{length, getD, drop, replicate, drop-of-length-le}
 use lib.Seq.{drop-cons}
 use borrow.Author.Tests.{lt-ltb, le-ltb, ltb-true, ltb-false}
-use Rattle.stored_form.specs.{Reading.Reading, Reading.found, Reading.refused, Reading.checked, Reading._then_, Reading.reading-refusal, Fields.end-refusal}
+use Rattle.stored_form.specs.{Reading.Reading, Reading.found, Reading.refused, Reading._then_, Reading.reading-refusal, Fields.end-refusal}
 use Rattle.stored_form.specs.Held.{nothing-held, read-field, read-fields, archive-opening, place-refusal}
-use Rattle.stored_form.specs.declared.{Held.Held, Cursor.Cursor, Place.Place}
+use Rattle.stored_form.specs.declared.{Held.Held, Cursor.Cursor}
 use Rattle.stored_form.specs.declared.Place.the-variants.{Next, Refused}
-use Rattle.stored_form.proofs.{Readings.then-found, Readings.then-refused, Readings.both-found, Readings.same-found, Readings.checked-found, Readings.checked-then, Readings.then-same, Readings.then-assoc, Readers.placed, Readers.drop-all, FieldReadings.field-within}
+use Rattle.stored_form.proofs.{Readings.then-found, Readings.then-refused, Readings.both-found, Readings.same-found, Readings.checked-found, Readings.checked-then, Readings.then-same, Readings.then-assoc, Readers.placed, Readers.answer-found, Readers.answer-refused, Readers.answer-refusal, FieldReadings.field-within}
 use Rattle.archive.specs.declared.{Due.Due, Reader.Reader, Advance.Advance}
 use Rattle.archive.specs.declared.Due.the-variants.{Opening, Operations, End, Nothing}
-use Rattle.archive.specs.Reader.{reader, start, operations-due, after-opening, read-opening, read-operation, read-end, read-due, step, pending, read-steps, advance-of}
+use Rattle.archive.specs.Reader.{reader, start, operations-due, after-opening, read-opening, read-operation, read-end, read-due, pending, read-steps, advance-of}
 
 -- ---- one step of what is left to read
 
@@ -51,7 +51,7 @@ module _ (s : List ℕ) where
     last : length archive-opening ≤ suc i → from-opening (drop (suc i) archive-opening) h at ≡ left (operations-due (h .count)) h at
     unfolding from-opening read-fields _then_
     last le =
-        ap (λ (l : List ℕ). read-fields l h s at then λ h next. from-operations (h .count) h next) (drop-all (suc i) archive-opening le)
+        ap (λ (l : List ℕ). read-fields l h s at then λ h next. from-operations (h .count) h next) (drop-of-length-le archive-opening le)
         ∙ operations-next (h .count) h at
 
   opening-next : (i : ℕ) (h : Held) (at : ℕ) → from-opening (drop (suc i) archive-opening) h at ≡ left (after-opening i (h .count)) h at
@@ -82,14 +82,6 @@ module _ (s : List ℕ) where
 
 -- ---- the step of a field, as the code makes it
 
-pub tag-past : (i : ℕ) → length archive-opening ≤ i → 0 ≡ getD archive-opening i 0
-tag-past zero h = absurd (omega arith)
-tag-past (suc zero) h = absurd (omega arith)
-tag-past (suc (suc zero)) h = absurd (omega arith)
-tag-past (suc (suc (suc zero))) h = absurd (omega arith)
-tag-past (suc (suc (suc (suc zero)))) h = absurd (omega arith)
-tag-past (suc (suc (suc (suc (suc i))))) h = refl
-
 pub some-due : (n : ℕ) → (n ≡ 0 → ⊥) → Operations n ≡ operations-due n
 unfolding operations-due
 some-due zero h = absurd (h refl)
@@ -104,39 +96,29 @@ module _ (i count : ℕ) where
   unfolding after-opening
   opening-over le e = rw (le-ltb (suc i) (length archive-opening) le) e
 
-module _ (h : Held) (s : List ℕ) (at : ℕ) where
-  pub opening-refused : (i : ℕ) {n : ℕ} → read-field (getD archive-opening i 0) h s at ≡ refused n → refused n ≡ read-opening i h s at
-  unfolding read-opening
-  opening-refused i e = sym (then-refused _ e)
+module _ (tag : ℕ) (due : Held → Due) (h : Held) (s : List ℕ) (at : ℕ) where
+  -- a field, and what is due then
+  abbrev field-step : Reading Reader
+  field-step = read-field tag h s at then λ more next. found (reader (due more) more) next
 
-  pub opening-found : (i : ℕ) {more : Held} {next : ℕ} {d : Due} → read-field (getD archive-opening i 0) h s at ≡ found more next → d ≡ after-opening i (more .count) →
-      found (reader d more) next ≡ read-opening i h s at
-  unfolding read-opening
-  opening-found i {more} {next} e f = ap (λ (d : Due). found (reader d more) next) f ∙ sym (then-found _ e)
+  pub step-refused : {n : ℕ} → read-field tag h s at ≡ refused n → refused n ≡ field-step
+  step-refused e = sym (then-refused _ e)
 
-  pub operation-refused : (n : ℕ) {k : ℕ} → read-field 0x44 h s at ≡ refused k → refused k ≡ read-operation n h s at
-  unfolding read-operation
-  operation-refused n e = sym (then-refused _ e)
-
-  pub operation-found : (n : ℕ) {more : Held} {next : ℕ} {d : Due} → read-field 0x44 h s at ≡ found more next → d ≡ operations-due (n - 1) →
-      found (reader d more) next ≡ read-operation n h s at
-  unfolding read-operation
-  operation-found n {more} {next} e f = ap (λ (d : Due). found (reader d more) next) f ∙ sym (then-found _ e)
+  pub step-found : {more : Held} {next : ℕ} {d : Due} → read-field tag h s at ≡ found more next → d ≡ due more → found (reader d more) next ≡ field-step
+  step-found {more} {next} e f = ap (λ (d : Due). found (reader d more) next) f ∙ sym (then-found _ e)
 
 -- ---- a step leaves less to read
 
 weight : Due → ℕ
-weight (Opening i) = 1
-weight (Operations n) = 1
-weight End = 1
-weight Nothing = 0
+weight d = cond (pending d) 1 0
 
 light : (d : Due) → weight d ≤ 1
 unfolding weight
-light (Opening i) = omega arith
-light (Operations n) = omega arith
-light End = omega arith
-light Nothing = omega arith
+light d = go (pending d)
+  where
+    go : (b : Bool) → cond b 1 0 ≤ 1
+    go true = omega arith
+    go false = omega arith
 
 -- bytes that are left, and whether anything is due
 pub rank : List ℕ → Due → ℕ → ℕ
@@ -162,24 +144,17 @@ module _ (s : List ℕ) (h : Held) (at : ℕ) {r : Reader} {next : ℕ} where
 
 -- ---- what the code's answer says of a step
 
-said-back : (x : Reading Reader) → placed (advance-of x .place) (advance-of x .reader) ≡ x
+advance-back : (x : Reading Reader) → placed (advance-of x .place) (advance-of x .reader) ≡ x
 unfolding advance-of placed
-said-back (found r n) = refl
-said-back (refused n) = refl
+advance-back (found r n) = refl
+advance-back (refused n) = refl
 
 module _ (t : Advance) {x : Reading Reader} (e : t ≡ advance-of x) where
-  said : x ≡ placed (t .place) (t .reader)
-  said = sym (ap (λ (q : Advance). placed (q .place) (q .reader)) e ∙ said-back x)
-
   pub advance-found : {next : Cursor} → t .place ≡ Next next → x ≡ found (t .reader) (next .at)
-  unfolding placed
-  advance-found f = said ∙ ap (λ (p : Place). placed p (t .reader)) f
+  advance-found = answer-found (λ q. q .place) (λ q. q .reader) advance-of advance-back t x e
 
   pub advance-refused : {n : ℕ} → t .place ≡ Refused n → x ≡ refused n
-  unfolding placed
-  advance-refused f = said ∙ ap (λ (p : Place). placed p (t .reader)) f
+  advance-refused = answer-refused (λ q. q .place) (λ q. q .reader) advance-of advance-back t x e
 
-pub place-number : (x : Reading Reader) → place-refusal (advance-of x .place) ≡ reading-refusal x
-unfolding advance-of
-place-number (found r n) = refl
-place-number (refused n) = refl
+pub advance-refusal : (t : Advance) (x : Reading Reader) → t ≡ advance-of x → place-refusal (t .place) ≡ reading-refusal x
+advance-refusal = answer-refusal (λ q. q .place) (λ q. q .reader) advance-of advance-back

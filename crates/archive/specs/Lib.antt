@@ -1,4 +1,3 @@
--- An archive as it is read: in one piece, by a state and one step for each field; and the bytes that are written of it.
+-- An archive as it is read: in one piece, and by a state and one step for each field.
 pub mod Archive
 pub mod Reader
-pub mod Written

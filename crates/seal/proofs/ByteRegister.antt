@@ -17,7 +17,8 @@ use Rattle.history.proofs.OneStep.{taken, stepped-curve, stepped-passes, step-t
 use Rattle.stored_form.specs.{Number.Bytes, Reading.found, Fields.count-field, Classes.curve-first-fields, Classes.class-field, Passing.ClassPasses, Held.read-record, Held.register-record}
 use Rattle.stored_form.specs.Effect.{Effect, refuse, write, on, put, byte-call, register-room}
 use Rattle.stored_form.specs.declared.Held.{Held}
-use Rattle.stored_form.proofs.{ClassRoundTrips.class-short, Rows.length-count, Effects.call-found, Effects.put-written, Effects.put-refusal}
+use Rattle.stored_form_theorems.proofs.ClassRoundTrips.{class-short}
+use Rattle.stored_form.proofs.{Rows.length-count, Effects.call-found, Effects.put-written, Effects.put-refusal}
 use Rattle.seal.specs.Records.{register-held, register-fields, register-record-bytes, RegisterStored}
 use Rattle.seal.specs.Rebuilt.{register-rebuilt}
 use Rattle.seal.specs.Calls.{register, register-handed, answered, commit-call, undo-call}

@@ -2,17 +2,17 @@
 -- no check refuses (`class-record-written` and its like), and what is written for such values is read so (`class-record-back` and its like).
 use Prim.Native.Nat.{ℕ}
 use mathlib.Core.Path.{_≡_, sym, ap, _∙_}
-use mathlib.Core.List.{List, [], _∷_, _++_}
+use mathlib.Core.List.{List, _++_, append-assoc}
 use lib.ListN.{length}
-use Rattle.jacobian.specs.{Curves.curve-refusal, Answer.refusal}
-use Rattle.jacobian.specs.declared.{Curve.Curve, Class.Class}
+use Rattle.jacobian.specs.{Curves.curve-refusal, Answer.refusal, declared.Curve.Curve, declared.Class.Class}
 use Rattle.jacobian.proofs.ByValue.Checks.{then-zero}
 use Rattle.stored_form.specs.{Number.Bytes, Reading.found, Passing.ClassPasses, Fields.count-field, Classes.curve-first-fields, Classes.class-field}
-use Rattle.stored_form.specs.Held.{nothing-held, with-curve, with-count, with-class, read-fields, read-record, class-record, sum-record, register-record}
+use Rattle.stored_form.specs.Held.{nothing-held, with-curve, with-count, with-class, read-record, class-record, sum-record, register-record}
 use Rattle.stored_form.specs.declared.Held.{Held}
-use Rattle.stored_form.proofs.{Readings.same-found, RoundTrips.behind, RoundTrips.apart, RoundTrips.is-whole}
-use Rattle.stored_form.proofs.FieldSteps.{first-fields-found, count-found, class-found, operation-found, first-fields-back, count-back, class-back, operation-back, record-ends, record-back, all-of}
-use Rattle.seal.specs.Records.{class-held, sum-held, register-held, class-record-bytes, sum-record-bytes, register-record-bytes, register-fields, ClassStored, SumStored, RegisterStored}
+use Rattle.stored_form_theorems.proofs.{RecordRoundTrips.record-written, RecordRoundTrips.record-read-back, FieldLaws.more, FieldLaws.first-value, FieldLaws.no-more}
+use Rattle.stored_form_theorems.proofs.FieldValues.{count-law, class-law, operation-law, curve-more, first-curve}
+use Rattle.stored_form_theorems.specs.Records.{none}
+use Rattle.seal.specs.Records.{class-held, class-record-bytes, sum-record-bytes, register-record-bytes, ClassStored, SumStored, RegisterStored}
 
 -- a class is refused where its curve is
 pub curve-passes : {c : Curve} {a : Class} → ClassPasses c a → curve-refusal c ≡ 0
@@ -23,96 +23,80 @@ curve-passes ok = then-zero _ _ (ok .none) .0
 
 module _ {s : List ℕ} {h : Held} where
   pub class-record-written : {end : ℕ} → Bytes s → read-record class-record s ≡ found h end → ClassStored s h × (end ≡ length s)
-  unfolding class-record-bytes read-fields
+  unfolding class-record-bytes
   class-record-written b e =
-      let all = record-ends class-record s e in
-      let c = first-fields-found (0x43 ∷ []) nothing-held s 0 b (all .fields) in
-      let a = class-found [] (with-curve (c .value) nothing-held) s (c .middle) b (c .rest) in
-      let last = same-found (a .rest) in
-      let bytes = is-whole s (behind _ _ (c .field) (a .field)) (rw (last .1) (all .whole)) in
-      (record { curve = c .value; class = a .value; held = sym (last .0); bytes = bytes .0; passes = a .passes }, sym (last .1) ∙ bytes .1)
+      let w = record-written class-record s b e in
+      let c = first-curve (w .0) in
+      let a = first-value (class-law (with-curve (c .0) nothing-held)) (c .2) in
+      let last = no-more (a .2) in
+      (record { curve = c .0; class = a .0; held = last .0; bytes = last .1; passes = a .1 }, w .1)
 
   pub class-record-back : ClassStored s h → read-record class-record s ≡ found h (length s)
-  unfolding class-record-bytes read-fields
+  unfolding class-record-bytes
   class-record-back w =
-      let p = apart (curve-first-fields (w .curve)) (class-field 0x43 (w .class)) (all-of s (w .bytes)) in
-      rw (w .held)
-      (record-back class-record s
-      (first-fields-back (0x43 ∷ []) nothing-held s (w .curve) (curve-passes (w .passes)) (p .1)
-      ∙ class-back [] (with-curve (w .curve) nothing-held) s (w .passes) (p .2)))
+      rw (w .held, w .bytes)
+      (record-read-back class-record _
+      (curve-more (w .curve) (curve-passes (w .passes))
+      (more (class-law (with-curve (w .curve) nothing-held)) (w .class) (w .passes) none)))
 
 -- ---- the record of a sum
 
 module _ {s : List ℕ} {h : Held} where
   pub sum-record-written : {end : ℕ} → Bytes s → read-record sum-record s ≡ found h end → SumStored s h × (end ≡ length s)
-  unfolding sum-record-bytes read-fields
+  unfolding sum-record-bytes
   sum-record-written b e =
-      let all = record-ends sum-record s e in
-      let c = first-fields-found (0x43 ∷ 0x43 ∷ []) nothing-held s 0 b (all .fields) in
-      let x = class-found (0x43 ∷ []) (with-curve (c .value) nothing-held) s (c .middle) b (c .rest) in
-      let y = class-found [] (class-held (c .value) (x .value)) s (x .middle) b (x .rest) in
-      let last = same-found (y .rest) in
-      let bytes = is-whole s (behind _ _ (behind _ _ (c .field) (x .field)) (y .field)) (rw (last .1) (all .whole)) in
-      let stored : SumStored s h = record {
-        curve = c .value;
-        first = x .value;
-        second = y .value;
-        held = sym (last .0);
-        bytes = bytes .0;
-        first-passes = x .passes;
-        second-passes = y .passes;
-      } in
-      (stored, sym (last .1) ∙ bytes .1)
+      let w = record-written sum-record s b e in
+      let c = first-curve (w .0) in
+      let x = first-value (class-law (with-curve (c .0) nothing-held)) (c .2) in
+      let y = first-value (class-law (class-held (c .0) (x .0))) (x .2) in
+      let last = no-more (y .2) in
+      (record { curve = c .0; first = x .0; second = y .0; held = last .0; bytes = last .1; first-passes = x .1; second-passes = y .1 }, w .1)
 
   pub sum-record-back : SumStored s h → read-record sum-record s ≡ found h (length s)
-  unfolding sum-record-bytes read-fields
+  unfolding sum-record-bytes
   sum-record-back w =
-      let p = apart (curve-first-fields (w .curve) ++ class-field 0x43 (w .first)) (class-field 0x43 (w .second)) (all-of s (w .bytes)) in
-      let q = apart (curve-first-fields (w .curve)) (class-field 0x43 (w .first)) (p .1) in
-      rw (w .held)
-      (record-back sum-record s
-      (first-fields-back (0x43 ∷ 0x43 ∷ []) nothing-held s (w .curve) (curve-passes (w .first-passes)) (q .1)
-      ∙ class-back (0x43 ∷ []) (with-curve (w .curve) nothing-held) s (w .first-passes) (q .2)
-      ∙ class-back [] (class-held (w .curve) (w .first)) s (w .second-passes) (p .2)))
+      rw (w .held, w .bytes)
+      (record-read-back sum-record _
+      (curve-more (w .curve) (curve-passes (w .first-passes))
+      (more (class-law (with-curve (w .curve) nothing-held)) (w .first) (w .first-passes)
+      (more (class-law (class-held (w .curve) (w .first))) (w .second) (w .second-passes) none))))
 
 -- ---- a register's record
 
+-- its bytes, field by field
+register-bytes : (c : Curve) (n : ℕ) (x y : Class) →
+    register-record-bytes (record { curve = c; count = n; seal = x }) y ≡ curve-first-fields c ++ count-field n ++ class-field 0x43 x ++ class-field 0x44 y
+unfolding register-record-bytes
+register-bytes c n x y = sym (ap (λ (l : List ℕ). l ++ class-field 0x44 y) (append-assoc (curve-first-fields c) (count-field n) (class-field 0x43 x)))
+
 module _ {s : List ℕ} {h : Held} where
   pub register-record-written : {end : ℕ} → Bytes s → read-record register-record s ≡ found h end → RegisterStored s h × (end ≡ length s)
-  unfolding register-record-bytes read-fields
   register-record-written b e =
-      let all = record-ends register-record s e in
-      let c = first-fields-found (0x42 ∷ 0x43 ∷ 0x44 ∷ []) nothing-held s 0 b (all .fields) in
-      let begun = with-curve (c .value) nothing-held in
-      let n = count-found (0x43 ∷ 0x44 ∷ []) begun s (c .middle) b (c .rest) in
-      let counted = with-count (n .value) begun in
-      let x = class-found (0x44 ∷ []) counted s (n .middle) b (n .rest) in
-      let y = operation-found [] (with-class (x .value) counted) s (x .middle) b (x .rest) in
-      let last = same-found (y .rest) in
-      let bytes = is-whole s (behind _ _ (behind _ _ (c .field) (behind _ _ (n .field) (x .field))) (y .field)) (rw (last .1) (all .whole)) in
+      let w = record-written register-record s b e in
+      let c = first-curve (w .0) in
+      let begun = with-curve (c .0) nothing-held in
+      let n = first-value (count-law begun) (c .2) in
+      let x = first-value (class-law (with-count (n .0) begun)) (n .2) in
+      let y = first-value (operation-law (with-class (x .0) (with-count (n .0) begun))) (x .2) in
+      let last = no-more (y .2) in
       let stored : RegisterStored s h = record {
-        register = record { curve = c .value; count = n .value; seal = x .value };
-        class = y .value;
-        held = sym (last .0);
-        bytes = bytes .0;
-        count-passes = n .passes;
-        seal-passes = x .passes;
-        class-passes = y .passes;
+        register = record { curve = c .0; count = n .0; seal = x .0 };
+        class = y .0;
+        held = last .0;
+        bytes = last .1 ∙ sym (register-bytes (c .0) (n .0) (x .0) (y .0));
+        count-passes = n .1;
+        seal-passes = x .1;
+        class-passes = y .1;
       } in
-      (stored, sym (last .1) ∙ bytes .1)
+      (stored, w .1)
 
   pub register-record-back : RegisterStored s h → read-record register-record s ≡ found h (length s)
-  unfolding register-record-bytes read-fields
   register-record-back w =
       let g = w .register in
       let begun = with-curve (g .curve) nothing-held in
-      let counted = with-count (g .count) begun in
-      let p = apart (curve-first-fields (g .curve) ++ register-fields g) (class-field 0x44 (w .class)) (all-of s (w .bytes)) in
-      let q = apart (curve-first-fields (g .curve)) (register-fields g) (p .1) in
-      let t = apart (count-field (g .count)) (class-field 0x43 (g .seal)) (q .2) in
-      rw (w .held)
-      (record-back register-record s
-      (first-fields-back (0x42 ∷ 0x43 ∷ 0x44 ∷ []) nothing-held s (g .curve) (curve-passes (w .seal-passes)) (q .1)
-      ∙ count-back (0x43 ∷ 0x44 ∷ []) begun s (g .count) (w .count-passes) (t .1)
-      ∙ class-back (0x44 ∷ []) counted s (w .seal-passes) (t .2)
-      ∙ operation-back [] (with-class (g .seal) counted) s (w .class-passes) (p .2)))
+      rw (w .held, w .bytes, register-bytes (g .curve) (g .count) (g .seal) (w .class))
+      (record-read-back register-record _
+      (curve-more (g .curve) (curve-passes (w .seal-passes))
+      (more (count-law begun) (g .count) (w .count-passes)
+      (more (class-law (with-count (g .count) begun)) (g .seal) (w .seal-passes)
+      (more (operation-law (with-class (g .seal) (with-count (g .count) begun))) (w .class) (w .class-passes) none)))))

@@ -32,24 +32,6 @@ module _ (d : List ℕ) (at : ℕ) where
   unfolding element-bytes
   nothing = refl
 
-  one : {a : List ℕ} (r : List ℕ) → length r ≡ 3 → a ≡ sets d at (bytes-of 8 (getD r 0 0)) → Puts 1 r a
-  unfolding row-written
-  one {a} = by-three (λ r. a ≡ sets d at (bytes-of 8 (getD r 0 0)) → Puts 1 r a) (λ x y z. put-more d at [] x nothing (omega arith))
-
-  two : {a b : List ℕ} (r : List ℕ) → length r ≡ 3 → a ≡ sets d at (bytes-of 8 (getD r 1 0)) → b ≡ sets a (at + 8) (bytes-of 8 (getD r 0 0)) → Puts 2 r b
-  unfolding row-written
-  two {a} {b} =
-      by-three (λ r. a ≡ sets d at (bytes-of 8 (getD r 1 0)) → b ≡ sets a (at + 8) (bytes-of 8 (getD r 0 0)) → Puts 2 r b)
-      (λ x y z e. put-more d at (y ∷ []) x (put-more d at [] y nothing (omega arith) e) (omega arith))
-
-  three : {a b c : List ℕ} (r : List ℕ) → length r ≡ 3 → a ≡ sets d at (bytes-of 8 (getD r 2 0)) → b ≡ sets a (at + 8) (bytes-of 8 (getD r 1 0)) →
-      c ≡ sets b (at + 16) (bytes-of 8 (getD r 0 0)) → Puts 3 r c
-  unfolding row-written
-  three {a} {b} {c} =
-      by-three
-      (λ r. a ≡ sets d at (bytes-of 8 (getD r 2 0)) → b ≡ sets a (at + 8) (bytes-of 8 (getD r 1 0)) → c ≡ sets b (at + 16) (bytes-of 8 (getD r 0 0)) → Puts 3 r c)
-      (λ x y z e f. put-more d at (z ∷ y ∷ []) x (put-more d at (z ∷ []) y (put-more d at [] z nothing (omega arith) e) (omega arith) f) (omega arith))
-
   -- as the code says it, with n
   module _ (r : List ℕ) (long : length r ≡ 3) {n : ℕ} where
     pub put-0 : n ≡ 0 → Puts n r d
@@ -57,14 +39,24 @@ module _ (d : List ℕ) (at : ℕ) where
     put-0 h = rw h
 
     pub put-1 : {a : List ℕ} → n ≡ 1 → a ≡ sets d at (bytes-of 8 (getD r (n - 1) 0)) → Puts n r a
-    put-1 h e = rw h (one r long (rw h at e))
+    unfolding row-written
+    put-1 {a} h e =
+        rw h (by-three (λ r. a ≡ sets d at (bytes-of 8 (getD r 0 0)) → Puts 1 r a) (λ x y z. put-more d at [] x nothing (omega arith)) r long (rw h at e))
 
     pub put-2 : {a b : List ℕ} → n ≡ 2 → a ≡ sets d at (bytes-of 8 (getD r (n - 1) 0)) → b ≡ sets a (at + 8) (bytes-of 8 (getD r (n - 2) 0)) → Puts n r b
-    put-2 h e f = rw h (two r long (rw h at e) (rw h at f))
+    unfolding row-written
+    put-2 {a} {b} h e f =
+        rw h (by-three (λ r. a ≡ sets d at (bytes-of 8 (getD r 1 0)) → b ≡ sets a (at + 8) (bytes-of 8 (getD r 0 0)) → Puts 2 r b)
+        (λ x y z e. put-more d at (y ∷ []) x (put-more d at [] y nothing (omega arith) e) (omega arith)) r long (rw h at e) (rw h at f))
 
     pub put-3 : {a b c : List ℕ} → n ≡ 3 → a ≡ sets d at (bytes-of 8 (getD r (n - 1) 0)) → b ≡ sets a (at + 8) (bytes-of 8 (getD r (n - 2) 0)) →
         c ≡ sets b (at + 16) (bytes-of 8 (getD r 0 0)) → Puts n r c
-    put-3 h e f g = rw h (three r long (rw h at e) (rw h at f) g)
+    unfolding row-written
+    put-3 {a} {b} {c} h e f g =
+        rw h (by-three
+        (λ r. a ≡ sets d at (bytes-of 8 (getD r 2 0)) → b ≡ sets a (at + 8) (bytes-of 8 (getD r 1 0)) → c ≡ sets b (at + 16) (bytes-of 8 (getD r 0 0)) → Puts 3 r c)
+        (λ x y z e f. put-more d at (z ∷ y ∷ []) x (put-more d at (z ∷ []) y (put-more d at [] z nothing (omega arith) e) (omega arith) f) (omega arith))
+        r long (rw h at e) (rw h at f) g)
 
 pub length-row : (n : ℕ) (r : List ℕ) → length r ≡ 3 → n ≤ 3 → length (row-written n r) ≡ n
 unfolding row-written

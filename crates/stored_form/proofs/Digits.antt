@@ -1,20 +1,15 @@
--- Numbers as bytes, high byte first: the number of bytes is bounded by their count, one more byte is one more digit, and
--- a number below 256^k and its k bytes determine each other.
-use Prim.Native.Nat.{ℕ, zero, suc, _+_, _*_, _/_, _%_, _^_, _≤_, _<_}
+-- Numbers as bytes, high byte first: the number of bytes is bounded by their count, and one more byte is one more digit.
+use Prim.Native.Nat.{ℕ, zero, suc, _+_, _*_, _^_, _≤_, _<_}
 use mathlib.Core.Path.{_≡_, refl, sym, ap, ap₂, _∙_}
 use mathlib.Core.List.{List, [], _∷_, _++_}
-use native.Mathlib.Nat.{pow-suc, pow-succ', mul-assoc, mod-eq-of-lt, mul-add-div-right, mul-add-mod-self-right, pow-le-pow-right, lt-of-lt-of-le}
+use native.Mathlib.Nat.{pow-suc, pow-succ', mul-assoc, pow-le-pow-right, lt-of-lt-of-le}
 use native.Mathlib.Numerals.{add-one}
 use native.Mathlib.Omega.{arith}
 use lib.Dec.{lit<}
-use lib.Arith.{digits-lt, digits-div, mod-mul}
+use lib.Arith.{digits-lt}
 use lib.ListN.{length, getD, take, drop, length-append, length-take, length-drop}
 use lib.Seq.{take-suc, getD-drop}
 use Rattle.stored_form.specs.Number.{number-of, bytes-of, Bytes, part}
-
-pow-pos : (k : ℕ) → 0 < 256 ^ k
-pow-pos zero = lit< tt
-pow-pos (suc k) = rw pow-suc (omega (arith, pow-pos k))
 
 -- ---- the number of bytes
 
@@ -37,36 +32,6 @@ pub length-bytes : (k n : ℕ) → length (bytes-of k n) ≡ k
 unfolding bytes-of
 length-bytes zero n = refl
 length-bytes (suc k) n = ap suc (length-bytes k n)
-
-pub number-bytes : (k n : ℕ) → number-of (bytes-of k n) ≡ n % 256 ^ k
-unfolding number-of bytes-of
-number-bytes zero n = omega arith
-number-bytes (suc k) n =
-    let low : number-of (bytes-of k n) ≡ n % 256 ^ k = number-bytes k n in
-    ap₂ (λ (l r : ℕ). (n / 256 ^ k % 256) * 256 ^ l + r) (length-bytes k n) low
-    ∙ sym (ap (λ (m : ℕ). n % m) (pow-succ' 256 k) ∙ mod-mul n (lit< tt) (pow-pos k))
-
-pub number-bytes-small : (k n : ℕ) → n < 256 ^ k → number-of (bytes-of k n) ≡ n
-number-bytes-small k n h = number-bytes k n ∙ mod-eq-of-lt h
-
--- what stands above the k lowest bytes does not count
-bytes-above : (k q r : ℕ) → bytes-of k (q * 256 ^ k + r) ≡ bytes-of k r
-unfolding bytes-of
-bytes-above zero q r = refl
-bytes-above (suc k) q r =
-    let e : q * 256 ^ suc k + r ≡ (q * 256) * 256 ^ k + r = rw (pow-succ', mul-assoc) refl in
-    rw e (ap₂ (λ (x : ℕ) (xs : List ℕ). x ∷ xs)
-    (ap (λ (x : ℕ). x % 256) (mul-add-div-right (pow-pos k) (q * 256) r) ∙ mul-add-mod-self-right q 256 (r / 256 ^ k))
-    (bytes-above k (q * 256) r))
-
-pub bytes-number : (bs : List ℕ) → Bytes bs → bytes-of (length bs) (number-of bs) ≡ bs
-unfolding number-of bytes-of
-bytes-number [] h = refl
-bytes-number (b ∷ bs) h =
-    let small : number-of bs < 256 ^ length bs = number-lt bs (λ i. h (suc i)) in
-    ap₂ (λ (x : ℕ) (xs : List ℕ). x ∷ xs)
-    (ap (λ (x : ℕ). x % 256) (digits-div b small) ∙ mod-eq-of-lt (h 0))
-    (bytes-above (length bs) b (number-of bs) ∙ bytes-number bs (λ i. h (suc i)))
 
 -- ---- bytes of a list
 

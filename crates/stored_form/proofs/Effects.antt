@@ -12,7 +12,7 @@ use Rattle.stored_form.specs.Effect.{Effect, Handed, effect, refuse, wri
 use Rattle.stored_form.specs.Held.{read-record, read-of, place-refusal}
 use Rattle.stored_form.specs.declared.{Held.Held, Read.Read, Cursor.Cursor}
 use Rattle.stored_form.specs.declared.Place.the-variants.{Next, Refused}
-use Rattle.stored_form.proofs.Readers.{place-found, place-refused}
+use Rattle.stored_form.proofs.Readers.{place-found, place-refused, read-refusal}
 use Rattle.stored_form.proofs.Stores.{store-more}
 
 -- ---- the output's length
@@ -95,6 +95,4 @@ module _ (least : ℕ) (tags : List ℕ) (answer : Held → Handed) (s out : Lis
       call-read f g h = h ∙ ap (λ (z : Handed). put z out) g ∙ sym (call-found (place-found r e f))
 
 pub unread-number : (r : Read) (x : Reading Held) → r ≡ read-of x → place-refusal (r .place) ≡ reading-refusal x
-unfolding read-of
-unread-number r (found h next) e = ap (λ (q : Read). place-refusal (q .place)) e
-unread-number r (refused n) e = ap (λ (q : Read). place-refusal (q .place)) e
+unread-number = read-refusal

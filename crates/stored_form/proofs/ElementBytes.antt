@@ -1,14 +1,11 @@
--- Elements and their bytes determine each other, for numbers that fit eight bytes.
-use Prim.Native.Nat.{ℕ, zero, suc, _+_, _*_, _^_, _≤_, _<_}
-use mathlib.Core.Path.{_≡_, refl, sym, ap, ap₂, _∙_}
-use mathlib.Core.List.{List, [], _∷_, _++_, reverseAux, append-assoc}
+-- The bytes of elements: their length, and those of elements one behind the other.
+use Prim.Native.Nat.{ℕ, _*_}
+use mathlib.Core.Path.{_≡_, refl, sym, ap, _∙_}
+use mathlib.Core.List.{List, [], _∷_, _++_, append-assoc}
 use native.Mathlib.Omega.{arith}
-use native.Mathlib.Nat.{lt-of-lt-of-le}
-use lib.Dec.{lit≤}
-use lib.ListN.{length, getD, take, drop, length-append, length-take, length-drop, take-append-drop}
-use lib.Seq.{getD-drop}
-use Rattle.stored_form.specs.{Number.number-of, Number.bytes-of, Number.Bytes, Elements.elements, Elements.element-bytes}
-use Rattle.stored_form.proofs.Digits.{bytes-number, number-bytes-small, part-bytes, length-bytes}
+use lib.ListN.{length, length-append}
+use Rattle.stored_form.specs.{Number.bytes-of, Elements.element-bytes}
+use Rattle.stored_form.proofs.Digits.{length-bytes}
 
 pub length-element-bytes : (xs : List ℕ) → length (element-bytes xs) ≡ 8 * length xs
 unfolding element-bytes
@@ -23,46 +20,3 @@ unfolding element-bytes
 element-bytes-append [] ys = refl
 element-bytes-append (x ∷ xs) ys =
     ap (λ (l : List ℕ). bytes-of 8 x ++ l) (element-bytes-append xs ys) ∙ sym (append-assoc (bytes-of 8 x) (element-bytes xs) (element-bytes ys))
-
--- every number fits an element's bytes
-abbrev pub Small : List ℕ → Type 0
-Small [] = Unit {0}
-Small (x ∷ xs) = (x < 2 ^ 64) × Small xs
-
-pub small-of : (r : List ℕ) → ((i : ℕ) → getD r i 0 < 2 ^ 64) → Small r
-small-of [] h = tt
-small-of (x ∷ r) h = (h 0, small-of r (λ i. h (suc i)))
-
-pub small-take : (n : ℕ) (r : List ℕ) → Small r → Small (take n r)
-small-take zero r h = tt
-small-take (suc n) [] h = tt
-small-take (suc n) (x ∷ r) h = (h .0, small-take n r (h .1))
-
-pub small-append : (xs ys : List ℕ) → Small xs → Small ys → Small (xs ++ ys)
-small-append [] ys h k = k
-small-append (x ∷ xs) ys h k = (h .0, small-append xs ys (h .1) k)
-
-pub small-reversed : (xs ys : List ℕ) → Small xs → Small ys → Small (reverseAux xs ys)
-small-reversed [] ys h k = k
-small-reversed (x ∷ xs) ys h k = small-reversed xs (x ∷ ys) (h .1) (h .0, k)
-
-pub elements-bytes : (xs : List ℕ) → Small xs → elements (length xs) (element-bytes xs) ≡ xs
-unfolding elements element-bytes bytes-of
-elements-bytes [] h = refl
-elements-bytes (x ∷ xs) h = ap₂ (λ (y : ℕ) (ys : List ℕ). y ∷ ys) (number-bytes-small 8 x (h .0)) (elements-bytes xs (h .1))
-
-pub bytes-elements : (k : ℕ) (s : List ℕ) → length s ≡ 8 * k → Bytes s → element-bytes (elements k s) ≡ s
-unfolding elements element-bytes
-bytes-elements zero [] h b = refl
-bytes-elements zero (x ∷ s) h b = absurd (omega arith)
-bytes-elements (suc k) s h b =
-    let first : length (take 8 s) ≡ 8 = length-take 8 s ∙ omega arith in
-    let rest : length (drop 8 s) ≡ 8 * k = length-drop 8 s ∙ omega arith in
-    ap₂ (λ (xs ys : List ℕ). xs ++ ys)
-    (ap (λ (j : ℕ). bytes-of j (number-of (take 8 s))) (sym first) ∙ bytes-number (take 8 s) (part-bytes s b 0 8))
-    (bytes-elements k (drop 8 s) rest (λ i. rw getD-drop (b (8 + i))))
-    ∙ take-append-drop 8 s
-
--- numbers below 2^d fit an element's bytes
-pub fits : (d : ℕ) {n : ℕ} → 2 ^ d ≤ 2 ^ 61 → n < 2 ^ d → n < 2 ^ 64
-fits d le lt = lt-of-lt-of-le (lt-of-lt-of-le lt le) (lit≤ tt)

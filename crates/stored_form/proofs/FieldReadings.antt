@@ -1,6 +1,6 @@
 -- The reader of a field finds what the reading of that field says, tag by tag, and a field that was found lies within the input.
 use Prim.Native.Nat.{ℕ, _+_, _≤_}
-use mathlib.Core.Path.{_≡_, refl, sym, ap, ap₂, _∙_, subst}
+use mathlib.Core.Path.{_≡_, refl, sym, ap, _∙_}
 use mathlib.Core.Bool.{_||_}
 use mathlib.Core.List.{List}
 use native.Mathlib.Omega.{arith}
@@ -8,7 +8,7 @@ use lib.Dec.{eqb}
 use lib.ListN.{length}
 use lib.Seq.{take-append-seam}
 use Rattle.jacobian.specs.{Checks.unless, Curves.curve-with, Curves.degree-refusal, Curves.curve-refusal, Answer.refusal}
-use Rattle.stored_form.specs.{Number.number-of, Reading.Reading, Reading.found, Reading.checked, Reading._then_, Head.head-at, Head.body-at}
+use Rattle.stored_form.specs.{Number.number-of, Reading.found, Reading.checked, Reading._then_, Head.head-at, Head.body-at}
 use Rattle.stored_form.specs.Fields.{degree-at, count-at, count-refusal, drawing-at, drawing-refusal}
 use Rattle.stored_form.specs.Classes.{curve-said, curve-at, class-said, class-at}
 use Rattle.stored_form.specs.Held.{drawing-said, drawing-name, curve-of-degree, with-curve, with-drawing, with-count, with-class, with-operation, hold, field-refusal, read-field}

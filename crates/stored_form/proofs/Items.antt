@@ -36,32 +36,7 @@ elements-add (suc j) k s =
     rw e (ap (λ (xs : List ℕ). number-of (take 8 s) ∷ xs)
     (elements-add j k (drop 8 s) ∙ ap (λ (t : List ℕ). elements j (drop 8 s) ++ elements k t) (drop-drop (8 * j) 8 s ∙ ap (λ (i : ℕ). drop i s) f)))
 
--- one element more, at a place
-pub elements-cons : (k : ℕ) (s : List ℕ) (at : ℕ) → elements (suc k) (drop at s) ≡ number-of (part s at 8) ∷ elements k (drop (at + 8) s)
-unfolding elements
-elements-cons k s at = ap (λ (t : List ℕ). number-of (part s at 8) ∷ elements k t) (drop-drop 8 at s)
-
 -- ---- what the code reads
-
-module _ (s : List ℕ) (at : ℕ) {a : ℕ} (e : a ≡ number-of (part s at 8)) where
-  one-element : elements 1 (drop at s) ≡ a ∷ []
-  unfolding elements
-  one-element = ap (λ (x : ℕ). x ∷ []) (sym e)
-
-  module _ {b : ℕ} (f : b ≡ number-of (part s (at + 8) 8)) where
-    two-elements : elements 2 (drop at s) ≡ a ∷ b ∷ []
-    unfolding elements
-    two-elements = elements-cons 1 s at ∙ ap₂ (λ (x y : ℕ). x ∷ y ∷ []) (sym e) (sym f)
-
-    module _ {c : ℕ} (g : c ≡ number-of (part s (at + 16) 8)) where
-      three-elements : elements 3 (drop at s) ≡ a ∷ b ∷ c ∷ []
-      unfolding elements
-      three-elements =
-          let i : at + 16 ≡ at + 8 + 8 = omega arith in
-          elements-cons 2 s at
-          ∙ ap (λ (xs : List ℕ). number-of (part s at 8) ∷ xs) (elements-cons 1 s (at + 8))
-          ∙ ap₂ (λ (x : ℕ) (xs : List ℕ). x ∷ xs) (sym e)
-          (ap₂ (λ (x y : ℕ). x ∷ y ∷ []) (sym f) (sym (g ∙ ap (λ (j : ℕ). number-of (part s j 8)) i)))
 
 -- a turn of the loop that reads a curve's coefficients, and its end
 pub element-more : (s : List ℕ) (at i x : ℕ) (d : List ℕ) {r : List ℕ} → r ≡ sets d 0 (elements i (drop at s)) → x ≡ number-of (part s (at + element-length * i) element-length) →
@@ -95,18 +70,18 @@ module _ (s : List ℕ) (at : ℕ) {n : ℕ} where
   row-0 h = rw h
 
   pub row-1 : {a : ℕ} → a ≡ number-of (part s at 8) → n ≡ 1 → a ∷ 0 ∷ 0 ∷ [] ≡ row-said (elements n (drop at s))
-  unfolding row-said
-  row-1 e h = rw (h, one-element s at e)
+  unfolding row-said elements
+  row-1 e h = rw (h, e)
 
   pub row-2 : {a b : ℕ} → a ≡ number-of (part s at 8) → b ≡ number-of (part s (at + 8) 8) → n ≡ 2 →
       b ∷ a ∷ 0 ∷ [] ≡ row-said (elements n (drop at s))
-  unfolding row-said
-  row-2 e f h = rw (h, two-elements s at e f)
+  unfolding row-said elements
+  row-2 e f h = rw (h, e, f, drop-drop 8 at s)
 
   pub row-3 : {a b c : ℕ} → a ≡ number-of (part s at 8) → b ≡ number-of (part s (at + 8) 8) → c ≡ number-of (part s (at + 16) 8) → n ≡ 3 →
       c ∷ b ∷ a ∷ [] ≡ row-said (elements n (drop at s))
-  unfolding row-said
-  row-3 e f g h = rw (h, three-elements s at e f g)
+  unfolding row-said elements
+  row-3 e f g h = let i : at + 8 + 8 ≡ at + 16 = omega arith in rw (h, e, f, g, drop-drop 8 at s, drop-drop 8 (at + 8) s, i)
 
 -- two rows are a class's
 module _ (s : List ℕ) (at len : ℕ) (ok : class-length len ≡ true) (within : at + len ≤ length s) where

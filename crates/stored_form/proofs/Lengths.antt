@@ -1,12 +1,15 @@
--- The lengths that a tag allows, where no test before the last one held.
-use Prim.Native.Nat.{ℕ, _*_, _/_, _≤_, _^_, _<_}
+-- The lengths that a tag allows, where no test before the last one held, and the length of a field.
+use Prim.Native.Nat.{ℕ, _+_, _*_, _/_, _≤_}
 use mathlib.Core.Path.{_≡_, refl, sym, subst, _∙_}
 use native.Mathlib.Decide.{ℕ-discrete}
 use mathlib.Core.Bool.{Bool, true, false, cond, _||_, false≢true}
+use mathlib.Core.List.{List}
 use native.Mathlib.Omega.{arith}
 use lib.Dec.{eqb, lit≤}
+use lib.ListN.{length}
 use borrow.Author.Tests.{ne-eqb, eqb-true, leb-true}
-use Rattle.stored_form.specs.Head.{degree-length, curve-length, count-length, drawing-limit, class-length, class-limit, longest-body, allowed}
+use Rattle.stored_form.specs.Head.{degree-length, curve-length, count-length, drawing-limit, class-length, class-limit, longest-body, allowed, head-bytes, stored}
+use Rattle.stored_form.specs.Number.{bytes-of}
 
 pub class-length-last : (n : ℕ) → (n ≡ 0 → ⊥) → (n ≡ 16 → ⊥) → (n ≡ 32 → ⊥) → class-length n ≡ eqb n 48
 unfolding class-length
@@ -44,19 +47,18 @@ pub operation-lengths : (n : ℕ) → allowed 0x44 n ≡ class-length n
 unfolding allowed
 operation-lengths n = refl
 
+-- a number is k, or another
+by-case : (P : ℕ → Type 0) (n k : ℕ) → P k → ((n ≡ k → ⊥) → P n) → P n
+by-case P n k p other =
+    elim (ℕ-discrete n k) [
+      | yes e ↦ subst P (sym e) p
+      | no a ↦ other a
+    ]
+
 -- the four lengths of a class
 pub by-class-length : (P : ℕ → Type 0) → P 0 → P 16 → P 32 → P 48 → (n : ℕ) → class-length n ≡ true → P n
 by-class-length P p₀ p₁ p₂ p₃ n h =
-    elim (ℕ-discrete n 0) [
-      | yes e ↦ subst P (sym e) p₀
-      | no a ↦ elim (ℕ-discrete n 16) [
-        | yes e ↦ subst P (sym e) p₁
-        | no b ↦ elim (ℕ-discrete n 32) [
-          | yes e ↦ subst P (sym e) p₂
-          | no c ↦ subst P (sym (eqb-true n 48 (sym (class-length-last n a b c) ∙ h))) p₃
-        ]
-      ]
-    ]
+    by-case P n 0 p₀ (λ a. by-case P n 16 p₁ (λ b. by-case P n 32 p₂ (λ c. subst P (sym (eqb-true n 48 (sym (class-length-last n a b c) ∙ h))) p₃)))
 
 pub class-length-le : (n : ℕ) → class-length n ≡ true → n ≤ class-limit
 class-length-le = by-class-length (λ n. n ≤ class-limit) (lit≤ tt) (lit≤ tt) (lit≤ tt) (lit≤ tt)
@@ -73,29 +75,13 @@ class-left t n h₀ h₁ h₆ h₂ a = go (eqb t 0x43 || eqb t 0x44) (sym (rw (n
     go true e = e
     go false e = absurd (false≢true e)
 
--- no body is longer than the longest
+-- the tags that allow a length
 pub by-tag : (P : ℕ → Type 0) → P 0x40 → P 0x41 → P 0x46 → P 0x42 → P 0x43 → P 0x44 → (t n : ℕ) → allowed t n ≡ true → P t
 by-tag P p₀ p₁ p₆ p₂ p₃ p₄ t n h =
-    elim (ℕ-discrete t 0x40) [
-      | yes e ↦ subst P (sym e) p₀
-      | no a₀ ↦ elim (ℕ-discrete t 0x41) [
-        | yes e ↦ subst P (sym e) p₁
-        | no a₁ ↦ elim (ℕ-discrete t 0x46) [
-          | yes e ↦ subst P (sym e) p₆
-          | no a₆ ↦ elim (ℕ-discrete t 0x42) [
-            | yes e ↦ subst P (sym e) p₂
-            | no a₂ ↦ elim (ℕ-discrete t 0x43) [
-              | yes e ↦ subst P (sym e) p₃
-              | no a₃ ↦ elim (ℕ-discrete t 0x44) [
-                | yes e ↦ subst P (sym e) p₄
-                | no a₄ ↦ absurd (false≢true (sym (allowed-none t n a₀ a₁ a₆ a₂ a₃ a₄) ∙ h))
-              ]
-            ]
-          ]
-        ]
-      ]
-    ]
+    by-case P t 0x40 p₀ (λ a₀. by-case P t 0x41 p₁ (λ a₁. by-case P t 0x46 p₆ (λ a₆. by-case P t 0x42 p₂ (λ a₂. by-case P t 0x43 p₃ (λ a₃. by-case P t 0x44 p₄
+    (λ a₄. absurd (false≢true (sym (allowed-none t n a₀ a₁ a₆ a₂ a₃ a₄) ∙ h))))))))
 
+-- no body is longer than the longest
 pub allowed-short : (t n : ℕ) → allowed t n ≡ true → n ≤ longest-body
 allowed-short t n h =
     by-tag (λ t. allowed t n ≡ true → n ≤ longest-body)
@@ -106,3 +92,9 @@ allowed-short t n h =
     (λ e. omega (arith, class-length-le n (sym (class-lengths n) ∙ e)))
     (λ e. omega (arith, class-length-le n (sym (operation-lengths n) ∙ e)))
     t n h h
+
+-- ---- the length of a field
+
+pub length-stored : (tag : ℕ) (body : List ℕ) → length (stored tag body) ≡ 3 + length body
+unfolding stored head-bytes bytes-of
+length-stored tag body = omega arith

@@ -1,22 +1,15 @@
--- Laws of numbers as bytes and of the lengths that tags allow; what is read and what is written determine each other.
+-- Laws of numbers as bytes, of the lengths that tags allow, of readings, and of rows of bytes as the code fills them.
 pub mod Digits
 pub mod Lengths
 pub mod Readings
 pub mod Heads
 pub mod Parts
-pub mod Bodies
 pub mod Stores
 pub mod DrawingBytes
 pub mod Readers
 pub mod FieldReadings
-pub mod RoundTrips
 pub mod Items
 pub mod ElementBytes
 pub mod ClassBytes
-pub mod CurveRoundTrips
-pub mod ClassRoundTrips
-pub mod RecordRoundTrips
-pub mod RecordValues
-pub mod FieldSteps
 pub mod Effects
 pub mod Rows

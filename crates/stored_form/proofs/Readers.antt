@@ -1,14 +1,14 @@
 -- What is held: as the code makes it by tags, as a reader answers it, and as a record's fields give it one after the other.
-use Prim.Native.Nat.{ℕ, zero, suc, _+_, _≤_, _<_}
+use Prim.Native.Nat.{ℕ, suc, _+_, _≤_, _<_}
 use mathlib.Core.Path.{_≡_, refl, sym, ap, _∙_}
 use mathlib.Core.Bool.{true}
 use mathlib.Core.List.{List, [], _∷_}
 use native.Mathlib.Omega.{arith}
-use lib.ListN.{length, getD, drop}
+use lib.ListN.{length, getD, drop, drop-of-length-le}
 use lib.Seq.{drop-cons}
 use borrow.Author.Tests.{ne-eqb}
 use Rattle.jacobian.specs.Answer.{refusal}
-use Rattle.stored_form.specs.{Number.part, Reading.Reading, Reading.found, Reading.refused, Reading.checked, Reading._then_, Classes.class-said}
+use Rattle.stored_form.specs.{Number.part, Reading.Reading, Reading.found, Reading.refused, Reading.checked, Reading._then_, Reading.reading-refusal, Classes.class-said}
 use Rattle.stored_form.specs.Head.{drawing-limit, allowed, head-at, body-at}
 use Rattle.stored_form.specs.Held.{drawing-said, with-operation, hold, field-refusal, read-field, read-fields, read-of, place-refusal}
 use Rattle.stored_form.specs.declared.{Held.Held, Read.Read, Place.Place, Cursor.Cursor}
@@ -62,32 +62,46 @@ unfoldable pub placed : {A : Type 0} → Place → A → Reading A
 placed (Next next) a = found a (next .at)
 placed (Refused n) a = refused n
 
-said-back : (x : Reading Held) → placed (read-of x .place) (read-of x .held) ≡ x
+-- an answer that has a place and a value for each reading, from which the reading is had back
+module _ {R A : Type 0} (place : R → Place) (value : R → A) (answer : Reading A → R) (back : (x : Reading A) → placed (place (answer x)) (value (answer x)) ≡ x)
+    (r : R) (x : Reading A) (e : r ≡ answer x) where
+  said : x ≡ placed (place r) (value r)
+  said = sym (ap (λ (q : R). placed (place q) (value q)) e ∙ back x)
+
+  pub answer-found : {next : Cursor} → place r ≡ Next next → x ≡ found (value r) (next .at)
+  unfolding placed
+  answer-found f = said ∙ ap (λ (p : Place). placed p (value r)) f
+
+  pub answer-refused : {n : ℕ} → place r ≡ Refused n → x ≡ refused n
+  unfolding placed
+  answer-refused f = said ∙ ap (λ (p : Place). placed p (value r)) f
+
+  pub answer-refusal : place-refusal (place r) ≡ reading-refusal x
+  unfolding placed
+  answer-refusal = sym (ap reading-refusal said ∙ told (place r))
+    where
+      told : (p : Place) → reading-refusal (placed p (value r)) ≡ place-refusal p
+      told (Next next) = refl
+      told (Refused n) = refl
+
+read-back : (x : Reading Held) → placed (read-of x .place) (read-of x .held) ≡ x
 unfolding read-of placed
-said-back (found h n) = refl
-said-back (refused n) = refl
+read-back (found h n) = refl
+read-back (refused n) = refl
 
 module _ (r : Read) {x : Reading Held} (e : r ≡ read-of x) where
-  said : x ≡ placed (r .place) (r .held)
-  said = sym (ap (λ (q : Read). placed (q .place) (q .held)) e ∙ said-back x)
-
   pub place-found : {next : Cursor} → r .place ≡ Next next → x ≡ found (r .held) (next .at)
-  unfolding placed
-  place-found f = said ∙ ap (λ (p : Place). placed p (r .held)) f
+  place-found = answer-found (λ q. q .place) (λ q. q .held) read-of read-back r x e
 
   pub place-refused : {n : ℕ} → r .place ≡ Refused n → x ≡ refused n
-  unfolding placed
-  place-refused f = said ∙ ap (λ (p : Place). placed p (r .held)) f
+  place-refused = answer-refused (λ q. q .place) (λ q. q .held) read-of read-back r x e
 
   -- with the number that the code makes of it
   pub place-refused-as : {n k : ℕ} → r .place ≡ Refused n → k ≡ place-refusal (r .place) → x ≡ refused k
   place-refused-as f g = place-refused f ∙ ap refused (sym (g ∙ ap place-refusal f))
 
-pub drop-all : (i : ℕ) (l : List ℕ) → length l ≤ i → drop i l ≡ []
-drop-all zero [] h = refl
-drop-all zero (x ∷ l) h = absurd (omega arith)
-drop-all (suc i) [] h = refl
-drop-all (suc i) (x ∷ l) h = drop-all i l (omega arith)
+pub read-refusal : (r : Read) (x : Reading Held) → r ≡ read-of x → place-refusal (r .place) ≡ reading-refusal x
+read-refusal = answer-refusal (λ q. q .place) (λ q. q .held) read-of read-back
 
 -- ---- fields one after the other: those from the i-th on
 
@@ -107,4 +121,4 @@ module _ (tags s : List ℕ) (h : Held) (at i : ℕ) where
 
   pub fields-ended : length tags ≤ i → read-fields (drop i tags) h s at ≡ found h at
   unfolding read-fields
-  fields-ended le = ap (λ (l : List ℕ). read-fields l h s at) (drop-all i tags le)
+  fields-ended le = ap (λ (l : List ℕ). read-fields l h s at) (drop-of-length-le tags le)

@@ -8,7 +8,6 @@ use native.Mathlib.Omega.{arith}
 use lib.ListN.{length, getD, take, drop, set, replicate, length-replicate}
 use lib.Seq.{sets, sets-eq, take-suc, length-take-le}
 use Rattle.stored_form.specs.Number.{bytes-of}
-use Rattle.stored_form.proofs.Digits.{length-bytes}
 
 pub sets-append : (d : List ℕ) (at : ℕ) (xs ys : List ℕ) → sets (sets d at xs) (at + length xs) ys ≡ sets d at (xs ++ ys)
 sets-append d at [] ys = rw add-zero

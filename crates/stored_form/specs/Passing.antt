@@ -1,15 +1,22 @@
 -- What the values of a record's fields pass (document 01, 'In checking order').
 use Prim.Native.Nat.{ℕ, _≤_}
-use mathlib.Core.Path.{_≡_}
+use mathlib.Core.{Path._≡_, Bool.true, Bool._||_, List.List}
+use lib.{Dec.eqb, ListN.length}
 use Rattle.jacobian.specs.{Curves.curve-refusal, Answer.Accepts}
 use Rattle.jacobian.specs.declared.{Curve.Curve, Class.Class}
-use Rattle.stored_form.specs.Fields.{count-limit}
+use Rattle.stored_form.specs.{Head.drawing-limit, Fields.count-limit, Fields.printable}
+
+abbrev pub DegreePasses : ℕ → Type 0
+DegreePasses d = (eqb d 5 || eqb d 61) ≡ true
 
 abbrev pub CurvePasses : Curve → Type 0
 CurvePasses c = curve-refusal c ≡ 0
 
 abbrev pub CountPasses : ℕ → Type 0
 CountPasses n = n ≤ count-limit
+
+abbrev pub DrawingPasses : List ℕ → Type 0
+DrawingPasses name = (printable name ≡ true) × (length name ≤ drawing-limit)
 
 abbrev pub ClassPasses : Curve → Class → Type 0
 ClassPasses = Accepts

@@ -10,8 +10,9 @@ use lib.ListN.{length, getD}
 use Rattle.history.specs.{Register.register-refusal, Calls.Call, Calls.OnlyCommits, Calls.last, Calls.newest, Calls.classes, Calls.seals-back, declared.Register.Register}
 use Rattle.history.proofs.WalkingBack.{walk-meets}
 use Rattle.stored_form.specs.{Reading.found, Head.drawing-limit, Fields.printable}
-use Rattle.archive.specs.{Archive.Archive, Archive.read-archive, Written.archive-bytes}
-use Rattle.archive.proofs.{ArchiveRoundTrips.archive-read-back, ArchiveBytes.archive-is-bytes}
+use Rattle.archive.specs.Archive.{Archive, read-archive}
+use Rattle.archive_theorems.specs.Written.{archive-bytes}
+use Rattle.archive_theorems.proofs.{ArchiveRoundTrips.archive-read-back, ArchiveBytes.archive-is-bytes}
 use Rattle.walk_report.specs.{Walk.seals, Demand3.Keeps, Demand3.kept-archive, Demand3.Encodes}
 use Rattle.walk_report.proofs.Kept.{kept-storable}
 

@@ -12,7 +12,7 @@ use Rattle.history.specs.{Register.register-refusal, Calls.Call, Calls.Event, C
 use Rattle.history.proofs.{Registers.register-passes, TakingBack.last-curve}
 use Rattle.history.proofs.{Preserved.last-passes, Preserved.accepted-classes, WalkingBack.accepted-few}
 use Rattle.stored_form.specs.{Head.drawing-limit, Fields.printable}
-use Rattle.archive.specs.Written.{Storable}
+use Rattle.archive_theorems.specs.Written.{Storable}
 use Rattle.walk_report.specs.Demand3.{kept-archive}
 
 module _ (c : Curve) (ok : curve-refusal c ≡ 0) where

@@ -16,7 +16,7 @@ use Rattle.history.proofs.{Seals.undo-sound, Answers.subtract-and-halve-sealed}
 use Rattle.archive.specs.{Archive.Archive, Archive.operations-at, Archive.read-archive, Archive.archive-refusal, Reader.reader, Reader.operations-due, Reader.step, Reader.opening, Reader.read-opened, Reader.archive-of, declared.Due.Due, declared.Reader.Reader}
 use Rattle.archive.specs.Reader as reading
 use Rattle.archive.specs.declared.Due.the-variants as due
-use Rattle.archive.proofs.{Operations.newest, Operations.no-operations, Agreement.archive-is, ArchiveFields.found-fields}
+use Rattle.archive_theorems.proofs.Operations.{newest, no-operations, opening-of, seal-found}
 use Rattle.class_group.specs.Walk.{walk}
 use Rattle.walk_report.specs.{Text.line, Text.first-line, Text.refusal-text, Walk.seals, Walk.letter, Walk.letters, Report.seal-lines, Report.walk-lines, Report.lines-of, Report.report-lines}
 use Rattle.walk_report.specs.Steps.{report, with-stage, with-seal, moved, older, held-next, advanced-by, advanced, undoing, letter-before, undone, next-of, next-line, refused-report, first-report, opened-by, opened, pending, lines-left, texts}
@@ -228,33 +228,6 @@ module _ (s : List ℕ) where
 
 -- ---- an accepted archive
 
--- what was opened and the operations of an archive
-record Parts (s : List ℕ) (a : Archive) : Type 0 where
-  held : Held
-  first : ℕ
-  operations : List Class
-  end : ℕ
-  opening-read : read-fields archive-opening nothing-held s 0 ≡ found held first
-  operations-read : operations-at (held .count) (held .curve) s first ≡ found operations end
-  archive : a ≡ record { curve = held .curve; drawing = drawing-name (held .drawing); seal = held .class; operations = operations }
-
-parts : (s : List ℕ) {a : Archive} {end : ℕ} → read-archive s ≡ found a end → Parts s a
-unfolding read-opened archive-of
-parts s e =
-    let o = both-found _ (read-opened s) (sym (archive-is s) ∙ e) in
-    let h = both-found _ (read-fields archive-opening nothing-held s 0) (o .2) in
-    let ops = both-found _ (operations-at (h .0 .count) (h .0 .curve) s (h .1)) (h .3) in
-    let all = checked-found (end-refusal s (ops .1)) _ (ops .3) in
-    record {
-      held = h .0;
-      first = h .1;
-      operations = ops .0;
-      end = ops .1;
-      opening-read = h .2;
-      operations-read = ops .2;
-      archive = sym (ap archive-of (same-found (all .1) .0) ∙ same-found (o .3) .0);
-    }
-
 module _ (s : List ℕ) where
   opened-first : {h : Held} {first : ℕ} → archive-refusal s ≡ 0 → read-fields archive-opening nothing-held s 0 ≡ found h first →
       opened s ≡ moved (report First (reader (operations-due (h .count)) h) (h .class) neutral-class) first
@@ -274,12 +247,12 @@ module _ (s : List ℕ) where
   accepted-made : {a : Archive} {end : ℕ} → read-archive s ≡ found a end → texts (lines-left (opened s .report)) (opened s .report) s (opened s .next .at) ≡ walk-lines a
   unfolding walk-lines archive-refusal
   accepted-made {a} e =
-      let p = parts s e in
+      let p = opening-of s e in
       let h : Held = p .held in
       let c : Curve = h .curve in
       let ops : List Class = p .operations in
-      let f = found-fields s e in
-      let hs : Accepts c (h .class) = subst (λ (x : Archive). Accepts (x .curve) (x .seal)) (p .archive) (class-sound 0x43 (a .curve) s (f .after-count) (f .seal-found)) in
+      let f = seal-found s e in
+      let hs : Accepts c (h .class) = subst (λ (x : Archive). Accepts (x .curve) (x .seal)) (p .archive) (class-sound 0x43 (a .curve) s (f .0) (f .2)) in
       let counted = operations-counted (h .count) c s (p .first) (p .operations-read) in
       ap (λ (m : Moved). texts (lines-left (m .report)) (m .report) s (m .next .at)) (opened-first (ap reading-refusal e) (p .opening-read))
       ∙ first-made (h .count) h (h .class) neutral-class (p .first)

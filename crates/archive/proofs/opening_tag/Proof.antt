@@ -1,11 +1,13 @@
 -- `opening_tag` meets its contract.
 use borrow.Author.Needs.{needs}
-use Rattle.archive.proofs.ReaderSteps.{tag-past}
+use mathlib.Core.Path.{sym}
+use lib.ListN.{List·getD-eq-default}
+use Rattle.stored_form.specs.Held.{archive-opening}
 use Rattle.archive.proofs.opening_tag.Statement.{statement}
 use Rattle.archive.proofs.opening_tag.Tie as tie
 
 returns-2 : tie.Need-returns-2
-returns-2 c = tag-past _ (c .if1 .left)
+returns-2 c = sym (List·getD-eq-default archive-opening 0 (c .if1 .left))
 
 pub opening-tag-spec : {M : Type 1} → statement M
 opening-tag-spec = tie.close (tie.spec (λ c. search needs) (λ c. search needs) returns-2)

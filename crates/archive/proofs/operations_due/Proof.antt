@@ -1,5 +1,4 @@
 -- `operations_due` meets its contract.
-use borrow.Author.Needs.{needs}
 use mathlib.Core.Path.{sym, ap}
 use Rattle.archive.specs.Reader.{operations-due}
 use Rattle.archive.proofs.ReaderSteps.{some-due}

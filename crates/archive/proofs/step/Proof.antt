@@ -1,6 +1,6 @@
 -- `step` meets its contract.
 use borrow.Author.Needs.{needs}
-use mathlib.Core.Path.{_≡_, sym, ap, _∙_}
+use mathlib.Core.Path.{sym, ap, _∙_}
 use Rattle.archive.specs.declared.Due.{Due}
 use Rattle.archive.specs.Reader.{read-due, step, advance-of}
 use Rattle.archive.proofs.step.Statement.{statement}

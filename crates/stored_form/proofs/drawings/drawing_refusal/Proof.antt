@@ -1,6 +1,6 @@
 -- `drawings::drawing_refusal` meets its contract.
 use borrow.Author.Needs.{needs}
-use mathlib.Core.Path.{sym, ap, _∙_}
+use mathlib.Core.Path.{sym, _∙_}
 use Rattle.jacobian.specs.Checks.{unless}
 use Rattle.stored_form.specs.{Fields.drawing-refusal, Held.drawing-name}
 use Rattle.stored_form.proofs.drawings.drawing_refusal.Statement.{statement}

@@ -1,5 +1,4 @@
 -- `fields::count_refusal` meets its contract.
-use borrow.Author.Needs.{needs}
 use borrow.Author.Tests.{lt-leb, le-leb}
 use Rattle.jacobian.specs.Checks.{unless}
 use Rattle.stored_form.specs.Fields.{count-limit, count-refusal}

@@ -1,5 +1,4 @@
 -- `fields::degree_refusal` meets its contract.
-use borrow.Author.Needs.{needs}
 use borrow.Author.Tests.{eq-eqb, ne-eqb}
 use Rattle.jacobian.specs.{Checks.unless, Curves.degree-refusal}
 use Rattle.stored_form.proofs.fields.degree_refusal.Statement.{statement}

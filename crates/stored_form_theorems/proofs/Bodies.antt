@@ -6,21 +6,16 @@ use mathlib.Core.List.{List, _∷_, _++_}
 use native.Mathlib.Omega.{arith}
 use lib.ListN.{length, getD}
 use lib.Seq.{take-length}
 use Rattle.stored_form.specs.{Number.number-of, Number.bytes-of, Number.Bytes, Number.part, Reading.found, Head.allowed, Head.body-length}
 use Rattle.stored_form.specs.{Head.head-at, Head.body-at, Head.head-bytes, Head.stored, Head.StandsAt}
-use Rattle.stored_form.proofs.{Digits.bytes-number, Digits.number-bytes-small, Digits.part-bytes, Parts.part-part, Parts.part-add, Parts.part-cons}
-use Rattle.stored_form.proofs.{Parts.length-part, Parts.getD-part, Parts.stands-within, Readings.then-found, Readings.both-found}
-use Rattle.stored_form.proofs.{Readings.same-found, Heads.Whole, Heads.head-found, Heads.head-whole}
-
-pub length-stored : (tag : ℕ) (body : List ℕ) → length (stored tag body) ≡ 3 + length body
-unfolding stored head-bytes bytes-of
-length-stored tag body = omega arith
+use Rattle.stored_form.proofs.{Digits.part-bytes, Parts.length-part, Readings.then-found, Readings.both-found, Readings.same-found, Lengths.length-stored, Heads.Whole, Heads.head-found, Heads.head-whole}
+use Rattle.stored_form_theorems.specs.Fields.{Field}
+use Rattle.stored_form_theorems.proofs.{Numbers.bytes-number, Numbers.number-bytes-small, Places.part-part, Places.part-add, Places.part-cons, Places.getD-part, Places.stands-within}
 
 -- ---- what was read was written so
 
 pub record Written (tag : ℕ) (s : List ℕ) (at : ℕ) (body : List ℕ) (next : ℕ) : Type 0 where
-  pub stands : StandsAt s at (stored tag body)
-  pub ends : next ≡ at + length (stored tag body)
+  pub field : Field s at (stored tag body) next
   pub allows : allowed tag (length body) ≡ true
   pub bytes : Bytes body
 
@@ -40,11 +35,10 @@ whole-written tag s at n next b w =
     let fits : at + 3 + n ≤ length s = omega arith in
     let len : length (part s (at + 3) n) ≡ n = length-part s (at + 3) n fits in
     let long : length (stored tag (part s (at + 3) n)) ≡ 3 + n = length-stored tag (part s (at + 3) n) ∙ ap (λ (k : ℕ). 3 + k) len in
+    let stands = ap (part s at) long ∙ part-add s at 3 n
+    ∙ ap (λ (h : List ℕ). h ++ part s (at + 3) n) (head-stands tag s at n next b (omega arith) w ∙ ap (head-bytes tag) (sym len)) in
     record {
-      stands =
-          ap (part s at) long ∙ part-add s at 3 n
-          ∙ ap (λ (h : List ℕ). h ++ part s (at + 3) n) (head-stands tag s at n next b (omega arith) w ∙ ap (head-bytes tag) (sym len));
-      ends = omega arith;
+      field = record { stands = stands; ends = omega arith };
       allows = rw len (w .allows);
       bytes = part-bytes s b (at + 3) n;
     }

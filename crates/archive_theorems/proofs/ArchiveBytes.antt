@@ -11,8 +11,8 @@ use borrow.Author.Tests.{leb-true}
 use Rattle.jacobian.specs.declared.{Curve.Curve, Class.Class}
 use Rattle.stored_form.specs.{Number.bytes-of, Number.Bytes, Head.head-bytes, Head.stored, Elements.element-bytes, Fields.printable}
 use Rattle.stored_form.specs.{Fields.degree-field, Fields.count-field, Fields.drawing-field, Classes.curve-field, Classes.curve-first-fields, Classes.row-written, Classes.class-field}
 use Rattle.archive.specs.Archive.{Archive}
-use Rattle.archive.specs.Written.{operation-fields, archive-bytes}
+use Rattle.archive_theorems.specs.Written.{operation-fields, archive-bytes}
 
 bytes-append : (xs ys : List ℕ) → Bytes xs → Bytes ys → Bytes (xs ++ ys)
 bytes-append [] ys h k i = k i

@@ -1,6 +1,7 @@
--- The stored form of a class and its value determine each other: what is read was written so, and what is written is read so.
+-- The body of a class and the class determine each other: what a body says has that body (`class-body-said`), and the body of a class that no check refuses says the class
+-- (`body-said`), is of an allowed length (`body-allowed`) and has room (`class-short`).
 use Prim.Native.Nat.{ℕ, zero, suc, _+_, _*_, _/_, _^_, _≤_}
-use mathlib.Core.Path.{_≡_, refl, sym, ap, ap₂, _∙_, subst, subst₂}
+use mathlib.Core.Path.{_≡_, refl, sym, ap, ap₂, _∙_, subst}
 use mathlib.Core.Bool.{true}
 use mathlib.Core.List.{List, [], _∷_, _++_, reverse}
 use native.Mathlib.Omega.{arith}
@@ -9,13 +10,11 @@ use lib.ListN.{length, getD, take, drop, length-append, length-take, length-drop
 use lib.Seq.{take-at, drop-at}
 use Rattle.jacobian.specs.{Answer.refusal, declared.Curve.Curve, declared.Class.Class}
 use Rattle.jacobian.proofs.{ByValue.Degrees.by-degree, ByValue.Threes.by-three, ByValue.Answers.passes}
-use Rattle.stored_form.specs.{Number.Bytes, Reading.found, Head.class-room, Head.class-limit, Head.allowed, Head.class-length, Head.body-at, Head.stored, Head.StandsAt}
-use Rattle.stored_form.specs.{Elements.elements, Elements.element-bytes}
+use Rattle.stored_form.specs.{Number.Bytes, Reading.found, Head.class-room, Head.class-limit, Head.class-length, Head.body-at, Head.stored, Elements.elements, Elements.element-bytes}
 use Rattle.stored_form.specs.Classes.{row-said, class-said, class-at, row-written, class-field}
-use Rattle.stored_form.proofs.{Readings.then-found, Readings.both-found, Readings.checked-found, Readings.checked-none, Readings.same-found}
-use Rattle.stored_form.proofs.{Lengths.class-length-le, Lengths.class-length-even, Items.length-elements, ClassBytes.length-row}
-use Rattle.stored_form.proofs.ElementBytes.{Small, small-of, small-take, small-append, small-reversed, elements-bytes, bytes-elements, fits, length-element-bytes, element-bytes-append}
-use Rattle.stored_form.proofs.{Bodies.length-stored, Bodies.body-written, Bodies.body-read, RoundTrips.Field}
+use Rattle.stored_form.proofs.{Readings.both-found, Readings.checked-found, Readings.same-found, Lengths.class-length-le, Lengths.class-length-even, Lengths.length-stored, Items.length-elements, ClassBytes.length-row, ElementBytes.length-element-bytes, ElementBytes.element-bytes-append}
+use Rattle.stored_form_theorems.specs.Fields.{class-body}
+use Rattle.stored_form_theorems.proofs.Elements.{Small, small-of, small-take, small-append, small-reversed, elements-bytes, bytes-elements, fits}
 
 -- ---- rows and the order in which they are stored
 
@@ -42,11 +41,7 @@ row-ahead n r long le =
 
 -- ---- a class
 
--- the body of a class
-abbrev pub body-of : Class → List ℕ
-body-of a = element-bytes (row-written (a .degree) (a .u)) ++ element-bytes (row-written (a .degree) (a .v))
-
-pub class-body-said : (body : List ℕ) → class-length (length body) ≡ true → Bytes body → body-of (class-said body) ≡ body
+pub class-body-said : (body : List ℕ) → class-length (length body) ≡ true → Bytes body → class-body (class-said body) ≡ body
 unfolding class-said
 class-body-said body ok b =
     let n = length body / 16 in
@@ -89,7 +84,7 @@ shaped c a ok =
       v-fits = small-of (a .v) (λ i. fits (c .degree) small (p .1 .range .v-below i));
     }
 
-length-body : (a : Class) → Shaped a → length (body-of a) ≡ 16 * a .degree
+length-body : (a : Class) → Shaped a → length (class-body a) ≡ 16 * a .degree
 length-body a h =
     let n = a .degree in
     let x : length (element-bytes (row-written n (a .u))) ≡ 8 * n =
@@ -104,7 +99,7 @@ row-small n r h = small-reversed (take n r) [] (small-take n r h) tt
 
 -- the elements of its body
 body-elements : (a : Class) → Shaped a →
-    elements (a .degree + a .degree) (body-of a) ≡ row-written (a .degree) (a .u) ++ row-written (a .degree) (a .v)
+    elements (a .degree + a .degree) (class-body a) ≡ row-written (a .degree) (a .u) ++ row-written (a .degree) (a .v)
 body-elements a h =
     let n = a .degree in
     let us = row-written n (a .u) in
@@ -115,14 +110,14 @@ body-elements a h =
     ap₂ (λ (k : ℕ) (bs : List ℕ). elements k bs) (sym both) (sym (element-bytes-append us vs))
     ∙ elements-bytes (us ++ vs) (small-append us vs (row-small n (a .u) (h .u-fits)) (row-small n (a .v) (h .v-fits)))
 
-class-said-field : (a : Class) → Shaped a → class-said (body-of a) ≡ a
+class-said-field : (a : Class) → Shaped a → class-said (class-body a) ≡ a
 unfolding class-said
 class-said-field a h =
     let n = a .degree in
     let us = row-written n (a .u) in
     let vs = row-written n (a .v) in
     let u : length us ≡ n = length-row n (a .u) (h .u-three) (h .low) in
-    let count : length (body-of a) / 16 ≡ n = omega (arith, length-body a h) in
+    let count : length (class-body a) / 16 ≡ n = omega (arith, length-body a h) in
     rw (
       count,
       body-elements a h,
@@ -142,10 +137,10 @@ class-length-of (suc (suc (suc (suc n)))) h = absurd (omega arith)
 
 -- what the body of a class that is not refused says is the class
 module _ (c : Curve) (a : Class) (ok : refusal c a ≡ 0) where
-  pub body-said : class-said (body-of a) ≡ a
+  pub body-said : class-said (class-body a) ≡ a
   body-said = class-said-field a (shaped c a ok)
 
-  pub body-allowed : class-length (length (body-of a)) ≡ true
+  pub body-allowed : class-length (length (class-body a)) ≡ true
   body-allowed = let k = shaped c a ok in ap class-length (length-body a k) ∙ class-length-of (a .degree) (k .low)
 
 -- the field of a class that is not refused has room in a row
@@ -154,27 +149,7 @@ unfolding class-field
 class-short tag c a ok =
     let k = shaped c a ok in
     let low : a .degree ≤ 3 = k .low in
-    let body : length (body-of a) ≡ 16 * a .degree = length-body a k in
-    let all : length (stored tag (body-of a)) ≡ 3 + length (body-of a) = length-stored tag (body-of a) in
+    let body : length (class-body a) ≡ 16 * a .degree = length-body a k in
+    let all : length (stored tag (class-body a)) ≡ 3 + length (class-body a) = length-stored tag (class-body a) in
     omega arith
 
-module _ (tag : ℕ) (lengths : (n : ℕ) → allowed tag n ≡ class-length n) (c : Curve) (s : List ℕ) (at : ℕ) where
-  pub class-written : {a : Class} {next : ℕ} → Bytes s → class-at tag c s at ≡ found a next → (refusal c a ≡ 0) × Field s at (class-field tag a) next
-  unfolding class-at class-field
-  class-written {a} {next} b h =
-      let p = both-found _ (body-at tag s at) h in
-      let q = checked-found (refusal c (class-said (p .0))) (found (class-said (p .0)) (p .1)) (p .3) in
-      let e = same-found (q .1) in
-      let w = body-written tag s at b (p .2) in
-      let said = ap (stored tag) (class-body-said (p .0) (sym (lengths (length (p .0))) ∙ w .allows) (w .bytes)) in (
-        ap (refusal c) (sym (e .0)) ∙ q .0,
-        subst₂ (λ (a : Class) (n : ℕ). Field s at (class-field tag a) n) (e .0) (e .1)
-            (subst (λ (bs : List ℕ). Field s at bs (p .1)) (sym said) (record { stands = w .stands; ends = w .ends })),
-      )
-
-  pub class-read-back : (a : Class) → refusal c a ≡ 0 → StandsAt s at (class-field tag a) → class-at tag c s at ≡ found a (at + length (class-field tag a))
-  unfolding class-at class-field
-  class-read-back a ok h =
-      let fits = body-allowed c a ok in
-      then-found _ (body-read tag s at (body-of a) (lengths (length (body-of a)) ∙ fits) (omega (arith, class-length-le (length (body-of a)) fits)) h)
-      ∙ rw (body-said c a ok) (checked-none _ _ ok)

@@ -5,9 +5,9 @@ use mathlib.Core.Bool.{true}
 use mathlib.Core.List.{List, [], _∷_, _++_}
 use lib.ListN.{length}
 use Rattle.class_group.specs.Walk.{All}
-use Rattle.jacobian.specs.{Curves.curve-refusal, Answer.Accepts, declared.Curve.Curve, declared.Class.Class}
-use Rattle.stored_form.specs.{Head.drawing-limit, Fields.drawing-field, Fields.count-field, Fields.printable, Fields.count-limit, Classes.curve-first-fields, Classes.class-field}
+use Rattle.jacobian.specs.declared.Class.{Class}
+use Rattle.stored_form.specs.{Head.drawing-limit, Fields.drawing-field, Fields.count-field, Fields.printable, Classes.curve-first-fields, Classes.class-field, Passing.CurvePasses, Passing.CountPasses, Passing.ClassPasses}
 use Rattle.archive.specs.Archive.{Archive}
 
 -- one 0x44 for each operation, newest first
 unfoldable pub operation-fields : List Class → List ℕ
@@ -25,9 +25,9 @@ archive-bytes a =
 
 -- values that no check of an archive refuses
 pub record Storable (a : Archive) : Type 0 where
-  pub curve-allowed : curve-refusal (a .curve) ≡ 0
+  pub curve-allowed : CurvePasses (a .curve)
   pub drawing-printable : printable (a .drawing) ≡ true
   pub drawing-short : length (a .drawing) ≤ drawing-limit
-  pub count-within : length (a .operations) ≤ count-limit
-  pub seal-allowed : Accepts (a .curve) (a .seal)
-  pub operations-allowed : All (Accepts (a .curve)) (a .operations)
+  pub count-within : CountPasses (length (a .operations))
+  pub seal-allowed : ClassPasses (a .curve) (a .seal)
+  pub operations-allowed : All (ClassPasses (a .curve)) (a .operations)

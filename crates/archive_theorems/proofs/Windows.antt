@@ -14,15 +14,12 @@ use Rattle.stored_form.specs.{Number.part, Reading.Reading, Reading.found, Read
 use Rattle.stored_form.specs.Held.{field-refusal, hold, read-field, archive-opening}
 use Rattle.stored_form.specs.declared.Held.{Held}
 use Rattle.stored_form.proofs.{Parts.drop-take, Heads.head-found, Lengths.allowed-short}
 use Rattle.archive.specs.declared.{Due.Due, Reader.Reader}
 use Rattle.archive.specs.declared.Due.the-variants.{Opening, Operations, End, Nothing}
 use Rattle.archive.specs.Reader.{reader, read-opening, read-operation, read-end, read-due, step}
+use Rattle.archive_theorems.specs.Places.{after}
 
 -- ---- places counted from k bytes before
-
-unfoldable pub after : {A : Type 0} → ℕ → Reading A → Reading A
-after k (found a next) = found a (k + next)
-after k (refused n) = refused n
 
 checked-after : {A : Type 0} (k n : ℕ) (a : A) (next : ℕ) → checked n (found a (k + next)) ≡ after k (checked n (found a next))
 unfolding after checked
