@@ -5,9 +5,6 @@ use Rattle.row_theory.proofs.Rows.Length.{places-len}
 use Rattle.class_rows.proofs.reduction.double_of_reduced.Statement.{statement}
 use Rattle.class_rows.proofs.reduction.double_of_reduced.Tie as tie
 
-squared-rows-requires : tie.Need-squared-rows-requires
-squared-rows-requires c κs = let p = c .before .before .pre in (p .0, p .1)
-
 returns : tie.Need-returns
 returns c =
     let q = c .before .before in
@@ -39,4 +36,4 @@ returns-2 c = let q = c .before .before .before .before in double-counted _ (q .
 pub double-of-reduced-spec : {M : Type 1} → statement M
 double-of-reduced-spec =
     tie.close
-    (tie.spec (λ c κs. tt) squared-rows-requires returns squared-cofactor-requires reduce-with-requires returns-2)
+    (tie.spec (λ c κs. tt) (λ c κs. let p = c .before .before .pre in (p .0, p .1)) returns squared-cofactor-requires reduce-with-requires returns-2)
