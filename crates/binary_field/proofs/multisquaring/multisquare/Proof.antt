@@ -1,6 +1,6 @@
 -- `multisquare` meets its contract: after i turns the loop holds what the i lowest digits give.
 use mathlib.Core.Path.{_≡_}
-use Prim.Native.Nat.{_≤_, _<_, _-_, _*_, _/_, _%_, _^_}
+use Prim.Native.Nat.{_≤_, _-_, _*_, _/_, _%_, _^_}
 use native.Mathlib.Omega.{arith}
 use Rattle.binary_field_theory.specs.Element.{squarings}
 use Rattle.binary_field_theory.proofs.Words.Multisquares.{place-lt, no-digit, one-digit-more, all-digits}
