@@ -1,6 +1,6 @@
 -- The product of elements, for every d with low d below 2^d: closed below 2^d, commutative, associative, distributive,
 -- with unit 1. Squaring is additive and spreads the digits before the remainder is taken.
-use Prim.Native.Nat.{ℕ, zero, suc, _*_, _/_, _%_, _^_, _≤_, _<_}
+use Prim.Native.Nat.{ℕ, zero, suc, _*_, _^_, _≤_, _<_}
 use mathlib.Core.{Path._≡_, Path.sym, Path.ap, Path.subst, Path._∙_, Bool.Bool, Bool.true, Bool.false, Bool.cond, Bool._||_}
 use native.Mathlib.Omega.{arith}
 use lib.Dec.{T, eqb, eqb→eq}

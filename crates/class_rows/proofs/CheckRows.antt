@@ -13,7 +13,7 @@ use Rattle.row_theory.specs.{Field.degree-of, Field.Poly, Field.𝔸, Field.el,
 use Rattle.class_rows.specs.{Pair.rows-pair, Core.OnCurve, Core.StandsCounted, Checked.Decides, Checked.Divisor, Checked.Gives, internal.Check.FormedRows}
 use Rattle.row_theory.proofs.{Rows.Elements.degree-is, Rows.Elements.zero-lt, Rows.Elements.el-one, Rows.Elements.one-of-one, Rows.Lead.leads, Rows.Lead.lead-row}
 use Rattle.class_rows.proofs.ReductionRows.{reduced-on, value-stands}
-use Rattle.class_rows.specs.declared.{row.RowPair.RowPair, reduction.CountedRows.CountedRows}
+use Rattle.class_rows.specs.declared.{row.RowPair.RowPair, reduction.CountedRows.CountedRows, RowsAnswer.RowsAnswer}
 
 -- ---- tests
 pub yes-it-is : {P : Type 0} → P → Decides true P
@@ -112,8 +112,10 @@ module _ {d : ℕ} {f : List ℕ} {a : RowPair} where
 
 -- ---- what an open function answers
 module _ {d : ℕ} {f : List ℕ} {asked : Type 0} {a : RowPair} {t : Bool} (h : Decides t asked) {of : Theory.Curve (𝔸 d) → Counted (Poly d)} where
-  pub rows-refused : t ≡ false → Gives d f asked a of (record { divisor = false; rows = record { pair = a; steps = 0 } })
-  rows-refused e = record { decides = no-it-is-not refl (denied h e); stands = λ k. absurd (true≢false (sym k)); else = λ _. refl }
+  pub rows-refused : {r : RowsAnswer} → t ≡ false → r ≡ record { divisor = false; rows = record { pair = a; steps = 0 } } → Gives d f asked a of r
+  rows-refused e k =
+      let no = ap (λ r. r .divisor) k in
+      record { decides = no-it-is-not no (denied h e); stands = λ n. absurd (true≢false (sym n ∙ no)); else = λ _. ap (λ r. r .rows) k }
 
   pub rows-given : {b : CountedRows} → t ≡ true
       → ((C : Theory.Curve (𝔸 d)) → OnCurve d f C → StandsCounted d b (of C)) → Gives d f asked a of (record { divisor = true; rows = b })

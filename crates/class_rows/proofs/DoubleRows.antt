@@ -14,10 +14,6 @@ use Rattle.row_theory.proofs.ReductionSteps.{square-nonzero, square-len, double
 use Rattle.class_rows.specs.declared.{row.RowPair.RowPair, reduction.CountedRows.CountedRows, reduction.Squared.Squared}
 use Rattle.class_rows.proofs.ReductionRows.{pair-eq, reduced-on, semi-rows}
 
--- the composed pair
-abbrev pub pair-of : Squared → RowPair
-pair-of s = record { u = s .u; v = s .v }
-
 module _ (d : ℕ) where
   open Polynomials (𝔸 d) using (len, quot, rem)
   open Ring2 (𝔸 d .ring) using (add as _+_, mul as _·_, nought as 𝟘)
@@ -55,7 +51,7 @@ module _ (d : ℕ) where
       → Stands d t (poly d (a .v) · poly d (a .v))
       → Stands d n (poly d t + poly d f)
       → Stands d q (quot (poly d n) (poly d s)) × Stands d o (rem (poly d n) (poly d s))
-      → SquaredRows d f a (record { u = s; v = o; quotient = q })
+      → SquaredRows d f a (record { pair = record { u = s; v = o }; quotient = q })
   squared {f} a s t n p =
       let e = n .stands ∙ ap (λ z. z + poly d f) (t .stands) in
       record {
@@ -65,11 +61,11 @@ module _ (d : ℕ) where
       }
 
   module _ {f : List ℕ} {a : RowPair} {s : Squared} (r : ReducedRows d f a) (S : SquaredRows d f a s) where
-    pub squared-len : suc (row-len d (s .u)) ≡ row-len d (a .u) +ℕ row-len d (a .u)
+    pub squared-len : suc (row-len d (s .pair .u)) ≡ row-len d (a .u) +ℕ row-len d (a .u)
     unfolding rows-pair
     squared-len = ap (λ z. suc (len z)) (S .u-stands .stands) ∙ square-len (r .C) (r .reduced)
 
-    pub squared-pair : {C : Theory.Curve (𝔸 d)} → OnCurve d f C → StandsPair d (pair-of s) (compose-double C (rows-pair d a))
+    pub squared-pair : {C : Theory.Curve (𝔸 d)} → OnCurve d f C → StandsPair d (s .pair) (compose-double C (rows-pair d a))
     unfolding compose-double rows-pair
     squared-pair on = record {
       u-stands = S .u-stands;
@@ -79,11 +75,11 @@ module _ (d : ℕ) where
       };
     }
 
-    pub squared-semi : SemiReducedRows d f (pair-of s)
+    pub squared-semi : SemiReducedRows d f (s .pair)
     squared-semi = semi-rows d (r .on-curve) (compose-double-semi (r .C) (r .reduced)) (compose-double-len (r .C) (r .reduced)) (squared-pair (r .on-curve))
 
     pub double-counted : {c : CountedRows}
-        → ((C : Theory.Curve (𝔸 d)) → OnCurve d f C → StandsCounted d c (reduce C (rows-pair d (pair-of s))))
+        → ((C : Theory.Curve (𝔸 d)) → OnCurve d f C → StandsCounted d c (reduce C (rows-pair d (s .pair))))
         → (C : Theory.Curve (𝔸 d)) → OnCurve d f C → StandsCounted d c (counted-double C (rows-pair d a))
     unfolding counted-double
     double-counted {c} h C on = subst (λ D. StandsCounted d c (reduce C D)) (pair-eq d (squared-pair on)) (h C on)
@@ -104,7 +100,7 @@ module _ (d : ℕ) where
       unfolding rows-pair
       quotient-fits = subst (λ z. len z ≤ 6) (sym (quotient-on (r .on-curve))) (quotient-short (r .C) (r .reduced) h .0)
 
-      pub product-fits : {p : List ℕ} → Stands d p (poly d (s .quotient) · poly d (s .quotient)) → row-len d p +ℕ row-len d (s .u) ≤ 13
+      pub product-fits : {p : List ℕ} → Stands d p (poly d (s .quotient) · poly d (s .quotient)) → row-len d p +ℕ row-len d (s .pair .u) ≤ 13
       unfolding rows-pair
       product-fits p =
           let e = quotient-on (r .on-curve) in
@@ -115,10 +111,10 @@ module _ (d : ℕ) where
         → CofactorRow d f a w
         → Stands d e (poly d w · poly d w)
         → Stands d p (poly d (s .quotient) · poly d (s .quotient))
-        → Stands d m (poly d p · poly d (s .u))
+        → Stands d m (poly d p · poly d (s .pair .u))
         → Stands d t (poly d e + poly d (s .quotient))
         → Stands d o (poly d t + poly d m)
-        → CofactorRow d f (pair-of s) o
+        → CofactorRow d f (s .pair) o
     unfolding rows-pair compose-double
     squared-cofactor w e p m t o C on =
         let k = w C on .stands in

@@ -2,7 +2,7 @@
 -- answer is taken at its contract, and each answer is given to the next call.
 -- `half-accepted`, `double-accepted`: the half and the double of a divisor are not refused, and are divisors. `double-of-half`, `half-of-double`:
 -- doubling and halving undo each other. `only-half`: the half is the only divisor whose double is the one given. `subtract-of-add`,
--- `add-of-subtract`: so do the two rules that move a seal, with the same second pair.
+-- `add-of-subtract`: the two rules that move a seal undo each other, with the same second pair.
 use Prim.Native.Nat.{ℕ}
 use mathlib.Core.{Path._≡_, Path.sym, Path._∙_, Path.ap, Bool.true, List.List}
 use lib.ListN.{getD}

@@ -1,6 +1,7 @@
 // Pairs of rows of coefficients, for the calls on classes by value in the crate above: whether a pair is a reduced divisor of the curve of the row
 // f, and the operations on one such pair and on two. Each function checks its rows itself, by one division for each pair, whose quotient
 // w = (v² + v + f) / u serves the double and the half; where a check fails the answer says so.
+ghost use mathlib.Core.{Path._≡_, Bool.false};
 ghost use Rattle.class_rows.specs.Checked.{Decides, Divisor, UnaryAnswer, BinaryAnswer};
 
 mod composition;
@@ -48,17 +49,24 @@ pub fn is_divisor(d: u8, f: [u64; 12], a: RowPair) -> bool
     check.divisor
 }
 
+// The answer where a check fails: the first pair given, and no step.
+fn refused(a: RowPair) -> RowsAnswer
+    ensures { λ r. ⌜ r ≡ record { divisor = false; rows = record { pair = a; steps = 0 } } ⌝ }
+{
+    let rows = CountedRows { pair: a, steps: 0 };
+    RowsAnswer {
+        divisor: false,
+        rows,
+    }
+}
+
 // The operation on one pair.
 pub fn unary_rows(op: Unary, d: u8, f: [u64; 12], a: RowPair) -> RowsAnswer
     ensures { λ r. ⌜ UnaryAnswer op d f a r ⌝ }
 {
     let check = checked(d, f, a);
     if !check.divisor {
-        let rows = CountedRows { pair: a, steps: 0 };
-        return RowsAnswer {
-            divisor: false,
-            rows,
-        };
+        return refused(a);
     }
     let w = check.w;
     let rows = unary_of_reduced(op, d, f, a, w);
@@ -74,11 +82,7 @@ pub fn binary_rows(op: Binary, d: u8, f: [u64; 12], a: RowPair, b: RowPair) -> R
 {
     let check = checked_both(d, f, a, b);
     if !check.divisor {
-        let rows = CountedRows { pair: a, steps: 0 };
-        return RowsAnswer {
-            divisor: false,
-            rows,
-        };
+        return refused(a);
     }
     let w = check.w;
     let rows = binary_of_reduced(op, d, f, a, w, b);

@@ -28,8 +28,7 @@ pub struct CountedRows {
 
 // The composition of a double: u² with the remainder v of v² + f modulo u², and the quotient.
 struct Squared {
-    pub u: Row,
-    pub v: Row,
+    pub pair: RowPair,
     pub quotient: Row,
 }
 
@@ -107,19 +106,20 @@ fn squared_rows(d: u8, f: Row, a: RowPair) -> Squared
     let division = divide(d, sum, square);
     let quotient = division.quotient;
     let remainder = division.remainder;
-    Squared {
+    let pair = RowPair {
         u: square,
         v: remainder,
-        quotient,
-    }
+    };
+    Squared { pair, quotient }
 }
 
 // The cofactor of the double's composition: with w that of the class and q the quotient, w² + q + q² u².
 fn squared_cofactor(d: u8, f: Row, a: RowPair, w: Row, s: Squared) -> Row
     requires { ⌜ Accepted d × ReducedRows d f a × (2 < row-len d (a .u)) × SquaredRows d f a s × CofactorRow d f a w ⌝ }
-    ensures { λ r. ⌜ CofactorRow d f (record { u = s .u; v = s .v }) r ⌝ }
+    ensures { λ r. ⌜ CofactorRow d f (s .pair) r ⌝ }
 {
-    let u = s.u;
+    let pair = s.pair;
+    let u = pair.u;
     let q = s.quotient;
     let square = square_row(d, w);
     let factor = square_row(d, q);
@@ -136,9 +136,7 @@ pub(crate) fn double_of_reduced(d: u8, f: Row, a: RowPair, w: Row) -> CountedRow
     let u = a.u;
     let n = length(u);
     let s = squared_rows(d, f, a);
-    let square = s.u;
-    let rest = s.v;
-    let pair = RowPair { u: square, v: rest };
+    let pair = s.pair;
     if n <= 2 {
         return CountedRows { pair, steps: 0 };
     }

@@ -1,5 +1,5 @@
 -- Rows of numbers in range that stand for polynomials.
-use Prim.Native.Nat.{ℕ, zero, suc, _-_, _≤_, _<_, _^_}
+use Prim.Native.Nat.{ℕ, zero, suc, _-_, _<_, _^_}
 use mathlib.Core.{Path._≡_, List.List, List.[], List._∷_, List._++_}
 use lib.ListN.{length, getD, replicate}
 use Rattle.row_theory.specs.Field.{degree-of, Poly, 𝔸, poly}

@@ -1,7 +1,7 @@
 -- The digits at even places: the code brings them together in ever longer runs; and a number is its digits at even places,
 -- spread, and those at odd places, spread and moved up by one. Both are equations of additive maps, tested at each power of t.
 use mathlib.Core.Path.{_≡_, refl, sym}
-use Prim.Native.Nat.{ℕ, zero, suc, _+_, _*_, _/_, _%_, _^_, _<_, _≤_}
+use Prim.Native.Nat.{ℕ, zero, suc, _+_, _*_, _/_, _^_, _<_, _≤_}
 use native.Mathlib.Omega.{arith}
 use lib.{Bits.bitAnd, Pow.pow-pos}
 use Rattle.binary_field_theory.specs.{Carryless._⊕_, Carryless.spread, Carryless.digits, Carryless.digits-to, Spreading.evens}

@@ -1,5 +1,5 @@
 -- The rule of a constant table, proved at all of its entries by one computed test.
-use mathlib.Core.{Path._≡_, Path.ap, Path.sym, Path._∙_, Bool.Bool, Bool.true, Bool._&&_, List.List, List.[], List._∷_}
+use mathlib.Core.{Path._≡_, Path.ap, Path.sym, Path._∙_, List.List, List.[], List._∷_}
 use Prim.Native.Nat.{ℕ, zero, suc, _+_, _<_}
 use native.Mathlib.Nat.{add-zero, zero-add, add-suc, suc-add, le-of-suc-le-suc, not-suc-le-zero}
 use lib.{Dec.T, Dec.eqb, Dec.eqb→eq, ListN.length, ListN.getD}

@@ -5,7 +5,7 @@ use Rattle.class_rows.proofs.binary_rows.Statement.{statement}
 use Rattle.class_rows.proofs.binary_rows.Tie as tie
 
 returns : tie.Need-returns
-returns c = rows-refused (c .before .before .checked-both .ensures .decides) (not-true _ (c .if1 .taken))
+returns c = rows-refused (c .before .before .before .checked-both .ensures .decides) (not-true _ (c .before .if1 .taken)) (c .refused .ensures)
 
 binary-of-reduced-requires : tie.Need-binary-of-reduced-requires
 binary-of-reduced-requires c κs =
@@ -18,4 +18,4 @@ returns-2 : tie.Need-returns-2
 returns-2 c = rows-given (c .before .before .before .before .checked-both .ensures .decides) (not-false _ (c .before .before .if1 .left)) (c .binary-of-reduced .ensures)
 
 pub binary-rows-spec : {M : Type 1} → statement M
-binary-rows-spec = tie.close (tie.spec (λ c κs. tt) returns binary-of-reduced-requires returns-2)
+binary-rows-spec = tie.close (tie.spec (λ c κs. tt) (λ c κs. tt) returns binary-of-reduced-requires returns-2)

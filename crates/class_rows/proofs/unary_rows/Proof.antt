@@ -19,6 +19,7 @@ unary-rows-spec =
     tie.close
     (tie.spec
     (λ c κs. tt)
-    (λ c. rows-refused (c .before .before .checked .ensures .decides) (not-true _ (c .if1 .taken)))
+    (λ c κs. tt)
+    (λ c. rows-refused (c .before .before .before .checked .ensures .decides) (not-true _ (c .before .if1 .taken)) (c .refused .ensures))
     unary-of-reduced-requires
     returns-2)

@@ -5,7 +5,7 @@ use Rattle.binary_field_theory.specs.Element.{Accepted}
 use Rattle.char2_algebra.specs.Lead.{Monic}
 use Rattle.class_group.specs.Curve as Theory
 use Rattle.row_theory.specs.{Field.𝔸, Field.poly, Row.InRange, Row.row-len}
-use Rattle.class_rows.specs.{Core.OnCurve, Checked.Decides, Checked.Divisor, internal.Cofactor.CofactorRow}
+use Rattle.class_rows.specs.{Core.OnCurve, Checked.Decides, internal.Cofactor.CofactorRow}
 use Rattle.class_rows.specs.declared.{row.RowPair.RowPair, divisor.Check.Check}
 
 -- u monic of degree at most 3, v of smaller degree

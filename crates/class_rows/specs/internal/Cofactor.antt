@@ -30,6 +30,6 @@ module _ (d : ℕ) where
   infixl 70 _·_
   -- u², and quotient and remainder of v² + f by it
   pub record SquaredRows (f : List ℕ) (a : RowPair) (r : Squared) : Type 0 where
-    pub u-stands : Stands d (r .u) (poly d (a .u) · poly d (a .u))
-    pub v-stands : Stands d (r .v) (𝔸 d .rem (poly d (a .v) · poly d (a .v) + poly d f) (poly d (a .u) · poly d (a .u)))
+    pub u-stands : Stands d (r .pair .u) (poly d (a .u) · poly d (a .u))
+    pub v-stands : Stands d (r .pair .v) (𝔸 d .rem (poly d (a .v) · poly d (a .v) + poly d f) (poly d (a .u) · poly d (a .u)))
     pub quotient-stands : Stands d (r .quotient) (𝔸 d .quot (poly d (a .v) · poly d (a .v) + poly d f) (poly d (a .u) · poly d (a .u)))

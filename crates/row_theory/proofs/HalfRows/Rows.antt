@@ -3,12 +3,12 @@ use Prim.Native.Nat.{ℕ, zero, suc, _+_, _≤_, _<_, _^_}
 use mathlib.Core.{Path._≡_, Path.sym, Path._∙_, Path.ap, Path.ap₂, Path.subst, List.List, List.[], List._∷_, List.map}
 use native.Mathlib.Omega.{arith}
 use Rattle.field_laws.specs.Ring.{Ring2}
-use Rattle.char2_algebra.proofs.{Ring.+-𝟘, Ring.·-𝟘, Degree.con-nought, Degree.con-one}
+use Rattle.char2_algebra.proofs.{Ring.+-𝟘, Ring.·-𝟘, Degree.con-nought}
 use Rattle.polynomial_lists.proofs.OfList.{of-nil, of-cons}
 use Rattle.class_group.specs.{Half.quadratic}
 use Rattle.row_theory.specs.{Field.degree-of, Field.K, Field.F, Field.Poly, Field.𝔸, Field.el, Field.poly, Row.InRange, Row.Stands, Row.row-len}
 use Rattle.row_theory.specs.internal.Halving.{even-quartic}
-use Rattle.row_theory.proofs.{Rows.Elements.el-zero, Rows.Elements.el-one, Rows.Elements.zero-lt, Rows.Coefficients.stands-eq, HalfRows.Squares.constant}
+use Rattle.row_theory.proofs.{Rows.Elements.el-zero, Rows.Elements.zero-lt, Rows.Coefficients.stands-eq}
 use Rattle.row_theory.proofs.HalfRows.Squares.{quadratic-len, quartic-len}
 
 module _ (d : ℕ) where

@@ -10,9 +10,6 @@ inverse-61-requires c κs =
     let p = s .before .pre in
     (rw (other-degree _ (p .0) (s .if1 .left)) at (p .1), p .2, c .before .multisquares .ensures)
 
-returns-2 : tie.Need-returns-2
-returns-2 c = let s = c .before .before .before in rw (other-degree _ (s .before .pre .0) (s .if1 .left)) (c .inverse-61 .ensures)
-
 pub inverse-of-spec : {M : Type 1} → statement M
 inverse-of-spec =
     tie.close
@@ -21,4 +18,4 @@ inverse-of-spec =
     (λ c. rw (c .before .if1 .taken) (c .inverse-5 .ensures))
     (λ c κs. search needs)
     inverse-61-requires
-    returns-2)
+    (λ c. let s = c .before .before .before in rw (other-degree _ (s .before .pre .0) (s .if1 .left)) (c .inverse-61 .ensures)))

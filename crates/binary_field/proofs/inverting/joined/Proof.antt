@@ -13,15 +13,6 @@ Inv-loop d x k y table r₀ i₀ r i = (i ≤ k) × ((r ≡ squarings d i x) × 
 abbrev μ-loop : tie.MeasureT-loop
 μ-loop d x k y table r₀ i₀ r i = k - i
 
-square-of-requires : tie.Need-square-of-requires Inv-loop μ-loop
-square-of-requires c κs = let s = c .before in (s .before .pre .0, s .loop .inv .1 .1, s .before .pre .3)
-
-loop-again : tie.Need-loop-again Inv-loop μ-loop
-loop-again c = let s = c .before .before in (omega arith, once-more _ _ _ (s .before .pre .0) (s .loop .inv .1 .0) (c .square-of .ensures))
-
-product-of-requires : tie.Need-product-of-requires Inv-loop μ-loop
-product-of-requires c κs = let s = c .before in (s .before .pre .0, s .loop .inv .1 .1, s .before .pre .2)
-
 returns : tie.Need-returns Inv-loop μ-loop
 returns c =
     let s = c .before .before in
@@ -35,9 +26,9 @@ joined-spec =
     Inv-loop
     μ-loop
     (λ c. (omega arith, none-squared _ _ (c .pre .1)))
-    square-of-requires
+    (λ c κs. let s = c .before in (s .before .pre .0, s .loop .inv .1 .1, s .before .pre .3))
     (λ c. omega arith)
     (λ c. omega arith)
-    loop-again
-    product-of-requires
+    (λ c. let s = c .before .before in (omega arith, once-more _ _ _ (s .before .pre .0) (s .loop .inv .1 .0) (c .square-of .ensures)))
+    (λ c κs. let s = c .before in (s .before .pre .0, s .loop .inv .1 .1, s .before .pre .2))
     returns)

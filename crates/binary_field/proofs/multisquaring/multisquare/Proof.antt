@@ -1,6 +1,6 @@
 -- `multisquare` meets its contract: after i turns the loop holds what the i lowest digits give.
 use mathlib.Core.Path.{_≡_}
-use Prim.Native.Nat.{_≤_, _<_, _-_, _*_, _/_, _%_, _^_}
+use Prim.Native.Nat.{_≤_, _-_, _*_, _/_, _%_, _^_}
 use native.Mathlib.Omega.{arith}
 use Rattle.binary_field_theory.specs.Element.{squarings}
 use Rattle.binary_field_theory.proofs.Words.Multisquares.{place-lt, no-digit, one-digit-more, all-digits}
@@ -21,9 +21,6 @@ loop-again c =
     let s = c .before .before in
     (omega arith, one-digit-more _ _ (s .before .pre) (c .before .loop-test .taken) (s .loop .inv .1))
 
-returns : tie.Need-returns Inv-loop μ-loop
-returns c = let s = c .before in all-digits _ _ (s .before .fits .a .fits) (s .loop .inv .0) (c .loop-test .left) (s .loop .inv .1)
-
 pub multisquare-spec : {M : Type 1} → statement M
 multisquare-spec =
     tie.close
@@ -40,4 +37,4 @@ multisquare-spec =
     (λ c. omega arith)
     (λ c. omega arith)
     loop-again
-    returns)
+    (λ c. let s = c .before in all-digits _ _ (s .before .fits .a .fits) (s .loop .inv .0) (c .loop-test .left) (s .loop .inv .1)))

@@ -17,12 +17,6 @@ returns c =
     let e = c .before .before .before .bound .ensures in
     no-it-is-not refl (λ h. absurd (omega (arith, e, h (c .before .before .loop .i), c .if1 .taken)))
 
-loop-again : tie.Need-loop-again Inv-loop μ-loop
-loop-again c = (omega arith, below-more _ (c .before .before .loop .inv .1) (c .before .before .before .bound .ensures) (c .if1 .left))
-
-returns-2 : tie.Need-returns-2 Inv-loop μ-loop
-returns-2 c = yes-it-is (below-all _ (c .before .loop .inv .1) (omega arith) (c .before .before .before .good .1 .0 .1 .0 .1))
-
 pub in-range-spec : {M : Type 1} → statement M
 in-range-spec =
     tie.close
@@ -36,5 +30,5 @@ in-range-spec =
     returns
     (λ c. omega arith)
     (λ c. omega arith)
-    loop-again
-    returns-2)
+    (λ c. (omega arith, below-more _ (c .before .before .loop .inv .1) (c .before .before .before .bound .ensures) (c .if1 .left)))
+    (λ c. yes-it-is (below-all _ (c .before .loop .inv .1) (omega arith) (c .before .before .before .good .1 .0 .1 .0 .1))))

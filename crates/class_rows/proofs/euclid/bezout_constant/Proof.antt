@@ -2,7 +2,7 @@
 use native.Mathlib.Omega.{arith}
 use Rattle.char2_algebra.proofs.Degree.{nonzero-of-len}
 use Rattle.row_theory.specs.Field.{𝔸, poly}
-use Rattle.row_theory.proofs.{Rows.Elements.zero-lt, Rows.Elements.one-lt, Bezout.constant-rows}
+use Rattle.row_theory.proofs.{Rows.Elements.zero-lt, Bezout.constant-rows}
 use Rattle.class_rows.proofs.euclid.bezout_constant.Statement.{statement}
 use Rattle.class_rows.proofs.euclid.bezout_constant.Tie as tie
 

@@ -18,9 +18,6 @@ leading-requires c κs =
     let e = places-len _ (c .before .length .ensures) (s .args .d) (s .pre .1) in
     (s .pre .0, s .pre .1, nonzero-of-len (𝔸 (s .args .d)) (poly (s .args .d) (s .args .a)) (omega (arith, e, c .if1 .left)))
 
-scale-requires : tie.Need-scale-requires
-scale-requires c κs = let s = c .before .before .before .before .before in (s .pre .0, c .before .leading .ensures .1 .in-range, s .pre .1)
-
 returns-2 : tie.Need-returns-2
 returns-2 c =
     let l = c .before .before in
@@ -37,5 +34,5 @@ bezout-nought-spec =
     returns
     leading-requires
     (λ c κs. (c .before .before .before .before .pre .0, c .leading .ensures .1 .in-range))
-    scale-requires
+    (λ c κs. let s = c .before .before .before .before .before in (s .pre .0, c .before .leading .ensures .1 .in-range, s .pre .1))
     returns-2)

@@ -42,15 +42,6 @@ computed c =
       q-is = c .stepped-row .ensures;
     }
 
-root-of-requires-2 : tie.Need-root-of-requires-2
-root-of-requires-2 c κs = let p = c .before .pre in (p .0, p .1 .w-range 3)
-
-plus-requires : tie.Need-plus-requires
-plus-requires c κs = let p = c .before .before .pre in (p .0, p .1 .w-range 1, c .root-of2 .ensures .in-range)
-
-quartic-row-requires : tie.Need-quartic-row-requires
-quartic-row-requires c κs = let h = start (c .before) .pre .1 in (h .w-range 5, h .w-range 3, c .before .before .plus .ensures .in-range)
-
 lifted-row-requires : tie.Need-lifted-row-requires
 lifted-row-requires c κs =
     let p = start (c .before .before) .pre in
@@ -76,11 +67,11 @@ half-of-degree-1-spec =
     (λ c. search needs)
     (λ c. search needs)
     (λ c κs. (c .pre .0, c .pre .1 .w-range 5))
-    root-of-requires-2
-    plus-requires
+    (λ c κs. let p = c .before .pre in (p .0, p .1 .w-range 3))
+    (λ c κs. let p = c .before .before .pre in (p .0, p .1 .w-range 1, c .root-of2 .ensures .in-range))
     (λ c κs. search needs)
     (λ c κs. search needs)
-    quartic-row-requires
+    (λ c κs. let h = start (c .before) .pre .1 in (h .w-range 5, h .w-range 3, c .before .before .plus .ensures .in-range))
     lifted-row-requires
     stepped-row-requires
     root-pair-requires

@@ -66,9 +66,6 @@ returns c =
     let f = first (k .before .before) in
     stands-pair-eq _ (result-3-square _ _ _ _ f (k .before .if1 .taken) (k .quadratic-row .ensures) (c .before .stepped-row .ensures)) (c .root-pair .ensures)
 
-plus-requires : tie.Need-plus-requires
-plus-requires c κs = let p = start (c .before .before) .pre in (p .0, p .1 .u-range 1, c .inverted .ensures .in-range)
-
 second-square-requires : tie.Need-second-square-requires
 second-square-requires c κs =
     let l = c .before .before .before .before in
@@ -112,7 +109,7 @@ half-of-degree-3-spec =
     returns
     (λ c κs. search needs)
     (λ c. search needs)
-    plus-requires
+    (λ c κs. let p = start (c .before .before) .pre in (p .0, p .1 .u-range 1, c .inverted .ensures .in-range))
     (λ c κs. search needs)
     second-square-requires
     (λ c κs. search needs)

@@ -58,22 +58,10 @@ computed c =
       q-is = c .stepped-row .ensures;
     }
 
-times-requires : tie.Need-times-requires
-times-requires c κs = let p = c .before .before .pre in (p .0, p .1 .w-range 3, c .before .inverted .ensures .in-range)
-
-plus-requires : tie.Need-plus-requires
-plus-requires c κs = let p = c .before .before .before .before .pre in (p .0, p .1 .w-range 1, c .root-of2 .ensures .in-range)
-
 quartic-row-requires : tie.Need-quartic-row-requires
 quartic-row-requires c κs =
     let s = start (c .before) in
     (one-lt (s .args .d), s .pre .1 .w-range 3, c .before .before .before .plus .ensures .in-range)
-
-scale-requires : tie.Need-scale-requires
-scale-requires c κs = let p = start (roots c) .pre in (p .0, p .1 .u-range 1, p .1 .w-range)
-
-scale-requires-2 : tie.Need-scale-requires-2
-scale-requires-2 c κs = let p = start (roots (c .before)) .pre in (p .0, p .1 .u-range 1, c .before .before .quadratic-row .ensures .in-range)
 
 lifted-row-requires : tie.Need-lifted-row-requires
 lifted-row-requires c κs =
@@ -107,15 +95,15 @@ lifted-half-of-degree-2-spec =
     (λ c. search needs)
     (λ c κs. (c .pre .0, c .pre .1 .u-range 1, c .pre .2))
     (λ c κs. search needs)
-    times-requires
+    (λ c κs. let p = c .before .before .pre in (p .0, p .1 .w-range 3, c .before .inverted .ensures .in-range))
     (λ c κs. search needs)
-    plus-requires
+    (λ c κs. let p = c .before .before .before .before .pre in (p .0, p .1 .w-range 1, c .root-of2 .ensures .in-range))
     (λ c κs. search needs)
     (λ c κs. search needs)
     (λ c κs. search needs)
     quartic-row-requires
-    scale-requires
-    scale-requires-2
+    (λ c κs. let p = start (roots c) .pre in (p .0, p .1 .u-range 1, p .1 .w-range))
+    (λ c κs. let p = start (roots (c .before)) .pre in (p .0, p .1 .u-range 1, c .before .before .quadratic-row .ensures .in-range))
     lifted-row-requires
     stepped-row-requires
     root-pair-requires

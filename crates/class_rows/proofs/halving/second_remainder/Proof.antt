@@ -6,9 +6,6 @@ use borrow.Author.Needs.{needs}
 use Rattle.class_rows.proofs.halving.second_remainder.Statement.{statement}
 use Rattle.class_rows.proofs.halving.second_remainder.Tie as tie
 
-quadratic-row-requires : tie.Need-quadratic-row-requires
-quadratic-row-requires c κs = (zero-lt (c .before .before .args .d), one-lt (c .before .before .args .d), c .before .before .pre .7)
-
 multiply-requires : tie.Need-multiply-requires
 multiply-requires c κs =
     let b = c .before .before .divide .ensures .1 in
@@ -40,7 +37,7 @@ second-remainder-spec =
     tie.close
     (tie.spec
     (λ c κs. (c .pre .0, c .pre .3, c .pre .4, divisor-nonzero _ _ (c .pre .9)))
-    quadratic-row-requires
+    (λ c κs. (zero-lt (c .before .before .args .d), one-lt (c .before .before .args .d), c .before .before .pre .7))
     multiply-requires
     divide-requires-2
     (λ c κs. search needs)

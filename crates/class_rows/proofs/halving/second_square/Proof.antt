@@ -4,12 +4,6 @@ use borrow.Author.Needs.{needs}
 use Rattle.class_rows.proofs.halving.second_square.Statement.{statement}
 use Rattle.class_rows.proofs.halving.second_square.Tie as tie
 
-quartic-row-requires : tie.Need-quartic-row-requires
-quartic-row-requires c κs = (zero-lt (c .before .before .args .d), one-lt (c .before .before .args .d), c .before .before .pre .5)
-
-scale-requires : tie.Need-scale-requires
-scale-requires c κs = (c .before .before .before .pre .0, c .before .before .before .pre .2 1, c .before .before .before .pre .1)
-
 lifted-row-requires : tie.Need-lifted-row-requires
 lifted-row-requires c κs =
     let p = c .before .before .before .before .pre in
@@ -25,7 +19,7 @@ second-square-spec =
     (λ c. search needs)
     (λ c κs. search needs)
     (λ c κs. search needs)
-    quartic-row-requires
-    scale-requires
+    (λ c κs. (zero-lt (c .before .before .args .d), one-lt (c .before .before .args .d), c .before .before .pre .5))
+    (λ c κs. (c .before .before .before .pre .0, c .before .before .before .pre .2 1, c .before .before .before .pre .1))
     lifted-row-requires
     returns)

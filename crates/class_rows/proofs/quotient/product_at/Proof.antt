@@ -11,15 +11,6 @@ Inv-loop d from k q b sum₀ j₀ sum j = Partial d q b k j sum
 abbrev μ-loop : tie.MeasureT-loop
 μ-loop d from k q b sum₀ j₀ sum j = k + 1 - j
 
-times-requires : tie.Need-times-requires Inv-loop μ-loop
-times-requires c κs = let p = c .before .before .pre in (p .0, p .1 _, p .2 _)
-
-plus-requires : tie.Need-plus-requires Inv-loop μ-loop
-plus-requires c κs = (c .before .before .before .pre .0, c .before .before .loop .inv .sum-is .in-range, c .times .ensures .in-range)
-
-loop-again : tie.Need-loop-again Inv-loop μ-loop
-loop-again c = partial-turn _ (c .before .before .before .loop .inv) (omega arith) (c .before .times .ensures) (c .plus .ensures)
-
 pub product-at-spec : {M : Type 1} → statement M
 product-at-spec =
     tie.close
@@ -31,9 +22,9 @@ product-at-spec =
     (λ c. omega arith)
     (λ c. omega arith)
     (λ c. omega arith)
-    times-requires
-    plus-requires
+    (λ c κs. let p = c .before .before .pre in (p .0, p .1 _, p .2 _))
+    (λ c κs. (c .before .before .before .pre .0, c .before .before .loop .inv .sum-is .in-range, c .times .ensures .in-range))
     (λ c. omega arith)
     (λ c. omega arith)
-    loop-again
+    (λ c. partial-turn _ (c .before .before .before .loop .inv) (omega arith) (c .before .times .ensures) (c .plus .ensures))
     (λ c. partial-end _ (c .before .loop .inv) (omega arith)))

@@ -37,16 +37,10 @@ product-at-requires c κs =
     let l = c .before .loop .inv in
     (p .0, l .2 .range, p .2, omega arith, λ i h. l .2 .blank i (omega arith))
 
-plus-requires : tie.Need-plus-requires Inv-loop μ-loop
-plus-requires c κs = let p = c .before .before .before .before .before .pre in (p .0, p .1 _, c .product-at .ensures .in-range)
-
 loop-again : tie.Need-loop-again Inv-loop μ-loop
 loop-again c =
     let l = c .before .before .before .loop .inv in
     (omega arith, l .1, divided-turn _ (l .2) (omega arith) (l .0) (c .before .before .before .before .before .before .pre .3) (l .1) (c .before .product-at .ensures) (c .plus .ensures))
-
-returns : tie.Need-returns Inv-loop μ-loop
-returns c = let l = c .before .loop .inv in divided-end _ (l .2) (omega arith) (l .1)
 
 pub quotient-spec : {M : Type 1} → statement M
 quotient-spec =
@@ -64,9 +58,9 @@ quotient-spec =
     product-at-requires
     (λ c. omega arith)
     (λ c. omega arith)
-    plus-requires
+    (λ c κs. let p = c .before .before .before .before .before .pre in (p .0, p .1 _, c .product-at .ensures .in-range))
     (λ c. omega arith)
     (λ c. omega arith)
     (λ c. omega arith)
     loop-again
-    returns)
+    (λ c. let l = c .before .loop .inv in divided-end _ (l .2) (omega arith) (l .1)))

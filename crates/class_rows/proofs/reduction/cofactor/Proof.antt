@@ -4,14 +4,10 @@ use Rattle.class_rows.proofs.ReductionRows.{cofactor-row}
 use Rattle.class_rows.proofs.reduction.cofactor.Statement.{statement}
 use Rattle.class_rows.proofs.reduction.cofactor.Tie as tie
 
-curve-value-requires : tie.Need-curve-value-requires
-curve-value-requires c κs = let p = c .before .before .pre in (p .0, p .1 .on-curve .in-range, p .1 .v-range, omega (arith, p .1 .u-len, p .1 .v-len))
-
-quotient-requires : tie.Need-quotient-requires
-quotient-requires c κs = let p = c .before .before .before .pre in (p .0, c .curve-value .ensures .in-range, p .1 .u-range, p .1 .u-monic)
-
-returns : tie.Need-returns
-returns c = cofactor-row _ (c .before .before .before .before .args .a) (c .before .curve-value .ensures) (c .quotient .ensures)
-
 pub cofactor-spec : {M : Type 1} → statement M
-cofactor-spec = tie.close (tie.spec curve-value-requires quotient-requires returns)
+cofactor-spec =
+    tie.close
+    (tie.spec
+    (λ c κs. let p = c .before .before .pre in (p .0, p .1 .on-curve .in-range, p .1 .v-range, omega (arith, p .1 .u-len, p .1 .v-len)))
+    (λ c κs. let p = c .before .before .before .pre in (p .0, c .curve-value .ensures .in-range, p .1 .u-range, p .1 .u-monic))
+    (λ c. cofactor-row _ (c .before .before .before .before .args .a) (c .before .curve-value .ensures) (c .quotient .ensures)))

@@ -5,12 +5,9 @@ use Rattle.row_theory.proofs.Rows.Length.{places-len}
 use Rattle.class_rows.proofs.reduction.double_of_reduced.Statement.{statement}
 use Rattle.class_rows.proofs.reduction.double_of_reduced.Tie as tie
 
-squared-rows-requires : tie.Need-squared-rows-requires
-squared-rows-requires c κs = let p = c .before .before .pre in (p .0, p .1)
-
 returns : tie.Need-returns
 returns c =
-    let q = c .before .before .before in
+    let q = c .before .before in
     let p = q .before .before .before .pre in
     let s = q .squared-rows .ensures in
     let n = places-len _ (q .before .length .ensures) _ (p .1 .u-range) in
@@ -19,14 +16,14 @@ returns c =
 
 squared-cofactor-requires : tie.Need-squared-cofactor-requires
 squared-cofactor-requires c κs =
-    let q = c .before .before .before in
+    let q = c .before .before in
     let p = q .before .before .before .pre in
     let n = places-len _ (q .before .length .ensures) _ (p .1 .u-range) in
     (p .0, p .1, omega (arith, n, c .if1 .left), q .squared-rows .ensures, p .2)
 
 reduce-with-requires : tie.Need-reduce-with-requires
 reduce-with-requires c κs =
-    let q = c .before .before .before .before in
+    let q = c .before .before .before in
     let p = q .before .before .before .pre in
     let s = q .squared-rows .ensures in
     let n = places-len _ (q .before .length .ensures) _ (p .1 .u-range) in
@@ -34,9 +31,9 @@ reduce-with-requires c κs =
     (p .0, squared-semi _ (p .1) s, omega (arith, l, n, c .before .if1 .left), c .squared-cofactor .ensures)
 
 returns-2 : tie.Need-returns-2
-returns-2 c = let q = c .before .before .before .before .before in double-counted _ (q .before .before .before .pre .1) (q .squared-rows .ensures) (c .reduce-with .ensures)
+returns-2 c = let q = c .before .before .before .before in double-counted _ (q .before .before .before .pre .1) (q .squared-rows .ensures) (c .reduce-with .ensures)
 
 pub double-of-reduced-spec : {M : Type 1} → statement M
 double-of-reduced-spec =
     tie.close
-    (tie.spec (λ c κs. tt) squared-rows-requires returns squared-cofactor-requires reduce-with-requires returns-2)
+    (tie.spec (λ c κs. tt) (λ c κs. let p = c .before .before .pre in (p .0, p .1)) returns squared-cofactor-requires reduce-with-requires returns-2)

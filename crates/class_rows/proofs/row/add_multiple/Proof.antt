@@ -24,12 +24,6 @@ loop-holds c =
     let room = pre .4 in
     (omega arith, omega arith, filled-start (c .before .before .good .1 .0 .1 .0 .1) (pre .1) (λ i h. added-below _ _ _ _ _ i (omega arith)))
 
-times-requires : tie.Need-times-requires Inv-loop μ-loop
-times-requires c κs = let pre = c .before .before .before .before .pre in (pre .0, pre .2, pre .3 (c .before .loop .i))
-
-plus-requires : tie.Need-plus-requires Inv-loop μ-loop
-plus-requires c κs = (c .before .before .before .before .before .pre .0, c .before .before .loop .inv .2 .range _, c .times .ensures .in-range)
-
 loop-again : tie.Need-loop-again Inv-loop μ-loop
 loop-again c =
     let s = c .before .before .before .loop .inv .2 in (
@@ -37,9 +31,6 @@ loop-again c =
       omega arith,
       filled-to (omega arith) (filled-turn s (omega arith) (added-turn _ _ _ _ _ _ (s .above _ (omega arith)) (c .before .times .ensures) (c .plus .ensures))),
     )
-
-returns : tie.Need-returns Inv-loop μ-loop
-returns c = let pre = c .before .pre in stands-eq _ (multiple-nought _ _ _ (c .if1 .taken)) (self-stands _ _ (pre .1))
 
 returns-2 : tie.Need-returns-2 Inv-loop μ-loop
 returns-2 c =
@@ -52,7 +43,7 @@ add-multiple-spec =
     (tie.spec
     Inv-loop
     μ-loop
-    returns
+    (λ c. let pre = c .before .pre in stands-eq _ (multiple-nought _ _ _ (c .if1 .taken)) (self-stands _ _ (pre .1)))
     (λ c κs. tt)
     loop-holds
     (λ c. omega arith)
@@ -60,8 +51,8 @@ add-multiple-spec =
     (λ c. omega arith)
     (λ c. omega arith)
     (λ c. omega arith)
-    times-requires
-    plus-requires
+    (λ c κs. let pre = c .before .before .before .before .pre in (pre .0, pre .2, pre .3 (c .before .loop .i)))
+    (λ c κs. (c .before .before .before .before .before .pre .0, c .before .before .loop .inv .2 .range _, c .times .ensures .in-range))
     (λ c. omega arith)
     (λ c. omega arith)
     (λ c. omega arith)

@@ -8,24 +8,15 @@ use Rattle.class_rows.proofs.row.monic.Tie as tie
 at-top : (c : tie.After-leading) → Leads (c .before .args .d) (c .before .args .a) (c .leading .result .top)
 at-top c = leads-at _ _ (c .before .good .1 .0 .1 .0 .1) (c .before .pre .1) (c .leading .ensures .0)
 
-returns : tie.Need-returns
-returns c = let l = c .before in monic-already (at-top l) (l .leading .ensures .1) (c .if1 .taken)
-
-scale-requires : tie.Need-scale-requires
-scale-requires c κs = let l = c .before in (l .before .pre .0, l .leading .ensures .1 .in-range, low-range (at-top l))
-
-returns-2 : tie.Need-returns-2
-returns-2 c = let l = c .before .before in monic-made (at-top l) (l .leading .ensures .1) (c .scale .ok .1 .0 .1) (c .scale .ensures)
-
 pub monic-spec : {M : Type 1} → statement M
 monic-spec =
     tie.close
     (tie.spec
     (λ c κs. c .pre)
-    returns
+    (λ c. let l = c .before in monic-already (at-top l) (l .leading .ensures .1) (c .if1 .taken))
     (λ c. omega (arith, at-top (c .before) .top-lt))
     (λ c. omega (arith, at-top (c .before) .top-lt))
-    scale-requires
+    (λ c κs. let l = c .before in (l .before .pre .0, l .leading .ensures .1 .in-range, low-range (at-top l)))
     (λ c. omega (arith, at-top (c .before .before) .top-lt))
     (λ c. omega (arith, at-top (c .before .before) .top-lt))
-    returns-2)
+    (λ c. let l = c .before .before in monic-made (at-top l) (l .leading .ensures .1) (c .scale .ok .1 .0 .1) (c .scale .ensures)))

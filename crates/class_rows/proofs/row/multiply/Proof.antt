@@ -23,9 +23,6 @@ add-multiple-requires c κs =
     let room = pre .3 in
     (pre .0, c .before .loop .inv .2 .range, pre .1 _, pre .2, omega arith)
 
-loop-again : tie.Need-loop-again Inv-loop μ-loop
-loop-again c = (omega arith, omega arith, partial-turn (c .before .before .loop .inv .2) (c .add-multiple .ensures))
-
 returns : tie.Need-returns Inv-loop μ-loop
 returns c =
     let len = places-len _ (c .before .before .length .ensures) _ (c .before .before .before .pre .1) in
@@ -44,5 +41,5 @@ multiply-spec =
     add-multiple-requires
     (λ c. omega arith)
     (λ c. omega arith)
-    loop-again
+    (λ c. (omega arith, omega arith, partial-turn (c .before .before .loop .inv .2) (c .add-multiple .ensures)))
     returns)

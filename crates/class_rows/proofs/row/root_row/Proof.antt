@@ -24,9 +24,6 @@ loop-holds c = (
   filled-start refl (zeros-range _ 12) (λ i h. absurd (omega arith)),
 )
 
-root-of-requires : tie.Need-root-of-requires Inv-loop μ-loop
-root-of-requires c κs = let pre = c .before .before .before .pre in (pre .0, pre .1 _)
-
 loop-again : tie.Need-loop-again Inv-loop μ-loop
 loop-again c =
     (omega arith, omega arith, filled-turn (c .before .before .loop .inv .2) (omega arith) (root-at _ _ _ (c .root-of .ensures)))
@@ -48,7 +45,7 @@ root-row-spec =
     (λ c. omega arith)
     (λ c. omega arith)
     (λ c. omega arith)
-    root-of-requires
+    (λ c κs. let pre = c .before .before .before .pre in (pre .0, pre .1 _))
     (λ c. omega arith)
     (λ c. omega arith)
     (λ c. omega arith)

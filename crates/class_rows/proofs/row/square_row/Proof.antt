@@ -22,9 +22,6 @@ loop-holds c =
     let room = c .before .pre .2 in
     (omega arith, omega arith, filled-start refl (zeros-range _ 12) (λ i h. absurd (omega arith)))
 
-squared-requires : tie.Need-squared-requires Inv-loop μ-loop
-squared-requires c κs = let pre = c .before .before .before .pre in (pre .0, pre .1 (c .before .loop .i))
-
 loop-again : tie.Need-loop-again Inv-loop μ-loop
 loop-again c = (
   omega arith,
@@ -47,7 +44,7 @@ square-row-spec =
     loop-holds
     (λ c. omega arith)
     (λ c. omega arith)
-    squared-requires
+    (λ c κs. let pre = c .before .before .before .pre in (pre .0, pre .1 (c .before .loop .i)))
     (λ c. omega arith)
     (λ c. omega arith)
     (λ c. omega arith)
