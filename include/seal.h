@@ -26,8 +26,8 @@
  * promised. An empty area may be NULL with length 0; any other length needs an address. No area needs an alignment.
  *
  * Threads and stack. The library has no state and no static data that changes, so that calls may be made at the same
- * time from any threads, as long as no output is used by another thread meanwhile. It takes no memory but stack, at
- * most SEAL_STACK bytes.
+ * time from any threads, as long as no output is used by another thread meanwhile. It takes no memory but stack,
+ * of which SEAL_STACK bytes are enough as measured.
  *
  * What the calls do is written out in docs/SPECIFICATION.md: fields and classes in sections 1 and 2, the stored form
  * in 5, the refusals in 6, these calls in 7.

@@ -18,8 +18,8 @@
  * row is only read, and the register overlaps nothing that another call uses at the time.
  *
  * Threads and stack. The library has no state and no static data that changes, so that calls may be made at the same
- * time from any threads, each on a register of its own; a row may be read by many. It takes no memory but stack, at
- * most SEAL_STACK bytes.
+ * time from any threads, each on a register of its own; a row may be read by many. It takes no memory but stack,
+ * of which SEAL_STACK bytes are enough as measured.
  *
  * What the calls do is written out in docs/SPECIFICATION.md: classes in section 2, the register in 4, the refusals in
  * 6, these calls in 8. examples/register_session.c uses them.
