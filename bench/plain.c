@@ -1,6 +1,7 @@
-/* A straightforward implementation in C, over GF(2^61), of the algorithms of crates/binary_field and crates/jacobian: the same products by
- * integer multiplication, squares by a table, roots, chain of the inverse without its tables, Euclid's rule, composition, reduction and
- * halving rules. Nothing of it is proved; it is the measure of what the proved code loses or gains against C as one would write it. */
+/* A straightforward implementation in C, over GF(2^61), of the algorithms of crates/binary_field, class_rows and jacobian: the same
+ * products by integer multiplication, squares by a table, roots by shifts, the chain of the inverse with its table of six squarings at
+ * once, Euclid's rule, composition, reduction and halving rules, and w from the division that checks a class. What differs is how C is
+ * written: tables are static and not bound at each call, and rows are handed over by their addresses. Nothing of it is proved. */
 #include "plain.h"
 
 #include <string.h>
@@ -39,11 +40,8 @@ uint64_t plain_loop_product(uint64_t a, uint64_t b) {
 }
 
 static uint16_t spreads[256];
-
-__attribute__((constructor)) static void fill(void) {
-    for (int i = 0; i < 256; i++)
-        for (int k = 0; k < 8; k++) spreads[i] |= (i >> k & 1) << 2 * k;
-}
+/* entry 16 i + j is j t^(4 i), squared six times */
+static uint64_t sixfold[256];
 
 static uint64_t spread(uint32_t n) {
     return spreads[n & 255] | (uint64_t)spreads[n >> 8 & 255] << 16 | (uint64_t)spreads[n >> 16 & 255] << 32 |
@@ -64,8 +62,18 @@ static uint64_t evens(uint64_t n) {
     return (n ^ n >> 16) & 0xffffffff;
 }
 
+/* the root of t is t^62 + .. + t^31 + t^6 + t^5 + t^4 + t modulo the modulus */
+static uint64_t times_root_of_t(uint64_t n) {
+    uint64_t run = n ^ n << 1;
+    run ^= run << 2;
+    run ^= run << 4;
+    run ^= run << 8;
+    run ^= run << 16;
+    return fold((run << 31 ^ n << 1 ^ n << 4 ^ n << 5 ^ n << 6) & MASK, run >> 30);
+}
+
 uint64_t plain_root(uint64_t a) {
-    return evens(a) ^ plain_product(evens(a >> 1), UINT64_C(0x1fffffff8000001b));
+    return evens(a) ^ times_root_of_t(evens(a >> 1));
 }
 
 static uint64_t joined(uint64_t x, int k, uint64_t y) {
@@ -73,10 +81,29 @@ static uint64_t joined(uint64_t x, int k, uint64_t y) {
     return plain_product(x, y);
 }
 
+__attribute__((constructor)) static void fill(void) {
+    for (int i = 0; i < 256; i++)
+        for (int k = 0; k < 8; k++) spreads[i] |= (i >> k & 1) << 2 * k;
+    for (int i = 0; i < 256; i++) {
+        uint64_t x = (uint64_t)(i & 15) << 4 * (i >> 4) & MASK; /* no element has more than bit 60 */
+        for (int k = 0; k < 6; k++) x = plain_square(x);
+        sixfold[i] = x;
+    }
+}
+
+static uint64_t joined_sixfold(uint64_t x, int n, uint64_t y) {
+    while (n-- > 0) {
+        uint64_t r = 0;
+        for (int i = 0; i < 16; i++) r ^= sixfold[16 * i + (x >> 4 * i & 15)];
+        x = r;
+    }
+    return plain_product(x, y);
+}
+
 uint64_t plain_inverse(uint64_t a) {
-    uint64_t a2 = joined(a, 1, a), a3 = joined(a2, 1, a), a6 = joined(a3, 3, a3), a12 = joined(a6, 6, a6);
-    uint64_t a15 = joined(a12, 3, a3), a30 = joined(a15, 15, a15);
-    return plain_square(joined(a30, 30, a30));
+    uint64_t a2 = joined(a, 1, a), a3 = joined(a2, 1, a), a6 = joined(a3, 3, a3), a12 = joined_sixfold(a6, 1, a6);
+    uint64_t a24 = joined_sixfold(a12, 2, a12), a48 = joined_sixfold(a24, 4, a24);
+    return plain_square(joined_sixfold(a48, 2, a12));
 }
 
 static uint64_t times(uint64_t a, uint64_t b) {
@@ -227,7 +254,8 @@ static Row value(const Row *f, const Row *v) {
     return add(add(square, v), f);
 }
 
-static uint32_t due(const uint64_t *f, const uint64_t *a) {
+/* The refusal that is due; where none is, w is (v^2 + v + f) / u. */
+static uint32_t due(const uint64_t *f, const uint64_t *a, Row *w) {
     for (int i = 0; i < 3; i++)
         if (f[i] > MASK) return 107;
     if (a[0] > 3) return 104;
@@ -236,7 +264,7 @@ static uint32_t due(const uint64_t *f, const uint64_t *a) {
     for (int i = 1; i < 7; i++)
         if (a[i] > MASK) return 110;
     Pair p = pair_of(a);
-    Row fs = f_row(f), rest = divide(value(&fs, &p.v), p.u, 0);
+    Row fs = f_row(f), rest = divide(value(&fs, &p.v), p.u, w);
     return length(&rest) == 0 ? 0 : 111;
 }
 
@@ -261,13 +289,13 @@ static Pair reduce_with(const Row *f, const Pair *a, const Row *w) {
     return step(&once, &next);
 }
 
-static Pair double_rows(const Row *f, const Pair *a) {
+static Pair double_rows(const Row *f, const Pair *a, Row w) {
     Row q, square = square_row(&a->v);
     Pair p;
     p.u = square_row(&a->u);
     p.v = divide(add(square, f), p.u, &q);
     if (length(&a->u) <= 2) return p;
-    Row w = cofactor(f, a), factor = square_row(&q), product = multiply(&factor, &p.u);
+    Row factor = square_row(&q), product = multiply(&factor, &p.u);
     w = square_row(&w);
     w = add(add(w, &q), &product);
     return reduce_with(f, &p, &w);
@@ -317,11 +345,11 @@ static Row lifted(const Row *w, const Row *k, const Row *m, const Row *u) {
     return add(add(*w, k), &p);
 }
 
-static Pair half_rows(const Row *f, const Pair *a) {
+static Pair half_rows(const Pair *a, Row w) {
     const Row *u = &a->u, *v = &a->v;
     int n = length(u);
     if (n <= 1) return *a;
-    Row w = cofactor(f, a), k = constant(0), m = constant(0), p, o;
+    Row k = constant(0), m = constant(0), p, o;
     if (n == 2) {
         k.c[2] = plain_root(w.c[5]);
         k.c[1] = plain_root(w.c[3]);
@@ -371,32 +399,33 @@ static Pair opposite(Pair a) {
 /* ---- the calls */
 
 uint32_t plain_membership(const uint64_t *f, const uint64_t *a) {
-    return due(f, a);
+    return due(f, a, 0);
 }
 
 uint32_t plain_double(const uint64_t *f, const uint64_t *a, uint64_t *r) {
-    uint32_t n = due(f, a);
+    Row fs = f_row(f), w;
+    uint32_t n = due(f, a, &w);
     if (n) return n;
-    Row fs = f_row(f);
-    Pair p = pair_of(a), q = double_rows(&fs, &p);
+    Pair p = pair_of(a), q = double_rows(&fs, &p, w);
     return store(&q, r);
 }
 
 uint32_t plain_half(const uint64_t *f, const uint64_t *a, uint64_t *r) {
-    uint32_t n = due(f, a);
+    Row w;
+    uint32_t n = due(f, a, &w);
     if (n) return n;
-    Row fs = f_row(f);
-    Pair p = pair_of(a), q = half_rows(&fs, &p);
+    Pair p = pair_of(a), q = half_rows(&p, w);
     return store(&q, r);
 }
 
-static uint32_t due_of_two(const uint64_t *f, const uint64_t *a, const uint64_t *b) {
-    uint32_t n = due(f, a);
-    return n ? n : due(f, b);
+/* w is that of the first class */
+static uint32_t due_of_two(const uint64_t *f, const uint64_t *a, const uint64_t *b, Row *w) {
+    uint32_t n = due(f, a, w);
+    return n ? n : due(f, b, 0);
 }
 
 uint32_t plain_sum(const uint64_t *f, const uint64_t *a, const uint64_t *b, uint64_t *r) {
-    uint32_t n = due_of_two(f, a, b);
+    uint32_t n = due_of_two(f, a, b, 0);
     if (n) return n;
     Row fs = f_row(f);
     Pair p = pair_of(a), q = pair_of(b), s = sum_rows(&fs, &p, &q);
@@ -404,17 +433,17 @@ uint32_t plain_sum(const uint64_t *f, const uint64_t *a, const uint64_t *b, uint
 }
 
 uint32_t plain_double_and_add(const uint64_t *f, const uint64_t *a, const uint64_t *b, uint64_t *r) {
-    uint32_t n = due_of_two(f, a, b);
+    Row fs = f_row(f), w;
+    uint32_t n = due_of_two(f, a, b, &w);
     if (n) return n;
-    Row fs = f_row(f);
-    Pair p = pair_of(a), q = pair_of(b), twice = double_rows(&fs, &p), s = sum_rows(&fs, &twice, &q);
+    Pair p = pair_of(a), q = pair_of(b), twice = double_rows(&fs, &p, w), s = sum_rows(&fs, &twice, &q);
     return store(&s, r);
 }
 
 uint32_t plain_subtract_and_halve(const uint64_t *f, const uint64_t *a, const uint64_t *b, uint64_t *r) {
-    uint32_t n = due_of_two(f, a, b);
+    uint32_t n = due_of_two(f, a, b, 0);
     if (n) return n;
     Row fs = f_row(f);
-    Pair p = pair_of(a), q = opposite(pair_of(b)), s = sum_rows(&fs, &p, &q), h = half_rows(&fs, &s);
+    Pair p = pair_of(a), q = opposite(pair_of(b)), s = sum_rows(&fs, &p, &q), h = half_rows(&s, cofactor(&fs, &s));
     return store(&h, r);
 }

@@ -5,8 +5,8 @@
  *     rt staticlib seal
  *     cc -Iinclude model.c target/staticlib/libseal.a
  *
- * Stored form. A field is a one-byte tag, a two-byte length and a body, high byte first. An element takes eight bytes,
- * high byte first.
+ * Stored form. A field is a one-byte tag, a two-byte length and a body, high byte first. An element takes eight
+ * bytes, high byte first.
  *
  *     tag    body                                                       lengths allowed
  *     0x40   degree d of the field, 5 or 61                             1
@@ -17,15 +17,25 @@
  *     0x44   an operation's class, as 0x43                              0, 16, 32, 48
  *
  * Answers. A call that is accepted writes at the start of the output and answers how many bytes it wrote, at most 56;
- * seal_membership writes nothing and answers 0. A call that is refused answers the refusal's number, 101 or more, and
- * has changed no byte. No call changes the input, nor a byte of the output after those it wrote.
+ * seal_membership writes nothing and answers 0. A call that is refused answers the refusal's number, 101 or more
+ * (seal_refusals.h), and has changed no byte. No call changes the input, nor a byte of the output after those it
+ * wrote. The input's fields are read in order, and each goes through 102 to 111 before the next is begun.
  *
  * Areas. The input may hold anything: nothing has to be checked before a call. The one duty of the caller is to hand
- * over areas that are his, as long as said, and do not overlap. An empty area may be NULL with length 0. No area needs
- * an alignment. The calls keep nothing from one to the next.
+ * over areas that are his, as long as said, with the output apart from the input: where they overlap, nothing is
+ * promised. An empty area may be NULL with length 0; any other length needs an address. No area needs an alignment.
+ *
+ * Threads and stack. The library has no state and no static data that changes, so that calls may be made at the same
+ * time from any threads, as long as no output is used by another thread meanwhile. It takes no memory but stack,
+ * of which SEAL_STACK bytes are enough as measured.
+ *
+ * What the calls do is written out in docs/SPECIFICATION.md: fields and classes in sections 1 and 2, the stored form
+ * in 5, the refusals in 6, these calls in 7.
  */
 #ifndef SEAL_H
 #define SEAL_H
+
+#include "seal_refusals.h"
 
 #include <stddef.h>
 #include <stdint.h>
@@ -44,29 +54,6 @@ extern "C" {
 /* How long an output must be, and so how long one is always long enough. */
 #define SEAL_CLASS_OUTPUT 51    /* opposite, sum, double, half: one 0x43 */
 #define SEAL_REGISTER_OUTPUT 56 /* commit, undo: 0x42, then 0x43 */
-
-/* The most operations that a register counts. */
-#define SEAL_COUNT_LIMIT 1024
-
-/* The refusals, in checking order. The input's fields are read in order, and each goes through 102 to 111 before the
- * next is begun. */
-#define SEAL_OUTPUT_TOO_SHORT 101  /* the output has fewer than 51 bytes, or 56 for commit and undo */
-#define SEAL_HEAD_CUT 102          /* the input ends before the three bytes of a field's head */
-#define SEAL_WRONG_TAG 103         /* the tag is not the one due there */
-#define SEAL_WRONG_LENGTH 104      /* the length is not allowed for the tag */
-#define SEAL_BODY_CUT 105          /* the input ends before the body does */
-#define SEAL_WRONG_DEGREE 106      /* the degree is neither 5 nor 61 */
-#define SEAL_CURVE_COEFFICIENT 107 /* a curve coefficient is 2^d or more */
-#define SEAL_DRAWING_NUMBER 108    /* a drawing number byte lies outside 0x20 to 0x7E; in archives alone */
-#define SEAL_COUNT_TOO_HIGH 109    /* the count exceeds 1,024 */
-#define SEAL_CLASS_COEFFICIENT 110 /* a class coefficient is 2^d or more */
-#define SEAL_NOT_A_CLASS 111       /* u does not divide v^2 + v + f */
-#define SEAL_BYTES_REMAIN 112      /* bytes remain after the last field */
-#define SEAL_UNDO_AT_ZERO 113      /* an undo is called at count 0 */
-#define SEAL_COMMIT_AT_LIMIT 114   /* a commit is called at count 1,024 */
-
-/* Is an answer a refusal? */
-#define SEAL_IS_REFUSAL(answer) ((answer) >= SEAL_OUTPUT_TOO_SHORT)
 
 /* Is the class one of the curve?
  * Reads 0x40, 0x41, 0x43; writes nothing and answers 0. Refusals: 102 to 107, 110 to 112. */

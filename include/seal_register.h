@@ -7,16 +7,27 @@
  *     cc -Iinclude model.c target/staticlib/libseal_register.a
  *
  * A commit or an undo answers 0 where it is accepted, and the register is then the one that follows. Else it answers
- * the refusal's number, and has changed no byte of the register. The numbers are those of seal.h; 101 to 103, 105,
- * 108 and 112 are of byte areas alone. They are checked in this order: 106 and 107 of the curve, 109 of the count,
- * then 104, 110 and 111 of the seal and of the class, then 113 or 114.
+ * the refusal's number (seal_refusals.h), and has changed no byte of the register. Of the numbers 101 to 103, 105,
+ * 108 and 112 are of byte areas alone, and 104 is SEAL_WRONG_SHAPE: a class's degree is above 3, or a number at or
+ * past its degree is not 0. They are checked in this order: 106 and 107 of the curve, 109 of the count, then 104, 110
+ * and 111 of the seal and of the class, then 113 or 114.
  *
- * Register, curve and classes may hold any numbers: nothing has to be checked before a call. The one duty of the
- * caller is to lend a register that is his and that nobody else uses during the call, and a row that is his and as
- * long as said. The calls keep nothing from one to the next.
+ * Areas. Register, curve and classes may hold any numbers: nothing has to be checked before a call. The one duty of
+ * the caller is to lend a register that is his, at an address aligned to 8 bytes and not NULL, that nobody else uses
+ * during the call, and a row that is his, aligned so and as long as said. An empty row may be NULL with length 0. The
+ * row is only read, and the register overlaps nothing that another call uses at the time.
+ *
+ * Threads and stack. The library has no state and no static data that changes, so that calls may be made at the same
+ * time from any threads, each on a register of its own; a row may be read by many. It takes no memory but stack,
+ * of which SEAL_STACK bytes are enough as measured.
+ *
+ * What the calls do is written out in docs/SPECIFICATION.md: classes in section 2, the register in 4, the refusals in
+ * 6, these calls in 8. examples/register_session.c uses them.
  */
 #ifndef SEAL_REGISTER_H
 #define SEAL_REGISTER_H
+
+#include "seal_refusals.h"
 
 #include <stddef.h>
 #include <stdint.h>
@@ -38,7 +49,7 @@ struct seal_class {
     uint64_t u[3], v[3];
 };
 
-/* The count of operations is at most 1,024. */
+/* The count of operations is at most SEAL_COUNT_LIMIT. */
 struct seal_register {
     struct seal_curve curve;
     uint64_t count;
