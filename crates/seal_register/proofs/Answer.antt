@@ -3,7 +3,7 @@
 use Prim.Native.Nat.{ℕ, zero, suc}
 use mathlib.Core.{Path._≡_, Path.refl, Path.sym, Path._∙_, Path.ap, Bool.not}
 use lib.Dec.{T, eqb}
-use Rattle.jacobian.specs.Answer.{Verdict, verdict, verdict-of, outcome-refusal}
+use Rattle.jacobian.specs.Answer.{Verdict, accepted, refused, verdict, verdict-of, outcome-refusal}
 use Rattle.jacobian.specs.declared.Class.{Class}
 use Rattle.jacobian.proofs.ByValue.Answers.{outcome-refusal-is}
 use Rattle.history.specs.Register.{RegisterReply, register-reply, follows, step-answer}
@@ -11,6 +11,19 @@ use Rattle.history.specs.declared.{Register.Register, RegisterAnswer.RegisterAn
 use Rattle.history.specs.Calls.{answer}
 use Rattle.seal_register.specs.InPlace.{in-place}
 use Rattle.seal_register.proofs.InPlace.{refusal-leaves}
+
+-- a verdict has one number
+number : Verdict → ℕ
+number accepted = 0
+number (refused n) = n
+
+number-of : (n : ℕ) → number (verdict-of n) ≡ n
+unfolding verdict-of number
+number-of zero = refl
+number-of (suc n) = refl
+
+pub verdict-number : (m n : ℕ) → verdict-of m ≡ verdict-of n → m ≡ n
+verdict-number m n e = sym (number-of m) ∙ ap number e ∙ number-of n
 
 follows-verdict : (m : ℕ) (given next : Register) → follows m given next .outcome ≡ verdict-of m
 unfolding follows verdict-of
