@@ -2,9 +2,10 @@
 // A call copies the register out, makes the call by value and, where it is accepted, writes the register of its answer back: a refusal writes no byte.
 // It answers the refusal's number, and 0 for an acceptance: a function that C calls cannot return an enum.
 ghost use mathlib.Core.Path.{_≡_};
-ghost use Rattle.history.specs.Register.{commit-answer, undo-answer};
+ghost use Rattle.history.specs.Register.{step-answer, commit-answer, undo-answer};
 ghost use Rattle.seal_register.specs.InPlace.{in-place};
 use history::Register;
+use history::Step;
 use jacobian::Class;
 
 // What a call in place answers, and the register that it leaves.
@@ -13,30 +14,29 @@ struct Changed {
     left: Register,
 }
 
+fn stepped(step: Step, register: Register, class: Class) -> Changed
+    ensures { λ x. ⌜ in-place (x .refusal) (x .left) ≡ step-answer step register class ⌝ }
+{
+    let a = register.step(step, class);
+    let o = a.outcome;
+    let n = jacobian::outcome_refusal(o);
+    let next = a.register;
+    Changed {
+        refusal: n,
+        left: next,
+    }
+}
+
 fn committed(register: Register, class: Class) -> Changed
     ensures { λ x. ⌜ in-place (x .refusal) (x .left) ≡ commit-answer register class ⌝ }
 {
-    let a = Register::commit(register, class);
-    let o = a.outcome;
-    let n = jacobian::outcome_refusal(o);
-    let after = a.register;
-    Changed {
-        refusal: n,
-        left: after,
-    }
+    stepped(Step::Commit, register, class)
 }
 
 fn undone(register: Register, class: Class) -> Changed
     ensures { λ x. ⌜ in-place (x .refusal) (x .left) ≡ undo-answer register class ⌝ }
 {
-    let a = Register::undo(register, class);
-    let o = a.outcome;
-    let n = jacobian::outcome_refusal(o);
-    let before = a.register;
-    Changed {
-        refusal: n,
-        left: before,
-    }
+    stepped(Step::Undo, register, class)
 }
 
 // The lent register becomes the one after a commit; on a refusal it stays as it was.

@@ -60,10 +60,10 @@ fn opened(curve: Curve, last: Class, classes: usize) -> RowWalk
 fn turns(w: RowWalk, classes: usize) -> usize
     ensures { λ r. ⌜ r ≡ turns-due (verdict-of (w .refusal)) classes ⌝ }
 {
-    if w.refusal != 0 {
-        return 0;
+    if w.refusal == 0 {
+        return classes;
     }
-    classes
+    0
 }
 
 // One step back, unless the walk was refused before.
