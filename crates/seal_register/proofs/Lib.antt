@@ -1,6 +1,6 @@
 -- The register changed in place and lists of such calls; the walk over a lent row, its steps and demand 3 of it; what both answer, told apart.
 pub mod Answer
-pub mod Callee
+pub mod ByHand
 pub mod InPlace
 pub mod RowSteps
 pub mod RowWalk

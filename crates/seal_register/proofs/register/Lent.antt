@@ -30,7 +30,7 @@ use Rattle.history.proofs.Register.Laws as R′
 use Rattle.jacobian.proofs.Class as C
 use Rattle.jacobian.proofs.Class.Laws as C′
 use Rattle.seal_register.specs.declared.register.Changed.{Changed}
-use Rattle.seal_register.proofs.Callee.{came, hears, empty, full}
+use Rattle.seal_register.proofs.ByHand.{empty, full, var, Promised, asks}
 use Rattle.seal_register.proofs.register.Changed as X
 use Rattle.seal_register.proofs.register.Changed.Laws as X′
 use Rattle.seal_register.proofs.register.committed as says
@@ -87,9 +87,6 @@ stayed = (stay-ref (0 ∷ []) tt (plain (λ _. R.the-row)), (stay-none (λ _. C.
 
 -- ---- contracts: of a function with this promise, and of the call in place
 module _ {M : Type 1} (𝓤 : URA M) where
-  abbrev says-clauses : Promise → Clauses 𝓤 says.ended
-  says-clauses P κs a = record { ghost = Unit {0}; requires = λ g. emp 𝓤; ensures = λ g x end. fact 𝓤 (P (a .0) (a .1 .0) x) }
-
   -- what a lent call ensures of the number that it answers and of the register at exit
   abbrev pub InPlace : Type 2
   InPlace = (κs : Lfts 1) → Args lent.signature κs → ℕ → AtExit lent.ended κs → SProp 𝓤
@@ -108,16 +105,8 @@ module _ {M : Type 1} (𝓤 : URA M) where
 shown : {M : Type 1} {𝓤 : URA M} {H : Heap 𝓤} {𝓐 : Atoms 𝓤} {K : Type 0} {W : Given 𝓤 H 𝓐} {Γ : List (Item 𝓤)} → K → {P R : SProp 𝓤} → ent 𝓤 (emp 𝓤) R → Step K W Γ (prop P) Γ (prop (sep 𝓤 P R))
 shown {𝓤 = 𝓤} t {P} {R} h = step (λ s. record { prf = via 𝓤 P (s .prf) (via 𝓤 (sep 𝓤 (emp 𝓤) P) (emp∗ 𝓤 P) (via 𝓤 (sep 𝓤 R P) (monoL 𝓤 P h) (comm∗ 𝓤 R P))) })
 
-module _ {M : Type 1} (𝓤 : URA M) (H : Heap 𝓤) (𝓐 : Atoms 𝓤) where
-  abbrev pub Says : Promise → Contract 𝓤
-  Says P = tripleOf 𝓤 H 𝓐 says.signature (closing 𝓤 H 𝓐 says.ended (says-clauses 𝓤 P))
-
-  abbrev Said : Promise → Register → Class → Changed → SProp 𝓤
-  Said P r a = ensured 𝓤 H 𝓐 says.ended (says-clauses 𝓤 P) tt (r, (a, tt)) tt
-
-  -- of what the function ensures, the fact
-  said-is : (P : Promise) (r : Register) (a : Class) (x : Changed) → ent 𝓤 (Said P r a x) (fact 𝓤 (P r a x))
-  said-is P r a x = exE 𝓤 _ (λ ws. snd∗ 𝓤 (sem 𝓤 H 𝓐 (lasts says.ended tt (r, (a, tt)) ws)) (fact 𝓤 (P r a x)))
+abbrev pub Says : {M : Type 1} (𝓤 : URA M) (H : Heap 𝓤) (𝓐 : Atoms 𝓤) → Promise → Contract 𝓤
+Says 𝓤 H 𝓐 P = Promised (says.signature .params) (says.signature .result) 𝓤 H 𝓐 (λ a. P (a .0) (a .1 .0))
 
 module _ {M : Type 1} (𝓤 : URA M) (H : Heap 𝓤) (𝓐 : Atoms 𝓤) (W : Given 𝓤 H 𝓐) (P : Promise) (Q : InPlace 𝓤) (keeps : Keeps 𝓤 P Q) where
   typed-register : (r : Register) → IsRegister r → T (hasTy R′.mir (only (register-vals r))) × WT (only (register-vals r))
@@ -143,15 +132,6 @@ module _ {M : Type 1} (𝓤 : URA M) (H : Heap 𝓤) (𝓐 : Atoms 𝓤) (W : Gi
         nothing ! $ owned ! C.the-row (Is C.the-row) (S.makes C.the-type C′.the-plain 𝓤 H 𝓐) a _ is-class $ fjoin ! $ move ! (1 ∷ 0 ∷ []) $ fjoin ! $
         owned ! u32 (Is u32) (uint-makes 𝓤 H 𝓐 W w32) n _ is-number $ move ! (1 ∷ 0 ∷ []) $ done !
 
-    -- what the function is handed
-    abbrev handed : Says 𝓤 H 𝓐 P .Ghost
-    handed = ((tt, tt, tt, (r, (a, tt)), (register-vals r, (class-vals a, tt))), tt)
-
-    goes-handed : ent 𝓤 (sep 𝓤 (sem 𝓤 H 𝓐 (R.the-row .own r (register-vals r))) (sem 𝓤 H 𝓐 (C.the-row .own a (class-vals a)))) (Says 𝓤 H 𝓐 P .pre handed)
-    goes-handed =
-        qed W (‵ (R.the-row .own r (register-vals r)) ∷ ‵ (C.the-row .own a (class-vals a)) ∷ []) ∵
-        nothing ! $ move ! (2 ∷ 0 ∷ []) $ join ! $ move ! (1 ∷ 0 ∷ []) $ join ! $ nothing ! $ join ! $ frame ! $ done !
-
     module _ (𝓒 : Calls 𝓤 H) (Λ : Loops 𝓤 H) (l₀ l₁ l₂ l₃ l₄ l₅ : ℕ) where
       abbrev E : Env 𝓤 H
       E = (tyInt w32, l₀) ∷ (tyRef (named 0) mut (pointee (R.the-row .written)), l₁) ∷ (C′.mir, l₂) ∷ (X′.mir, l₃) ∷ (R′.mir, l₄) ∷ (tyBool, l₅) ∷ []
@@ -174,8 +154,7 @@ module _ {M : Type 1} (𝓤 : URA M) (H : Heap 𝓤) (𝓐 : Atoms 𝓤) (W : Gi
           move ! (1 ∷ []) $ drop ! $ owned ! R.the-row (Is R.the-row) (S.makes R.the-type R′.the-plain 𝓤 H 𝓐) left _ is-left $ move ! (1 ∷ 0 ∷ []) $
           closes ! tt R.the-row left (register-vals left) b o $
           returns ! (look ! 13 refl) $ forget ! 3 refl $ forget ! 5 refl $ forget ! 7 refl $ forget ! 9 refl $ forget ! 11 refl $ forget ! 13 refl $
-          move ! (13 ∷ 14 ∷ []) $ free1 ! $ move ! (11 ∷ 12 ∷ []) $ free1 ! $ move ! (9 ∷ 10 ∷ []) $ free1 ! $ move ! (7 ∷ 8 ∷ []) $ free1 ! $
-          move ! (5 ∷ 6 ∷ []) $ free1 ! $ move ! (3 ∷ 4 ∷ []) $ free1 ! $ free0 ! $
+          move ! (13 ∷ 14 ∷ 11 ∷ 12 ∷ 9 ∷ 10 ∷ 7 ∷ 8 ∷ 5 ∷ 6 ∷ 3 ∷ 4 ∷ []) $ free1 ! $ free1 ! $ free1 ! $ free1 ! $ free1 ! $ free1 ! $ free0 ! $
           by ! (exits left (y .refusal) _ e (S.owed X.the-type X′.the-laws y _ is-changed .0))
 
     module _ (𝓒 : Calls 𝓤 H) (Λ : Loops 𝓤 H) (fm : FmC 𝓤 H (W .laws) 𝓒) (says-name : Name) (known : Triple 𝓤 (𝓒 says-name) (Says 𝓤 H 𝓐 P)) where
@@ -193,22 +172,20 @@ module _ {M : Type 1} (𝓤 : URA M) (H : Heap 𝓤) (𝓐 : Atoms 𝓤) (W : Gi
           -- _4 = *_1
           assigns ! (of-opd ! (load ! (from ! (hop ! (look ! 13 refl) (stop !))) (look-raw ! 0 refl))) (from ! (stop !)) (init ! 7 refl (typed-register r is-register)) $
           -- _3 = says(_4, _2)
-          owned ! C.the-row (Is C.the-row) (S.makes C.the-type C′.the-plain 𝓤 H 𝓐) a _ is-class $ owned ! R.the-row (Is R.the-row) (S.makes R.the-type R′.the-plain 𝓤 H 𝓐) r _ is-register $
-          use2 W (raw (Says 𝓤 H 𝓐 P .pre handed)) goes-handed $
-          calls-at ! fm (Says 𝓤 H 𝓐 P) known handed (and-then ! (load ! (from ! (stop !)) (look ! 8 refl)) (and-then ! (load ! (from ! (stop !)) (look ! 12 refl)) (no-more !))) (λ v.
-          use1 W (came 𝓤 X.the-row (Said 𝓤 H 𝓐 P r a) v) (id⊢ 𝓤 _) $
-          hears tt X.the-row (Said 𝓤 H 𝓐 P r a) (P r a) (said-is 𝓤 H 𝓐 P r a) v (λ y promised is-changed.
+          asks fm (says.signature .params) (says.signature .result) (λ a. P (a .0) (a .1 .0)) known (S.makes R.the-type R′.the-plain 𝓤 H 𝓐, (S.makes C.the-type C′.the-plain 𝓤 H 𝓐, tt))
+          (r, (a, tt)) (register-vals r, (class-vals a, tt)) (is-register, (is-class, tt))
+          (and-then ! (var 8 refl) (and-then ! (var 12 refl) (no-more !))) (λ v y promised is-changed.
           land ! (from ! (stop !)) (init ! 9 refl (S.lawful X.the-type X′.the-laws 𝓤 H 𝓐 W .typed y _ is-changed .0)) $
           rewrite ! 9 (λ (us : List Val). ‵ (fat fullShare X′.mir l₃ 0 (only us))) (S.tells X.the-type X′.the-laws y (v ∷ []) is-changed) refl $
           -- if _3.refusal == 0 { *_1 = _3.left }
           assigns ! (bin ! (load ! (from ! (fld ! refl (stop !))) (look-in ! 9 (sub ! 0 refl (whole !)))) (lit ! tt) tt) (from ! (stop !)) (init ! 5 refl (tt, tt)) $
-          first ! $ branches ! (load ! (from ! (stop !)) (look ! 5 refl))
+          first ! $ branches ! (var 5 refl)
           (λ zero. assigns-last ! (of-opd ! (load ! (from ! (fld ! refl (stop !))) (look-in ! 9 (sub ! 1 refl (whole !))))) (from ! (hop ! (look ! 13 refl) (stop !)))
           (store-raw ! 0 refl (typed-register (y .left) (S.owed X.the-type X′.the-laws y _ is-changed .1 .0))) $
           exec ! 𝓒 Λ (E 𝓒 Λ l₀ l₁ l₂ l₃ l₄ l₅) rest (atRet (E 𝓒 Λ l₀ l₁ l₂ l₃ l₄ l₅) Post) $
           answers 𝓒 Λ l₀ l₁ l₂ l₃ l₄ l₅ (y .left) y _ (S.owed X.the-type X′.the-laws y _ is-changed .1 .0) (rw (S.tells X.the-type X′.the-laws y (v ∷ []) is-changed) at is-changed) (keeps (κ, tt) x y promised .0 zero))
           (λ other. skips ! $ exec ! 𝓒 Λ (E 𝓒 Λ l₀ l₁ l₂ l₃ l₄ l₅) rest (atRet (E 𝓒 Λ l₀ l₁ l₂ l₃ l₄ l₅) Post) $
-          answers 𝓒 Λ l₀ l₁ l₂ l₃ l₄ l₅ r y _ is-register (rw (S.tells X.the-type X′.the-laws y (v ∷ []) is-changed) at is-changed) (keeps (κ, tt) x y promised .1 other))))))))))))
+          answers 𝓒 Λ l₀ l₁ l₂ l₃ l₄ l₅ r y _ is-register (rw (S.tells X.the-type X′.the-laws y (v ∷ []) is-changed) at is-changed) (keeps (κ, tt) x y promised .1 other)))))))))))
 
   goes : AllGo 𝓤 H 𝓐 W 1 (lent.signature .params) (lent.ended .kept) stayed
   goes = (goes-ref 𝓤 H 𝓐 W 1 0 tt (plain (λ _. R.the-row)), (goes-none 𝓤 H 𝓐 W 1 (λ _. C.the-row) yes (λ κs x f. refl), tt))

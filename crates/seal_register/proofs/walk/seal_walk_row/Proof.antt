@@ -21,7 +21,7 @@ use types.Kit.{Given, Item, Sq, runs, anyQ, atRet, ‵, raw, _⊛_, _$_, _∵_, 
 use types.Run.{look, look-raw, store, init, forget, stop, hop, fld, from, load, lit, of-opd, bin, assigns, assigns-last, and-then, no-more, land, first, skips, jumps, blocks, branches, returns, enter, alloc1, alloc0, params1, pass1, pass0, free1, free0, exec, Below, again, loops}
 use types.{Part.whole, Part.sub, Part.look-in, Share.arr-parts}
 use sound.WpLaws.{fmOf, WpFn-mono}
-use denote.{RattleType.owns, Laws.Is, Laws.shows, Memory.pointee, Memory.shares, Plain.uint-tells, Plain.uint-makes, Plain.uint-lawful, Builtin.usize, Ref.RefT, Exit.yes}
+use denote.{RattleType.owns, Laws.Is, Laws.Makes, Laws.shows, Memory.pointee, Memory.shares, Plain.uint-tells, Plain.uint-makes, Plain.uint-lawful, Builtin.usize, Ref.RefT, Exit.yes}
 use denote.{Slice.sliceTy, Slice.sliceVal, Slice.ShrSlice, Slice.Room, Slice.slice-vals, Slice.shr-slice-tells, Signature.plain, Signature.shrSliceOf}
 use denote.{Index.place-is, Index.elem-out, Index.elem-back, Index.looks-slice, Index.shuts-slice, Steps.owned, Steps.nothing}
 use denote.Struct.Laws as LL
@@ -36,7 +36,7 @@ use Rattle.jacobian.proofs.Class as K
 use Rattle.jacobian.proofs.Class.Laws as K′
 use Rattle.seal_register.specs.declared.walk.RowWalk.{RowWalk}
 use Rattle.seal_register.specs.RowWalk.{reached, opening-refusal, turns-due, onward, row-walk-answer}
-use Rattle.seal_register.proofs.Callee.{came, hears}
+use Rattle.seal_register.proofs.ByHand.{empty, full, var, tests, Promised, asks}
 use Rattle.seal_register.proofs.RowSteps.{after-next, turns-few, row-walked}
 use Rattle.seal_register.proofs.walk.RowWalk as R
 use Rattle.seal_register.proofs.walk.RowWalk.Laws as R′
@@ -67,23 +67,6 @@ word = tyInt w64
 abbrev slice : Ty
 slice = sliceTy (tyRef (named 0) imm (pointee (K.the-row .written)))
 
--- what follows the first of two statements
-abbrev rest : Body → Body
-rest skip = skip
-rest (seq a b) = b
-rest (assign p rv) = skip
-rest (block b) = skip
-rest (loop b) = skip
-rest (cond c a b) = skip
-rest (switch c arms) = skip
-rest (exit n) = skip
-rest return = skip
-rest (call f xs d) = skip
-
--- a turn after its test
-abbrev step : Body
-step = rest (rest mir.turn-1)
-
 -- the machine value of a curve and of a class
 abbrev cv : Curve → Val
 cv = LL.val C.the-type C′.the-laws
@@ -100,35 +83,25 @@ three a vs g =
     let p = LL.owed K.the-type K′.the-laws a vs g in
     record { u-three = sym (length-map (a .u) (λ n. n)) ∙ p .1 .0 .1 .0 .1; v-three = sym (length-map (a .v) (λ n. n)) ∙ p .1 .1 .0 .1 .0 .1 }
 
-module _ {M : Type 1} (𝓤 : URA M) (H : Heap 𝓤) (A : Atoms 𝓤) (mem : Memory → SProp 𝓤) (run : Routine → Fun 𝓤) where
-  -- the contracts that the proof cites
+-- what the three functions promise, and their contracts
+abbrev opening : Curve × (Class × (ℕ × Unit {0})) → RowWalk → Type 0
+opening a w = reached w ≡ sealed (opening-refusal (a .0) (a .1 .0) (a .1 .1 .0)) (a .1 .0)
+
+abbrev counting : RowWalk × (ℕ × Unit {0}) → ℕ → Type 0
+counting a n = n ≡ turns-due (verdict-of (a .0 .refusal)) (a .1 .0)
+
+abbrev stepping : Curve × (RowWalk × (Class × Unit {0})) → RowWalk → Type 0
+stepping a w = reached w ≡ onward (a .0) (reached (a .1 .0)) (a .1 .1 .0)
+
+module _ {M : Type 1} (𝓤 : URA M) (H : Heap 𝓤) (A : Atoms 𝓤) where
   abbrev Opened : Contract 𝓤
-  Opened = tripleOf 𝓤 H A opened.signature (opened.spec 𝓤 H A mem run)
+  Opened = Promised (opened.signature .params) (opened.signature .result) 𝓤 H A opening
 
   abbrev Turns : Contract 𝓤
-  Turns = tripleOf 𝓤 H A turns.signature (turns.spec 𝓤 H A mem run)
+  Turns = Promised (turns.signature .params) (turns.signature .result) 𝓤 H A counting
 
   abbrev WalkedOn : Contract 𝓤
-  WalkedOn = tripleOf 𝓤 H A walked-on.signature (walked-on.spec 𝓤 H A mem run)
-
-  -- what each call leaves beside its answer, and of that the clause alone
-  abbrev OpenedSays : Curve → Class → ℕ → RowWalk → SProp 𝓤
-  OpenedSays c s n = ensured 𝓤 H A opened.ended (opened.clauses 𝓤 H A mem run) tt (c, (s, (n, tt))) tt
-
-  opened-of : (c : Curve) (s : Class) (n : ℕ) (w : RowWalk) → ent 𝓤 (OpenedSays c s n w) (fact 𝓤 (reached w ≡ sealed (opening-refusal c s n) s))
-  opened-of c s n w = exE 𝓤 _ (λ ws. snd∗ 𝓤 (sem 𝓤 H A (lasts opened.ended tt (c, (s, (n, tt))) ws)) (fact 𝓤 (reached w ≡ sealed (opening-refusal c s n) s)))
-
-  abbrev TurnsSays : RowWalk → ℕ → ℕ → SProp 𝓤
-  TurnsSays w n = ensured 𝓤 H A turns.ended (turns.clauses 𝓤 H A mem run) tt (w, (n, tt)) tt
-
-  turns-of : (w : RowWalk) (n r : ℕ) → ent 𝓤 (TurnsSays w n r) (fact 𝓤 (r ≡ turns-due (verdict-of (w .refusal)) n))
-  turns-of w n r = exE 𝓤 _ (λ ws. snd∗ 𝓤 (sem 𝓤 H A (lasts turns.ended tt (w, (n, tt)) ws)) (fact 𝓤 (r ≡ turns-due (verdict-of (w .refusal)) n)))
-
-  abbrev WalkedOnSays : Curve → RowWalk → Class → RowWalk → SProp 𝓤
-  WalkedOnSays c w a = ensured 𝓤 H A walked-on.ended (walked-on.clauses 𝓤 H A mem run) tt (c, (w, (a, tt))) tt
-
-  walked-on-of : (c : Curve) (w : RowWalk) (a : Class) (r : RowWalk) → ent 𝓤 (WalkedOnSays c w a r) (fact 𝓤 (reached r ≡ onward c (reached w) a))
-  walked-on-of c w a r = exE 𝓤 _ (λ ws. snd∗ 𝓤 (sem 𝓤 H A (lasts walked-on.ended tt (c, (w, (a, tt))) ws)) (fact 𝓤 (reached r ≡ onward c (reached w) a)))
+  WalkedOn = Promised (walked-on.signature .params) (walked-on.signature .result) 𝓤 H A stepping
 
 -- what stands at the loop's head
 record Head (c : Curve) (x : Result) (ys : List Class) (n : ℕ) : Type 0 where
@@ -170,40 +143,15 @@ module _ {M : Type 1} (𝓤 : URA M) (H : Heap 𝓤) (A : Atoms 𝓤) (W : Given
       owned ! R.the-row (Is R.the-row) (LL.makes R.the-type R′.the-plain 𝓤 H A) w (v ∷ []) g $
       nothing ! $ nothing ! $ fjoin ! $ nothing ! $ fjoin ! $ nothing ! $ fjoin ! $ move ! (2 ∷ []) $ nothing ! $ move ! (1 ∷ 0 ∷ []) $ join ! $ frame ! $ done !
 
-  -- what each call asks: its arguments, owned
-  abbrev to-opened : Opened 𝓤 H A mem run .Ghost
-  to-opened = ((tt, tt, tt, (c, (s, (length ys, tt))), (cv c ∷ [], (kv s ∷ [], (vint w64 (length ys) ∷ [], tt)))), tt)
+  -- what a value of each type owns is had for nothing
+  abbrev makes-c : Makes 𝓤 H A C.the-row (Is C.the-row)
+  makes-c = LL.makes C.the-type C′.the-plain 𝓤 H A
 
-  goes-opened : ent 𝓤 (emp 𝓤) (Opened 𝓤 H A mem run .pre to-opened)
-  goes-opened =
-      qed W [] ∵ nothing ! $ owned ! usize (Is usize) (uint-makes 𝓤 H A W w64) (length ys) _ (refl, room .0) $ fjoin ! $
-      owned ! K.the-row (Is K.the-row) (LL.makes K.the-type K′.the-plain 𝓤 H A) s _ is $ fjoin ! $
-      owned ! C.the-row (Is C.the-row) (LL.makes C.the-type C′.the-plain 𝓤 H A) c _ ic $ fjoin ! $ nothing ! $ join ! $ frame ! $ done !
+  abbrev makes-k : Makes 𝓤 H A K.the-row (Is K.the-row)
+  makes-k = LL.makes K.the-type K′.the-plain 𝓤 H A
 
-  abbrev to-turns : RowWalk → Val → Turns 𝓤 H A mem run .Ghost
-  to-turns w v = ((tt, tt, tt, (w, (length ys, tt)), (v ∷ [], (vint w64 (length ys) ∷ [], tt))), tt)
-
-  goes-turns : (w : RowWalk) (v : Val) → Is R.the-row w (v ∷ []) → ent 𝓤 (emp 𝓤) (Turns 𝓤 H A mem run .pre (to-turns w v))
-  goes-turns w v g =
-      qed W [] ∵ nothing ! $ owned ! usize (Is usize) (uint-makes 𝓤 H A W w64) (length ys) _ (refl, room .0) $ fjoin ! $
-      owned ! R.the-row (Is R.the-row) (LL.makes R.the-type R′.the-plain 𝓤 H A) w _ g $ fjoin ! $ nothing ! $ join ! $ frame ! $ done !
-
-  abbrev to-walked-on : RowWalk → Val → Class → WalkedOn 𝓤 H A mem run .Ghost
-  to-walked-on w v a = ((tt, tt, tt, (c, (w, (a, tt))), (cv c ∷ [], (v ∷ [], (kv a ∷ [], tt)))), tt)
-
-  goes-walked-on : (w : RowWalk) (v : Val) (a : Class) → Is R.the-row w (v ∷ []) → Is K.the-row a (kv a ∷ [])
-      → ent 𝓤 (emp 𝓤) (WalkedOn 𝓤 H A mem run .pre (to-walked-on w v a))
-  goes-walked-on w v a g h =
-      qed W [] ∵ nothing ! $ owned ! K.the-row (Is K.the-row) (LL.makes K.the-type K′.the-plain 𝓤 H A) a _ h $ fjoin ! $
-      owned ! R.the-row (Is R.the-row) (LL.makes R.the-type R′.the-plain 𝓤 H A) w _ g $ fjoin ! $
-      owned ! C.the-row (Is C.the-row) (LL.makes C.the-type C′.the-plain 𝓤 H A) c _ ic $ fjoin ! $ nothing ! $ join ! $ frame ! $ done !
-
-  -- a local that holds nothing, and one that holds v
-  abbrev empty : Ty → ℕ → List (Item 𝓤) → List (Item 𝓤)
-  empty τ l Γ = ‵ (froom τ l 0) ∷ ‵ (fdies τ l) ∷ Γ
-
-  abbrev full : Ty → ℕ → Val → List (Item 𝓤) → List (Item 𝓤)
-  full τ l v Γ = ‵ (fat fullShare τ l 0 v) ∷ ‵ (fdies τ l) ∷ Γ
+  abbrev makes-r : Makes 𝓤 H A R.the-row (Is R.the-row)
+  makes-r = LL.makes R.the-type R′.the-plain 𝓤 H A
 
   -- the loop: x₀ is what the opening answers, and n the number of turns
   module _ (x₀ : Result) (n : ℕ) (few : n ≤ length ys)
@@ -221,7 +169,7 @@ module _ {M : Type 1} (𝓤 : URA M) (H : Heap 𝓤) (A : Atoms 𝓤) (W : Given
     fits : (m : ℕ) → m ≤ n → m < 2 ^ 64
     fits m l = let g : length ys < 2 ^ 64 = room .0 in omega arith
 
-    module _ (𝓣 : Tables 𝓤 H) (known-step : Triple 𝓤 (𝓣 .C #walked-on) (WalkedOn 𝓤 H A mem run)) (l₀ l₁ l₂ l₃ l₄ l₅ l₆ l₇ l₈ l₉ l₁₀ l₁₁ l₁₂ : ℕ) where
+    module _ (𝓣 : Tables 𝓤 H) (known-step : Triple 𝓤 (𝓣 .C #walked-on) (WalkedOn 𝓤 H A)) (l₀ l₁ l₂ l₃ l₄ l₅ l₆ l₇ l₈ l₉ l₁₀ l₁₁ l₁₂ : ℕ) where
       abbrev Ca : Calls 𝓤 H
       Ca = 𝓣 .C
 
@@ -245,30 +193,35 @@ module _ {M : Type 1} (𝓤 : URA M) (H : Heap 𝓤) (A : Atoms 𝓤) (W : Given
 
       leaves : (h : Here) → h .i ≡ n → Sq W (At h) (runs Ca Λ E mir.t-7 (atRet E Post))
       leaves h e =
-          assigns ! (of-opd ! (load ! (from ! (stop !)) (look ! 18 refl))) (from ! (stop !)) (init ! 26 refl (typed-r (h .w) (h .v) (h .is))) $
+          assigns ! (of-opd ! (var 18 refl)) (from ! (stop !)) (init ! 26 refl (typed-r (h .w) (h .v) (h .is))) $
           returns ! (look ! 26 refl) $
           forget ! 14 refl $ forget ! 16 refl $ forget ! 18 refl $ forget ! 20 refl $ forget ! 22 refl $ forget ! 24 refl $ forget ! 26 refl $
-          move ! (26 ∷ 27 ∷ []) $ free1 ! $ move ! (24 ∷ 25 ∷ []) $ free1 ! $ move ! (22 ∷ 23 ∷ []) $ free1 ! $ move ! (20 ∷ 21 ∷ []) $ free1 ! $
-          move ! (18 ∷ 19 ∷ []) $ free1 ! $ move ! (16 ∷ 17 ∷ []) $ free1 ! $ move ! (14 ∷ 15 ∷ []) $ free1 ! $ move ! (12 ∷ 13 ∷ []) $ free1 ! $
-          move ! (10 ∷ 11 ∷ []) $ free1 ! $ move ! (8 ∷ 9 ∷ []) $ free1 ! $ move ! (6 ∷ 7 ∷ []) $ free1 ! $ move ! (4 ∷ 5 ∷ []) $ free1 ! $
-          move ! (2 ∷ 3 ∷ []) $ free1 ! $ free0 ! $ keep ! (1 ∷ []) $
+          move ! (26 ∷ 27 ∷ 24 ∷ 25 ∷ 22 ∷ 23 ∷ 20 ∷ 21 ∷ 18 ∷ 19 ∷ 16 ∷ 17 ∷ 14 ∷ 15 ∷ 12 ∷ 13 ∷ 10 ∷ 11 ∷ 8 ∷ 9 ∷ 6 ∷ 7 ∷ 4 ∷ 5 ∷ 2 ∷ 3 ∷ []) $
+          free1 ! $ free1 ! $ free1 ! $ free1 ! $ free1 ! $ free1 ! $ free1 ! $ free1 ! $ free1 ! $ free1 ! $ free1 ! $ free1 ! $ free1 ! $ free0 ! $ keep ! (1 ∷ []) $
           by ! (exits (h .w) (h .v) (h .is) (ends (h .w) (h .reach ∙ ap (λ k. after (onward c) x₀ (take k ys)) e) (λ j l. h .threes j (omega arith))))
 
       -- the class of this turn
       abbrev now-at : Here → Class
       now-at h = getD ys (h .i) neutral-class
 
-      within : (h : Here) → h .i < n → h .i < length ys
-      within h l = omega arith
+      -- what a test that holds gives
+      abbrev Less : Here → Type 0
+      Less h = T (ltb (h .i) n)
 
-      bytes : (h : Here) → h .i < n → h .i * 56 < 2 ^ 64
-      bytes h l = let g : length ys * 56 < 2 ^ 63 = room .1 in omega arith
+      within : (h : Here) → Less h → h .i < length ys
+      within h l = let k = ltb→lt (h .i) n l in omega arith
 
-      next : (h : Here) → h .i < n → Is K.the-row (now-at h) (kvs (now-at h))
+      bytes : (h : Here) → Less h → h .i * 56 < 2 ^ 64
+      bytes h l = let g : length ys * 56 < 2 ^ 63 = room .1 in let k = within h l in omega arith
+
+      more : (h : Here) → Less h → h .i + 1 ≤ n
+      more h l = add-one-le (ltb→lt (h .i) n l)
+
+      next : (h : Here) → Less h → Is K.the-row (now-at h) (kvs (now-at h))
           → (w : RowWalk) (v : Val) → Is R.the-row w (v ∷ []) → reached w ≡ onward c (reached (h .w)) (now-at h) → Here
       next h l g w v r e = record {
         i = h .i + 1;
-        low = add-one-le l;
+        low = more h l;
         w = w;
         v = v;
         is = r;
@@ -276,12 +229,14 @@ module _ {M : Type 1} (𝓤 : URA M) (H : Heap 𝓤) (A : Atoms 𝓤) (W : Given
         threes = below-more (λ j. Three (getD ys j neutral-class)) (h .i) (h .threes) (three (now-at h) _ g);
       }
 
-      steps : (h : Here) → h .i < n → Sq W (At h) (runs Ca Λ E step (anyQ (Turned h)))
+      turned : (h : Here) → Sq W (At h) (runs Ca Λ E mir.turn-1 (anyQ (Turned h)))
       unfolding afterTurn next
-      steps h l =
-          assigns ! (bin ! (load ! (from ! (stop !)) (look ! 14 refl)) (lit ! tt) (record { fits = bytes h l })) (from ! (stop !))
+      turned h =
+          assigns ! (bin ! (var 14 refl) (var 16 refl) tt) (from ! (stop !)) (init ! 8 refl (tt, tt)) $
+          tests (var 8 refl) (λ l. forget ! 8 refl $
+          assigns ! (bin ! (var 14 refl) (lit ! tt) (record { fits = bytes h l })) (from ! (stop !))
           (init ! 6 refl (tt, record { fits = bytes h l })) $
-          assigns ! (bin ! (load ! (from ! (fld ! refl (stop !))) (look-in ! 20 (sub ! 0 refl (whole !)))) (load ! (from ! (stop !)) (look ! 6 refl)) tt)
+          assigns ! (bin ! (load ! (from ! (fld ! refl (stop !))) (look-in ! 20 (sub ! 0 refl (whole !)))) (var 6 refl) tt)
           (from ! (stop !)) (init ! 4 refl (tt, tt)) $
           rewrite ! 4 (λ (p : ℕ). ‵ (fat fullShare tyPtr l₁₁ 0 (vptr b p))) (sym (place-is 56 o (h .i))) refl $
           looks-slice ! tt K.the-row (Is K.the-row) (shows 𝓤 H A K.the-row) kvs (LL.tells K.the-type K′.the-laws)
@@ -290,26 +245,16 @@ module _ {M : Type 1} (𝓤 : URA M) (H : Heap 𝓤) (A : Atoms 𝓤) (W : Given
           -- [the class; what it owns; the others; what shuts; the fractured borrow; _12; …]
           assigns ! (of-opd ! (load ! (from ! (hop ! (look ! 7 refl) (stop !))) (look-raw ! 0 refl))) (from ! (stop !)) (init ! 5 refl (typed-k (now-at h) g)) $
           elem-back ! K.the-row q′ ys (h .i) neutral-class (kvs (now-at h)) b o (within h l) $ shuts-slice ! tt K.the-row q′ ys b o $ move ! (1 ∷ []) $
-          use0 W (raw (WalkedOn 𝓤 H A mem run .pre (to-walked-on (h .w) (h .v) (now-at h)))) (goes-walked-on (h .w) (h .v) (now-at h) (h .is) g) $
-          calls-at ! (fmOf 𝓤 H (W .laws) 𝓣) (WalkedOn 𝓤 H A mem run) known-step (to-walked-on (h .w) (h .v) (now-at h))
-          (and-then ! (load ! (from ! (stop !)) (look ! 25 refl))
-          (and-then ! (load ! (from ! (stop !)) (look ! 19 refl)) (and-then ! (load ! (from ! (stop !)) (look ! 3 refl)) (no-more !)))) (λ v.
-          use1 W (came 𝓤 R.the-row (WalkedOnSays 𝓤 H A mem run c (h .w) (now-at h)) v) (id⊢ 𝓤 _) $
-          hears tt R.the-row (WalkedOnSays 𝓤 H A mem run c (h .w) (now-at h)) (λ r. reached r ≡ onward c (reached (h .w)) (now-at h))
-          (walked-on-of 𝓤 H A mem run c (h .w) (now-at h)) v (λ r e rv.
+          asks (fmOf 𝓤 H (W .laws) 𝓣) (walked-on.signature .params) (walked-on.signature .result) stepping known-step (makes-c, (makes-r, (makes-k, tt)))
+          (c, (h .w, (now-at h, tt))) (cv c ∷ [], (h .v ∷ [], (kvs (now-at h), tt))) (ic, (h .is, (g, tt)))
+          (and-then ! (var 25 refl)
+          (and-then ! (var 19 refl) (and-then ! (var 3 refl) (no-more !)))) (λ v r e rv.
           land ! (from ! (stop !)) (init ! 12 refl (typed-r r v rv)) $
-          assigns ! (of-opd ! (load ! (from ! (stop !)) (look ! 12 refl))) (from ! (stop !)) (store ! 18 refl (typed-r r v rv)) $
-          assigns-last ! (bin ! (load ! (from ! (stop !)) (look ! 14 refl)) (lit ! tt) (record { fits = fits (h .i + 1) (add-one-le l) }))
-          (from ! (stop !)) (store ! 14 refl (tt, record { fits = fits (h .i + 1) (add-one-le l) })) $
-          forget ! 2 refl $ forget ! 4 refl $ forget ! 6 refl $ forget ! 12 refl $ again ! Nearer At h (next h l g r v rv e) (add-one-dec n (h .i) l)))))
-
-      turned : (h : Here) → Sq W (At h) (runs Ca Λ E mir.turn-1 (anyQ (Turned h)))
-      unfolding afterTurn
-      turned h =
-          assigns ! (bin ! (load ! (from ! (stop !)) (look ! 14 refl)) (load ! (from ! (stop !)) (look ! 16 refl)) tt) (from ! (stop !)) (init ! 8 refl (tt, tt)) $
-          first ! $ branches ! (load ! (from ! (stop !)) (look ! 8 refl))
-          (λ less. skips ! $ exec ! Ca Λ E step (anyQ (Turned h)) $ forget ! 8 refl $ steps h (ltb→lt (h .i) n less))
-          (λ over. jumps ! $ exec ! Ca Λ E mir.t-7 (atRet E Post) $ forget ! 8 refl $ leaves h (le-antisymm (h .low) (nltb→le (h .i) n over)))
+          assigns ! (of-opd ! (var 12 refl)) (from ! (stop !)) (store ! 18 refl (typed-r r v rv)) $
+          assigns-last ! (bin ! (var 14 refl) (lit ! tt) (record { fits = fits (h .i + 1) (more h l) }))
+          (from ! (stop !)) (store ! 14 refl (tt, record { fits = fits (h .i + 1) (more h l) })) $
+          forget ! 2 refl $ forget ! 4 refl $ forget ! 6 refl $ forget ! 12 refl $ again ! Nearer At h (next h l g r v rv e) (add-one-dec n (h .i) (ltb→lt (h .i) n l))))))
+          (λ over. exec ! Ca Λ E mir.t-7 (atRet E Post) $ forget ! 8 refl $ leaves h (le-antisymm (h .low) (nltb→le (h .i) n over)))
 
       -- the loop and what follows it
       loop-on : (h : Here) → Sq W (At h) (runs Ca Λ E mir.t-6 (atRet E Post))
@@ -327,8 +272,8 @@ module _ {M : Type 1} (𝓤 : URA M) (H : Heap 𝓤) (A : Atoms 𝓤) (W : Given
   unfolding after
   begins w v g n = record { i = 0; low = zero-le; w = w; v = v; is = g; reach = refl; threes = below-none (λ j. Three (getD ys j neutral-class)) }
 
-  module _ (𝓣 : Tables 𝓤 H) (known-opened : Triple 𝓤 (𝓣 .C #opened) (Opened 𝓤 H A mem run)) (known-turns : Triple 𝓤 (𝓣 .C #turns) (Turns 𝓤 H A mem run))
-      (known-step : Triple 𝓤 (𝓣 .C #walked-on) (WalkedOn 𝓤 H A mem run)) where
+  module _ (𝓣 : Tables 𝓤 H) (known-opened : Triple 𝓤 (𝓣 .C #opened) (Opened 𝓤 H A)) (known-turns : Triple 𝓤 (𝓣 .C #turns) (Turns 𝓤 H A))
+      (known-step : Triple 𝓤 (𝓣 .C #walked-on) (WalkedOn 𝓤 H A)) where
     walk : ent 𝓤 (onEntry 𝓤 H A row.signature (κ, tt) (q, tt) x at) (WpFn 𝓤 H (𝓣 .C) (𝓣 .Λ) code.function (cv c ∷ kv s ∷ sliceVal (b, o) (length ys) ∷ []) Post)
     unfolding begins
     walk =
@@ -344,30 +289,24 @@ module _ {M : Type 1} (𝓤 : URA M) (H : Heap 𝓤) (A : Atoms 𝓤) (W : Given
         -- [the fractured borrow; its token; _12; …]
         assigns ! (of-opd ! (load ! (from ! (fld ! refl (stop !))) (look-in ! 20 (sub ! 1 refl (whole !)))))
         (from ! (stop !)) (init ! 10 refl (tt, record { fits = room .0 })) $
-        use0 W (raw (Opened 𝓤 H A mem run .pre to-opened)) goes-opened $
-        calls-at ! (fmOf 𝓤 H (W .laws) 𝓣) (Opened 𝓤 H A mem run) known-opened to-opened
-        (and-then ! (load ! (from ! (stop !)) (look ! 25 refl))
-        (and-then ! (load ! (from ! (stop !)) (look ! 23 refl)) (and-then ! (load ! (from ! (stop !)) (look ! 11 refl)) (no-more !)))) (λ v.
-        use1 W (came 𝓤 R.the-row (OpenedSays 𝓤 H A mem run c s (length ys)) v) (id⊢ 𝓤 _) $
-        hears tt R.the-row (OpenedSays 𝓤 H A mem run c s (length ys)) (λ w. reached w ≡ sealed (opening-refusal c s (length ys)) s)
-        (opened-of 𝓤 H A mem run c s (length ys)) v (λ w e g.
+        asks (fmOf 𝓤 H (W .laws) 𝓣) (opened.signature .params) (opened.signature .result) opening known-opened (makes-c, (makes-k, (uint-makes 𝓤 H A W w64, tt)))
+        (c, (s, (length ys, tt))) (cv c ∷ [], (kv s ∷ [], (vint w64 (length ys) ∷ [], tt))) (ic, (is, ((refl, room .0), tt)))
+        (and-then ! (var 25 refl)
+        (and-then ! (var 23 refl) (and-then ! (var 11 refl) (no-more !)))) (λ v w e g.
         land ! (from ! (stop !)) (init ! 18 refl (typed-r w v g)) $
         assigns ! (of-opd ! (load ! (from ! (fld ! refl (stop !))) (look-in ! 20 (sub ! 1 refl (whole !)))))
         (from ! (stop !)) (store ! 10 refl (tt, record { fits = room .0 })) $
-        use0 W (raw (Turns 𝓤 H A mem run .pre (to-turns w v))) (goes-turns w v g) $
-        calls-at ! (fmOf 𝓤 H (W .laws) 𝓣) (Turns 𝓤 H A mem run) known-turns (to-turns w v)
-        (and-then ! (load ! (from ! (stop !)) (look ! 19 refl)) (and-then ! (load ! (from ! (stop !)) (look ! 11 refl)) (no-more !))) (λ u.
-        use1 W (came 𝓤 usize (TurnsSays 𝓤 H A mem run w (length ys)) u) (id⊢ 𝓤 _) $
-        hears tt usize (TurnsSays 𝓤 H A mem run w (length ys)) (λ n. n ≡ turns-due (verdict-of (w .refusal)) (length ys))
-        (turns-of 𝓤 H A mem run w (length ys)) u (λ n m k.
+        asks (fmOf 𝓤 H (W .laws) 𝓣) (turns.signature .params) (turns.signature .result) counting known-turns (makes-r, (uint-makes 𝓤 H A W w64, tt))
+        (w, (length ys, tt)) (v ∷ [], (vint w64 (length ys) ∷ [], tt)) (g, ((refl, room .0), tt))
+        (and-then ! (var 19 refl) (and-then ! (var 11 refl) (no-more !))) (λ u n m k.
         land ! (from ! (stop !)) (init ! 16 refl (uint-lawful 𝓤 H A W w64 .typed n _ k .0)) $
         rewrite ! 16 (λ (y : Val). ‵ (fat fullShare word l₅ 0 y)) (head-eq-of-cons-eq (uint-tells w64 n (u ∷ []) k)) refl $
         assigns ! (of-opd ! (lit ! tt)) (from ! (stop !)) (init ! 14 refl (tt, record { fits = lit< tt })) $ forget ! 10 refl $
-        loop-on (reached w) n (few w n m) (ends w n e m) 𝓣 known-step l₀ l₁ l₂ l₃ l₄ l₅ l₆ l₇ l₈ l₉ l₁₀ l₁₁ l₁₂ (begins w v g n))))))))))))))))))
+        loop-on (reached w) n (few w n m) (ends w n e m) 𝓣 known-step l₀ l₁ l₂ l₃ l₄ l₅ l₆ l₇ l₈ l₉ l₁₀ l₁₁ l₁₂ (begins w v g n))))))))))))))))
 
 module _ {M : Type 1} (𝓤 : URA M) (H : Heap 𝓤) (A : Atoms 𝓤) (W : Given 𝓤 H A) (mem : Memory → SProp 𝓤) (run : Routine → Fun 𝓤) where
-  row-walks : (𝓣 : Tables 𝓤 H) → Triple 𝓤 (𝓣 .C #opened) (Opened 𝓤 H A mem run) → Triple 𝓤 (𝓣 .C #turns) (Turns 𝓤 H A mem run)
-      → Triple 𝓤 (𝓣 .C #walked-on) (WalkedOn 𝓤 H A mem run)
+  row-walks : (𝓣 : Tables 𝓤 H) → Triple 𝓤 (𝓣 .C #opened) (Opened 𝓤 H A) → Triple 𝓤 (𝓣 .C #turns) (Turns 𝓤 H A)
+      → Triple 𝓤 (𝓣 .C #walked-on) (WalkedOn 𝓤 H A)
       → Walks 𝓤 H A row.ended stayed (WpFn 𝓤 H (𝓣 .C) (𝓣 .Λ) code.function) (row.clauses 𝓤 H A mem run)
   row-walks 𝓣 known-opened known-turns known-step = walked 𝓤 H A row.ended stayed (row.clauses 𝓤 H A mem run) (WpFn 𝓤 H (𝓣 .C) (𝓣 .Λ) code.function)
       (λ κs. (LL.vals C.the-type C′.the-laws, (kvs, (slice-vals, tt))))
@@ -385,8 +324,8 @@ module _ {M : Type 1} (𝓤 : URA M) (H : Heap 𝓤) (A : Atoms 𝓤) (W : Given
     ),
   )
 
-  row-meets : (𝓣 : Tables 𝓤 H) → Triple 𝓤 (𝓣 .C #opened) (Opened 𝓤 H A mem run) → Triple 𝓤 (𝓣 .C #turns) (Turns 𝓤 H A mem run)
-      → Triple 𝓤 (𝓣 .C #walked-on) (WalkedOn 𝓤 H A mem run)
+  row-meets : (𝓣 : Tables 𝓤 H) → Triple 𝓤 (𝓣 .C #opened) (Opened 𝓤 H A) → Triple 𝓤 (𝓣 .C #turns) (Turns 𝓤 H A)
+      → Triple 𝓤 (𝓣 .C #walked-on) (WalkedOn 𝓤 H A)
       → Meets 𝓤 H A row.signature (WpFn 𝓤 H (𝓣 .C) (𝓣 .Λ) code.function) (row.spec 𝓤 H A mem run)
   row-meets 𝓣 known-opened known-turns known-step = walk-meets 𝓤 H A row.ended stayed W goes (row.clauses 𝓤 H A mem run) (WpFn 𝓤 H (𝓣 .C) (𝓣 .Λ) code.function)
       (WpFn-mono 𝓤 H (W .laws) 𝓣 code.function) (row-walks 𝓣 known-opened known-turns known-step)
@@ -397,6 +336,6 @@ seal-walk-row-spec 𝓤 H 𝓜 𝓖 𝓡 =
     entered 𝓤 H (tripleOf 𝓤 H (𝓖 .A) row.signature (row.spec 𝓤 H (𝓖 .A) (𝓜 .mem) (𝓡 .run)))
     (tables 𝓤 H 𝓜 𝓡 code.env .C) (tables 𝓤 H 𝓜 𝓡 code.env .Λ) #seal-walk-row code.function (code.unfolded 𝓤 H 𝓜 𝓡)
     (row-meets 𝓤 H (𝓖 .A) (givenOf 𝓤 H 𝓜 𝓖) (𝓜 .mem) (𝓡 .run) (tablesOf 𝓤 H 𝓜 (tables 𝓤 H 𝓜 𝓡 code.env))
-    (cited 𝓤 H (Opened 𝓤 H (𝓖 .A) (𝓜 .mem) (𝓡 .run)) 𝓜 𝓡 code.env #opened opened-def.routine code.calls-seal-register·walk·opened (opened-thm.met 𝓤 H 𝓜 𝓖 𝓡))
-    (cited 𝓤 H (Turns 𝓤 H (𝓖 .A) (𝓜 .mem) (𝓡 .run)) 𝓜 𝓡 code.env #turns turns-def.routine code.calls-seal-register·walk·turns (turns-thm.met 𝓤 H 𝓜 𝓖 𝓡))
-    (cited 𝓤 H (WalkedOn 𝓤 H (𝓖 .A) (𝓜 .mem) (𝓡 .run)) 𝓜 𝓡 code.env #walked-on walked-on-def.routine code.calls-seal-register·walk·walked-on (walked-on-thm.met 𝓤 H 𝓜 𝓖 𝓡)))
+    (cited 𝓤 H (Opened 𝓤 H (𝓖 .A)) 𝓜 𝓡 code.env #opened opened-def.routine code.calls-seal-register·walk·opened (opened-thm.met 𝓤 H 𝓜 𝓖 𝓡))
+    (cited 𝓤 H (Turns 𝓤 H (𝓖 .A)) 𝓜 𝓡 code.env #turns turns-def.routine code.calls-seal-register·walk·turns (turns-thm.met 𝓤 H 𝓜 𝓖 𝓡))
+    (cited 𝓤 H (WalkedOn 𝓤 H (𝓖 .A)) 𝓜 𝓡 code.env #walked-on walked-on-def.routine code.calls-seal-register·walk·walked-on (walked-on-thm.met 𝓤 H 𝓜 𝓖 𝓡)))
