@@ -3,12 +3,10 @@
 use Prim.Native.Nat.{ℕ, zero, suc}
 use mathlib.Core.{Path._≡_, Path.refl, Path.sym, Path._∙_, Path.ap, Bool.not}
 use lib.Dec.{T, eqb}
-use Rattle.jacobian.specs.Answer.{Verdict, accepted, refused, verdict, verdict-of, outcome-refusal}
-use Rattle.jacobian.specs.declared.Class.{Class}
+use Rattle.jacobian.specs.{Answer.Verdict, Answer.accepted, Answer.refused, Answer.verdict, Answer.verdict-of, Answer.outcome-refusal, declared.Class.Class}
 use Rattle.jacobian.proofs.ByValue.Answers.{outcome-refusal-is}
-use Rattle.history.specs.Register.{RegisterReply, register-reply, follows, step-answer}
+use Rattle.history.specs.{Register.RegisterReply, Register.register-reply, Register.follows, Register.step-answer, Calls.answer}
 use Rattle.history.specs.declared.{Register.Register, RegisterAnswer.RegisterAnswer, Step.Step}
-use Rattle.history.specs.Calls.{answer}
 use Rattle.seal_register.specs.InPlace.{in-place}
 use Rattle.seal_register.proofs.InPlace.{refusal-leaves}
 

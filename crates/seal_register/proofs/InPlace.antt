@@ -6,14 +6,12 @@
 -- (`taken-back-all`). `failing`, `failing-stays`: a register that itself fails a check is refused by every call and stays as it was. `curve-kept`: degree and
 -- curve never change. `walk-steps`, `walk-meets`, `walk-ends`, `walk-part`: where only commits were accepted, the walk back from the register's seal.
 use Prim.Native.Nat.{ℕ, suc, _≤_}
-use mathlib.Core.Path.{_≡_, refl, sym, _∙_, ap}
-use mathlib.Core.List.{List, [], _∷_, map, map-map}
+use mathlib.Core.{Path._≡_, Path.refl, Path.sym, Path._∙_, Path.ap, List.List, List.[], List._∷_, List.map, List.map-map}
 use lib.ListN.{length, take, getD}
 use Rattle.class_group.specs.Walk.{All, none, more, walk}
 use Rattle.jacobian.specs.Answer.{accepted, refused, verdict-of}
-use Rattle.history.specs.Register.{RegisterReply, register-refusal, undo-seal}
+use Rattle.history.specs.{Register.RegisterReply, Register.register-refusal, Register.undo-seal, Calls.Call, Calls.Fits, Calls.answer, Calls.registers, Calls.Event, Calls.run, Calls.last, Calls.newest, Calls.backs, Calls.turned, Calls.classes, Calls.OnlyCommits, Calls.walk-back, Calls.steps-back, Calls.met, Calls.seals-back}
 use Rattle.history.specs.Machine as machine
-use Rattle.history.specs.Calls.{Call, Fits, answer, registers, Event, run, last, newest, backs, turned, classes, OnlyCommits, walk-back, steps-back, met, seals-back}
 use Rattle.history.specs.declared.Register.{Register}
 use Rattle.history.proofs.{All.all-map, OneCall.refused-stays, Failing.failing-run, Failing.failing-last, Machine.Carried.run-carried, Machine.Carried.last-carried, Machine.Carried.newest-carried}
 use Rattle.history.proofs.TakingBack as history

@@ -3,8 +3,7 @@
 -- the k-th newest commit, and for k = 0 the last seal (`row-walk-meets`); over all of them it answers the first register's seal (`row-walk-first`).
 -- `row-walk-answers`, `row-walk-first-answers` say the same of the code's answer, by its contract.
 use Prim.Native.Nat.{ℕ, zero, suc, _≤_}
-use mathlib.Core.Path.{_≡_, refl, sym, _∙_, ap, ap₂, subst}
-use mathlib.Core.List.{List, [], _∷_, map, map-map}
+use mathlib.Core.{Path._≡_, Path.refl, Path.sym, Path._∙_, Path.ap, Path.ap₂, Path.subst, List.List, List.[], List._∷_, List.map, List.map-map}
 use native.Mathlib.Omega.{arith}
 use lib.{ListN.length, ListN.take, ListN.getD, ListN.length-map, Seq.length-take-le, Seq.take-length}
 use borrow.Author.Tests.{le-leb}

@@ -1,11 +1,9 @@
 -- What the checks of a curve, of a class and of a step on a register say is 0 or the number of a refusal.
-use Prim.Native.Nat.{ℕ}
 use mathlib.Core.{Path.refl, Bool.Bool, Bool.true, Bool.false, Bool.cond, Logic.inr}
 use lib.Dec.{eqb}
 use Rattle.jacobian.specs.{Curves.degree-refusal, Curves.coefficient-refusal, Curves.curve-refusal, Classes.shape-refusal, Classes.range-refusal, Classes.class-refusal, Refusals.listed, Refusals.refusals, Refusals.IsRefusal, Refusals.Told, declared.Curve.Curve, declared.Class.Class}
 use Rattle.jacobian.proofs.Refusals.{told-none, told-unless, told-or-else}
-use Rattle.history.specs.Register.{register-refusal, edge, edge-refusal, step-refusal}
-use Rattle.history.specs.declared.{Register.Register, Step.Step, Step.the-variants.Commit, Step.the-variants.Undo}
+use Rattle.history.specs.{Register.register-refusal, Register.edge, Register.edge-refusal, Register.step-refusal, declared.Register.Register, declared.Step.Step, declared.Step.the-variants.Commit, declared.Step.the-variants.Undo}
 
 pub curve-told : (c : Curve) → Told (curve-refusal c)
 unfolding curve-refusal degree-refusal coefficient-refusal IsRefusal refusals listed
