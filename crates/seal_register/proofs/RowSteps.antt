@@ -10,7 +10,7 @@ use Rattle.jacobian.specs.{Checks.unless, Checks._or-else_, Curves.curve-refusa
 use Rattle.jacobian.proofs.ByValue.Checks.{then-zero}
 use Rattle.history.specs.{Register.limit, Register.undo-seal, Register.Sound, Register.sealed, Calls.walk-back}
 use Rattle.history.proofs.{Seals.undo-sound, Answers.sealed-outcome, Answers.answer-refusal, Answers.subtract-and-halve-sealed, Numbers.then-positive, Numbers.then-none}
-use Rattle.seal_register.specs.RowWalk.{classes-refusal, row-refusal, row-walk-answer, opening-refusal, turns-due, onward}
+use Rattle.seal_register.specs.{RowWalk.classes-refusal, RowWalk.row-refusal, RowWalk.row-walk-answer, internal.RowSteps.opening-refusal, internal.RowSteps.turns-due, internal.RowSteps.onward}
 
 -- ---- what is answered
 -- a refusal is the same whatever the seal

@@ -14,6 +14,7 @@ struct Changed {
     left: Register,
 }
 
+// A step with a class, made by value.
 fn stepped(step: Step, register: Register, class: Class) -> Changed
     ensures { λ x. ⌜ in-place (x .refusal) (x .left) ≡ step-answer step register class ⌝ }
 {
@@ -27,12 +28,14 @@ fn stepped(step: Step, register: Register, class: Class) -> Changed
     }
 }
 
+// A commit with a class.
 fn committed(register: Register, class: Class) -> Changed
     ensures { λ x. ⌜ in-place (x .refusal) (x .left) ≡ commit-answer register class ⌝ }
 {
     stepped(Step::Commit, register, class)
 }
 
+// An undo with a class.
 fn undone(register: Register, class: Class) -> Changed
     ensures { λ x. ⌜ in-place (x .refusal) (x .left) ≡ undo-answer register class ⌝ }
 {

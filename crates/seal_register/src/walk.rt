@@ -4,7 +4,8 @@
 ghost use mathlib.Core.Path.{_≡_};
 ghost use Rattle.jacobian.specs.Answer.{verdict-of};
 ghost use Rattle.history.specs.Register.{sealed};
-ghost use Rattle.seal_register.specs.RowWalk.{reached, opening-refusal, turns-due, onward, row-walk-answer};
+ghost use Rattle.seal_register.specs.RowWalk.{reached, row-walk-answer};
+ghost use Rattle.seal_register.specs.internal.RowSteps.{opening-refusal, turns-due, onward};
 use jacobian::Class;
 use jacobian::Curve;
 

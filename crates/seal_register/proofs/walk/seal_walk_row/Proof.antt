@@ -27,7 +27,7 @@ use Rattle.jacobian.proofs.Curve as C
 use Rattle.jacobian.proofs.Curve.Laws as C′
 use Rattle.jacobian.proofs.Class as K
 use Rattle.jacobian.proofs.Class.Laws as K′
-use Rattle.seal_register.specs.{declared.walk.RowWalk.RowWalk, RowWalk.reached, RowWalk.opening-refusal, RowWalk.turns-due, RowWalk.onward, RowWalk.row-walk-answer}
+use Rattle.seal_register.specs.{declared.walk.RowWalk.RowWalk, RowWalk.reached, internal.RowSteps.opening-refusal, internal.RowSteps.turns-due, internal.RowSteps.onward, RowWalk.row-walk-answer}
 use Rattle.seal_register.proofs.{ByHand.empty, ByHand.full, ByHand.var, ByHand.tests, ByHand.Promised, ByHand.asks, RowSteps.after-next, RowSteps.turns-few, RowSteps.row-walked}
 use Rattle.seal_register.proofs.walk.RowWalk as R
 use Rattle.seal_register.proofs.walk.RowWalk.Laws as R′
