@@ -144,12 +144,13 @@ module _ {M : Type 1} (𝓤 : URA M) (H : Heap 𝓤) (A : Atoms 𝓤) (W : Given
     abbrev makes-r : Makes 𝓤 H A R.the-row (Is R.the-row)
     makes-r = LL.makes R.the-type R′.the-plain 𝓤 H A
 
-    -- the loop: x₀ is what the opening answers, and n the number of turns
-    module _ (x₀ : Result) (n : ℕ) (few : n ≤ length ys)
-        (ends : (w : RowWalk) → reached w ≡ after (onward c) x₀ (take n ys) → ((j : ℕ) → j < n → Three (getD ys j neutral-class))
-        → reached w ≡ row-walk-answer c s ys) where
+    -- the loop: w₀ is the opening, and n the number of turns
+    module _ (w₀ : RowWalk) (n : ℕ) (e₀ : opening (c, (s, (length ys, tt))) w₀) (m₀ : counting (w₀, (length ys, tt)) n) where
+      few : n ≤ length ys
+      few = rw m₀ (turns-few (verdict-of (w₀ .refusal)) (length ys))
+
       abbrev Here : Type 0
-      Here = Head c x₀ ys n
+      Here = Head c (reached w₀) ys n
 
       abbrev Nearer : Here → Here → Type 0
       Nearer k h = n - k .i < n - h .i
@@ -158,7 +159,7 @@ module _ {M : Type 1} (𝓤 : URA M) (H : Heap 𝓤) (A : Atoms 𝓤) (W : Given
       Nearer-wf = InvImage·wf (λ (h : Here). n - h .i) (Nat·lt-wfRel .wf)
 
       fits : (m : ℕ) → m ≤ n → m < 2 ^ 64
-      fits m l = let g : length ys < 2 ^ 64 = room .0 in omega arith
+      fits m l = let g : length ys < 2 ^ 64 = room .0 in let f = few in omega arith
 
       module _ (l₀ l₁ l₂ l₃ l₄ l₅ l₆ l₇ l₈ l₉ l₁₀ l₁₁ l₁₂ : ℕ) where
         abbrev E : Env 𝓤 H
@@ -183,7 +184,8 @@ module _ {M : Type 1} (𝓤 : URA M) (H : Heap 𝓤) (A : Atoms 𝓤) (W : Given
             forget ! 14 refl $ forget ! 16 refl $ forget ! 18 refl $ forget ! 20 refl $ forget ! 22 refl $ forget ! 24 refl $ forget ! 26 refl $
             move ! (26 ∷ 27 ∷ 24 ∷ 25 ∷ 22 ∷ 23 ∷ 20 ∷ 21 ∷ 18 ∷ 19 ∷ 16 ∷ 17 ∷ 14 ∷ 15 ∷ 12 ∷ 13 ∷ 10 ∷ 11 ∷ 8 ∷ 9 ∷ 6 ∷ 7 ∷ 4 ∷ 5 ∷ 2 ∷ 3 ∷ []) $
             free1 ! $ free1 ! $ free1 ! $ free1 ! $ free1 ! $ free1 ! $ free1 ! $ free1 ! $ free1 ! $ free1 ! $ free1 ! $ free1 ! $ free1 ! $ free0 ! $ keep ! (1 ∷ []) $
-            by ! (exits (h .w) (h .v) (h .is) (ends (h .w) (h .reach ∙ ap (λ k. after (onward c) x₀ (take k ys)) e) (λ j l. h .threes j (omega arith))))
+            by ! (exits (h .w) (h .v) (h .is)
+            (h .reach ∙ ap (λ k. after (onward c) (reached w₀) (take k ys)) e ∙ row-walked c s (three s _ is) ys (reached w₀) n neutral-class e₀ m₀ (λ j l. h .threes j (omega arith))))
 
         -- the class of this turn
         abbrev now-at : Here → Class
@@ -194,7 +196,7 @@ module _ {M : Type 1} (𝓤 : URA M) (H : Heap 𝓤) (A : Atoms 𝓤) (W : Given
         Less h = T (ltb (h .i) n)
 
         within : (h : Here) → Less h → h .i < length ys
-        within h l = let k = ltb→lt (h .i) n l in omega arith
+        within h l = let k = ltb→lt (h .i) n l in let f = few in omega arith
 
         bytes : (h : Here) → Less h → h .i * 56 < 2 ^ 64
         bytes h l = let g : length ys * 56 < 2 ^ 63 = room .1 in let k = within h l in omega arith
@@ -210,7 +212,7 @@ module _ {M : Type 1} (𝓤 : URA M) (H : Heap 𝓤) (A : Atoms 𝓤) (W : Given
           w = w;
           v = v;
           is = r;
-          reach = e ∙ ap (λ y. onward c y (now-at h)) (h .reach) ∙ sym (after-next (onward c) x₀ ys (h .i) neutral-class (within h l));
+          reach = e ∙ ap (λ y. onward c y (now-at h)) (h .reach) ∙ sym (after-next (onward c) (reached w₀) ys (h .i) neutral-class (within h l));
           threes = below-more (λ j. Three (getD ys j neutral-class)) (h .i) (h .threes) (three (now-at h) _ g);
         }
 
@@ -244,14 +246,6 @@ module _ {M : Type 1} (𝓤 : URA M) (H : Heap 𝓤) (A : Atoms 𝓤) (W : Given
         loop-on : (h : Here) → Sq W (At h) (runs Ca Λ E mir.t-6 (atRet E Post))
         loop-on h = first ! $ blocks ! $ loops ! 𝓣 Nearer Nearer-wf At turned h
 
-    few : (w : RowWalk) (n : ℕ) → n ≡ turns-due (verdict-of (w .refusal)) (length ys) → n ≤ length ys
-    few w n m = rw m (turns-few (verdict-of (w .refusal)) (length ys))
-
-    ends : (w : RowWalk) (n : ℕ) → reached w ≡ sealed (opening-refusal c s (length ys)) s → n ≡ turns-due (verdict-of (w .refusal)) (length ys)
-        → (r : RowWalk) → reached r ≡ after (onward c) (reached w) (take n ys) → ((j : ℕ) → j < n → Three (getD ys j neutral-class))
-        → reached r ≡ row-walk-answer c s ys
-    ends w n e m r h t = h ∙ row-walked c s (three s _ is) ys (reached w) n neutral-class e m t
-
     begins : (w : RowWalk) (v : Val) → Is R.the-row w (v ∷ []) → (n : ℕ) → Head c (reached w) ys n
     unfolding after
     begins w v g n = record { i = 0; low = zero-le; w = w; v = v; is = g; reach = refl; threes = below-none (λ j. Three (getD ys j neutral-class)) }
@@ -283,7 +277,7 @@ module _ {M : Type 1} (𝓤 : URA M) (H : Heap 𝓤) (A : Atoms 𝓤) (W : Given
         land ! (from ! (stop !)) (init ! 16 refl (uint-lawful 𝓤 H A W w64 .typed n _ k .0)) $
         rewrite ! 16 (λ (y : Val). ‵ (fat fullShare word l₅ 0 y)) (head-eq-of-cons-eq (uint-tells w64 n (u ∷ []) k)) refl $
         assigns ! (of-opd ! (lit ! tt)) (from ! (stop !)) (init ! 14 refl (tt, record { fits = lit< tt })) $ forget ! 10 refl $
-        loop-on (reached w) n (few w n m) (ends w n e m) l₀ l₁ l₂ l₃ l₄ l₅ l₆ l₇ l₈ l₉ l₁₀ l₁₁ l₁₂ (begins w v g n))))))))))))))))
+        loop-on w n e m l₀ l₁ l₂ l₃ l₄ l₅ l₆ l₇ l₈ l₉ l₁₀ l₁₁ l₁₂ (begins w v g n))))))))))))))))
 
   goes : AllGo 𝓤 H A W 1 (row.signature .params) (row.ended .kept) stayed
   goes = (
