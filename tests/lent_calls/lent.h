@@ -6,12 +6,13 @@
 
 enum call { COMMIT, UNDO };
 
-/* Makes the area that the register is lent in; once, before any call. */
+/* Makes the areas that the register is lent in; once, before any call. */
 void make_room(void);
 
 /* Lends a register to the call: 8 bytes from the start of the area, or at its end where that is asked for. The
  * register is overwritten by what the call left. A refusal that changed a byte of the area, an acceptance that
- * changed one beside the register, and one that changed degree or curve are faults. */
+ * changed one beside the register, and one that changed degree or curve are faults. A refused call is made once more,
+ * on a register that cannot be written: one that writes, whatever it writes, ends the program. */
 uint32_t lend(enum call call, struct seal_register *given, struct seal_class operation, int at_end);
 
 /* Makes the tests of the edges and prints a line for each, then 'N passed, M failed'; answers whether nothing

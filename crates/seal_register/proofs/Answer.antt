@@ -1,12 +1,27 @@
--- What a call by value answers is what the call in place says, with the number of the outcome.
+-- What a call by value answers is what the call in place says, with the number of the outcome (`step-in-place`), and on a refusal with the register that was
+-- lent (`lent-in-place`).
 use Prim.Native.Nat.{ℕ, zero, suc}
-use mathlib.Core.Path.{_≡_, refl, sym, _∙_, ap}
-use Rattle.jacobian.specs.Answer.{Verdict, verdict, verdict-of, outcome-refusal}
-use Rattle.jacobian.specs.declared.Class.{Class}
+use mathlib.Core.{Path._≡_, Path.refl, Path.sym, Path._∙_, Path.ap, Bool.not}
+use lib.Dec.{T, eqb}
+use Rattle.jacobian.specs.{Answer.Verdict, Answer.accepted, Answer.refused, Answer.verdict, Answer.verdict-of, Answer.outcome-refusal, declared.Class.Class}
 use Rattle.jacobian.proofs.ByValue.Answers.{outcome-refusal-is}
-use Rattle.history.specs.Register.{RegisterReply, register-reply, follows, step-answer}
+use Rattle.history.specs.{Register.RegisterReply, Register.register-reply, Register.follows, Register.step-answer, Calls.answer}
 use Rattle.history.specs.declared.{Register.Register, RegisterAnswer.RegisterAnswer, Step.Step}
 use Rattle.seal_register.specs.InPlace.{in-place}
+use Rattle.seal_register.proofs.InPlace.{refusal-leaves}
+
+-- a verdict has one number
+number : Verdict → ℕ
+number accepted = 0
+number (refused n) = n
+
+number-of : (n : ℕ) → number (verdict-of n) ≡ n
+unfolding verdict-of number
+number-of zero = refl
+number-of (suc n) = refl
+
+pub verdict-number : (m n : ℕ) → verdict-of m ≡ verdict-of n → m ≡ n
+verdict-number m n e = sym (number-of m) ∙ ap number e ∙ number-of n
 
 follows-verdict : (m : ℕ) (given next : Register) → follows m given next .outcome ≡ verdict-of m
 unfolding follows verdict-of
@@ -26,3 +41,9 @@ pub step-in-place : (k : Step) (r : Register) (a : Class) (x : RegisterAnswer) (
     → in-place n (x .register) ≡ step-answer k r a
 unfolding step-answer
 step-in-place k r a = follows-in-place _ r _
+
+-- where the number is another than 0, the register that was lent is the one to leave
+pub lent-in-place : (k : Step) (r : Register) (a : Class) (n : ℕ) (told : Register) → in-place n told ≡ step-answer k r a → T (not (eqb n 0)) → in-place n r ≡ step-answer k r a
+unfolding answer
+lent-in-place k r a zero told e h = absurd h
+lent-in-place k r a (suc n) told e h = ap (in-place (suc n)) (sym (refusal-leaves r (record { step = k; class = a }) n told e)) ∙ e

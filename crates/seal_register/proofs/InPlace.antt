@@ -6,30 +6,17 @@
 -- (`taken-back-all`). `failing`, `failing-stays`: a register that itself fails a check is refused by every call and stays as it was. `curve-kept`: degree and
 -- curve never change. `walk-steps`, `walk-meets`, `walk-ends`, `walk-part`: where only commits were accepted, the walk back from the register's seal.
 use Prim.Native.Nat.{ℕ, suc, _≤_}
-use mathlib.Core.Path.{_≡_, refl, sym, _∙_, ap}
-use mathlib.Core.List.{List, [], _∷_, map, map-map}
+use mathlib.Core.{Path._≡_, Path.refl, Path.sym, Path._∙_, Path.ap, List.List, List.[], List._∷_, List.map, List.map-map}
 use lib.ListN.{length, take, getD}
 use Rattle.class_group.specs.Walk.{All, none, more, walk}
 use Rattle.jacobian.specs.Answer.{accepted, refused, verdict-of}
-use Rattle.history.specs.Register.{RegisterReply, register-reply, register-refusal, undo-seal, step-answer}
+use Rattle.history.specs.{Register.RegisterReply, Register.register-refusal, Register.undo-seal, Calls.Call, Calls.answer, Calls.registers, Calls.Event, Calls.run, Calls.last, Calls.newest, Calls.backs, Calls.turned, Calls.classes, Calls.OnlyCommits, Calls.walk-back, Calls.steps-back, Calls.met, Calls.seals-back}
 use Rattle.history.specs.Machine as machine
-use Rattle.history.specs.Calls.{Call, answer, registers, Event, run, last, newest, backs, turned, classes, OnlyCommits, walk-back, steps-back, met, seals-back}
-use Rattle.history.specs.declared.{Register.Register, RegisterAnswer.RegisterAnswer}
+use Rattle.history.specs.declared.Register.{Register}
 use Rattle.history.proofs.{All.all-map, OneCall.refused-stays, Failing.failing-run, Failing.failing-last, Machine.Carried.run-carried, Machine.Carried.last-carried, Machine.Carried.newest-carried}
 use Rattle.history.proofs.TakingBack as history
 use Rattle.history.proofs.WalkingBack as walking
-use Rattle.seal_register.specs.InPlace.{in-place, Made, by-value, lent, call, said, made, Session, happened, left-by, newest-made}
-
--- ---- one call
--- what a session asks of a call is the equation of its contract
-module _ (r : Register) (c : Call) where
-  pub said-by-value : (x : RegisterAnswer) → register-reply x ≡ step-answer (c .step) r (c .class) → said (by-value c x) ≡ answer r c
-  unfolding said answer
-  said-by-value x e = e
-
-  pub said-lent : (n : ℕ) (left : Register) → in-place n left ≡ step-answer (c .step) r (c .class) → said (lent c n left) ≡ answer r c
-  unfolding said answer
-  said-lent n left e = e
+use Rattle.seal_register.specs.InPlace.{in-place, Made, call, said, calls, made, Session, happened, left-by, newest-made, seals-made}
 
 -- on a refusal the lent register is unchanged
 pub refusal-leaves : (r : Register) (c : Call) (n : ℕ) (left : Register) → in-place (suc n) left ≡ answer r c → left ≡ r
@@ -37,10 +24,6 @@ unfolding in-place verdict-of
 refusal-leaves r c n left e = ap (λ (x : RegisterReply). x .register) e ∙ refused-stays r c (suc n) (sym (ap (λ (x : RegisterReply). x .outcome) e))
 
 -- ---- a list of calls
--- the calls of the list, by value or in place
-abbrev pub calls : List Made → List Call
-calls ms = map call ms
-
 -- the register's machine answers each of them so
 agreeing : (r : Register) (ms : List Made) → Session r ms → All (machine.Agrees (λ t. t) call registers) (machine.run made r ms)
 unfolding machine.run machine.event machine.Agrees machine.carried
@@ -51,15 +34,20 @@ agreeing r (m ∷ ms) (more e s) =
 module _ (r : Register) (ms : List Made) (s : Session r ms) where
   -- what happens is what happens with all calls by value
   pub happened-run : happened r ms ≡ run r (calls ms)
-  unfolding happened
+  unfolding happened calls
   happened-run = run-carried (λ t. t) call made registers r ms (agreeing r ms s)
 
   pub left-by-last : left-by r ms ≡ last r (calls ms)
+  unfolding calls
   left-by-last = last-carried (λ t. t) call made registers r ms (agreeing r ms s)
 
   pub newest-is : newest-made r ms ≡ newest r (calls ms)
-  unfolding newest-made
+  unfolding newest-made calls
   newest-is = newest-carried (λ t. t) call made registers r ms (agreeing r ms s)
+
+  -- whatever holds of the accepted calls and of the last register with all calls by value
+  pub as-by-value : (P : List Event → Register → Type 0) → P (newest r (calls ms)) (last r (calls ms)) → P (newest-made r ms) (left-by r ms)
+  as-by-value P h = rw (newest-is, left-by-last) h
 
   -- degree and curve never change
   pub curve-kept : All (λ e. e .left .curve ≡ r .curve) (happened r ms)
@@ -68,23 +56,20 @@ module _ (r : Register) (ms : List Made) (s : Session r ms) where
 -- a register that itself fails a check is refused by every call with that check's number and stays as it was
 module _ (r : Register) (fails : ¬ (register-refusal r ≡ 0)) (ms : List Made) (s : Session r ms) where
   pub failing : happened r ms ≡ map (λ m. record { before = r; call = call m; outcome = refused (register-refusal r); left = r }) ms
+  unfolding calls
   failing = happened-run r ms s ∙ failing-run r fails (calls ms) ∙ map-map (λ c. record { before = r; call = c; outcome = refused (register-refusal r); left = r }) call ms
 
   pub failing-stays : left-by r ms ≡ r
   failing-stays = left-by-last r ms s ∙ failing-last r fails (calls ms)
 
 module _ (r : Register) (ms : List Made) (s : Session r ms) where
-  -- whatever holds of the accepted calls and of the last register with all calls by value
-  as-by-value : (P : List Event → Register → Type 0) → P (newest r (calls ms)) (last r (calls ms)) → P (newest-made r ms) (left-by r ms)
-  as-by-value P h = rw (newest-is r ms s, left-by-last r ms s) h
-
   -- the accepted calls are taken back, newest first, each by value or in place
   module _ (bs : List Made) (back : Session (left-by r ms) bs) (takes : calls bs ≡ backs (newest-made r ms)) where
     pub taken-back-turned : happened (left-by r ms) bs ≡ map turned (newest-made r ms)
     unfolding machine.taken-back
     taken-back-turned =
         happened-run (left-by r ms) bs back ∙ ap (run (left-by r ms)) takes
-        ∙ as-by-value (λ es t. run t (backs es) ≡ map turned es) (history.taken-back-turned r (calls ms))
+        ∙ as-by-value r ms s (λ es t. run t (backs es) ≡ map turned es) (history.taken-back-turned r (calls ms))
 
     -- none is refused
     pub taken-back-accepted : All (λ e. e .outcome ≡ accepted) (happened (left-by r ms) bs)
@@ -100,7 +85,7 @@ module _ (r : Register) (ms : List Made) (s : Session r ms) where
     pub taken-back-all : left-by (left-by r ms) bs ≡ r
     taken-back-all =
         left-by-last (left-by r ms) bs back ∙ ap (last (left-by r ms)) takes
-        ∙ as-by-value (λ es t. last t (backs es) ≡ r) (history.taken-back-all r (calls ms))
+        ∙ as-by-value r ms s (λ es t. last t (backs es) ≡ r) (history.taken-back-all r (calls ms))
 
   -- the walk back, where only commits were accepted
   module _ (only : OnlyCommits (newest-made r ms)) where
@@ -109,23 +94,23 @@ module _ (r : Register) (ms : List Made) (s : Session r ms) where
 
     -- no step is refused, and each answers the seal just before its commit
     pub walk-steps : steps-back (r .curve) (left-by r ms .seal) (classes (newest-made r ms)) ≡ map met (newest-made r ms)
-    walk-steps = as-by-value (λ es t. steps-back (r .curve) (t .seal) (classes es) ≡ map met es) (walking.walk-steps r (calls ms) only-by-value)
+    walk-steps = as-by-value r ms s (λ es t. steps-back (r .curve) (t .seal) (classes es) ≡ map met es) (walking.walk-steps r (calls ms)  only-by-value)
 
     -- all seals of the walk, the last seal first
-    pub walk-meets : walk (undo-seal (r .curve)) (left-by r ms .seal) (classes (newest-made r ms)) ≡ left-by r ms .seal ∷ map (λ e. e .before .seal) (newest-made r ms)
-    unfolding seals-back
+    pub walk-meets : walk (undo-seal (r .curve)) (left-by r ms .seal) (classes (newest-made r ms)) ≡ seals-made r ms
+    unfolding seals-back seals-made
     walk-meets =
-        as-by-value (λ es t. walk (undo-seal (r .curve)) (t .seal) (classes es) ≡ t .seal ∷ map (λ e. e .before .seal) es) (walking.walk-meets r (calls ms) only-by-value)
+        as-by-value r ms s (λ es t. walk (undo-seal (r .curve)) (t .seal) (classes es) ≡ t .seal ∷ map (λ e. e .before .seal) es) (walking.walk-meets r (calls ms)  only-by-value)
 
     -- the walk over the k newest classes ends in the seal just before the k-th newest commit, and for k = 0 in the last seal
     pub walk-ends : (k : ℕ) → k ≤ length (newest-made r ms)
-        → walk-back (r .curve) (left-by r ms .seal) (take k (classes (newest-made r ms))) ≡ getD (left-by r ms .seal ∷ map (λ e. e .before .seal) (newest-made r ms)) k (left-by r ms .seal)
-    unfolding seals-back
+        → walk-back (r .curve) (left-by r ms .seal) (take k (classes (newest-made r ms))) ≡ getD (seals-made r ms) k (left-by r ms .seal)
+    unfolding seals-back seals-made
     walk-ends =
-        as-by-value (λ es t. (k : ℕ) → k ≤ length es → walk-back (r .curve) (t .seal) (take k (classes es)) ≡ getD (t .seal ∷ map (λ e. e .before .seal) es) k (t .seal))
-        (walking.walk-ends r (calls ms) only-by-value)
+        as-by-value r ms s (λ es t. (k : ℕ) → k ≤ length es → walk-back (r .curve) (t .seal) (take k (classes es)) ≡ getD (t .seal ∷ map (λ e. e .before .seal) es) k (t .seal))
+        (walking.walk-ends r (calls ms)  only-by-value)
 
     -- and no step of it is refused
     pub walk-part : (k : ℕ) → steps-back (r .curve) (left-by r ms .seal) (take k (classes (newest-made r ms))) ≡ take k (map met (newest-made r ms))
     walk-part =
-        as-by-value (λ es t. (k : ℕ) → steps-back (r .curve) (t .seal) (take k (classes es)) ≡ take k (map met es)) (walking.walk-part r (calls ms) only-by-value)
+        as-by-value r ms s (λ es t. (k : ℕ) → steps-back (r .curve) (t .seal) (take k (classes es)) ≡ take k (map met es)) (walking.walk-part r (calls ms)  only-by-value)

@@ -1,7 +1,7 @@
--- The register changed in place: the walk of the code that commit and undo share, and what it rests on. The walk over a lent row: its steps, and demand 3 of it.
+-- The register changed in place and lists of such calls; the walk over a lent row, its steps and demand 3 of it; what both answer, told apart.
 pub mod Answer
-pub mod Callee
-pub mod Lent
+pub mod ByHand
 pub mod InPlace
 pub mod RowSteps
 pub mod RowWalk
+pub mod ToldApart

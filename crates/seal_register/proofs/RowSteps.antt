@@ -1,19 +1,16 @@
 -- The walk on its way: what its opening and each of its steps answer, and that together they answer the walk over the whole row (`row-walked`).
 use Prim.Native.Nat.{ℕ, zero, suc, _+_, _≤_, _<_}
-use mathlib.Core.Path.{_≡_, refl, sym, _∙_, ap, ap₂}
-use mathlib.Core.{Bool.Bool, Bool.true, Bool.false, List.List, List.[], List._∷_, List._++_}
-use native.Mathlib.{Numerals.add-one, Omega.arith}
+use mathlib.Core.{Path._≡_, Path.refl, Path.sym, Path._∙_, Path.ap, Path.ap₂, Bool.Bool, Bool.true, Bool.false, List.List, List.[], List._∷_, List._++_}
+use native.Mathlib.Numerals.{add-one}
+use native.Mathlib.Omega.{arith}
 use lib.{Dec.leb, ListN.length, ListN.take, ListN.getD, Seq.take-nil, Seq.take-length, Seq.take-suc}
 use borrow.Author.Tests.{leb-true, leb-false, lt-leb, le-leb}
 use Rattle.class_group.specs.Walk.{after}
-use Rattle.jacobian.specs.{Checks.unless, Checks._or-else_, Curves.curve-refusal, Classes.class-refusal}
-use Rattle.jacobian.specs.Answer.{Verdict, accepted, refused, verdict-of, outcome-refusal, neutral-class, Accepts, refusal, refusal-of-two, Result, reply, result, subtract-and-halve-answer}
-use Rattle.jacobian.specs.declared.{Curve.Curve, Class.Class, ClassAnswer.ClassAnswer}
+use Rattle.jacobian.specs.{Checks.unless, Checks._or-else_, Curves.curve-refusal, Classes.class-refusal, Answer.Verdict, Answer.accepted, Answer.refused, Answer.verdict-of, Answer.outcome-refusal, Answer.neutral-class, Answer.Accepts, Answer.refusal, Answer.refusal-of-two, Answer.Result, Answer.reply, Answer.result, Answer.subtract-and-halve-answer, declared.Curve.Curve, declared.Class.Class, declared.ClassAnswer.ClassAnswer}
 use Rattle.jacobian.proofs.{ByValue.Checks.then-zero, Representation.accepts-class, Representation.accepts-both}
-use Rattle.history.specs.Register.{limit, undo-seal, sealed}
-use Rattle.history.specs.Calls.{walk-back}
+use Rattle.history.specs.{Register.limit, Register.undo-seal, Register.sealed, Calls.walk-back}
 use Rattle.history.proofs.{Seals.undo-sound, Answers.sealed-outcome, Answers.answer-refusal, Answers.subtract-and-halve-sealed, Numbers.then-positive, Numbers.then-none}
-use Rattle.seal_register.specs.RowWalk.{classes-refusal, row-refusal, row-walk-answer, opening-refusal, turns-due, onward}
+use Rattle.seal_register.specs.{RowWalk.classes-refusal, RowWalk.row-refusal, RowWalk.row-walk-answer, internal.RowSteps.opening-refusal, internal.RowSteps.turns-due, internal.RowSteps.onward}
 
 -- ---- what is answered
 -- a refusal is the same whatever the seal

@@ -1,22 +1,21 @@
--- Demand 3 of the walk over a lent row (document 01, 'The register'): where the accepted calls of a list are all commits, on a register that fails no check, the walk
--- from the last seal over the k newest of their classes is not refused and answers the seal just before the k-th newest commit, and for k = 0 the last seal
--- (`row-walk-meets`). `row-walk-answers` says the same of the code's answer, by its contract.
+-- Demand 3 of the walk over a lent row (document 01, 'The register'), on a list in which each call is by value or in place: where the accepted calls are all
+-- commits, on a register that fails no check, the walk from the last seal over the k newest of their classes is not refused and answers the seal just before
+-- the k-th newest commit, and for k = 0 the last seal (`row-walk-meets`); over all of them it answers the first register's seal (`row-walk-first`).
+-- `row-walk-answers`, `row-walk-first-answers` say the same of the code's answer, by its contract.
 use Prim.Native.Nat.{ℕ, zero, suc, _≤_}
-use mathlib.Core.Path.{_≡_, refl, _∙_, ap, subst}
-use mathlib.Core.List.{List, [], _∷_}
+use mathlib.Core.{Path._≡_, Path.refl, Path.sym, Path._∙_, Path.ap, Path.ap₂, Path.subst, List.List, List.[], List._∷_, List.map, List.map-map}
 use native.Mathlib.Omega.{arith}
-use lib.{ListN.length, ListN.take, ListN.getD, ListN.length-map, Seq.length-take-le}
+use lib.{ListN.length, ListN.take, ListN.getD, ListN.length-map, Seq.length-take-le, Seq.take-length}
 use borrow.Author.Tests.{le-leb}
-use Rattle.class_group.specs.Walk.{All, none, more}
-use Rattle.jacobian.specs.{Checks.unless, Checks._or-else_, Curves.curve-refusal, Classes.class-refusal, Answer.accepted, Answer.verdict-of, Answer.Result}
-use Rattle.jacobian.specs.declared.{Curve.Curve, Class.Class}
-use Rattle.history.specs.Register.{limit, register-refusal, sealed}
-use Rattle.history.specs.Calls.{Call, Event, last, newest, classes, OnlyCommits, seals-back, walk-back}
-use Rattle.history.specs.declared.Register.{Register}
-use Rattle.history.proofs.{Registers.Passes, Registers.register-passes, TakingBack.last-curve, Preserved.last-passes, Preserved.accepted-classes, WalkingBack.walk-ends, WalkingBack.accepted-few}
-use Rattle.seal_register.specs.RowWalk.{classes-refusal, row-refusal, reached, row-walk-answer}
-use Rattle.seal_register.specs.declared.walk.RowWalk.{RowWalk}
+use Rattle.class_group.specs.Walk.{All, none, more, after}
+use Rattle.jacobian.specs.{Checks.unless, Checks._or-else_, Curves.curve-refusal, Classes.class-refusal, Answer.accepted, Answer.verdict-of, Answer.Result, declared.Curve.Curve, declared.Class.Class}
+use Rattle.history.specs.Machine as machine
+use Rattle.history.specs.{Register.limit, Register.register-refusal, Register.sealed, Calls.Call, Calls.Event, Calls.registers, Calls.last, Calls.newest, Calls.backs, Calls.turned, Calls.classes, Calls.OnlyCommits, Calls.seals-back, Calls.walk-back, declared.Register.Register}
+use Rattle.history.proofs.{Registers.Passes, Registers.register-passes, TakingBack.last-curve, TakingBack.taken-back-turned, TakingBack.taken-back-all, Preserved.last-passes, Preserved.accepted-classes, WalkingBack.walk-ends, WalkingBack.accepted-few}
+use Rattle.seal_register.specs.{InPlace.Made, InPlace.calls, InPlace.Session, InPlace.left-by, InPlace.newest-made, InPlace.seals-made, RowWalk.classes-refusal, RowWalk.row-refusal, RowWalk.reached, RowWalk.row-walk-answer, declared.walk.RowWalk.RowWalk}
+use Rattle.seal_register.proofs.{Answer.verdict-number, InPlace.as-by-value, InPlace.newest-is}
 
+-- ---- the walk's answer where no check fails
 -- no class among those of unrefused calls is refused
 unrefused : (c : Curve) (es : List Event) (k : ℕ) → All (λ e. class-refusal c (e .call .class) ≡ 0) es → classes-refusal c (take k (classes es)) ≡ 0
 unfolding classes-refusal classes _or-else_
@@ -25,40 +24,81 @@ unrefused c [] (suc k) none = refl
 unrefused c (e ∷ es) zero (more h hs) = refl
 unrefused c (e ∷ es) (suc k) (more h hs) = rw h (unrefused c es k hs)
 
--- what is answered where no check fails
 row-answered : (c : Curve) (s : Class) (ops : List Class) → curve-refusal c ≡ 0 → class-refusal c s ≡ 0 → length ops ≤ limit → classes-refusal c ops ≡ 0
     → row-walk-answer c s ops ≡ record { outcome = accepted; class = walk-back c s ops }
 unfolding row-walk-answer row-refusal sealed unless _or-else_
 row-answered c s ops hc hs hl ho = rw (hc, le-leb (length ops) limit hl, hs, ho)
 
-accepted-zero : (n : ℕ) → verdict-of n ≡ accepted → n ≡ 0
+-- ---- with all calls by value
+-- what the last call of a run leaves is the last state
+run-ends : {State Call X : Type 0} (M : machine.Machine State Call) (f : State → X) (s : State) (cs : List Call) (x : X)
+    → getD (f s ∷ map (λ e. f (e .left)) (machine.run M s cs)) (length (machine.run M s cs)) x ≡ f (machine.last M s cs)
+unfolding machine.run machine.last machine.event after
+run-ends M f s [] x = refl
+run-ends M f s (c ∷ cs) x = run-ends M f (M .next s c) cs x
+
+module _ (r : Register) (cs : List Call) where
+  -- the seals to meet end in the first one
+  first-seal : getD (seals-back r cs) (length (newest r cs)) (last r cs .seal) ≡ r .seal
+  unfolding seals-back machine.taken-back machine.turned
+  first-seal =
+      let turn = taken-back-turned r cs in
+      sym (ap₂ (λ l k. getD (last r cs .seal ∷ l) k (last r cs .seal))
+      (ap (map (λ e. e .left .seal)) turn ∙ map-map (λ e. e .left .seal) turned (newest r cs)) (ap length turn ∙ length-map (newest r cs) turned))
+      ∙ run-ends registers (λ t. t .seal) (last r cs) (backs (newest r cs)) (last r cs .seal)
+      ∙ ap (λ t. t .seal) (taken-back-all r cs)
+
+  module _ (only : OnlyCommits (newest r cs)) (ok : register-refusal r ≡ 0) where
+    passes : Passes (last r cs)
+    passes = register-passes (last r cs) (last-passes r cs ok)
+
+    within : (k : ℕ) → k ≤ length (newest r cs) → length (take k (classes (newest r cs))) ≤ limit
+    unfolding classes
+    within k h =
+        let e : length (take k (classes (newest r cs))) ≡ k = length-take-le k (classes (newest r cs)) (rw length-map h) in
+        let f : length (newest r cs) ≤ limit = accepted-few r cs only in
+        omega arith
+
+    by-value : (k : ℕ) → k ≤ length (newest r cs)
+        → row-walk-answer (r .curve) (last r cs .seal) (take k (classes (newest r cs))) ≡ record { outcome = accepted; class = getD (seals-back r cs) k (last r cs .seal) }
+    by-value k h =
+        row-answered (r .curve) (last r cs .seal) (take k (classes (newest r cs)))
+        (subst (λ c. curve-refusal c ≡ 0) (last-curve r cs) (passes .curve-passes))
+        (subst (λ c. class-refusal c (last r cs .seal) ≡ 0) (last-curve r cs) (passes .seal-passes))
+        (within k h)
+        (unrefused (r .curve) (newest r cs) k (accepted-classes r cs))
+        ∙ ap (λ a. record { outcome = accepted; class = a }) (walk-ends r cs only k h)
+
+    by-value-first : row-walk-answer (r .curve) (last r cs .seal) (classes (newest r cs)) ≡ record { outcome = accepted; class = r .seal }
+    unfolding classes
+    by-value-first =
+        let n = length (newest r cs) in
+        let all : take n (classes (newest r cs)) ≡ classes (newest r cs) = ap (λ k. take k (classes (newest r cs))) (sym (length-map (newest r cs) (λ e. e .call .class))) ∙ take-length (classes (newest r cs)) in
+        ap (row-walk-answer (r .curve) (last r cs .seal)) (sym all) ∙ by-value n (omega arith) ∙ ap (λ a. record { outcome = accepted; class = a }) first-seal
+
+-- ---- with each call by value or in place
+-- the number and the seal of an answer
+found : (w : RowWalk) (s : Class) → reached w ≡ record { outcome = accepted; class = s } → (w .refusal ≡ 0) × (w .seal ≡ s)
 unfolding verdict-of
-accepted-zero zero e = refl
-accepted-zero (suc n) e = let z : _≡_ {A = ℕ} 0 1 = cc in absurd (omega arith)
+found w s e = (verdict-number (w .refusal) 0 (ap (λ (x : Result). x .outcome) e), ap (λ (x : Result). x .class) e)
 
-module _ (r : Register) (cs : List Call) (only : OnlyCommits (newest r cs)) (ok : register-refusal r ≡ 0) where
-  passes : Passes (last r cs)
-  passes = register-passes (last r cs) (last-passes r cs ok)
+module _ (r : Register) (ms : List Made) (s : Session r ms) (only : OnlyCommits (newest-made r ms)) (ok : register-refusal r ≡ 0) where
+  pub row-walk-meets : (k : ℕ) → k ≤ length (newest-made r ms)
+      → row-walk-answer (r .curve) (left-by r ms .seal) (take k (classes (newest-made r ms))) ≡ record { outcome = accepted; class = getD (seals-made r ms) k (left-by r ms .seal) }
+  unfolding seals-back seals-made
+  row-walk-meets =
+      as-by-value r ms s
+      (λ es t. (k : ℕ) → k ≤ length es → row-walk-answer (r .curve) (t .seal) (take k (classes es)) ≡ record { outcome = accepted; class = getD (t .seal ∷ map (λ e. e .before .seal) es) k (t .seal) })
+      (by-value r (calls ms) (rw (newest-is r ms s) at only) ok)
 
-  within : (k : ℕ) → k ≤ length (newest r cs) → length (take k (classes (newest r cs))) ≤ limit
-  unfolding classes
-  within k h =
-      let e : length (take k (classes (newest r cs))) ≡ k = length-take-le k (classes (newest r cs)) (rw length-map h) in
-      let f : length (newest r cs) ≤ limit = accepted-few r cs only in
-      omega arith
+  pub row-walk-first : row-walk-answer (r .curve) (left-by r ms .seal) (classes (newest-made r ms)) ≡ record { outcome = accepted; class = r .seal }
+  row-walk-first =
+      as-by-value r ms s (λ es t. row-walk-answer (r .curve) (t .seal) (classes es) ≡ record { outcome = accepted; class = r .seal })
+      (by-value-first r (calls ms) (rw (newest-is r ms s) at only) ok)
 
-  pub row-walk-meets : (k : ℕ) → k ≤ length (newest r cs)
-      → row-walk-answer (r .curve) (last r cs .seal) (take k (classes (newest r cs))) ≡ record { outcome = accepted; class = getD (seals-back r cs) k (last r cs .seal) }
-  row-walk-meets k h =
-      row-answered (r .curve) (last r cs .seal) (take k (classes (newest r cs)))
-      (subst (λ c. curve-refusal c ≡ 0) (last-curve r cs) (passes .curve-passes))
-      (subst (λ c. class-refusal c (last r cs .seal) ≡ 0) (last-curve r cs) (passes .seal-passes))
-      (within k h)
-      (unrefused (r .curve) (newest r cs) k (accepted-classes r cs))
-      ∙ ap (λ a. record { outcome = accepted; class = a }) (walk-ends r cs only k h)
+  pub row-walk-answers : (k : ℕ) → k ≤ length (newest-made r ms) → (w : RowWalk) → reached w ≡ row-walk-answer (r .curve) (left-by r ms .seal) (take k (classes (newest-made r ms)))
+      → (w .refusal ≡ 0) × (w .seal ≡ getD (seals-made r ms) k (left-by r ms .seal))
+  row-walk-answers k h w e = found w _ (e ∙ row-walk-meets k h)
 
-  pub row-walk-answers : (k : ℕ) → k ≤ length (newest r cs) → (w : RowWalk) → reached w ≡ row-walk-answer (r .curve) (last r cs .seal) (take k (classes (newest r cs)))
-      → (w .refusal ≡ 0) × (w .seal ≡ getD (seals-back r cs) k (last r cs .seal))
-  row-walk-answers k h w e =
-      let m = e ∙ row-walk-meets k h in
-      (accepted-zero (w .refusal) (ap (λ (x : Result). x .outcome) m), ap (λ (x : Result). x .class) m)
+  pub row-walk-first-answers : (w : RowWalk) → reached w ≡ row-walk-answer (r .curve) (left-by r ms .seal) (classes (newest-made r ms)) → (w .refusal ≡ 0) × (w .seal ≡ r .seal)
+  row-walk-first-answers w e = found w _ (e ∙ row-walk-first)

@@ -1,9 +1,9 @@
 -- A register lent and changed in place, and lists of calls each by value or in place (document 00, demand 3; document 01, 'The register').
 use Prim.Native.Nat.{ℕ}
 use mathlib.Core.Path.{_≡_}
-use mathlib.Core.List.{List, map}
+use mathlib.Core.List.{List, _∷_, map}
 use Rattle.class_group.specs.Walk.{All}
-use Rattle.jacobian.specs.Answer.{verdict-of}
+use Rattle.jacobian.specs.{Answer.verdict-of, declared.Class.Class}
 use Rattle.history.specs.Register.{RegisterReply, register-reply}
 use Rattle.history.specs.Machine.{Machine, run, last, newest, carried}
 use Rattle.history.specs.Calls.{Call, answer, Event}
@@ -27,6 +27,10 @@ unfoldable pub said : Made → RegisterReply
 said (by-value c x) = register-reply x
 said (lent c n left) = in-place n left
 
+-- the calls of a list
+unfoldable pub calls : List Made → List Call
+calls ms = map call ms
+
 -- the machine that says what was said: each call gets the register that the call before it handed back or left in place
 abbrev pub made : Machine Register Made
 made = record { outcome = λ r m. said m .outcome; next = λ r m. said m .register }
@@ -44,3 +48,7 @@ left-by = last made
 
 unfoldable pub newest-made : Register → List Made → List Event
 newest-made r ms = map (carried (λ t. t) call) (newest made r ms)
+
+-- the seals to meet on the way back: the last, then those just before the accepted calls, newest first
+unfoldable pub seals-made : Register → List Made → List Class
+seals-made r ms = left-by r ms .seal ∷ map (λ e. e .before .seal) (newest-made r ms)

@@ -1,10 +1,10 @@
 -- The walk over a lent row of classes, newest first, refusals included (document 01, 'The register', 'In checking order').
-use Prim.Native.Nat.{ℕ, zero, suc}
+use Prim.Native.Nat.{ℕ}
 use mathlib.Core.List.{List, [], _∷_}
 use lib.Dec.{leb}
 use lib.ListN.{length}
 use Rattle.jacobian.specs.{Checks.unless, Checks._or-else_, Curves.curve-refusal, Classes.class-refusal}
-use Rattle.jacobian.specs.Answer.{Verdict, accepted, refused, verdict-of, refusal, Result, result, subtract-and-halve-answer}
+use Rattle.jacobian.specs.Answer.{verdict-of, Result}
 use Rattle.jacobian.specs.declared.{Curve.Curve, Class.Class}
 use Rattle.history.specs.Register.{limit, sealed}
 use Rattle.history.specs.Calls.{walk-back}
@@ -27,21 +27,6 @@ row-refusal c last ops =
 unfoldable pub row-walk-answer : Curve → Class → List Class → Result
 row-walk-answer c last ops = sealed (row-refusal c last ops) (walk-back c last ops)
 
--- ---- the walk on its way
 -- what the code's walk says: 0 is no refusal
 abbrev pub reached : RowWalk → Result
 reached w = record { outcome = verdict-of (w .refusal); class = w .seal }
-
--- what is checked before the first step over so many classes: where there is a class, the step over it checks the curve and the last seal
-unfoldable pub opening-refusal : Curve → Class → ℕ → ℕ
-opening-refusal c last zero = refusal c last
-opening-refusal c last (suc n) = unless (leb (suc n) limit) (curve-refusal c or-else 109)
-
--- how many steps are due: none after a refusal
-unfoldable pub turns-due : Verdict → ℕ → ℕ
-turns-due accepted n = n
-turns-due (refused k) n = 0
-
--- one step back, unless the walk was refused before
-unfoldable pub onward : Curve → Result → Class → Result
-onward c x a = elim (x .outcome) [ accepted ↦ result (subtract-and-halve-answer c (x .class) a) | refused n ↦ x ]

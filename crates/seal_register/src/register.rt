@@ -1,20 +1,57 @@
 // One register kept for a session and changed in place (document 01, 'The register').
-// A call copies the register out, makes the call by value and writes the register of its answer back. It answers the refusal's number,
-// and 0 for an acceptance: a function that C calls cannot return an enum.
+// A call copies the register out, makes the call by value and, where it is accepted, writes the register of its answer back: a refusal writes no byte.
+// It answers the refusal's number, and 0 for an acceptance: a function that C calls cannot return an enum.
 ghost use mathlib.Core.Path.{_≡_};
-ghost use Rattle.history.specs.Register.{commit-answer, undo-answer};
+ghost use Rattle.history.specs.Register.{step-answer, commit-answer, undo-answer};
 ghost use Rattle.seal_register.specs.InPlace.{in-place};
 use history::Register;
+use history::Step;
 use jacobian::Class;
+
+// What a call in place answers, and the register that it leaves.
+struct Changed {
+    refusal: u32,
+    left: Register,
+}
+
+// A step with a class, made by value.
+fn stepped(step: Step, register: Register, class: Class) -> Changed
+    ensures { λ x. ⌜ in-place (x .refusal) (x .left) ≡ step-answer step register class ⌝ }
+{
+    let a = register.step(step, class);
+    let o = a.outcome;
+    let n = jacobian::outcome_refusal(o);
+    let next = a.register;
+    Changed {
+        refusal: n,
+        left: next,
+    }
+}
+
+// A commit with a class.
+fn committed(register: Register, class: Class) -> Changed
+    ensures { λ x. ⌜ in-place (x .refusal) (x .left) ≡ commit-answer register class ⌝ }
+{
+    stepped(Step::Commit, register, class)
+}
+
+// An undo with a class.
+fn undone(register: Register, class: Class) -> Changed
+    ensures { λ x. ⌜ in-place (x .refusal) (x .left) ≡ undo-answer register class ⌝ }
+{
+    stepped(Step::Undo, register, class)
+}
 
 // The lent register becomes the one after a commit; on a refusal it stays as it was.
 #[no_mangle]
 pub extern "C" fn seal_register_commit(register: &mut Register, class: Class) -> u32
     ensures { λ n. ⌜ in-place n (now (register .exit)) ≡ commit-answer (now (register .entry)) class ⌝ }
 {
-    let a = Register::commit(*register, class);
-    *register = a.register;
-    jacobian::outcome_refusal(a.outcome)
+    let a = committed(*register, class);
+    if a.refusal == 0 {
+        *register = a.left;
+    }
+    a.refusal
 }
 
 // The lent register becomes the one after an undo; on a refusal it stays as it was.
@@ -22,7 +59,9 @@ pub extern "C" fn seal_register_commit(register: &mut Register, class: Class) ->
 pub extern "C" fn seal_register_undo(register: &mut Register, class: Class) -> u32
     ensures { λ n. ⌜ in-place n (now (register .exit)) ≡ undo-answer (now (register .entry)) class ⌝ }
 {
-    let a = Register::undo(*register, class);
-    *register = a.register;
-    jacobian::outcome_refusal(a.outcome)
+    let a = undone(*register, class);
+    if a.refusal == 0 {
+        *register = a.left;
+    }
+    a.refusal
 }

@@ -4,7 +4,8 @@
 ghost use mathlib.Core.Path.{_≡_};
 ghost use Rattle.jacobian.specs.Answer.{verdict-of};
 ghost use Rattle.history.specs.Register.{sealed};
-ghost use Rattle.seal_register.specs.RowWalk.{reached, opening-refusal, turns-due, onward, row-walk-answer};
+ghost use Rattle.seal_register.specs.RowWalk.{reached, row-walk-answer};
+ghost use Rattle.seal_register.specs.internal.RowSteps.{opening-refusal, turns-due, onward};
 use jacobian::Class;
 use jacobian::Curve;
 
@@ -60,10 +61,10 @@ fn opened(curve: Curve, last: Class, classes: usize) -> RowWalk
 fn turns(w: RowWalk, classes: usize) -> usize
     ensures { λ r. ⌜ r ≡ turns-due (verdict-of (w .refusal)) classes ⌝ }
 {
-    if w.refusal != 0 {
-        return 0;
+    if w.refusal == 0 {
+        return classes;
     }
-    classes
+    0
 }
 
 // One step back, unless the walk was refused before.

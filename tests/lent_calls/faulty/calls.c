@@ -4,6 +4,7 @@
  * - count-kept: an acceptance leaves the count as it was.
  * - refusal-writes: a refusal leaves another count.
  * - scratch: a refusal leaves one byte of padding changed.
+ * - rewrites: a refusal writes one byte of padding as it was.
  * - undo-commits: an undo is a commit.
  */
 #include "faulty.h"
@@ -23,6 +24,8 @@ static uint32_t faulty(uint32_t answer, struct seal_register *lent, const struct
         lent->count++;
     if (answer != 0 && has("scratch"))
         ((unsigned char *)lent)[1] ^= 1;
+    if (answer != 0 && has("rewrites"))
+        ((volatile unsigned char *)lent)[1] |= 0;
     return answer;
 }
 

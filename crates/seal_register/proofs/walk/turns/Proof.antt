@@ -4,10 +4,10 @@ use Rattle.seal_register.proofs.walk.turns.Statement.{statement}
 use Rattle.seal_register.proofs.walk.turns.Tie as tie
 
 returns : tie.Need-returns
-returns c = turns-none _ (c .before .before .args .classes) (c .if1 .taken)
+returns c = turns-all _ (c .before .before .args .classes) (c .if1 .taken)
 
 returns-2 : tie.Need-returns-2
-returns-2 c = turns-all _ (c .before .before .args .classes) (c .if1 .left)
+returns-2 c = turns-none _ (c .before .before .args .classes) (c .if1 .left)
 
 pub turns-spec : {M : Type 1} → statement M
 turns-spec = tie.close (tie.spec returns returns-2)

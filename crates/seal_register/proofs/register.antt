@@ -1,0 +1,2 @@
+-- What the proofs of the calls in place share.
+mod Lent
