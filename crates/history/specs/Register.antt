@@ -1,6 +1,6 @@
 -- The history register by value: its checks, its two steps and what the calls on it answer (document 01, 'The register', 'In checking order').
 use Prim.Native.Nat.{ℕ, zero, suc, _+_, _-_}
-use mathlib.Core.{Path._≡_, Bool.cond}
+use mathlib.Core.Bool.{cond}
 use lib.Dec.{eqb, leb}
 use Rattle.class_group.specs.Moves.{double-and-add, subtract-and-halve}
 use Rattle.jacobian.specs.{Checks.unless, Checks._or-else_, Refusals.IsRefusal, Curves.curve-refusal, Curves.curve, Classes.pair, Classes.class-of, Classes.class-refusal}

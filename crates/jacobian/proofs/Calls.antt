@@ -4,15 +4,15 @@
 -- to it (`only-half`, and of the theory's double `half-is-only`). Sums are those of a commutative group: `sum-answer-comm`, `sum-answer-assoc`,
 -- `sum-answer-neutral`, `sum-answer-opposite`.
 use Prim.Native.Nat.{ℕ, _-_}
-use mathlib.Core.Path.{_≡_, refl, sym, _∙_, ap, subst}
+use mathlib.Core.Path.{_≡_, sym, _∙_, ap, subst}
 use Rattle.char2_algebra.proofs.Degree.{len-one}
 use Rattle.class_group.specs.Curve as Theory
 use Rattle.class_group.specs.{Mumford.Pair, Mumford.Reduced, Mumford.neutral, Mumford.opposite, Reduction.Counted, Operations.sum, Operations.double, Half.half}
 use Rattle.class_group.proofs.{Closed.neutral-reduced, Closed.opposite-reduced, Closed.sum-reduced, Closed.double-reduced}
-use Rattle.class_group.proofs.{Group.sum-comm, Group.sum-assoc, Group.sum-neutral, Group.sum-opposite, Halving.half-reduced, Halving.double-half, Halving.half-double, Halving.half-unique}
+use Rattle.class_group.proofs.{Group.sum-comm, Group.sum-assoc, Group.sum-neutral, Group.sum-opposite, Halving.half-reduced, Halving.double-half, Halving.half-double}
 use Rattle.row_theory.specs.Field.{Poly, 𝔸}
 use Rattle.jacobian.specs.{Curves.curve-refusal, Curves.curve, Classes.pair, Classes.numbers, Classes.class-of}
-use Rattle.jacobian.specs.Answer.{gives, Result, result, answered, Accepts, Only, refusal-of-two, neutral-class, opposite-answer, double-answer, half-answer, sum-answer}
+use Rattle.jacobian.specs.Answer.{gives, Result, result, answered, Accepts, Only, IsHalf, refusal-of-two, neutral-class, opposite-answer, double-answer, half-answer, sum-answer}
 use Rattle.jacobian.specs.declared.{Curve.Curve, Class.Class}
 use Rattle.jacobian.proofs.{ByValue.Checks.then-zero, Representation.accepts-curve, Representation.accepts-class, Representation.accepts-both, Representation.accepted-reduced, Representation.class-of-accepted, Representation.class-of-pair, Representation.Unrefused.zero-then, Representation.Form.pair-class-of}
 
@@ -85,7 +85,7 @@ module _ (c : Curve) where
   sum-accepts h k = class-accepts h _ (sum-reduced C (reduced h) (reduced k)) (sum-gives h k)
 
   -- ---- demand 3
-  half-doubled : {a : Class} → Accepts c a → double C (pair d (half-answer c a .class)) ≡ pair d a
+  half-doubled : {a : Class} → Accepts c a → IsHalf c a (half-answer c a .class)
   half-doubled h = ap (double C) (class-pair _ (half-reduced C (reduced h)) (half-gives h)) ∙ double-half C (reduced h)
 
   pub double-of-half : {a : Class} → Accepts c a → result (double-answer c (half-answer c a .class)) ≡ gives a
@@ -102,7 +102,7 @@ module _ (c : Curve) where
       sym (ap (λ (r : Result). r .class) (half-of-double k)) ∙ ap (λ (r : Result). half-answer c (r .class) .class) e
 
   -- the same in one record, of the theory's double
-  pub half-is-only : {a : Class} → Accepts c a → Only c (λ h. double C (pair d h) ≡ pair d a) (half-answer c a .class)
+  pub half-is-only : {a : Class} → Accepts c a → Only c (IsHalf c a) (half-answer c a .class)
   half-is-only h =
       record {
         accepts = half-accepts h;

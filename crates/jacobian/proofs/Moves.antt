@@ -5,7 +5,7 @@ use mathlib.Core.Path.{_≡_, sym, _∙_, ap}
 use Rattle.class_group.specs.{Operations.sum, Operations.double, Moves.double-and-add, Moves.subtract-and-halve, Moves.counted-double-and-add, Moves.counted-subtract-and-halve}
 use Rattle.class_group.proofs.Moves.{double-and-add-reduced, subtract-and-halve-reduced, subtract-double-and-add, double-subtract-and-halve}
 use Rattle.jacobian.specs.{Curves.curve, Classes.pair, Classes.class-of}
-use Rattle.jacobian.specs.Answer.{gives, Result, result, Accepts, Only, double-and-add-answer, subtract-and-halve-answer}
+use Rattle.jacobian.specs.Answer.{gives, Result, result, Accepts, Only, Precedes, double-and-add-answer, subtract-and-halve-answer}
 use Rattle.jacobian.specs.declared.{Curve.Curve, Class.Class}
 use Rattle.jacobian.proofs.Calls.{reduced, accepts-two, answered-none, class-accepts, class-pair, value-is}
 
@@ -30,7 +30,7 @@ module _ {c : Curve} {a b : Class} (h : Accepts c a) (k : Accepts c b) where
   subtracted-and-halved : pair (c .degree) (subtract-and-halve-answer c a b .class) ≡ subtract-and-halve (curve c) (pair (c .degree) a) (pair (c .degree) b)
   subtracted-and-halved = class-pair c _ (subtract-and-halve-reduced (curve c) (reduced c h) (reduced c k)) subtract-and-halve-gives
 
-  returned : double-and-add (curve c) (pair (c .degree) (subtract-and-halve-answer c a b .class)) (pair (c .degree) b) ≡ pair (c .degree) a
+  returned : Precedes c a b (subtract-and-halve-answer c a b .class)
   returned = ap (λ D. double-and-add (curve c) D (pair (c .degree) b)) subtracted-and-halved ∙ double-subtract-and-halve (curve c) (reduced c h) (reduced c k)
 
 module _ {c : Curve} {a b : Class} (h : Accepts c a) (k : Accepts c b) where
@@ -48,7 +48,7 @@ module _ {c : Curve} {a b : Class} (h : Accepts c a) (k : Accepts c b) where
 
 -- the only accepted class that double_and_add of b takes to a
 pub subtract-and-halve-is-only : {c : Curve} {a b : Class} → Accepts c a → Accepts c b
-    → Only c (λ x. double-and-add (curve c) (pair (c .degree) x) (pair (c .degree) b) ≡ pair (c .degree) a) (subtract-and-halve-answer c a b .class)
+    → Only c (Precedes c a b) (subtract-and-halve-answer c a b .class)
 subtract-and-halve-is-only {c} {a} {b} h k =
     record {
       accepts = subtract-and-halve-accepts h k;

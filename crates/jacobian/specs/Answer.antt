@@ -29,12 +29,12 @@ outcome-refusal (Refused n) = n
 unfoldable pub refusal : Curve → Class → ℕ
 refusal c a = curve-refusal c or-else class-refusal c a
 
+unfoldable pub refusal-of-two : Curve → Class → Class → ℕ
+refusal-of-two c a b = refusal c a or-else class-refusal c b
+
 -- a class that no check refuses on a curve
 pub record Accepts (c : Curve) (a : Class) : Type 0 where
   pub none : refusal c a ≡ 0
-
-unfoldable pub refusal-of-two : Curve → Class → Class → ℕ
-refusal-of-two c a b = refusal c a or-else class-refusal c b
 
 -- acceptance where no refusal is due
 unfoldable pub verdict-of : ℕ → Verdict
@@ -98,10 +98,14 @@ pub record Only (c : Curve) (P : Class → Type 0) (a : Class) : Type 0 where
   pub holds : P a
   pub only : (b : Class) → Accepts c b → P b → b ≡ a
 
+-- twice h is a
+abbrev pub IsHalf : Curve → Class → Class → Type 0
+IsHalf c a h = double (curve c) (pair (c .degree) h) ≡ pair (c .degree) a
+
 -- half promises besides that where it accepts, its answer is the one accepted class whose double is the class given
 pub record HalfAnswers (c : Curve) (a : Class) (r : Reply) : Type 0 where
   pub answer : r ≡ half-answer c a
-  pub is-half : refusal c a ≡ 0 → Only c (λ h. double (curve c) (pair (c .degree) h) ≡ pair (c .degree) a) (r .class)
+  pub is-half : refusal c a ≡ 0 → Only c (IsHalf c a) (r .class)
 
 -- on two classes: the theory's sum, and the rules by which a commit and an undo move a seal: twice a class plus another, and the half of a
 -- class less another
@@ -117,8 +121,11 @@ double-and-add-answer c a b = binary-answer DoubleAndAdd c a b
 unfoldable pub subtract-and-halve-answer : Curve → Class → Class → Reply
 subtract-and-halve-answer c a b = binary-answer SubtractAndHalve c a b
 
--- subtract_and_halve promises besides that where it accepts, its answer is the one accepted class that double_and_add of b takes to a
+-- twice h plus b is a
+abbrev pub Precedes : Curve → Class → Class → Class → Type 0
+Precedes c a b h = double-and-add (curve c) (pair (c .degree) h) (pair (c .degree) b) ≡ pair (c .degree) a
+
+-- subtract_and_halve promises besides that where it accepts, its answer is the one accepted class of which twice itself plus b is a
 pub record SubtractAndHalveAnswers (c : Curve) (a b : Class) (r : Reply) : Type 0 where
   pub answer : r ≡ subtract-and-halve-answer c a b
-  pub taken-back : refusal-of-two c a b ≡ 0
-      → Only c (λ h. double-and-add (curve c) (pair (c .degree) h) (pair (c .degree) b) ≡ pair (c .degree) a) (r .class)
+  pub taken-back : refusal-of-two c a b ≡ 0 → Only c (Precedes c a b) (r .class)

@@ -2,7 +2,7 @@
 -- (`taken-back-accepted`), the states just before them come back one by one (`taken-back-states`), and at the end the first one (`taken-back-all`).
 use mathlib.Core.Path.{_≡_, refl, sym, _∙_, ap, ap₂, subst}
 use mathlib.Core.List.{List, [], _∷_, _++_, map, map-map, reverse, reverse-cons, map-append}
-use Rattle.class_group.specs.Walk.{All, none, more, after}
+use Rattle.class_group.specs.Walk.{All, after}
 use Rattle.jacobian.specs.Answer.{Verdict, accepted, refused}
 use Rattle.history.specs.Machine.{Machine, Event, accepted-of, event, run, last, newest, backs, turned, taken-back, Reversible}
 use Rattle.history.proofs.All.{all-map}

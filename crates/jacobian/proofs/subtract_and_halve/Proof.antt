@@ -1,7 +1,6 @@
 -- `subtract_and_halve` meets its contract.
-use mathlib.Core.Path.{_≡_, sym, subst}
-use Rattle.class_group.specs.Moves.{double-and-add}
-use Rattle.jacobian.specs.{Curves.curve, Classes.pair, Answer.Reply, Answer.Only, Answer.subtract-and-halve-answer}
+use mathlib.Core.Path.{sym, subst}
+use Rattle.jacobian.specs.Answer.{Reply, Only, Precedes, subtract-and-halve-answer}
 use Rattle.jacobian.proofs.{Calls.two-accept, Moves.subtract-and-halve-is-only}
 use borrow.Author.Needs.{needs}
 use Rattle.jacobian.proofs.subtract_and_halve.Statement.{statement}
@@ -11,14 +10,12 @@ returns : tie.Need-returns
 unfolding subtract-and-halve-answer
 returns c =
     let s = c .before .args in
-    let d = s .curve .degree in
     let e = c .on-two .ensures in
     record {
       answer = e;
-      taken-back = λ ok.
-          let both = two-accept (s .curve) (s .a) (s .b) ok in
-          subst (λ (r : Reply). Only (s .curve) (λ h. double-and-add (curve (s .curve)) (pair d h) (pair d (s .b)) ≡ pair d (s .a)) (r .class)) (sym e)
-          (subtract-and-halve-is-only (both .0) (both .1));
+      taken-back = λ none.
+          let both = two-accept (s .curve) (s .a) (s .b) none in
+          subst (λ (r : Reply). Only (s .curve) (Precedes (s .curve) (s .a) (s .b)) (r .class)) (sym e) (subtract-and-halve-is-only (both .0) (both .1));
     }
 
 pub subtract-and-halve-spec : {M : Type 1} → statement M

@@ -1,5 +1,5 @@
 -- `leading_one` meets its contract, by the degree.
-use mathlib.Core.Path.{_≡_, refl}
+use mathlib.Core.Path.{_≡_}
 use mathlib.Core.List.{[], _∷_, _++_}
 use lib.ListN.{getD, take}
 use Rattle.row_theory.specs.Row.{filled}
