@@ -7,3 +7,4 @@ pub mod ArchiveRoundTrips
 pub mod ArchiveBytes
 pub mod ArchiveLength
 pub mod Windows
+pub mod ToldApart

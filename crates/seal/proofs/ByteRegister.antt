@@ -73,7 +73,7 @@ module _ (k : Step) (g : Register) (a : Class) (threes : Three (g .seal) × Thre
   unfolding step-answer
   accepted-is = follows-zero (step-refusal k g a) g (stepped k g a) none-due
 
-  follows-fits : length (register-fields (step-answer k g a .register)) ≤ register-room
+  pub follows-fits : length (register-fields (step-answer k g a .register)) ≤ register-room
   follows-fits =
       subst (λ (x : RegisterReply). length (register-fields (x .register)) ≤ register-room) (sym accepted-is)
       (fields-short (stepped k g a) (stepped-passes g a (threes .0) (threes .1) k (step-passes k g a none-due)) (stepped-fits k g a))

@@ -1,4 +1,6 @@
 -- Laws of the records and of the byte calls.
 pub mod Written
+pub mod Passing
 pub mod ByteRegister
 pub mod ByteHalving
+pub mod ToldApart

@@ -36,20 +36,41 @@ answered Undo h = register-handed (undo-answer (register h) (h .operation))
 unfoldable pub membership-call : List ℕ → ℕ
 membership-call s = reading-refusal (read-record class-record s)
 
+-- the record that a call reads
+abbrev pub tags : Call → List ℕ
+tags Opposite = class-record
+tags Double = class-record
+tags Half = class-record
+tags Sum = sum-record
+tags Commit = register-record
+tags Undo = register-record
+
+-- how long its output must be, and the most bytes that it writes
+abbrev pub room : Call → ℕ
+room Opposite = class-room
+room Double = class-room
+room Half = class-room
+room Sum = class-room
+room Commit = register-room
+room Undo = register-room
+
+abbrev pub called : Call → List ℕ → List ℕ → Effect
+called call s out = byte-call (room call) (tags call) (answered call) s out
+
 abbrev pub opposite-call : List ℕ → List ℕ → Effect
-opposite-call s out = byte-call class-room class-record (answered Opposite) s out
+opposite-call = called Opposite
 
 abbrev pub double-call : List ℕ → List ℕ → Effect
-double-call s out = byte-call class-room class-record (answered Double) s out
+double-call = called Double
 
 abbrev pub half-call : List ℕ → List ℕ → Effect
-half-call s out = byte-call class-room class-record (answered Half) s out
+half-call = called Half
 
 abbrev pub sum-call : List ℕ → List ℕ → Effect
-sum-call s out = byte-call class-room sum-record (answered Sum) s out
+sum-call = called Sum
 
 abbrev pub commit-call : List ℕ → List ℕ → Effect
-commit-call s out = byte-call register-room register-record (answered Commit) s out
+commit-call = called Commit
 
 abbrev pub undo-call : List ℕ → List ℕ → Effect
-undo-call s out = byte-call register-room register-record (answered Undo) s out
+undo-call = called Undo

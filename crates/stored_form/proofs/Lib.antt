@@ -20,3 +20,4 @@ pub mod RecordValues
 pub mod FieldSteps
 pub mod Effects
 pub mod Rows
+pub mod ToldApart

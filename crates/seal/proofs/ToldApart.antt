@@ -1,0 +1,97 @@
+-- Answers and refusals of the byte calls are told apart (demand 1). Every call that writes, on every input and output, writes at most its room and answers that
+-- length, or answers the number of a refusal and leaves the output as it was (`told-apart`). The answer alone says which of the two (`tells`): up to 100 it is
+-- a length, above that the number of a refusal. Membership answers 0 exactly where the record is read, and else the number of a refusal
+-- (`membership-told`, `membership-found`, `found-membership`).
+use Prim.Native.Nat.{ℕ, zero, suc, _≤_}
+use mathlib.Core.Path.{_≡_, refl, sym, ap, _∙_}
+use mathlib.Core.{List.List, Logic.inr}
+use lib.Dec.{eqb, lit≤}
+use Rattle.jacobian.specs.{Refusals.refusals, Refusals.listed, Refusals.IsRefusal, Refusals.Told, Answer.Reply, Answer.result, Answer.verdict-of, Classes.Three, declared.Curve.Curve, declared.Class.Class}
+use Rattle.jacobian.proofs.Refusals.{told-none, told-or-else, told-unless, refused-told}
+use Rattle.history.specs.Register.{register-refusal, edge, edge-refusal, step-refusal, stepped, follows, step-answer}
+use Rattle.history.specs.declared.{Register.Register, Step.Step, Step.the-variants.Commit, Step.the-variants.Undo}
+use Rattle.stored_form.specs.{Reading.found, Head.class-room, Held.read-record, Held.class-record, Held.sum-record, Held.register-record, declared.Held.Held, Classes.class-field}
+use Rattle.stored_form.specs.Effect.{on, class-handed, byte-call, register-room, HandedApart, bytes, ToldApart, AnswerTells}
+use Rattle.stored_form.proofs.{ClassRoundTrips.class-short, ToldApart.either, ToldApart.told-curve, ToldApart.told-class, ToldApart.record-tells, ToldApart.reading-told, ToldApart.reading-found, ToldApart.found-reading, ToldApart.on-apart, ToldApart.call-told-apart, ToldApart.answer-tells}
+use Rattle.seal.specs.Records.{register-fields}
+use Rattle.seal.specs.Calls.{register, register-handed, answered, membership-call, room, called}
+use Rattle.seal.specs.declared.calls.Call.{Call}
+use Rattle.seal.specs.declared.calls.Call.the-variants.{Opposite, Double, Half, Sum}
+use Rattle.seal.specs.declared.calls.Call.the-variants as Call
+use Rattle.seal.proofs.Passing.{Given, class-holds, sum-holds, register-holds, opposite-given, double-given, half-given, sum-given}
+use Rattle.seal.proofs.ByteRegister.{follows-fits}
+
+-- ---- membership
+
+module _ (s : List ℕ) where
+  pub membership-told : Told (membership-call s)
+  unfolding membership-call
+  membership-told = reading-told _ (record-tells class-record s)
+
+  pub membership-found : membership-call s ≡ 0 → (h : Held) × (end : ℕ) × (read-record class-record s ≡ found h end)
+  unfolding membership-call
+  membership-found e = reading-found _ (record-tells class-record s) e
+
+  pub found-membership : {h : Held} {end : ℕ} → read-record class-record s ≡ found h end → membership-call s ≡ 0
+  unfolding membership-call
+  found-membership e = found-reading _ e
+
+-- ---- what is handed over
+
+-- a class that passes
+class-apart : {c : Curve} {r : Reply} → Given c r → HandedApart class-room (class-handed (result r))
+unfolding class-handed on
+class-apart {c} {r} g = bytes (class-field 0x43 (r .class)) (class-short 0x43 c (r .class) (g .passes .three) (g .passes .none)) (ap class-handed (g .gives-class))
+
+told-register : (g : Register) → Told (register-refusal g)
+unfolding register-refusal IsRefusal refusals listed
+told-register g = told-or-else _ _ (told-curve (g .curve)) (told-or-else _ _ (told-unless _ 109 refl) (told-class (g .curve) (g .seal)))
+
+edge-is-refusal : (k : Step) → IsRefusal (edge-refusal k)
+unfolding edge-refusal IsRefusal refusals listed
+edge-is-refusal Commit = refl
+edge-is-refusal Undo = refl
+
+told-step : (k : Step) (g : Register) (a : Class) → Told (step-refusal k g a)
+unfolding step-refusal Told
+told-step k g a =
+    told-or-else _ _ (told-register g) (told-or-else _ _ (told-class (g .curve) a) (either Told (eqb (g .count) (edge k)) (inr (edge-is-refusal k)) told-none))
+
+follows-verdict : (n : ℕ) (given next : Register) → follows n given next .outcome ≡ verdict-of n
+unfolding follows verdict-of
+follows-verdict zero given next = refl
+follows-verdict (suc n) given next = refl
+
+-- a register, or the refusal of the step
+step-apart : (k : Step) (g : Register) (a : Class) → Three (g .seal) × Three a → HandedApart register-room (register-handed (step-answer k g a))
+unfolding register-handed step-answer
+step-apart k g a threes =
+    on-apart register-room (step-answer k g a .outcome) (register-fields (step-answer k g a .register))
+    (λ e. follows-fits k g a threes e)
+    (λ n e. refused-told (step-refusal k g a) n (told-step k g a) (sym (follows-verdict (step-refusal k g a) g (stepped k g a)) ∙ e))
+
+-- ---- the calls
+
+step-told-apart : (k : Step) (s out : List ℕ) → ToldApart register-room out (byte-call register-room register-record (λ h. register-handed (step-answer k (register h) (h .operation))) s out)
+step-told-apart k s out = call-told-apart register-room register-record _ s out (λ h end e. let p = register-holds s e in step-apart k (register h) (h .operation) (p .1 .three, p .2 .three))
+
+pub told-apart : (call : Call) (s out : List ℕ) → ToldApart (room call) out (called call s out)
+unfolding answered
+told-apart Opposite s out = call-told-apart class-room class-record _ s out (λ h end e. class-apart (opposite-given (class-holds s e)))
+told-apart Double s out = call-told-apart class-room class-record _ s out (λ h end e. class-apart (double-given (class-holds s e)))
+told-apart Half s out = call-told-apart class-room class-record _ s out (λ h end e. class-apart (half-given (class-holds s e)))
+told-apart Sum s out = call-told-apart class-room sum-record _ s out (λ h end e. let p = sum-holds s e in class-apart (sum-given (p .0) (p .1)))
+told-apart Call.Commit s out = step-told-apart Commit s out
+told-apart Call.Undo s out = step-told-apart Undo s out
+
+room-low : (call : Call) → room call ≤ 100
+room-low Opposite = lit≤ tt
+room-low Double = lit≤ tt
+room-low Half = lit≤ tt
+room-low Sum = lit≤ tt
+room-low Call.Commit = lit≤ tt
+room-low Call.Undo = lit≤ tt
+
+-- by the answer alone
+pub tells : (call : Call) (s out : List ℕ) → AnswerTells (room call) out (called call s out)
+tells call s out = answer-tells (room-low call) (told-apart call s out)
