@@ -93,7 +93,7 @@ module _ (k : Step) (g : Register) (a : Class) (threes : Three (g .seal) × Thre
       }
 
   -- what is written for an accepted step
-  step-written : (out : List ℕ) → register-room ≤ length out → put (register-handed (step-answer k g a)) out ≡ write (register-fields (step-answer k g a .register)) out
+  pub step-written : (out : List ℕ) → register-room ≤ length out → put (register-handed (step-answer k g a)) out ≡ write (register-fields (step-answer k g a .register)) out
   step-written out room = written out (step-answer k g a) e (let l = follows-fits in omega arith)
 
   step-accepts : (out : List ℕ) → register-room ≤ length out → step-call k (register-record-bytes g a) out ≡ write (register-fields (step-answer k g a .register)) out

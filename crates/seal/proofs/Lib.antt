@@ -4,3 +4,4 @@ pub mod Passing
 pub mod ByteRegister
 pub mod ByteHalving
 pub mod ToldApart
+pub mod Promises
