@@ -5,7 +5,7 @@ use mathlib.Core.Path.{_≡_, refl}
 use mathlib.Core.List.{List, _∷_}
 use Rattle.jacobian.specs.{Refusals.refusals, Refusals.listed, Refusals.IsRefusal, Refusals.Told, declared.Curve.Curve}
 use Rattle.jacobian.proofs.Refusals.{told-unless}
-use Rattle.stored_form.specs.{Reading.found, Reading._then_, Head.body-at, Fields.degree-at, Fields.drawing-at, Fields.count-at, Classes.curve-at, Classes.curve-first, Classes.class-at}
+use Rattle.stored_form.specs.{Reading.found, Head.body-at, Fields.degree-at, Fields.drawing-at, Fields.count-at, Classes.curve-at, Classes.curve-first, Classes.class-at}
 use Rattle.stored_form.proofs.ToldApart.{told-curve, told-refusal, told-count, told-drawing, told-end, Tells, found-tells, checked-tells, then-tells, reading-told, reading-found, found-reading, body-tells}
 use Rattle.archive.specs.Archive.{Archive, operations-at, read-archive, archive-refusal}
 

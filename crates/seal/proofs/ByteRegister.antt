@@ -4,24 +4,23 @@
 -- writes the record's count and seal to the byte (`undo-of-commit-bytes`), and the reverse (`commit-of-undo-bytes`).
 use Prim.Native.Nat.{ℕ, _≤_}
 use mathlib.Core.Path.{_≡_, refl, sym, ap, _∙_, subst}
-use mathlib.Core.List.{List, _++_}
+use mathlib.Core.List.{List}
 use native.Mathlib.Omega.{arith}
 use lib.ListN.{length, length-append}
 use lib.Seq.{take-append-seam}
-use Rattle.jacobian.specs.{Checks._or-else_, Curves.curve-refusal, Classes.Three, Classes.class-refusal, Answer.accepted, Answer.refused, Answer.refusal}
-use Rattle.jacobian.specs.declared.{Curve.Curve, Class.Class}
+use Rattle.jacobian.specs.{Classes.Three, Answer.accepted, Answer.refused, declared.Class.Class}
 use Rattle.history.specs.declared.{Register.Register, Step.Step, Step.the-variants.Commit, Step.the-variants.Undo}
 use Rattle.history.specs.Register.{RegisterReply, step-refusal, stepped, other, step-answer, commit-answer, undo-answer}
-use Rattle.history.proofs.Registers.{Passes, Passing, step-passes, follows-accepted, follows-zero}
+use Rattle.history.proofs.Registers.{Passes, step-passes, follows-accepted, follows-zero}
 use Rattle.history.proofs.OneStep.{taken, stepped-curve, stepped-fits, stepped-passes, step-taken-back}
-use Rattle.stored_form.specs.{Number.Bytes, Reading.found, Fields.count-field, Classes.curve-first-fields, Classes.class-field, Passing.ClassPasses, Held.read-record, Held.register-record}
-use Rattle.stored_form.specs.Effect.{Effect, refuse, write, on, put, byte-call, register-room}
+use Rattle.stored_form.specs.{Number.Bytes, Reading.found, Fields.count-field, Classes.class-field, Held.read-record, Held.register-record}
+use Rattle.stored_form.specs.Effect.{Effect, refuse, write, on, put, register-room}
 use Rattle.stored_form.specs.declared.Held.{Held}
 use Rattle.stored_form.proofs.{ClassRoundTrips.class-short, Rows.length-count, Effects.call-found, Effects.put-written, Effects.put-refusal}
 use Rattle.seal.specs.Records.{register-held, register-fields, register-record-bytes, RegisterStored}
 use Rattle.seal.specs.Rebuilt.{register-rebuilt}
-use Rattle.seal.specs.Calls.{register, register-handed, answered, commit-call, undo-call}
-use Rattle.seal.proofs.Written.{register-record-written, register-record-back}
+use Rattle.seal.specs.Calls.{register, register-handed, answered, commit-call, undo-call, step-call}
+use Rattle.seal.proofs.{Written.register-record-written, Written.register-record-back, Passing.accepts-passes}
 
 -- ---- what is written for an answer of the register call
 
@@ -36,13 +35,11 @@ module _ (out : List ℕ) (x : RegisterReply) where
 
 -- ---- a record that is read
 
--- the call that takes a step with the register and the class of its record
-abbrev step-call : Step → List ℕ → List ℕ → Effect
-step-call k s out = byte-call register-room register-record (λ h. register-handed (step-answer k (register h) (h .operation))) s out
-
 module _ (s out : List ℕ) (room : register-room ≤ length out) {h : Held} {end : ℕ} (e : read-record register-record s ≡ found h end) where
-  of-record : (k : Step) → step-call k s out ≡ put (register-handed (step-answer k (register h) (h .operation))) out
-  of-record k = call-found register-room register-record _ s out room e
+  pub of-record : (k : Step) → step-call k s out ≡ put (register-handed (step-answer k (register h) (h .operation))) out
+  unfolding answered
+  of-record Commit = call-found register-room register-record _ s out room e
+  of-record Undo = call-found register-room register-record _ s out room e
 
   pub commit-of-record : commit-call s out ≡ put (register-handed (commit-answer (register h) (h .operation))) out
   unfolding answered
@@ -54,14 +51,10 @@ module _ (s out : List ℕ) (room : register-room ≤ length out) {h : Held} {en
 
 -- ---- values in stored form that the register call accepts
 
-passes-of : (c : Curve) {a : Class} → curve-refusal c ≡ 0 → Three a → class-refusal c a ≡ 0 → ClassPasses c a
-unfolding refusal _or-else_
-passes-of c ok three h = record { three = three; none = rw ok h }
-
 -- the fields of a register that passes have room
 fields-short : (g : Register) → Passes g → Three (g .seal) → length (register-fields g) ≤ register-room
 fields-short g p three =
-    let seal = passes-of (g .curve) (p .curve-passes) three (p .seal-passes) in
+    let seal = accepts-passes (p .curve-passes) (record { three = three; passes = p .seal-passes }) in
     omega (arith, length-append (count-field (g .count)) (class-field 0x43 (g .seal)), length-count (g .count), class-short 0x43 (g .curve) (g .seal) (seal .three) (seal .none))
 
 module _ (k : Step) (g : Register) (a : Class) (threes : Three (g .seal) × Three a) (e : step-answer k g a .outcome ≡ accepted) where
@@ -88,15 +81,15 @@ module _ (k : Step) (g : Register) (a : Class) (threes : Three (g .seal) × Thre
         held = refl;
         bytes = refl;
         count-passes = p .register .count-passes;
-        seal-passes = passes-of (g .curve) ok (threes .0) (p .register .seal-passes);
-        class-passes = passes-of (g .curve) ok (threes .1) (p .class-passes);
+        seal-passes = accepts-passes ok (record { three = threes .0; passes = p .register .seal-passes });
+        class-passes = accepts-passes ok (record { three = threes .1; passes = p .class-passes });
       }
 
   -- what is written for an accepted step
   pub step-written : (out : List ℕ) → register-room ≤ length out → put (register-handed (step-answer k g a)) out ≡ write (register-fields (step-answer k g a .register)) out
   step-written out room = written out (step-answer k g a) e (let l = follows-fits in omega arith)
 
-  step-accepts : (out : List ℕ) → register-room ≤ length out → step-call k (register-record-bytes g a) out ≡ write (register-fields (step-answer k g a .register)) out
+  pub step-accepts : (out : List ℕ) → register-room ≤ length out → step-call k (register-record-bytes g a) out ≡ write (register-fields (step-answer k g a .register)) out
   step-accepts out room = of-record (register-record-bytes g a) out room (register-record-back stored) k ∙ step-written out room
 
 module _ (g : Register) (a : Class) (threes : Three (g .seal) × Three a) (out : List ℕ) (room : register-room ≤ length out) where

@@ -5,3 +5,5 @@ pub mod ByteRegister
 pub mod ByteHalving
 pub mod ToldApart
 pub mod Promises
+pub mod WrittenBytes
+pub mod ByteSteps

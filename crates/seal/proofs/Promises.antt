@@ -1,17 +1,17 @@
 -- What half and undo promise (demand 2): where the record is read and the output has room, half writes the one class whose double is the class of the record
 -- (`halves`), and undo, above count 0, the one seal whose double plus the operation's class is the seal of the record (`undoes`).
 use Prim.Native.Nat.{ℕ, _-_, _≤_}
-use mathlib.Core.Path.{_≡_, refl, sym, ap, _∙_}
+use mathlib.Core.Path.{_≡_, sym, ap, _∙_}
 use mathlib.Core.List.{List, _++_}
 use lib.ListN.{length}
 use Rattle.class_group.specs.{Operations.sum, Operations.double, Moves.double-and-add}
 use Rattle.class_group.proofs.Closed.{double-reduced}
-use Rattle.jacobian.specs.{Curves.curve, Classes.pair, Classes.class-of, Classes.class-refusal, Answer.Result, Answer.result, Answer.double-answer, Answer.half-answer, Answer.sum-answer, declared.Curve.Curve, declared.Class.Class}
+use Rattle.jacobian.specs.{Curves.curve, Classes.pair, Classes.class-of, Answer.Result, Answer.result, Answer.double-answer, Answer.half-answer, Answer.sum-answer, declared.Curve.Curve, declared.Class.Class}
 use Rattle.jacobian.proofs.{Calls.gives, Calls.double-gives, Calls.sum-gives, Calls.double-accepts, Calls.double-of-half, Calls.only-half, Representation.accepted-reduced, Representation.Form.pair-class-of}
 use Rattle.history.specs.Register.{commit-seal, undo-seal, Sound, edge, moved, stepped, step-answer, RegisterReply}
 use Rattle.history.specs.declared.{Register.Register, Step.the-variants.Undo}
 use Rattle.history.proofs.{Seals.undo-sound, Seals.undo-of-commit, Seals.commit-of-undo, Registers.Passing, Registers.passes-step, Registers.follows-zero, OneStep.taken}
-use Rattle.stored_form.specs.{Reading.found, Head.class-room, Fields.count-field, Classes.class-field, Passing.ClassPasses, Held.read-record, Held.class-record, Held.register-record, declared.Held.Held}
+use Rattle.stored_form.specs.{Reading.found, Fields.count-field, Classes.class-field, Passing.ClassPasses, Held.read-record, Held.register-record, declared.Held.Held}
 use Rattle.stored_form.specs.Effect.{Effect, write, register-room}
 use Rattle.seal.specs.Records.{register-fields}
 use Rattle.seal.specs.Calls.{register, half-call, undo-call, Gives, TheOnly, Halves, Undoes}

@@ -3,23 +3,23 @@
 -- a length, above that the number of a refusal. Membership answers 0 exactly where the record is read, and else the number of a refusal
 -- (`membership-told`, `membership-found`, `found-membership`).
 use Prim.Native.Nat.{ℕ, zero, suc, _≤_}
-use mathlib.Core.Path.{_≡_, refl, sym, ap, _∙_}
+use mathlib.Core.Path.{_≡_, refl, sym, ap, _∙_, subst}
 use mathlib.Core.{List.List, Logic.inr}
-use lib.Dec.{eqb, lit≤}
-use Rattle.jacobian.specs.{Refusals.refusals, Refusals.listed, Refusals.IsRefusal, Refusals.Told, Answer.Reply, Answer.result, Answer.verdict-of, Classes.Three, declared.Curve.Curve, declared.Class.Class}
+use lib.{Dec.eqb, Dec.lit≤, ListN.length}
+use Rattle.jacobian.specs.{Refusals.refusals, Refusals.listed, Refusals.IsRefusal, Refusals.Told, Answer.Reply, Answer.Verdict, Answer.accepted, Answer.refused, Answer.result, Answer.verdict-of, Classes.Three, declared.Curve.Curve, declared.Class.Class}
 use Rattle.jacobian.proofs.Refusals.{told-none, told-or-else, told-unless, refused-told}
 use Rattle.history.specs.Register.{register-refusal, edge, edge-refusal, step-refusal, stepped, follows, step-answer}
 use Rattle.history.specs.declared.{Register.Register, Step.Step, Step.the-variants.Commit, Step.the-variants.Undo}
-use Rattle.stored_form.specs.{Reading.found, Head.class-room, Held.read-record, Held.class-record, Held.sum-record, Held.register-record, declared.Held.Held, Classes.class-field}
-use Rattle.stored_form.specs.Effect.{on, class-handed, byte-call, register-room, HandedApart, bytes, ToldApart, AnswerTells}
-use Rattle.stored_form.proofs.{ClassRoundTrips.class-short, ToldApart.either, ToldApart.told-curve, ToldApart.told-class, ToldApart.record-tells, ToldApart.reading-told, ToldApart.reading-found, ToldApart.found-reading, ToldApart.on-apart, ToldApart.call-told-apart, ToldApart.answer-tells}
+use Rattle.stored_form.specs.{Reading.Reading, Reading.found, Reading.refused as unread, Head.class-room, Held.read-record, Held.class-record, Held.sum-record, Held.register-record, declared.Held.Held, Classes.class-field}
+use Rattle.stored_form.specs.Effect.{Effect, refuse, on, class-handed, register-room, HandedApart, bytes, ToldApart, AnswerTells}
+use Rattle.stored_form.proofs.{ClassRoundTrips.class-short, ToldApart.either, ToldApart.told-curve, ToldApart.told-class, ToldApart.Tells, ToldApart.record-tells, ToldApart.reading-told, ToldApart.reading-found, ToldApart.found-reading, ToldApart.on-apart, ToldApart.call-told-apart, ToldApart.answer-tells, ToldApart.never-both, Effects.call-refused}
 use Rattle.seal.specs.Records.{register-fields}
-use Rattle.seal.specs.Calls.{register, register-handed, answered, membership-call, room, called}
+use Rattle.seal.specs.Calls.{register, register-handed, answered, membership-call, room, called, step-call}
 use Rattle.seal.specs.declared.calls.Call.{Call}
 use Rattle.seal.specs.declared.calls.Call.the-variants.{Opposite, Double, Half, Sum}
 use Rattle.seal.specs.declared.calls.Call.the-variants as Call
 use Rattle.seal.proofs.Passing.{Given, class-holds, sum-holds, register-holds, opposite-given, double-given, half-given, sum-given}
-use Rattle.seal.proofs.ByteRegister.{follows-fits}
+use Rattle.seal.proofs.ByteRegister.{follows-fits, of-record, unwritten}
 
 -- ---- membership
 
@@ -62,18 +62,27 @@ unfolding follows verdict-of
 follows-verdict zero given next = refl
 follows-verdict (suc n) given next = refl
 
+step-refuses : (k : Step) (g : Register) (a : Class) (n : ℕ) → step-answer k g a .outcome ≡ refused n → IsRefusal n
+unfolding step-answer
+step-refuses k g a n e = refused-told (step-refusal k g a) n (told-step k g a) (sym (follows-verdict (step-refusal k g a) g (stepped k g a)) ∙ e)
+
 -- a register, or the refusal of the step
 step-apart : (k : Step) (g : Register) (a : Class) → Three (g .seal) × Three a → HandedApart register-room (register-handed (step-answer k g a))
-unfolding register-handed step-answer
+unfolding register-handed
 step-apart k g a threes =
     on-apart register-room (step-answer k g a .outcome) (register-fields (step-answer k g a .register))
     (λ e. follows-fits k g a threes e)
-    (λ n e. refused-told (step-refusal k g a) n (told-step k g a) (sym (follows-verdict (step-refusal k g a) g (stepped k g a)) ∙ e))
+    (step-refuses k g a)
+
+step-of-record : (k : Step) (s : List ℕ) {h : Held} {end : ℕ} → read-record register-record s ≡ found h end → HandedApart register-room (register-handed (step-answer k (register h) (h .operation)))
+step-of-record k s {h} e = let p = register-holds s e in step-apart k (register h) (h .operation) (p .1 .three, p .2 .three)
 
 -- ---- the calls
 
-step-told-apart : (k : Step) (s out : List ℕ) → ToldApart register-room out (byte-call register-room register-record (λ h. register-handed (step-answer k (register h) (h .operation))) s out)
-step-told-apart k s out = call-told-apart register-room register-record _ s out (λ h end e. let p = register-holds s e in step-apart k (register h) (h .operation) (p .1 .three, p .2 .three))
+step-told-apart : (k : Step) (s out : List ℕ) → ToldApart register-room out (step-call k s out)
+unfolding answered
+step-told-apart Commit s out = call-told-apart register-room register-record _ s out (λ h end e. step-of-record Commit s e)
+step-told-apart Undo s out = call-told-apart register-room register-record _ s out (λ h end e. step-of-record Undo s e)
 
 pub told-apart : (call : Call) (s out : List ℕ) → ToldApart (room call) out (called call s out)
 unfolding answered
@@ -95,3 +104,34 @@ room-low Call.Undo = lit≤ tt
 -- by the answer alone
 pub tells : (call : Call) (s out : List ℕ) → AnswerTells (room call) out (called call s out)
 tells call s out = answer-tells (room-low call) (told-apart call s out)
+
+-- ---- a commit or an undo whose answer is a length was read and accepted
+
+module _ (k : Step) (s out : List ℕ) (low : step-call k s out .answer ≤ 100) where
+  pub accepted-room : register-room ≤ length out
+  accepted-room = answer-tells (lit≤ tt) (step-told-apart k s out) .wrote low .2
+
+  not-refused : (n : ℕ) → IsRefusal n → step-call k s out ≡ refuse n out → ⊥
+  unfolding refuse
+  not-refused n i e = never-both (subst (λ (x : Effect). x .answer ≤ 100) e low) i
+
+  unread-refused : {n : ℕ} → read-record register-record s ≡ unread n → step-call k s out ≡ refuse n out
+  unread-refused {n} e = go k
+    where
+      go : (j : Step) → step-call j s out ≡ refuse n out
+      go Commit = call-refused register-room register-record _ s out accepted-room e
+      go Undo = call-refused register-room register-record _ s out accepted-room e
+
+  pub accepted-read : (h : Held) × (end : ℕ) × (read-record register-record s ≡ found h end) × (step-answer k (register h) (h .operation) .outcome ≡ accepted)
+  unfolding Tells
+  accepted-read = go (read-record register-record s) refl (record-tells register-record s)
+    where
+      taken : (h : Held) (end : ℕ) → read-record register-record s ≡ found h end → (v : Verdict) → step-answer k (register h) (h .operation) .outcome ≡ v → v ≡ accepted
+      taken h end e accepted f = refl
+      taken h end e (refused n) f =
+          absurd (not-refused n (step-refuses k (register h) (h .operation) n f) (of-record s out accepted-room e k ∙ unwritten out (step-answer k (register h) (h .operation)) f))
+
+      go : (x : Reading Held) → read-record register-record s ≡ x → Tells x
+          → (h : Held) × (end : ℕ) × (read-record register-record s ≡ found h end) × (step-answer k (register h) (h .operation) .outcome ≡ accepted)
+      go (found h end) e t = (h, end, e, taken h end e (step-answer k (register h) (h .operation) .outcome) refl)
+      go (unread n) e t = absurd (not-refused n t (unread-refused e))

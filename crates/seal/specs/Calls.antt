@@ -4,7 +4,8 @@ use mathlib.Core.{Path._≡_, List.List, List._++_}
 use lib.ListN.{length}
 use Rattle.jacobian.specs.Answer.{Reply, accepted, result, opposite-answer, double-answer, half-answer, sum-answer}
 use Rattle.jacobian.specs.declared.{Curve.Curve, Class.Class}
-use Rattle.history.specs.declared.Register.{Register}
+use Rattle.history.specs.declared.{Register.Register, Step.Step}
+use Rattle.history.specs.declared.Step.the-variants as step
 use Rattle.history.specs.Register.{RegisterReply, commit-answer, undo-answer}
 use Rattle.stored_form.specs.{Reading.found, Reading.reading-refusal, Head.class-room, Fields.count-field, Classes.class-field, Passing.ClassPasses}
 use Rattle.stored_form.specs.Held.{read-record, class-record, sum-record, register-record}
@@ -75,6 +76,11 @@ commit-call = called Commit
 
 abbrev pub undo-call : List ℕ → List ℕ → Effect
 undo-call = called Undo
+
+-- the call of a step
+abbrev pub step-call : Step → List ℕ → List ℕ → Effect
+step-call step.Commit = commit-call
+step-call step.Undo = undo-call
 
 -- ---- what half and undo promise besides (document 00, demand 2)
 
