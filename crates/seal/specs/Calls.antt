@@ -56,6 +56,7 @@ room Sum = class-room
 room Commit = register-room
 room Undo = register-room
 
+-- a call that writes
 abbrev pub called : Call → List ℕ → List ℕ → Effect
 called call s out = byte-call (room call) (tags call) (answered call) s out
 
