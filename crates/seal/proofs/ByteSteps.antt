@@ -1,16 +1,16 @@
 -- Demand 3 on a list of byte commits and undos (document 01, 'The register'): from the stored form of any register that no check refuses, whatever bytes stand in
 -- the place of the operations, refused calls among them, each on the record made of what the last accepted one wrote. `taken-back-turned`: taking the accepted
 -- calls back, newest first, into whatever outputs with room, does to each call what `turned` says. So none is refused (`taken-back-accepted`), every
--- count and seal comes back to the byte (`taken-back-fields`), and at the end the first (`taken-back-all`). Every record that is read holds such a stored
--- form (`record-kept`). All this is of machines; byte calls are one by `reversible`.
+-- count and seal comes back to the byte (`taken-back-fields`), and at the end the first (`taken-back-all`). All this is of machines;
+-- byte calls are one by `reversible`.
 use Prim.Native.Nat.{ℕ, _≤_}
 use mathlib.Core.Path.{_≡_, refl, sym, ap, ap₂, _∙_, subst}
 use mathlib.Core.Bool.{Bool, true, false, cond}
-use mathlib.Core.List.{List, [], _∷_, _++_, map, append-nil}
+use mathlib.Core.List.{List, _++_, map}
 use native.Mathlib.Omega.{arith}
 use lib.Dec.{ltb}
-use lib.ListN.{length, drop}
-use lib.Seq.{take-append-seam, drop-append-seam}
+use lib.ListN.{length}
+use lib.Seq.{take-append-seam}
 use borrow.Author.Tests.{ltb-false, le-ltb}
 use Rattle.class_group.specs.Walk.{All}
 use Rattle.jacobian.specs.{Classes.Three, Answer.Verdict, Answer.accepted, Answer.refused, declared.Class.Class}
@@ -20,83 +20,12 @@ use Rattle.history.specs.declared.Register.{Register}
 use Rattle.history.specs.Calls.{answer}
 use Rattle.history.proofs.{Machine.Run.accepted-fit, OneStep.taken, OneStep.step-taken-back, OneCall.answer-curve, OneCall.answer-fits, OneCall.accepted-passes}
 use Rattle.history.proofs.Machine.TakingBack as machine
-use Rattle.stored_form.specs.{Number.Bytes, Reading.found, Classes.curve-first-fields, Classes.class-field, Fields.count-field, Passing.CountPasses, Passing.ClassPasses}
-use Rattle.stored_form.specs.Held.{nothing-held, with-curve, with-count, with-class, read-fields, read-record, register-record}
+use Rattle.stored_form.specs.{Number.Bytes, Classes.curve-first-fields}
 use Rattle.stored_form.specs.Effect.{Effect, write, register-room}
 use Rattle.stored_form.specs.declared.Held.{Held}
-use Rattle.stored_form.proofs.{Readings.same-found, RoundTrips.apart, RoundTrips.whole, RecordRoundTrips.Run, RecordRoundTrips.none, RecordRoundTrips.more, RecordRoundTrips.field-body, RecordRoundTrips.field-bytes, RecordRoundTrips.fields-read-back}
-use Rattle.stored_form.proofs.RecordValues.{says-count, says-class, says-first}
-use Rattle.seal.specs.{Records.register-held, Records.register-fields, Records.register-record-bytes, Rebuilt.wrote, Calls.register, Calls.step-call}
+use Rattle.seal.specs.{Records.register-fields, Records.register-record-bytes, Rebuilt.wrote, Calls.register, Calls.step-call}
 use Rattle.seal.specs.Steps.{Kept, ByteStep, made, outcome, next, byte-steps, back, Stored}
-use Rattle.seal.proofs.{Written.curve-passes, Written.register-record-written, WrittenBytes.append-bytes, WrittenBytes.curve-bytes, WrittenBytes.register-bytes}
-use Rattle.seal.proofs.{Passing.accepts-passes, ByteRegister.follows-fits, ByteRegister.step-accepts, ToldApart.accepted-room, ToldApart.accepted-read}
-
--- ---- the fields before the operation are read as what they were written for
-
-abbrev before : Register → List ℕ
-before g = curve-first-fields (g .curve) ++ register-fields g
-
-abbrev before-held : Register → Held
-before-held g = with-class (g .seal) (with-count (g .count) (with-curve (g .curve) nothing-held))
-
-record Passes (g : Register) : Type 0 where
-  count : CountPasses (g .count)
-  seal : ClassPasses (g .curve) (g .seal)
-
-before-run : (g : Register) → Passes g → Run nothing-held (0x40 ∷ 0x41 ∷ 0x42 ∷ 0x43 ∷ []) (before-held g) (before g)
-unfolding field-bytes field-body count-field class-field
-before-run g p =
-    let begun = with-curve (g .curve) nothing-held in
-    subst (λ (xs : List ℕ). Run nothing-held (0x40 ∷ 0x41 ∷ 0x42 ∷ 0x43 ∷ []) (before-held g) (curve-first-fields (g .curve) ++ (count-field (g .count) ++ xs))) (append-nil (class-field 0x43 (g .seal)))
-    (says-first (g .curve) (curve-passes (p .seal))
-    (more (says-count begun (g .count) (p .count)) (more (says-class (with-count (g .count) begun) (g .seal) (p .seal .three) (p .seal .none)) none)))
-
-before-read : (g : Register) (rest : List ℕ) → Passes g → (at : ℕ) × (read-fields (0x40 ∷ 0x41 ∷ 0x42 ∷ 0x43 ∷ []) nothing-held (before g ++ rest) 0 ≡ found (before-held g) at)
-before-read g rest p =
-    let f = apart (before g) rest (whole (before g ++ rest)) in
-    (f .0, fields-read-back (before g ++ rest) 0 (before-run g p) (f .1))
-
--- so two records with the same bytes have the same register
-same-register : (g k : Register) (xs ys : List ℕ) → Passes g → Passes k → before g ++ xs ≡ before k ++ ys → g ≡ k
-same-register g k xs ys p q e =
-    let here = before-read g xs p in
-    let there = before-read k ys q in
-    ap register (same-found (sym (here .1) ∙ ap (λ (s : List ℕ). read-fields (0x40 ∷ 0x41 ∷ 0x42 ∷ 0x43 ∷ []) nothing-held s 0) e ∙ there .1) .0)
-
--- and the operation's class has its field at the end
-record Operation (g : Register) (op : List ℕ) (h : Held) : Type 0 where
-  class : Class
-  three : Three class
-  field : op ≡ class-field 0x44 class
-  held : h ≡ register-held g class
-
-operation : (g : Register) (op : List ℕ) → Passes g → Bytes op → {h : Held} {end : ℕ} → read-record register-record (before g ++ op) ≡ found h end → Operation g op h
-unfolding register-record-bytes
-operation g op p bytes read =
-    let w = register-record-written (append-bytes (before g) op (append-bytes (curve-first-fields (g .curve)) (register-fields g) (curve-bytes (g .curve)) (register-bytes g)) bytes) read .0 in
-    let same : g ≡ w .register = same-register g (w .register) op (class-field 0x44 (w .class)) p (record { count = w .count-passes; seal = w .seal-passes }) (w .bytes) in
-    record {
-      class = w .class;
-      three = w .class-passes .three;
-      field =
-          sym (drop-append-seam (before g) op)
-          ∙ ap (drop (length (before g))) (w .bytes ∙ ap (λ (r : Register). before r ++ class-field 0x44 (w .class)) (sym same))
-          ∙ drop-append-seam (before g) (class-field 0x44 (w .class));
-      held = w .held ∙ ap (λ (r : Register). register-held r (w .class)) (sym same);
-    }
-
--- every record that is read is such fields and an operation's
-pub record-kept : (s : List ℕ) → Bytes s → {h : Held} {end : ℕ} → read-record register-record s ≡ found h end →
-    (k : Kept) × Stored k × (op : List ℕ) × (s ≡ k .curve ++ k .register ++ op)
-unfolding register-record-bytes
-record-kept s bytes read =
-    let w = register-record-written bytes read .0 in
-    let g = w .register in (
-      record { curve = curve-first-fields (g .curve); register = register-fields g },
-      record { register = g; count-passes = w .count-passes; seal-passes = w .seal-passes; curve-bytes = refl; register-bytes = refl },
-      class-field 0x44 (w .class),
-      w .bytes,
-    )
+use Rattle.seal.proofs.{KeptFields.before, KeptFields.Passes, KeptFields.Operation, KeptFields.operation, Passing.accepts-passes, ByteRegister.follows-fits, ByteRegister.step-accepts, ToldApart.accepted-room, ToldApart.accepted-read}
 
 -- ---- one call
 
