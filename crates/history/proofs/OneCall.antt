@@ -32,11 +32,13 @@ module _ (r : Register) (c : Call) where
         let z = follows-accepted _ r (stepped (c .step) r (c .class)) e in
         rw (follows-zero _ r (stepped (c .step) r (c .class)) z) (stepped-passes r (c .class) (c .step) (step-passes (c .step) r (c .class) z))
 
-pub reversible : Reversible registers back
+-- any register, and a call with anything in its class's place
+pub reversible : Reversible registers back (λ r. Unit {0}) (λ c. Unit {0})
 unfolding event turned back answer
 reversible = record {
   stays = refused-stays;
-  returns = λ r c e.
+  keeps = λ r c h f e. tt;
+  returns = λ r c h f e.
       ap (λ (x : RegisterReply). record { before = answer r c .register; call = back c; outcome = x .outcome; left = x .register })
       (step-taken-back r (c .class) (c .step) e);
 }

@@ -6,10 +6,11 @@ use mathlib.Core.Path.{_≡_, refl, _∙_, subst}
 use mathlib.Core.List.{List, map}
 use Rattle.class_group.specs.Walk.{All}
 use Rattle.jacobian.specs.Answer.{accepted}
-use Rattle.history.specs.Machine.{event}
+use Rattle.history.specs.Machine.{accepted-of, event}
 use Rattle.history.specs.Calls.{Call, back, registers, run, last, newest, backs, taken-back, turned}
 use Rattle.history.specs.Machine as definition
 use Rattle.history.specs.declared.Register.{Register}
+use Rattle.history.proofs.All.{every}
 use Rattle.history.proofs.Machine.Run.{run-all, last-holds}
 use Rattle.history.proofs.Machine.TakingBack as machine
 use Rattle.history.proofs.OneCall.{answer-curve, reversible}
@@ -29,26 +30,29 @@ taken-back-curve r cs =
     subst (λ d. All (λ e. e .left .curve ≡ d) (taken-back r cs)) (last-curve r cs) (curve-kept (last r cs) (backs (newest r cs)))
 
 module _ (r : Register) (cs : List Call) where
+  all-calls : All (λ e. Unit {0}) (accepted-of (run r cs))
+  all-calls = every (λ e. tt) (accepted-of (run r cs))
+
   -- the calls that take the accepted ones back are these, turned back
   pub taken-back-turned : taken-back r cs ≡ map turned (newest r cs)
-  taken-back-turned = machine.taken-back-turned registers back reversible r cs
+  taken-back-turned = machine.taken-back-turned registers back reversible cs tt all-calls
 
   -- none is refused
   pub taken-back-accepted : All (λ e. e .outcome ≡ accepted) (taken-back r cs)
-  taken-back-accepted = machine.taken-back-accepted registers back reversible r cs
+  taken-back-accepted = machine.taken-back-accepted registers back reversible cs tt all-calls
 
   -- what they hand back are, one by one, the registers just before the accepted calls, newest first
   pub taken-back-registers : map (λ e. e .left) (taken-back r cs) ≡ map (λ e. e .before) (newest r cs)
-  taken-back-registers = machine.taken-back-states registers back reversible r cs (λ t. t)
+  taken-back-registers = machine.taken-back-states registers back reversible cs tt all-calls (λ t. t)
 
   -- so their seals
   pub taken-back-seals : map (λ e. e .left .seal) (taken-back r cs) ≡ map (λ e. e .before .seal) (newest r cs)
-  taken-back-seals = machine.taken-back-states registers back reversible r cs (λ t. t .seal)
+  taken-back-seals = machine.taken-back-states registers back reversible cs tt all-calls (λ t. t .seal)
 
   -- and their counts
   pub taken-back-counts : map (λ e. e .left .count) (taken-back r cs) ≡ map (λ e. e .before .count) (newest r cs)
-  taken-back-counts = machine.taken-back-states registers back reversible r cs (λ t. t .count)
+  taken-back-counts = machine.taken-back-states registers back reversible cs tt all-calls (λ t. t .count)
 
   -- with all of them taken back the register is the first one
   pub taken-back-all : last (last r cs) (backs (newest r cs)) ≡ r
-  taken-back-all = machine.taken-back-all registers back reversible r cs
+  taken-back-all = machine.taken-back-all registers back reversible cs tt all-calls

@@ -54,11 +54,12 @@ module _ {State Call : Type 0} (M : Machine State Call) (back : Call → Call) w
   unfoldable pub taken-back : State → List Call → List (Event State Call)
   taken-back s cs = run M (last M s cs) (backs back (newest M s cs))
 
-  -- a refused call leaves the state as it was, and an accepted one returns: the call that takes it back, made just after it, is accepted and brings back
-  -- the state just before it
-  pub record Reversible : Type 0 where
+  -- a refused call leaves the state as it was; an accepted one that fits, where the invariant of states holds, keeps it and returns: the call that takes
+  -- it back, made just after it, is accepted and brings back the state just before it
+  pub record Reversible (Holds : State → Type 0) (Fits : Call → Type 0) : Type 0 where
     pub stays : (s : State) (c : Call) (n : ℕ) → M .outcome s c ≡ refused n → M .next s c ≡ s
-    pub returns : (s : State) (c : Call) → M .outcome s c ≡ accepted → event M (M .next s c) (back c) ≡ turned back (event M s c)
+    pub keeps : (s : State) (c : Call) → Holds s → Fits c → M .outcome s c ≡ accepted → Holds (M .next s c)
+    pub returns : (s : State) (c : Call) → Holds s → Fits c → M .outcome s c ≡ accepted → event M (M .next s c) (back c) ≡ turned back (event M s c)
 
 -- ---- one machine carried to another, states and calls by a function each
 module _ {State Call State' Call' : Type 0} (state : State → State') (call : Call → Call') where

@@ -4,25 +4,25 @@
 -- writes the record's count and seal to the byte (`undo-of-commit-bytes`), and the reverse (`commit-of-undo-bytes`).
 use Prim.Native.Nat.{ℕ, _≤_}
 use mathlib.Core.Path.{_≡_, refl, sym, ap, _∙_, subst}
-use mathlib.Core.List.{List, _++_}
+use mathlib.Core.List.{List}
 use native.Mathlib.Omega.{arith}
 use lib.ListN.{length, length-append}
 use lib.Seq.{take-append-seam}
-use Rattle.jacobian.specs.{Checks._or-else_, Curves.curve-refusal, Classes.class-refusal, Answer.accepted, Answer.refused, Answer.refusal}
-use Rattle.jacobian.specs.declared.{Curve.Curve, Class.Class}
+use Rattle.jacobian.specs.{Answer.accepted, Answer.refused, declared.Class.Class}
+use Rattle.jacobian.proofs.Representation.{accepts-both}
 use Rattle.history.specs.declared.{Register.Register, Step.Step, Step.the-variants.Commit, Step.the-variants.Undo}
 use Rattle.history.specs.Register.{RegisterReply, step-refusal, stepped, other, step-answer, commit-answer, undo-answer}
-use Rattle.history.proofs.Registers.{Passes, Passing, step-passes, follows-accepted, follows-zero}
+use Rattle.history.proofs.Registers.{Passes, step-passes, follows-accepted, follows-zero}
 use Rattle.history.proofs.OneStep.{taken, stepped-curve, stepped-passes, step-taken-back}
-use Rattle.stored_form.specs.{Number.Bytes, Reading.found, Fields.count-field, Classes.curve-first-fields, Classes.class-field, Passing.ClassPasses, Held.read-record, Held.register-record}
-use Rattle.stored_form.specs.Effect.{Effect, refuse, write, on, put, byte-call, register-room}
+use Rattle.stored_form.specs.{Number.Bytes, Reading.found, Fields.count-field, Classes.class-field, Held.read-record, Held.register-record}
+use Rattle.stored_form.specs.Effect.{Effect, refuse, write, on, put, register-room}
 use Rattle.stored_form.specs.declared.Held.{Held}
 use Rattle.stored_form_theorems.proofs.ClassRoundTrips.{class-short}
 use Rattle.stored_form.proofs.{Rows.length-count, Effects.call-found, Effects.put-written, Effects.put-refusal}
 use Rattle.seal.specs.Records.{register-held, register-fields, register-record-bytes, RegisterStored}
 use Rattle.seal.specs.Rebuilt.{register-rebuilt}
-use Rattle.seal.specs.Calls.{register, register-handed, answered, commit-call, undo-call}
-use Rattle.seal.proofs.Written.{register-record-written, register-record-back}
+use Rattle.seal.specs.Calls.{register, register-handed, answered, commit-call, undo-call, step-call}
+use Rattle.seal.proofs.Written.{register-record-back}
 
 -- ---- what is written for an answer of the register call
 
@@ -37,13 +37,11 @@ module _ (out : List ℕ) (x : RegisterReply) where
 
 -- ---- a record that is read
 
--- the call that takes a step with the register and the class of its record
-abbrev step-call : Step → List ℕ → List ℕ → Effect
-step-call k s out = byte-call register-room register-record (λ h. register-handed (step-answer k (register h) (h .operation))) s out
-
 module _ (s out : List ℕ) (room : register-room ≤ length out) {h : Held} {end : ℕ} (e : read-record register-record s ≡ found h end) where
-  of-record : (k : Step) → step-call k s out ≡ put (register-handed (step-answer k (register h) (h .operation))) out
-  of-record k = call-found register-room register-record _ s out room e
+  pub of-record : (k : Step) → step-call k s out ≡ put (register-handed (step-answer k (register h) (h .operation))) out
+  unfolding answered
+  of-record Commit = call-found register-room register-record _ s out room e
+  of-record Undo = call-found register-room register-record _ s out room e
 
   pub commit-of-record : commit-call s out ≡ put (register-handed (commit-answer (register h) (h .operation))) out
   unfolding answered
@@ -55,14 +53,10 @@ module _ (s out : List ℕ) (room : register-room ≤ length out) {h : Held} {en
 
 -- ---- values in stored form that the register call accepts
 
-passes-of : (c : Curve) {a : Class} → curve-refusal c ≡ 0 → class-refusal c a ≡ 0 → ClassPasses c a
-unfolding refusal _or-else_
-passes-of c ok h = record { none = rw ok h }
-
 -- the fields of a register that passes have room
 fields-short : (g : Register) → Passes g → length (register-fields g) ≤ register-room
 fields-short g p =
-    let seal = passes-of (g .curve) (p .curve-passes) (p .seal-passes) in
+    let seal = accepts-both (g .curve) (g .seal) (p .curve-passes) (p .seal-passes) in
     omega (arith, length-append (count-field (g .count)) (class-field 0x43 (g .seal)), length-count (g .count), class-short 0x43 (g .curve) (g .seal) (seal .none))
 
 module _ (k : Step) (g : Register) (a : Class) (e : step-answer k g a .outcome ≡ accepted) where
@@ -74,7 +68,7 @@ module _ (k : Step) (g : Register) (a : Class) (e : step-answer k g a .outcome �
   unfolding step-answer
   accepted-is = follows-zero (step-refusal k g a) g (stepped k g a) none-due
 
-  follows-fits : length (register-fields (step-answer k g a .register)) ≤ register-room
+  pub follows-fits : length (register-fields (step-answer k g a .register)) ≤ register-room
   follows-fits =
       subst (λ (x : RegisterReply). length (register-fields (x .register)) ≤ register-room) (sym accepted-is)
       (fields-short (stepped k g a) (stepped-passes g a k (step-passes k g a none-due)))
@@ -89,15 +83,15 @@ module _ (k : Step) (g : Register) (a : Class) (e : step-answer k g a .outcome �
         held = refl;
         bytes = refl;
         count-passes = p .register .count-passes;
-        seal-passes = passes-of (g .curve) ok (p .register .seal-passes);
-        class-passes = passes-of (g .curve) ok (p .class-passes);
+        seal-passes = accepts-both (g .curve) (g .seal) ok (p .register .seal-passes);
+        class-passes = accepts-both (g .curve) a ok (p .class-passes);
       }
 
   -- what is written for an accepted step
-  step-written : (out : List ℕ) → register-room ≤ length out → put (register-handed (step-answer k g a)) out ≡ write (register-fields (step-answer k g a .register)) out
+  pub step-written : (out : List ℕ) → register-room ≤ length out → put (register-handed (step-answer k g a)) out ≡ write (register-fields (step-answer k g a .register)) out
   step-written out room = written out (step-answer k g a) e (let l = follows-fits in omega arith)
 
-  step-accepts : (out : List ℕ) → register-room ≤ length out → step-call k (register-record-bytes g a) out ≡ write (register-fields (step-answer k g a .register)) out
+  pub step-accepts : (out : List ℕ) → register-room ≤ length out → step-call k (register-record-bytes g a) out ≡ write (register-fields (step-answer k g a .register)) out
   step-accepts out room = of-record (register-record-bytes g a) out room (register-record-back stored) k ∙ step-written out room
 
 module _ (g : Register) (a : Class) (out : List ℕ) (room : register-room ≤ length out) where
@@ -115,7 +109,7 @@ rebuilt-write : (g k : Register) (a : Class) (out : List ℕ) → k .curve ≡ g
 unfolding register-rebuilt write register-record-bytes
 rebuilt-write g k a out same = rw (take-append-seam (register-fields k) _, same)
 
-module _ (s out last : List ℕ) (room : register-room ≤ length out) (room' : register-room ≤ length last) (bytes : Bytes s) {h : Held} {end : ℕ}
+module _ (s out last : List ℕ) (room : register-room ≤ length out) (room' : register-room ≤ length last) {h : Held} {end : ℕ}
     (read : read-record register-record s ≡ found h end) where
   -- the other step with the record rebuilt from an accepted step's output writes the record's count and seal
   taken-back : (k : Step) → step-answer k (register h) (h .operation) .outcome ≡ accepted →

@@ -1,4 +1,10 @@
 -- Laws of the records and of the byte calls.
 pub mod Written
+pub mod Passing
 pub mod ByteRegister
 pub mod ByteHalving
+pub mod ToldApart
+pub mod Promises
+pub mod WrittenBytes
+pub mod KeptFields
+pub mod ByteSteps

@@ -1,13 +1,15 @@
 -- What each byte call answers and leaves in the lent output (document 01, 'Stored form' and 'In checking order').
-use Prim.Native.Nat.{ℕ}
-use mathlib.Core.List.{List}
-use Rattle.jacobian.specs.Answer.{result, opposite-answer, double-answer, half-answer, sum-answer}
-use Rattle.history.specs.declared.Register.{Register}
+use Prim.Native.Nat.{ℕ, _-_, _≤_}
+use mathlib.Core.{Path._≡_, List.List, List._++_}
+use lib.ListN.{length}
+use Rattle.jacobian.specs.Answer.{Reply, accepted, result, opposite-answer, double-answer, half-answer, sum-answer}
+use Rattle.jacobian.specs.declared.{Curve.Curve, Class.Class}
+use Rattle.history.specs.declared.{Register.Register, Step.Step}
+use Rattle.history.specs.declared.Step.the-variants as step
 use Rattle.history.specs.Register.{RegisterReply, commit-answer, undo-answer}
-use Rattle.stored_form.specs.Reading.{reading-refusal}
-use Rattle.stored_form.specs.Head.{class-room}
+use Rattle.stored_form.specs.{Reading.found, Reading.reading-refusal, Head.class-room, Fields.count-field, Classes.class-field, Passing.ClassPasses}
 use Rattle.stored_form.specs.Held.{read-record, class-record, sum-record, register-record}
-use Rattle.stored_form.specs.Effect.{Effect, Handed, register-room, on, class-handed, byte-call}
+use Rattle.stored_form.specs.Effect.{Effect, Handed, register-room, write, on, class-handed, byte-call}
 use Rattle.stored_form.specs.declared.Held.{Held}
 use Rattle.seal.specs.Records.{register-fields}
 use Rattle.seal.specs.declared.calls.Call.{Call}
@@ -36,20 +38,72 @@ answered Undo h = register-handed (undo-answer (register h) (h .operation))
 unfoldable pub membership-call : List ℕ → ℕ
 membership-call s = reading-refusal (read-record class-record s)
 
+-- the record that a call reads
+abbrev pub tags : Call → List ℕ
+tags Opposite = class-record
+tags Double = class-record
+tags Half = class-record
+tags Sum = sum-record
+tags Commit = register-record
+tags Undo = register-record
+
+-- how long its output must be, and the most bytes that it writes
+abbrev pub room : Call → ℕ
+room Opposite = class-room
+room Double = class-room
+room Half = class-room
+room Sum = class-room
+room Commit = register-room
+room Undo = register-room
+
+-- a call that writes
+abbrev pub called : Call → List ℕ → List ℕ → Effect
+called call s out = byte-call (room call) (tags call) (answered call) s out
+
 abbrev pub opposite-call : List ℕ → List ℕ → Effect
-opposite-call s out = byte-call class-room class-record (answered Opposite) s out
+opposite-call = called Opposite
 
 abbrev pub double-call : List ℕ → List ℕ → Effect
-double-call s out = byte-call class-room class-record (answered Double) s out
+double-call = called Double
 
 abbrev pub half-call : List ℕ → List ℕ → Effect
-half-call s out = byte-call class-room class-record (answered Half) s out
+half-call = called Half
 
 abbrev pub sum-call : List ℕ → List ℕ → Effect
-sum-call s out = byte-call class-room sum-record (answered Sum) s out
+sum-call = called Sum
 
 abbrev pub commit-call : List ℕ → List ℕ → Effect
-commit-call s out = byte-call register-room register-record (answered Commit) s out
+commit-call = called Commit
 
 abbrev pub undo-call : List ℕ → List ℕ → Effect
-undo-call s out = byte-call register-room register-record (answered Undo) s out
+undo-call = called Undo
+
+-- the call of a step
+abbrev pub step-call : Step → List ℕ → List ℕ → Effect
+step-call step.Commit = commit-call
+step-call step.Undo = undo-call
+
+-- ---- what half and undo promise besides (document 00, demand 2)
+
+-- an answer that is accepted, with this class
+abbrev pub Gives : Reply → Class → Type 0
+Gives r a = result r ≡ record { outcome = accepted; class = a }
+
+-- of the classes that no check refuses on a curve, x and no other is as wanted
+pub record TheOnly (c : Curve) (Wanted : Class → Type 0) (x : Class) : Type 0 where
+  pub passes : ClassPasses c x
+  pub wanted : Wanted x
+  pub only : (b : Class) → ClassPasses c b → Wanted b → b ≡ x
+
+-- where the record is read and the output has room, half writes the one class whose double is the class of the record
+pub record Halves (s out : List ℕ) (e : Effect) : Type 0 where
+  pub answer : e ≡ half-call s out
+  pub half : {h : Held} {end : ℕ} → read-record class-record s ≡ found h end → class-room ≤ length out →
+      (x : Class) × (e ≡ write (class-field 0x43 x) out) × TheOnly (h .curve) (λ b. Gives (double-answer (h .curve) b) (h .class)) x
+
+-- and undo, above count 0, a count one lower and the one seal whose double plus the operation's class is the seal of the record
+pub record Undoes (s out : List ℕ) (e : Effect) : Type 0 where
+  pub answer : e ≡ undo-call s out
+  pub undone : {h : Held} {end : ℕ} → read-record register-record s ≡ found h end → ¬ (h .count ≡ 0) → register-room ≤ length out →
+      (x : Class) × (e ≡ write (count-field (h .count - 1) ++ class-field 0x43 x) out)
+      × TheOnly (h .curve) (λ b. Gives (sum-answer (h .curve) (double-answer (h .curve) b .class) (h .operation)) (h .class)) x

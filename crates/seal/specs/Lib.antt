@@ -1,4 +1,5 @@
--- The records that the byte calls take, and what each call answers and leaves in the lent output.
+-- The records that the byte calls take, what each call answers and leaves in the lent output, and lists of such calls.
 pub mod Records
 pub mod Calls
 pub mod Rebuilt
+pub mod Steps

@@ -2,8 +2,8 @@
 // Each answers the length written, or the number of a refusal, and then no lent byte has changed.
 ghost use mathlib.Core.Path.{_≡_};
 ghost use Rattle.history.specs.Register.{register-reply};
-ghost use Rattle.stored_form.specs.Effect.{effect, handed, byte-call};
-ghost use Rattle.seal.specs.Calls.{register-handed, answered, membership-call, opposite-call, double-call, half-call, sum-call, commit-call, undo-call};
+ghost use Rattle.stored_form.specs.{Head.class-room, Held.class-record, Held.register-record, Effect.register-room, Effect.effect, Effect.handed, Effect.byte-call};
+ghost use Rattle.seal.specs.Calls.{register-handed, answered, membership-call, opposite-call, double-call, sum-call, commit-call, Halves, Undoes};
 use history::Register;
 use history::RegisterAnswer;
 use stored_form::Held;
@@ -83,19 +83,28 @@ fn byte_call(call: Call, room: usize, tags: &[u8], input: &[u8], output: &mut [u
     effect::put(answered(call, held), output)
 }
 
+// A call on one class, which answers a class.
+fn class_call(call: Call, input: &[u8], output: &mut [u8]) -> u32
+    ensures { λ r. ⌜ effect r (now (output .exit)) ≡ byte-call class-room class-record (answered call) (now (input .entry)) (now (output .entry)) ⌝ }
+{
+    let tags = stored_form::CLASS_RECORD;
+    byte_call(call, stored_form::CLASS_ROOM, &tags, input, output)
+}
+
+// A call on a register and an operation's class, which answers a register.
+fn register_call(call: Call, input: &[u8], output: &mut [u8]) -> u32
+    ensures { λ r. ⌜ effect r (now (output .exit)) ≡ byte-call register-room register-record (answered call) (now (input .entry)) (now (output .entry)) ⌝ }
+{
+    let tags = stored_form::REGISTER_RECORD;
+    byte_call(call, effect::REGISTER_ROOM, &tags, input, output)
+}
+
 // The opposite of the class.
 #[no_mangle]
 pub extern "C" fn seal_opposite(input: &[u8], output: &mut [u8]) -> u32
     ensures { λ r. ⌜ effect r (now (output .exit)) ≡ opposite-call (now (input .entry)) (now (output .entry)) ⌝ }
 {
-    let tags = stored_form::CLASS_RECORD;
-    byte_call(
-        Call::Opposite,
-        stored_form::CLASS_ROOM,
-        &tags,
-        input,
-        output,
-    )
+    class_call(Call::Opposite, input, output)
 }
 
 // The double of the class.
@@ -103,17 +112,15 @@ pub extern "C" fn seal_opposite(input: &[u8], output: &mut [u8]) -> u32
 pub extern "C" fn seal_double(input: &[u8], output: &mut [u8]) -> u32
     ensures { λ r. ⌜ effect r (now (output .exit)) ≡ double-call (now (input .entry)) (now (output .entry)) ⌝ }
 {
-    let tags = stored_form::CLASS_RECORD;
-    byte_call(Call::Double, stored_form::CLASS_ROOM, &tags, input, output)
+    class_call(Call::Double, input, output)
 }
 
-// The half of the class: the class whose double it is.
+// The half of the class: the one class whose double it is.
 #[no_mangle]
 pub extern "C" fn seal_half(input: &[u8], output: &mut [u8]) -> u32
-    ensures { λ r. ⌜ effect r (now (output .exit)) ≡ half-call (now (input .entry)) (now (output .entry)) ⌝ }
+    ensures { λ r. ⌜ Halves (now (input .entry)) (now (output .entry)) (effect r (now (output .exit))) ⌝ }
 {
-    let tags = stored_form::CLASS_RECORD;
-    byte_call(Call::Half, stored_form::CLASS_ROOM, &tags, input, output)
+    class_call(Call::Half, input, output)
 }
 
 // The sum of the two classes.
@@ -130,15 +137,13 @@ pub extern "C" fn seal_sum(input: &[u8], output: &mut [u8]) -> u32
 pub extern "C" fn seal_commit(input: &[u8], output: &mut [u8]) -> u32
     ensures { λ r. ⌜ effect r (now (output .exit)) ≡ commit-call (now (input .entry)) (now (output .entry)) ⌝ }
 {
-    let tags = stored_form::REGISTER_RECORD;
-    byte_call(Call::Commit, effect::REGISTER_ROOM, &tags, input, output)
+    register_call(Call::Commit, input, output)
 }
 
 // The register after an undo of the class.
 #[no_mangle]
 pub extern "C" fn seal_undo(input: &[u8], output: &mut [u8]) -> u32
-    ensures { λ r. ⌜ effect r (now (output .exit)) ≡ undo-call (now (input .entry)) (now (output .entry)) ⌝ }
+    ensures { λ r. ⌜ Undoes (now (input .entry)) (now (output .entry)) (effect r (now (output .exit))) ⌝ }
 {
-    let tags = stored_form::REGISTER_RECORD;
-    byte_call(Call::Undo, effect::REGISTER_ROOM, &tags, input, output)
+    register_call(Call::Undo, input, output)
 }

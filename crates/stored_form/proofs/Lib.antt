@@ -13,3 +13,4 @@ pub mod ElementBytes
 pub mod ClassBytes
 pub mod Effects
 pub mod Rows
+pub mod ToldApart

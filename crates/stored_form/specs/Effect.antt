@@ -1,10 +1,11 @@
 -- What a call on byte areas answers, and what it leaves in the lent output (document 01, 'Stored form' and 'In checking order').
-use Prim.Native.Nat.{ℕ, _+_}
+use Prim.Native.Nat.{ℕ, _+_, _≤_, _<_}
+use mathlib.Core.Path.{_≡_}
 use mathlib.Core.Bool.{cond}
 use mathlib.Core.List.{List, [], _++_}
 use lib.ListN.{length, take, drop}
 use lib.Dec.{ltb}
-use Rattle.jacobian.specs.Answer.{Verdict, Result, accepted, refused as said-no}
+use Rattle.jacobian.specs.{Refusals.IsRefusal, Answer.Verdict, Answer.Result, Answer.accepted, Answer.refused as said-no}
 use Rattle.stored_form.specs.Reading.{Reading, found, refused}
 use Rattle.stored_form.specs.Head.{count-length, class-room}
 use Rattle.stored_form.specs.Classes.{class-field}
@@ -91,3 +92,20 @@ room = register-room
 
 abbrev pub handed : Output → Handed
 handed o = hand (o .answer) (take (o .len) (o .bytes))
+
+-- ---- answers and refusals told apart
+
+-- what is handed over: at most so many bytes with their length, or the number of a refusal alone
+pub data HandedApart (most : ℕ) (o : Handed) : Type 0 where
+  bytes : (xs : List ℕ) → length xs ≤ most → o ≡ written xs → HandedApart most o
+  number : (n : ℕ) → IsRefusal n → o ≡ refusal n → HandedApart most o
+
+-- what a call did: it wrote at most so many bytes, for which the lent output has room, or it refused
+pub data ToldApart (most : ℕ) (out : List ℕ) (e : Effect) : Type 0 where
+  wrote : (xs : List ℕ) → length xs ≤ most → most ≤ length out → e ≡ write xs out → ToldApart most out e
+  kept : (n : ℕ) → IsRefusal n → e ≡ refuse n out → ToldApart most out e
+
+-- which of the two, the answer alone says: up to 100 it is the length written, and above that the number of a refusal
+pub record AnswerTells (most : ℕ) (out : List ℕ) (e : Effect) : Type 0 where
+  pub wrote : e .answer ≤ 100 → (xs : List ℕ) × (length xs ≤ most) × (most ≤ length out) × (e ≡ write xs out)
+  pub kept : 100 < e .answer → IsRefusal (e .answer) × (e .after ≡ out)

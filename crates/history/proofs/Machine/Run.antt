@@ -1,5 +1,6 @@
 -- What a list of calls does on any machine: over two lists one after the other (`run-append`, `last-append`), and what holds along it: an invariant that
--- each call keeps holds after the list (`last-holds`), and what it shows of one call holds of all (`run-all`), or of the accepted ones (`all-accepted`).
+-- each call keeps holds after the list (`last-holds`), and what it shows of one call holds of all (`run-all`), or of the accepted ones (`all-accepted`,
+-- `accepted-fit`).
 use mathlib.Core.Path.{_≡_, refl, ap}
 use mathlib.Core.List.{List, [], _∷_, _++_}
 use Rattle.class_group.specs.Walk.{All, none, more, after}
@@ -37,3 +38,12 @@ module _ {State Call : Type 0} (M : Machine State Call) where
     unfolding run
     run-all p [] h = none
     run-all p {s} (c ∷ cs) h = more (p s c h) (run-all p cs (keeps s c h))
+
+  -- what holds of all calls of a list holds of the accepted ones
+  run-fit : {Fits : Call → Type 0} (s : State) {cs : List Call} → All Fits cs → All (λ e. e .outcome ≡ accepted → Fits (e .call)) (run M s cs)
+  unfolding run event
+  run-fit s none = none
+  run-fit s (more {a = c} f fs) = more (λ e. f) (run-fit (M .next s c) fs)
+
+  pub accepted-fit : {Fits : Call → Type 0} (s : State) {cs : List Call} → All Fits cs → All (λ e. Fits (e .call)) (accepted-of (run M s cs))
+  accepted-fit s fits = all-accepted (run-fit s fits)

@@ -1,8 +1,10 @@
--- Taking back over any reversible machine (demand 3), from any state over any list, refused calls among them: taking the accepted calls back, newest first, does to each call what `turned` says (`taken-back-turned`), so none is refused
+-- Taking back over any machine (demand 3). From a state where the invariant of a reversible machine holds, over any list whose accepted calls fit, refused
+-- calls among them: taking the accepted calls back, newest first, does to each call what `turned` says (`taken-back-turned`), so none is refused
 -- (`taken-back-accepted`), the states just before them come back one by one (`taken-back-states`), and at the end the first one (`taken-back-all`).
+-- Of a list of which a part cannot be taken back, all this holds of the calls after that part, from the state that it left (`last-append`, `last-holds` of Run).
 use mathlib.Core.Path.{_≡_, refl, sym, _∙_, ap, ap₂, subst}
 use mathlib.Core.List.{List, [], _∷_, _++_, map, map-map, reverse, reverse-cons, map-append}
-use Rattle.class_group.specs.Walk.{All, after}
+use Rattle.class_group.specs.Walk.{All, none, more, after}
 use Rattle.jacobian.specs.Answer.{Verdict, accepted, refused}
 use Rattle.history.specs.Machine.{Machine, Event, accepted-of, event, run, last, newest, backs, turned, taken-back, Reversible}
 use Rattle.history.proofs.All.{all-map}
@@ -37,11 +39,11 @@ module _ {State Call : Type 0} (M : Machine State Call) (back : Call → Call) w
       ∙ ap (λ x. map (turned back) (reverse es) ++ (x ∷ [])) k
       ∙ sym (ap (map (turned back)) (reverse-cons e es) ∙ map-append (turned back) (reverse es) (e ∷ []))
 
-  module _ (law : Reversible M back) where
-    run-chain : (s : State) (cs : List Call) → Chain s (accepted-of (run M s cs)) (last M s cs)
+  module _ {Holds : State → Type 0} {Fits : Call → Type 0} (law : Reversible M back Holds Fits) where
+    run-chain : (s : State) (cs : List Call) → Holds s → All (λ e. Fits (e .call)) (accepted-of (run M s cs)) → Chain s (accepted-of (run M s cs)) (last M s cs)
     unfolding run last after accepted-of event
-    run-chain s [] = still
-    run-chain s (c ∷ cs) = go (M .outcome s c) refl (run-chain (M .next s c) cs)
+    run-chain s [] h none = still
+    run-chain s (c ∷ cs) h fits = go (M .outcome s c) refl fits (run-chain (M .next s c) cs)
       where
         rest : List (Event State Call)
         rest = accepted-of (run M (M .next s c) cs)
@@ -49,15 +51,17 @@ module _ {State Call : Type 0} (M : Machine State Call) (back : Call → Call) w
         end : State
         end = last M (M .next s c) cs
 
-        go : (v : Verdict) → M .outcome s c ≡ v → Chain (M .next s c) rest end → Chain s (elim v [ accepted ↦ event M s c ∷ rest | refused n ↦ rest ]) end
-        go accepted e h = turns {e = event M s c} (law .returns s c e) h
-        go (refused n) e h = subst (λ t. Chain t rest end) (law .stays s c n e) h
+        go : (v : Verdict) → M .outcome s c ≡ v → All {X = Event State Call} (λ e. Fits (e .call)) (elim v [ accepted ↦ event M s c ∷ rest | refused n ↦ rest ])
+            → (Holds (M .next s c) → All (λ e. Fits (e .call)) rest → Chain (M .next s c) rest end)
+            → Chain s (elim v [ accepted ↦ event M s c ∷ rest | refused n ↦ rest ]) end
+        go accepted e (more f fs) on = turns {e = event M s c} (law .returns s c h f e) (on (law .keeps s c h f e) fs)
+        go (refused n) e fs on = subst (λ t. Chain t rest end) (law .stays s c n e) (on (subst Holds (sym (law .stays s c n e)) h) fs)
 
-    module _ (s : State) (cs : List Call) where
+    module _ {s : State} (cs : List Call) (holds : Holds s) (fits : All (λ e. Fits (e .call)) (accepted-of (run M s cs))) where
       -- the calls that take the accepted ones back are these, turned back
       pub taken-back-turned : taken-back M back s cs ≡ map (turned back) (newest M s cs)
       unfolding taken-back newest
-      taken-back-turned = chain-run (run-chain s cs)
+      taken-back-turned = chain-run (run-chain s cs holds fits)
 
       -- none is refused
       pub taken-back-accepted : All (λ e. e .outcome ≡ accepted) (taken-back M back s cs)
@@ -72,4 +76,4 @@ module _ {State Call : Type 0} (M : Machine State Call) (back : Call → Call) w
       -- with all of them taken back the state is the first one
       pub taken-back-all : last M (last M s cs) (backs back (newest M s cs)) ≡ s
       unfolding newest
-      taken-back-all = chain-last (run-chain s cs)
+      taken-back-all = chain-last (run-chain s cs holds fits)

@@ -1,0 +1,82 @@
+-- A record that begins with the stored form of a register is read as that register, and what follows is the field of a class (`operation`). Every record that is
+-- read is so (`record-kept`).
+use Prim.Native.Nat.{ℕ}
+use mathlib.Core.Path.{_≡_, refl, sym, ap, _∙_, subst}
+use mathlib.Core.List.{List, [], _∷_, _++_, append-assoc}
+use lib.ListN.{length, drop}
+use lib.Seq.{drop-append-seam}
+use Rattle.jacobian.specs.declared.Class.{Class}
+use Rattle.history.specs.declared.Register.{Register}
+use Rattle.stored_form.specs.{Number.Bytes, Reading.found, Classes.curve-first-fields, Classes.class-field, Fields.count-field, Passing.CountPasses, Passing.ClassPasses}
+use Rattle.stored_form.specs.Held.{nothing-held, with-curve, with-count, with-class, read-fields, read-record, register-record}
+use Rattle.stored_form.specs.declared.Held.{Held}
+use Rattle.stored_form.proofs.Readings.{same-found}
+use Rattle.stored_form_theorems.specs.Records.{none}
+use Rattle.stored_form_theorems.specs.Records as records
+use Rattle.stored_form_theorems.proofs.{Places.apart, Places.whole, RecordRoundTrips.begin-read-back, FieldLaws.more, FieldValues.count-law, FieldValues.class-law, FieldValues.curve-more}
+use Rattle.seal.specs.{Records.register-held, Records.register-fields, Records.register-record-bytes, Calls.register, Steps.Kept, Steps.Stored}
+use Rattle.seal.proofs.{Written.curve-passes, Written.register-record-written, WrittenBytes.append-bytes, WrittenBytes.curve-bytes, WrittenBytes.register-bytes}
+
+-- the fields before the operation
+abbrev pub before : Register → List ℕ
+before g = curve-first-fields (g .curve) ++ register-fields g
+
+abbrev before-held : Register → Held
+before-held g = with-class (g .seal) (with-count (g .count) (with-curve (g .curve) nothing-held))
+
+-- values that no check refuses
+pub record Passes (g : Register) : Type 0 where
+  pub count : CountPasses (g .count)
+  pub seal : ClassPasses (g .curve) (g .seal)
+
+before-stored : (g : Register) → Passes g → records.Stored (0x40 ∷ 0x41 ∷ 0x42 ∷ 0x43 ∷ []) (before-held g) ((curve-first-fields (g .curve) ++ count-field (g .count)) ++ class-field 0x43 (g .seal))
+before-stored g p =
+    let begun = with-curve (g .curve) nothing-held in
+    curve-more (g .curve) (curve-passes (p .seal))
+    (more (count-law begun) (g .count) (p .count) (more (class-law (with-count (g .count) begun)) (g .seal) (p .seal) none))
+
+before-read : (g : Register) (rest : List ℕ) → Passes g → (at : ℕ) × (read-fields (0x40 ∷ 0x41 ∷ 0x42 ∷ 0x43 ∷ []) nothing-held (before g ++ rest) 0 ≡ found (before-held g) at)
+before-read g rest p =
+    let f = apart (before g) rest (whole (before g ++ rest)) in
+    let stored = subst (records.Stored _ (before-held g)) (append-assoc (curve-first-fields (g .curve)) (count-field (g .count)) (class-field 0x43 (g .seal))) (before-stored g p) in
+    (f .0, begin-read-back (before g ++ rest) stored (f .1))
+
+-- so two records with the same bytes have the same register
+same-register : (g k : Register) (xs ys : List ℕ) → Passes g → Passes k → before g ++ xs ≡ before k ++ ys → g ≡ k
+same-register g k xs ys p q e =
+    let here = before-read g xs p in
+    let there = before-read k ys q in
+    ap register (same-found (sym (here .1) ∙ ap (λ (s : List ℕ). read-fields (0x40 ∷ 0x41 ∷ 0x42 ∷ 0x43 ∷ []) nothing-held s 0) e ∙ there .1) .0)
+
+-- and the operation's class has its field at the end
+pub record Operation (g : Register) (op : List ℕ) (h : Held) : Type 0 where
+  pub class : Class
+  pub field : op ≡ class-field 0x44 class
+  pub held : h ≡ register-held g class
+
+pub operation : (g : Register) (op : List ℕ) → Passes g → Bytes op → {h : Held} {end : ℕ} → read-record register-record (before g ++ op) ≡ found h end → Operation g op h
+unfolding register-record-bytes
+operation g op p bytes read =
+    let w = register-record-written (append-bytes (before g) op (append-bytes (curve-first-fields (g .curve)) (register-fields g) (curve-bytes (g .curve)) (register-bytes g)) bytes) read .0 in
+    let same : g ≡ w .register = same-register g (w .register) op (class-field 0x44 (w .class)) p (record { count = w .count-passes; seal = w .seal-passes }) (w .bytes) in
+    record {
+      class = w .class;
+      field =
+          sym (drop-append-seam (before g) op)
+          ∙ ap (drop (length (before g))) (w .bytes ∙ ap (λ (r : Register). before r ++ class-field 0x44 (w .class)) (sym same))
+          ∙ drop-append-seam (before g) (class-field 0x44 (w .class));
+      held = w .held ∙ ap (λ (r : Register). register-held r (w .class)) (sym same);
+    }
+
+-- every record that is read is such fields and an operation's
+pub record-kept : (s : List ℕ) → Bytes s → {h : Held} {end : ℕ} → read-record register-record s ≡ found h end →
+    (k : Kept) × Stored k × (op : List ℕ) × (s ≡ k .curve ++ k .register ++ op)
+unfolding register-record-bytes
+record-kept s bytes read =
+    let w = register-record-written bytes read .0 in
+    let g = w .register in (
+      record { curve = curve-first-fields (g .curve); register = register-fields g },
+      record { register = g; count-passes = w .count-passes; seal-passes = w .seal-passes; curve-bytes = refl; register-bytes = refl },
+      class-field 0x44 (w .class),
+      w .bytes,
+    )

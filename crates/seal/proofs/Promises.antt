@@ -1,0 +1,91 @@
+-- What half and undo promise (demand 2): where the record is read and the output has room, half writes the one class whose double is the class of the record
+-- (`halves`), and undo, above count 0, the one seal whose double plus the operation's class is the seal of the record (`undoes`).
+use Prim.Native.Nat.{ℕ, _-_, _≤_}
+use mathlib.Core.Path.{_≡_, sym, ap, _∙_}
+use mathlib.Core.List.{List, _++_}
+use lib.ListN.{length}
+use Rattle.class_group.specs.{Operations.sum, Operations.double, Moves.double-and-add}
+use Rattle.class_group.proofs.Closed.{double-reduced}
+use Rattle.jacobian.specs.{Curves.curve, Classes.pair, Classes.class-of, Answer.Result, Answer.result, Answer.gives, Answer.double-answer, Answer.half-answer, Answer.sum-answer, declared.Curve.Curve, declared.Class.Class}
+use Rattle.jacobian.proofs.{Calls.double-gives, Calls.sum-gives, Calls.double-accepts, Calls.double-of-half, Calls.only-half, Representation.accepts-curve, Representation.accepts-class, Representation.accepted-reduced, Representation.Form.pair-class-of}
+use Rattle.history.specs.Register.{commit-seal, undo-seal, edge, moved, stepped, step-answer, RegisterReply}
+use Rattle.history.specs.declared.{Register.Register, Step.the-variants.Undo}
+use Rattle.history.proofs.{Seals.undo-sound, Seals.undo-of-commit, Seals.commit-of-undo, Registers.Passing, Registers.passes-step, Registers.follows-zero, OneStep.taken}
+use Rattle.stored_form.specs.{Reading.found, Fields.count-field, Classes.class-field, Passing.ClassPasses, Held.read-record, Held.register-record, declared.Held.Held}
+use Rattle.stored_form.specs.Effect.{Effect, write, register-room}
+use Rattle.seal.specs.Records.{register-fields}
+use Rattle.seal.specs.Calls.{register, half-call, undo-call, Gives, TheOnly, Halves, Undoes}
+use Rattle.seal.proofs.Passing.{class-holds, register-holds, half-given}
+use Rattle.seal.proofs.ByteHalving.{half-writes}
+use Rattle.seal.proofs.ByteRegister.{undo-of-record, step-written}
+
+-- ---- half
+
+module _ {c : Curve} {a : Class} (p : ClassPasses c a) where
+  only-halved : TheOnly c (λ b. Gives (double-answer c b) a) (half-answer c a .class)
+  only-halved = record {
+    passes = half-given p .passes;
+    wanted = double-of-half c p;
+    only = λ b q e. only-half c p q e;
+  }
+
+pub halves : {s out : List ℕ} {e : Effect} → e ≡ half-call s out → Halves s out e
+halves {s} {out} is = record {
+  answer = is;
+  half = λ {h} {end} read room. (half-answer (h .curve) (h .class) .class, is ∙ half-writes s out room read, only-halved (class-holds s read));
+}
+
+-- ---- undo
+
+-- the double plus a class is the seal after a commit
+sum-of-double : {c : Curve} {b a : Class} → ClassPasses c b → ClassPasses c a → result (sum-answer c (double-answer c b .class) a) ≡ gives (commit-seal c b a)
+unfolding commit-seal double-and-add
+sum-of-double {c} {b} {a} q p =
+    let d = c .degree in
+    let twice = double (curve c) (pair d b) in
+    let is : pair d (double-answer c b .class) ≡ twice =
+    ap (λ (r : Result). pair d (r .class)) (double-gives c q)
+    ∙ pair-class-of d (curve c) twice (double-reduced (curve c) (accepted-reduced c b q)) in
+    sum-gives c (double-accepts c q) p ∙ ap (λ D. gives (class-of d (sum (curve c) D (pair d a)))) is
+
+module _ {c : Curve} {s a : Class} (p : ClassPasses c s) (q : ClassPasses c a) where
+  only-undone : TheOnly c (λ b. Gives (sum-answer c (double-answer c b .class) a) s) (undo-seal c s a)
+  only-undone =
+      let passes = undo-sound p q in
+      record {
+        passes = passes;
+        wanted = sum-of-double passes q ∙ ap gives (commit-of-undo p q);
+        only = λ b r e.
+            sym (undo-of-commit r q)
+            ∙ ap (λ (x : Result). undo-seal c (x .class) a) (sym (sum-of-double r q) ∙ e);
+      }
+
+-- above count 0 an undo of values that pass is accepted
+accepted-undo : (g : Register) (a : Class) → Passing Undo g a → step-answer Undo g a ≡ taken (moved (g .count - 1) (undo-seal (g .curve) (g .seal) a) g)
+unfolding step-answer stepped
+accepted-undo g a p = follows-zero _ g _ (passes-step Undo g a p)
+
+undo-writes : (s out : List ℕ) {h : Held} {end : ℕ} → read-record register-record s ≡ found h end → ¬ (h .count ≡ 0) → register-room ≤ length out →
+    undo-call s out ≡ write (count-field (h .count - 1) ++ class-field 0x43 (undo-seal (h .curve) (h .class) (h .operation))) out
+unfolding edge moved
+undo-writes s out {h} read some room =
+    let g = register h in
+    let a = h .operation in
+    let p = register-holds s read in
+    let passing : Passing Undo g a = record {
+      register = record { curve-passes = accepts-curve (p .1); count-passes = p .0; seal-passes = accepts-class (p .1) };
+      class-passes = accepts-class (p .2);
+      off-edge = some;
+    } in
+    let is = accepted-undo g a passing in
+    undo-of-record s out room read
+    ∙ step-written Undo g a (ap (λ (x : RegisterReply). x .outcome) is) out room
+    ∙ ap (λ (x : RegisterReply). write (register-fields (x .register)) out) is
+
+pub undoes : {s out : List ℕ} {e : Effect} → e ≡ undo-call s out → Undoes s out e
+undoes {s} {out} is = record {
+  answer = is;
+  undone = λ {h} {end} read some room.
+      let p = register-holds s read in
+      (undo-seal (h .curve) (h .class) (h .operation), is ∙ undo-writes s out read some room, only-undone (p .1) (p .2));
+}

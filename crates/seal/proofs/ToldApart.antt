@@ -1,0 +1,125 @@
+-- Answers and refusals of the byte calls are told apart (demand 1). Every call that writes, on every input and output, writes at most its room and answers that
+-- length, or answers the number of a refusal and leaves the output as it was (`told-apart`). The answer alone says which of the two (`tells`): up to 100 it is
+-- a length, above that the number of a refusal. Membership answers 0 exactly where the record is read, and else the number of a refusal
+-- (`membership-told`, `membership-found`, `found-membership`).
+use Prim.Native.Nat.{ℕ, zero, suc, _≤_}
+use mathlib.Core.Path.{_≡_, refl, sym, ap, _∙_, subst}
+use mathlib.Core.{List.List, Logic.inr}
+use lib.{Dec.eqb, Dec.lit≤, ListN.length}
+use Rattle.jacobian.specs.{Refusals.refusals, Refusals.listed, Refusals.IsRefusal, Refusals.Told, Answer.Reply, Answer.Verdict, Answer.accepted, Answer.refused, Answer.result, Answer.verdict-of, declared.Curve.Curve, declared.Class.Class}
+use Rattle.jacobian.proofs.Refusals.{refused-told}
+use Rattle.history.proofs.Told.{step-refusal-told}
+use Rattle.history.specs.Register.{register-refusal, edge, edge-refusal, step-refusal, stepped, follows, step-answer}
+use Rattle.history.specs.declared.{Register.Register, Step.Step, Step.the-variants.Commit, Step.the-variants.Undo}
+use Rattle.stored_form.specs.{Reading.Reading, Reading.found, Reading.refused as unread, Head.class-room, Held.read-record, Held.class-record, Held.sum-record, Held.register-record, declared.Held.Held, Classes.class-field}
+use Rattle.stored_form.specs.Effect.{Effect, refuse, on, class-handed, register-room, HandedApart, bytes, ToldApart, AnswerTells}
+use Rattle.stored_form_theorems.proofs.ClassRoundTrips.{class-short}
+use Rattle.stored_form.proofs.{ToldApart.Tells, ToldApart.record-tells, ToldApart.reading-told, ToldApart.reading-found, ToldApart.found-reading, ToldApart.on-apart, ToldApart.call-told-apart, ToldApart.answer-tells, ToldApart.never-both, Effects.call-refused}
+use Rattle.seal.specs.Records.{register-fields}
+use Rattle.seal.specs.Calls.{register, register-handed, answered, membership-call, room, called, step-call}
+use Rattle.seal.specs.declared.calls.Call.{Call}
+use Rattle.seal.specs.declared.calls.Call.the-variants.{Opposite, Double, Half, Sum}
+use Rattle.seal.specs.declared.calls.Call.the-variants as Call
+use Rattle.seal.proofs.Passing.{Given, class-holds, sum-holds, register-holds, opposite-given, double-given, half-given, sum-given}
+use Rattle.seal.proofs.ByteRegister.{follows-fits, of-record, unwritten}
+
+-- ---- membership
+
+module _ (s : List ℕ) where
+  pub membership-told : Told (membership-call s)
+  unfolding membership-call
+  membership-told = reading-told _ (record-tells class-record s)
+
+  pub membership-found : membership-call s ≡ 0 → (h : Held) × (end : ℕ) × (read-record class-record s ≡ found h end)
+  unfolding membership-call
+  membership-found e = reading-found _ (record-tells class-record s) e
+
+  pub found-membership : {h : Held} {end : ℕ} → read-record class-record s ≡ found h end → membership-call s ≡ 0
+  unfolding membership-call
+  found-membership e = found-reading _ e
+
+-- ---- what is handed over
+
+-- a class that passes
+class-apart : {c : Curve} {r : Reply} → Given c r → HandedApart class-room (class-handed (result r))
+unfolding class-handed on
+class-apart {c} {r} g = bytes (class-field 0x43 (r .class)) (class-short 0x43 c (r .class) (g .passes .none)) (ap class-handed (g .gives-class))
+
+follows-verdict : (n : ℕ) (given next : Register) → follows n given next .outcome ≡ verdict-of n
+unfolding follows verdict-of
+follows-verdict zero given next = refl
+follows-verdict (suc n) given next = refl
+
+step-refuses : (k : Step) (g : Register) (a : Class) (n : ℕ) → step-answer k g a .outcome ≡ refused n → IsRefusal n
+unfolding step-answer
+step-refuses k g a n e = refused-told (step-refusal k g a) n (step-refusal-told k g a) (sym (follows-verdict (step-refusal k g a) g (stepped k g a)) ∙ e)
+
+-- a register, or the refusal of the step
+step-apart : (k : Step) (g : Register) (a : Class) → HandedApart register-room (register-handed (step-answer k g a))
+unfolding register-handed
+step-apart k g a =
+    on-apart register-room (step-answer k g a .outcome) (register-fields (step-answer k g a .register))
+    (λ e. follows-fits k g a e)
+    (step-refuses k g a)
+
+step-of-record : (k : Step) (s : List ℕ) {h : Held} {end : ℕ} → read-record register-record s ≡ found h end → HandedApart register-room (register-handed (step-answer k (register h) (h .operation)))
+step-of-record k s {h} e = step-apart k (register h) (h .operation)
+
+-- ---- the calls
+
+step-told-apart : (k : Step) (s out : List ℕ) → ToldApart register-room out (step-call k s out)
+unfolding answered
+step-told-apart Commit s out = call-told-apart register-room register-record _ s out (λ h end e. step-of-record Commit s e)
+step-told-apart Undo s out = call-told-apart register-room register-record _ s out (λ h end e. step-of-record Undo s e)
+
+pub told-apart : (call : Call) (s out : List ℕ) → ToldApart (room call) out (called call s out)
+unfolding answered
+told-apart Opposite s out = call-told-apart class-room class-record _ s out (λ h end e. class-apart (opposite-given (class-holds s e)))
+told-apart Double s out = call-told-apart class-room class-record _ s out (λ h end e. class-apart (double-given (class-holds s e)))
+told-apart Half s out = call-told-apart class-room class-record _ s out (λ h end e. class-apart (half-given (class-holds s e)))
+told-apart Sum s out = call-told-apart class-room sum-record _ s out (λ h end e. let p = sum-holds s e in class-apart (sum-given (p .0) (p .1)))
+told-apart Call.Commit s out = step-told-apart Commit s out
+told-apart Call.Undo s out = step-told-apart Undo s out
+
+room-low : (call : Call) → room call ≤ 100
+room-low Opposite = lit≤ tt
+room-low Double = lit≤ tt
+room-low Half = lit≤ tt
+room-low Sum = lit≤ tt
+room-low Call.Commit = lit≤ tt
+room-low Call.Undo = lit≤ tt
+
+-- by the answer alone
+pub tells : (call : Call) (s out : List ℕ) → AnswerTells (room call) out (called call s out)
+tells call s out = answer-tells (room-low call) (told-apart call s out)
+
+-- ---- a commit or an undo whose answer is a length was read and accepted
+
+module _ (k : Step) (s out : List ℕ) (low : step-call k s out .answer ≤ 100) where
+  pub accepted-room : register-room ≤ length out
+  accepted-room = answer-tells (lit≤ tt) (step-told-apart k s out) .wrote low .2
+
+  not-refused : (n : ℕ) → IsRefusal n → step-call k s out ≡ refuse n out → ⊥
+  unfolding refuse
+  not-refused n i e = never-both (subst (λ (x : Effect). x .answer ≤ 100) e low) i
+
+  unread-refused : {n : ℕ} → read-record register-record s ≡ unread n → step-call k s out ≡ refuse n out
+  unread-refused {n} e = go k
+    where
+      go : (j : Step) → step-call j s out ≡ refuse n out
+      go Commit = call-refused register-room register-record _ s out accepted-room e
+      go Undo = call-refused register-room register-record _ s out accepted-room e
+
+  pub accepted-read : (h : Held) × (end : ℕ) × (read-record register-record s ≡ found h end) × (step-answer k (register h) (h .operation) .outcome ≡ accepted)
+  unfolding Tells
+  accepted-read = go (read-record register-record s) refl (record-tells register-record s)
+    where
+      taken : (h : Held) (end : ℕ) → read-record register-record s ≡ found h end → (v : Verdict) → step-answer k (register h) (h .operation) .outcome ≡ v → v ≡ accepted
+      taken h end e accepted f = refl
+      taken h end e (refused n) f =
+          absurd (not-refused n (step-refuses k (register h) (h .operation) n f) (of-record s out accepted-room e k ∙ unwritten out (step-answer k (register h) (h .operation)) f))
+
+      go : (x : Reading Held) → read-record register-record s ≡ x → Tells x
+          → (h : Held) × (end : ℕ) × (read-record register-record s ≡ found h end) × (step-answer k (register h) (h .operation) .outcome ≡ accepted)
+      go (found h end) e t = (h, end, e, taken h end e (step-answer k (register h) (h .operation) .outcome) refl)
+      go (unread n) e t = absurd (not-refused n t (unread-refused e))

@@ -1,0 +1,48 @@
+-- Lists of byte commits and undos, each on the record made of what the last accepted one wrote (document 00, demand 3).
+use Prim.Native.Nat.{ℕ}
+use mathlib.Core.{Path._≡_, Bool.cond, List.List, List._++_}
+use lib.Dec.{ltb}
+use Rattle.jacobian.specs.Answer.{Verdict, accepted, refused}
+use Rattle.history.specs.{Machine.Machine, Register.other, declared.Register.Register, declared.Step.Step}
+use Rattle.stored_form.specs.{Passing.CountPasses, Passing.ClassPasses, Classes.curve-first-fields, Effect.Effect}
+use Rattle.seal.specs.{Records.register-fields, Rebuilt.wrote, Calls.step-call}
+
+-- what is kept from call to call: the fields of degree and curve, and those of count and seal
+pub record Kept : Type 0 where
+  pub curve : List ℕ
+  pub register : List ℕ
+
+-- a call: the step, bytes in the place of the field of the operation's class, and the lent output
+pub record ByteStep : Type 0 where
+  pub step : Step
+  pub operation : List ℕ
+  pub output : List ℕ
+
+-- what the call does on the record made of what is kept and of the operation
+abbrev pub made : Kept → ByteStep → Effect
+made k c = step-call (c .step) (k .curve ++ k .register ++ c .operation) (c .output)
+
+-- ---- the machine
+
+-- up to 100 the answer is a length and says that the call was accepted
+unfoldable pub outcome : ℕ → Verdict
+outcome n = cond (ltb 100 n) (refused n) accepted
+
+-- an accepted call's output takes the place of count and seal; after a refusal all is as it was
+unfoldable pub next : Kept → Effect → Kept
+next k e = cond (ltb 100 (e .answer)) k (record { curve = k .curve; register = wrote e })
+
+abbrev pub byte-steps : Machine Kept ByteStep
+byte-steps = record { outcome = λ k c. outcome (made k c .answer); next = λ k c. next k (made k c) }
+
+-- a call is taken back by the other step with the same operation, into whatever output is lent for it
+unfoldable pub back : (ByteStep → List ℕ) → ByteStep → ByteStep
+back lend c = record { step = other (c .step); operation = c .operation; output = lend c }
+
+-- what is kept is the stored form of a register that no check refuses
+pub record Stored (k : Kept) : Type 0 where
+  pub register : Register
+  pub count-passes : CountPasses (register .count)
+  pub seal-passes : ClassPasses (register .curve) (register .seal)
+  pub curve-bytes : k .curve ≡ curve-first-fields (register .curve)
+  pub register-bytes : k .register ≡ register-fields register

@@ -1,0 +1,159 @@
+-- Answers and refusals are told apart (demand 1). Every check says 0 or the number of a refusal (`told-count` and its like), and so does every reading
+-- (`record-tells`): 0 where the values are found (`reading-found`, `found-reading`). A call whose answers are told apart tells them apart on every input and
+-- output (`call-told-apart`), and then the answer alone says which of the two it was (`answer-tells`): no length written is the number of a refusal.
+use Prim.Native.Nat.{ℕ, zero, suc, _+_, _≤_, _<_}
+use mathlib.Core.Path.{_≡_, refl, sym, ap, subst, _∙_}
+use mathlib.Core.{Bool.Bool, Bool.true, Bool.false, Bool.cond, Bool.not, List.List, List.[], List._∷_, Logic.inl, Logic.inr}
+use native.Mathlib.Omega.{arith}
+use lib.{Dec.eqb, Dec.ltb, ListN.length, ListN.getD}
+use borrow.Author.Tests.{ltb-true, ltb-false}
+use Rattle.jacobian.specs.{Refusals.refusals, Refusals.listed, Refusals.IsRefusal, Refusals.Told, Curves.degree-refusal, Answer.Verdict, Answer.accepted, Answer.refused as said-no, declared.Curve.Curve}
+use Rattle.jacobian.proofs.{Refusals.told-unless, Refusals.above-100, Told.curve-refusal-told, Told.refusal-told}
+use Rattle.stored_form.specs.{Reading.Reading, Reading.found, Reading.refused, Reading.refuse, Reading.checked, Reading._then_, Reading.reading-refusal, Head.allowed, Head.body-length, Head.head-at, Head.body-at}
+use Rattle.stored_form.specs.{Fields.count-refusal, Fields.drawing-refusal, Fields.end-refusal}
+use Rattle.stored_form.specs.Held.{nothing-held, field-refusal, read-field, read-fields, ended, read-record}
+use Rattle.stored_form.specs.Effect.{Effect, Handed, write, on, put, byte-call, HandedApart, bytes, number, ToldApart, wrote, kept, AnswerTells}
+use Rattle.stored_form.specs.Effect as specs
+use Rattle.stored_form.specs.declared.Held.{Held}
+use Rattle.stored_form.proofs.Effects.{put-written, put-refusal, call-short, call-refused, call-found}
+
+-- ---- what the checks say
+
+pub either : {A : Type 0} (P : A → Type 0) (b : Bool) {x y : A} → P x → P y → P (cond b x y)
+either P true p q = p
+either P false p q = q
+
+told-degree : (c : Curve) → Told (degree-refusal c)
+unfolding degree-refusal IsRefusal refusals listed
+told-degree c = told-unless _ 106 refl
+
+pub told-count : (n : ℕ) → Told (count-refusal n)
+unfolding count-refusal IsRefusal refusals listed
+told-count n = told-unless _ 109 refl
+
+pub told-drawing : (xs : List ℕ) → Told (drawing-refusal xs)
+unfolding drawing-refusal IsRefusal refusals listed
+told-drawing xs = told-unless _ 108 refl
+
+pub told-end : (s : List ℕ) (at : ℕ) → Told (end-refusal s at)
+unfolding end-refusal Told IsRefusal refusals listed
+told-end s at = either Told (ltb at (length s)) (inr refl) (inl refl)
+
+told-field : (tag : ℕ) (h : Held) → Told (field-refusal tag h)
+unfolding field-refusal
+told-field tag h =
+    either Told (eqb tag 0x40) (told-degree _)
+    (either Told (eqb tag 0x41) (curve-refusal-told _)
+    (either Told (eqb tag 0x46) (told-drawing _)
+    (either Told (eqb tag 0x42) (told-count _)
+    (either Told (eqb tag 0x43) (refusal-told _ _)
+    (refusal-told _ _)))))
+
+-- ---- readings that refuse with the number of a refusal
+
+unfoldable pub Tells : {A : Type 0} → Reading A → Type 0
+Tells (found a next) = Unit
+Tells (refused n) = IsRefusal n
+
+module _ {A : Type 0} where
+  pub found-tells : (a : A) (next : ℕ) → Tells (found a next)
+  unfolding Tells
+  found-tells a next = tt
+
+  refuse-tells : (n : ℕ) (b : Bool) (r : Reading A) → IsRefusal n → Tells r → Tells (refuse n b r)
+  unfolding Tells
+  refuse-tells n true r i t = i
+  refuse-tells n false r i t = t
+
+  pub checked-tells : (n : ℕ) (r : Reading A) → Told n → Tells r → Tells (checked n r)
+  unfolding Tells checked Told
+  checked-tells zero r t u = u
+  checked-tells (suc n) r (inl e) u = absurd (omega arith)
+  checked-tells (suc n) r (inr i) u = i
+
+  pub then-tells : {B : Type 0} (x : Reading B) (f : B → ℕ → Reading A) → Tells x → ((b : B) (next : ℕ) → Tells (f b next)) → Tells (x then f)
+  unfolding Tells _then_
+  then-tells (found b next) f t u = u b next
+  then-tells (refused n) f t u = t
+
+  -- its number is 0 exactly where something is found
+  pub reading-told : (x : Reading A) → Tells x → Told (reading-refusal x)
+  unfolding Tells Told
+  reading-told (found a next) t = inl refl
+  reading-told (refused n) t = inr t
+
+  pub reading-found : (x : Reading A) → Tells x → reading-refusal x ≡ 0 → (a : A) × (next : ℕ) × (x ≡ found a next)
+  unfolding Tells
+  reading-found (found a next) t e = (a, next, refl)
+  reading-found (refused n) t e = let l = above-100 n t in absurd (omega arith)
+
+  pub found-reading : (x : Reading A) {a : A} {next : ℕ} → x ≡ found a next → reading-refusal x ≡ 0
+  found-reading x e = ap reading-refusal e
+
+pub body-tells : (tag : ℕ) (s : List ℕ) (at : ℕ) → Tells (body-at tag s at)
+unfolding body-at head-at IsRefusal refusals listed
+body-tells tag s at =
+    let n = body-length s at in
+    then-tells (head-at tag s at) _
+    (refuse-tells 102 (ltb (length s) (at + 3)) _ refl
+    (refuse-tells 103 (not (eqb (getD s at 0) tag)) _ refl
+    (refuse-tells 104 (not (allowed tag n)) _ refl
+    (refuse-tells 105 (ltb (length s) (at + 3 + n)) _ refl
+    (found-tells n (at + 3 + n))))))
+    (λ n next. found-tells _ _)
+
+field-tells : (tag : ℕ) (h : Held) (s : List ℕ) (at : ℕ) → Tells (read-field tag h s at)
+unfolding read-field
+field-tells tag h s at = then-tells (body-at tag s at) _ (body-tells tag s at) (λ body next. checked-tells _ _ (told-field tag _) (found-tells _ _))
+
+fields-tell : (tags : List ℕ) (h : Held) (s : List ℕ) (at : ℕ) → Tells (read-fields tags h s at)
+unfolding read-fields
+fields-tell [] h s at = found-tells h at
+fields-tell (tag ∷ tags) h s at = then-tells (read-field tag h s at) _ (field-tells tag h s at) (λ more next. fields-tell tags more s next)
+
+pub record-tells : (tags s : List ℕ) → Tells (read-record tags s)
+unfolding read-record ended
+record-tells tags s = then-tells (read-fields tags nothing-held s 0) _ (fields-tell tags nothing-held s 0) (λ h end. checked-tells _ _ (told-end s end) (found-tells h end))
+
+-- ---- a call
+
+pub on-apart : (most : ℕ) (v : Verdict) (xs : List ℕ) → (v ≡ accepted → length xs ≤ most) → ((n : ℕ) → v ≡ said-no n → IsRefusal n) → HandedApart most (on v xs)
+unfolding on
+on-apart most accepted xs short told = bytes xs (short refl) refl
+on-apart most (said-no n) xs short told = number n (told n refl) refl
+
+put-apart : (most : ℕ) (o : Handed) (out : List ℕ) → most ≤ length out → HandedApart most o → ToldApart most out (put o out)
+put-apart most o out fits (bytes xs short e) = wrote xs short fits (ap (λ (x : Handed). put x out) e ∙ put-written xs out (omega arith))
+put-apart most o out fits (number n i e) = kept n i (ap (λ (x : Handed). put x out) e ∙ put-refusal n out)
+
+module _ (most : ℕ) (tags : List ℕ) (answer : Held → Handed) (s out : List ℕ) where
+  long-apart : most ≤ length out → ((h : Held) (end : ℕ) → read-record tags s ≡ found h end → HandedApart most (answer h)) → ToldApart most out (byte-call most tags answer s out)
+  unfolding Tells
+  long-apart fits apart = go (read-record tags s) refl (record-tells tags s)
+    where
+      go : (x : Reading Held) → read-record tags s ≡ x → Tells x → ToldApart most out (byte-call most tags answer s out)
+      go (found h end) e t = subst (ToldApart most out) (sym (call-found most tags answer s out fits e)) (put-apart most (answer h) out fits (apart h end e))
+      go (refused n) e t = kept n t (call-refused most tags answer s out fits e)
+
+  pub call-told-apart : ((h : Held) (end : ℕ) → read-record tags s ≡ found h end → HandedApart most (answer h)) → ToldApart most out (byte-call most tags answer s out)
+  unfolding IsRefusal refusals listed specs.refuse
+  call-told-apart apart = go (ltb (length out) most) refl
+    where
+      go : (b : Bool) → ltb (length out) most ≡ b → ToldApart most out (byte-call most tags answer s out)
+      go true e = kept 101 refl (sym (call-short most tags answer s out (ltb-true _ _ e)))
+      go false e = long-apart (ltb-false _ _ e) apart
+
+-- the answer alone says which of the two
+pub answer-tells : {most : ℕ} {out : List ℕ} {e : Effect} → most ≤ 100 → ToldApart most out e → AnswerTells most out e
+unfolding write specs.refuse
+answer-tells low (wrote xs short fits is) =
+    let n : _ = ap (λ (o : Effect). o .answer) is in
+    record { wrote = λ h. (xs, short, fits, is); kept = λ h. absurd (omega arith) }
+answer-tells low (kept n i is) =
+    let l : 100 < n = above-100 n i in
+    let k = ap (λ (o : Effect). o .answer) is in
+    record { wrote = λ h. absurd (omega arith); kept = λ h. (subst IsRefusal (sym k) i, ap (λ (o : Effect). o .after) is) }
+
+-- no length that a call may write is the number of a refusal
+pub never-both : {n : ℕ} → n ≤ 100 → IsRefusal n → ⊥
+never-both low i = let l = above-100 _ i in omega arith
