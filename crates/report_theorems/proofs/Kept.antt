@@ -13,7 +13,7 @@ use Rattle.history.proofs.{Registers.register-passes, TakingBack.last-curve, Ta
 use Rattle.history.proofs.{Preserved.last-passes, Preserved.accepted-classes, WalkingBack.accepted-few}
 use Rattle.stored_form.specs.{Head.drawing-limit, Fields.printable}
 use Rattle.archive.specs.Written.{Allowed, Storable}
-use Rattle.walk_report.specs.Demand3.{kept-archive}
+use Rattle.report_theorems.specs.Demand3.{kept-archive}
 
 module _ (c : Curve) (ok : curve-refusal c ≡ 0) where
   allowed : {a : Class} → Three a → class-refusal c a ≡ 0 → Allowed c a

@@ -12,8 +12,9 @@ use Rattle.history.proofs.WalkingBack.{walk-meets}
 use Rattle.stored_form.specs.{Reading.found, Head.drawing-limit, Fields.printable}
 use Rattle.archive.specs.{Archive.Archive, Archive.read-archive, Written.archive-bytes}
 use Rattle.archive.proofs.{ArchiveRoundTrips.archive-read-back, ArchiveBytes.archive-is-bytes}
-use Rattle.walk_report.specs.{Walk.seals, Demand3.Keeps, Demand3.kept-archive, Demand3.Encodes}
-use Rattle.walk_report.proofs.Kept.{kept-storable}
+use Rattle.walk_report.specs.Walk.{seals}
+use Rattle.report_theorems.specs.Demand3.{Keeps, kept-archive, Encodes}
+use Rattle.report_theorems.proofs.Kept.{kept-storable}
 
 module _ (r : Register) (cs : List Call) (fits : Fits r cs) (only : OnlyCommits (newest r cs)) where
   walk-seals : seals (r .curve) (last r cs .seal) (classes (newest r cs)) ≡ seals-back r cs

@@ -1,4 +1,4 @@
--- The lines that the report's steps make, one after the other, are the report's lines (`report-made`), and with each line fewer are to come (`lines-fewer`).
+-- The lines that the report's steps make, one after the other, are the report's lines (`report-made`).
 use Prim.Native.Nat.{ℕ, zero, suc, _+_, _-_, _≤_, _<_}
 use mathlib.Core.Path.{_≡_, refl, sym, ap, _∙_, subst}
 use mathlib.Core.Bool.{Bool, true, false, not, _||_, true≢false}
@@ -18,10 +18,11 @@ use Rattle.archive.specs.Reader as reading
 use Rattle.archive.specs.declared.Due.the-variants as due
 use Rattle.archive.proofs.{Operations.newest, Operations.no-operations, Agreement.archive-is, ArchiveFields.found-fields}
 use Rattle.class_group.specs.Walk.{walk}
 use Rattle.walk_report.specs.{Text.line, Text.first-line, Text.refusal-text, Walk.seals, Walk.letter, Walk.letters, Report.seal-lines, Report.walk-lines, Report.lines-of, Report.report-lines}
 use Rattle.walk_report.specs.Steps.{report, with-stage, with-seal, moved, older, held-next, advanced-by, advanced, undoing, letter-before, undone, next-of, next-line, refused-report, first-report, opened-by, opened, pending, lines-left, texts}
+use Rattle.walk_report.proofs.LinesLeft.{due-older}
 use Rattle.walk_report.specs.declared.{Stage.Stage, Report.Report, Moved.Moved}
 use Rattle.walk_report.specs.declared.Stage.the-variants.{Refusal, First, Last, Undo, Over}
 
 -- ---- a refusal's number is never 0
 
@@ -142,11 +143,6 @@ lines-from c k mark seal [] = refl
 lines-from c k mark seal (a ∷ older) = refl
 
 -- ---- one step
-
-due-older : (n : ℕ) → older (operations-due n) ≡ n
-unfolding older operations-due
-due-older zero = refl
-due-older (suc n) = refl
 
 module _ (s : List ℕ) where
   advanced-none : (stage : Stage) (h : Held) (seal b : Class) (at : ℕ) →
@@ -302,37 +298,6 @@ module _ (s : List ℕ) where
   refused-made zero e = absurd (archive-numbered s e)
   refused-made (suc n) e =
       ap (λ (k : ℕ). let m = opened-by k (opening s) in texts (lines-left (m .report)) (m .report) s (m .next .at)) (ap reading-refusal e)
-
--- ---- with each line fewer are to come
-
-module _ (s : List ℕ) (at : ℕ) where
-  -- an operation was read, or nothing is to come
-  read-fewer : (n : ℕ) (r : Report) (x : Reading Held) →
-      lines-left (held-next r at (x then λ more next. found (reader (operations-due (suc n - 1)) more) next) .report) ≤ suc n
-  unfolding held-next _then_ lines-left
-  read-fewer n r (found more next) = omega (arith, due-older (suc n - 1))
-  read-fewer n r (refused k) = omega arith
-
-  due-fewer : (d : Due) (stage : Stage) (h : Held) (seal b : Class) → lines-left (advanced (report stage (reader d h) seal b) s at .report) ≤ older d
-  unfolding advanced advanced-by lines-left older step reading.read-operation
-  due-fewer (due.Opening i) stage h seal b = omega arith
-  due-fewer (due.Operations zero) stage h seal b = omega arith
-  due-fewer (due.Operations (suc n)) stage h seal b = read-fewer n (report stage (reader (due.Operations (suc n)) h) seal b) (read-field 0x44 h s at)
-  due-fewer due.End stage h seal b = omega arith
-  due-fewer due.Nothing stage h seal b = omega arith
-
-  stage-fewer : (stage : Stage) (r : Reader) (seal b : Class) → pending stage ≡ true →
-      let t = report stage r seal b in lines-left (next-of stage t s at .after .report) < lines-left t
-  unfolding next-of undone lines-left pending
-  stage-fewer (Refusal n) r seal b h = omega arith
-  stage-fewer First r seal b h = omega arith
-  stage-fewer Last r seal b h = omega (arith, due-fewer (r .due) Last (r .held) seal b)
-  stage-fewer Undo r seal b h = omega (arith, due-fewer (r .due) Undo (r .held) seal b)
-  stage-fewer Over r seal b h = absurd (true≢false (sym h))
-
-pub lines-fewer : (r : Report) (s : List ℕ) (at : ℕ) → pending (r .stage) ≡ true → lines-left (next-line r s at .after .report) < lines-left r
-unfolding next-line
-lines-fewer r s at h = stage-fewer s at (r .stage) (r .reader) (r .seal) (r .operation) h
 
 -- ---- the theorem
 
