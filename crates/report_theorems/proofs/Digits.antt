@@ -9,7 +9,7 @@ use native.Mathlib.Omega.{arith}
 use lib.Dec.{ltb, lit<, lit≤}
 use borrow.Author.Tests.{lt-ltb, le-ltb, ltb-true, ltb-false}
 use Rattle.walk_report.specs.{Text.digit, Text.digits, Text.decimal, Text.hexadecimal}
-use Rattle.report_theorems.specs.Numerals.{digit-said, said-behind, said}
+use Rattle.report_theorems.specs.Numerals.{digit-said, said-behind, said, Begins}
 
 digit-back : (n : ℕ) → n < 16 → digit-said (digit n) ≡ n
 unfolding digit-said digit
@@ -31,10 +31,6 @@ digit-some n pos e = go (ltb n 10) e
     go : (b : Bool) → cond b (0x30 + n) (0x57 + n) ≡ 0x30 → ⊥
     go true e = omega arith
     go false e = omega arith
-
--- printed digits begin, and not with the digit 0
-abbrev pub Begins : List ℕ → Type 0
-Begins l = (b : ℕ) × (bs : List ℕ) × (l ≡ b ∷ bs) × (b ≡ 0x30 → ⊥)
 
 module _ (base : ℕ) (least : 2 ≤ base) (most : base ≤ 16) where
   more-digits : (k n : ℕ) → n < base ^ suc k → base ≤ n → 0 < k

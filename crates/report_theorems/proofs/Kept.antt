@@ -26,7 +26,7 @@ module _ (c : Curve) (ok : curve-refusal c ≡ 0) where
   allowed-classes (e ∷ es) (more f fs) (more p ps) = more (allowed f p) (allowed-classes es fs ps)
 
 pub kept-storable : (r : Register) (cs : List Call) → Fits r cs → OnlyCommits (newest r cs) → register-refusal r ≡ 0 →
-    (drawing : List ℕ) → printable drawing ≡ true → length drawing ≤ drawing-limit → Storable (kept-archive r cs drawing)
+    (drawing : List ℕ) → printable drawing ≡ true → length drawing ≤ drawing-limit → Storable (kept-archive r (last r cs) (newest r cs) drawing)
 unfolding kept-archive classes
 kept-storable r cs fits only passes drawing clean short =
     let curve-ok = register-passes r passes .curve-passes in

@@ -19,8 +19,9 @@ use Rattle.archive.specs.declared.Due.the-variants as due
 use Rattle.archive.proofs.{Operations.newest, Operations.no-operations, Agreement.archive-is, ArchiveFields.found-fields}
 use Rattle.class_group.specs.Walk.{walk}
 use Rattle.walk_report.specs.{Text.line, Text.first-line, Text.refusal-text, Walk.seals, Walk.letter, Walk.letters, Report.seal-lines, Report.walk-lines, Report.lines-of, Report.report-lines}
-use Rattle.walk_report.specs.Steps.{report, with-stage, with-seal, moved, older, held-next, advanced-by, advanced, undoing, letter-before, undone, next-of, next-line, refused-report, first-report, opened-by, opened, pending, lines-left, texts}
+use Rattle.walk_report.specs.Steps.{report-at, with-stage, with-seal, moved, older, held-next, advanced-by, advanced, undoing, letter-before, undone, next-of, next-line, refused-report, first-report, opened-by, opened, pending, lines-left, texts}
 use Rattle.walk_report.proofs.LinesLeft.{due-older}
+use Rattle.report_theorems.proofs.ArchiveWalk.{class-sound, curve-accepted, step-is, seal-sound}
 use Rattle.walk_report.specs.declared.{Stage.Stage, Report.Report, Moved.Moved}
 use Rattle.walk_report.specs.declared.Stage.the-variants.{Refusal, First, Last, Undo, Over}
 
@@ -100,36 +101,11 @@ module _ (s : List ℕ) where
       (λ seal next.
       then-numbered (operations-at n c s next) _ (operations-numbered n c next) (λ ops next. checked-numbered _ _ (found-numbered _ _))))))
 
--- ---- what was read is sound
-
-module _ (tag : ℕ) (c : Curve) (s : List ℕ) (at : ℕ) {a : Class} {next : ℕ} (e : class-at tag c s at ≡ found a next) where
-  class-unrefused : refusal c a ≡ 0
-  unfolding class-at
-  class-unrefused =
-      let p = both-found _ (body-at tag s at) e in
-      let q = checked-found (refusal c (class-said (p .0))) (found (class-said (p .0)) (p .1)) (p .3) in
-      subst (λ (b : Class). refusal c b ≡ 0) (same-found (q .1) .0) (q .0)
-
-  class-sound : Sound c a
-  unfolding refusal
-  class-sound = record { three = class-three tag c s at e; unrefused = then-zero _ _ class-unrefused .1 }
-
-  curve-accepted : curve-refusal c ≡ 0
-  unfolding refusal
-  curve-accepted = then-zero _ _ class-unrefused .0
-
 operations-counted : (n : ℕ) (c : Curve) (s : List ℕ) (at : ℕ) {ops : List Class} {end : ℕ} → operations-at n c s at ≡ found ops end → length ops ≡ n
 operations-counted zero c s at e = ap length (no-operations c s at e)
 operations-counted (suc n) c s at e =
     let m = newest c s at n e in
     ap length (m .all) ∙ ap suc (operations-counted n c s (m .next) (m .rest))
-
--- the rule's answer is the seal
-answer-is : (c : Curve) (seal a : Class) → curve-refusal c ≡ 0 → Sound c seal → Sound c a → subtract-and-halve-answer c seal a .class ≡ undo-seal c seal a
-unfolding refusal-of-two refusal sealed
-answer-is c seal a ok hs ha =
-    let z : refusal-of-two c seal a ≡ 0 = zero-then _ _ (zero-then _ _ ok (hs .unrefused)) (ha .unrefused) in
-    ap (λ (x : Result). x .class) (subtract-and-halve-sealed c seal a ∙ ap (λ (n : ℕ). sealed n (undo-seal c seal a)) z)
 
 -- ---- the report's lines, behind the one of a seal
 
@@ -146,18 +122,18 @@ lines-from c k mark seal (a ∷ older) = refl
 
 module _ (s : List ℕ) where
   advanced-none : (stage : Stage) (h : Held) (seal b : Class) (at : ℕ) →
-      advanced (report stage (reader (operations-due 0) h) seal b) s at ≡ moved (report Over (reader (operations-due 0) h) seal b) at
+      advanced (report-at stage (reader (operations-due 0) h) seal b) s at ≡ moved (report-at Over (reader (operations-due 0) h) seal b) at
   unfolding advanced advanced-by older operations-due
   advanced-none stage h seal b at = refl
 
   advanced-more : (n : ℕ) (stage : Stage) (h : Held) (seal b : Class) (at : ℕ) {a : Class} {next : ℕ} → class-at 0x44 (h .curve) s at ≡ found a next →
-      advanced (report stage (reader (operations-due (suc n)) h) seal b) s at ≡ moved (report Undo (reader (operations-due n) (with-operation a h)) seal a) next
+      advanced (report-at stage (reader (operations-due (suc n)) h) seal b) s at ≡ moved (report-at Undo (reader (operations-due n) (with-operation a h)) seal a) next
   unfolding advanced advanced-by older operations-due step reading.read-operation held-next _then_
   advanced-more n stage h seal b at {a} {next} e =
-      let r : Report = report stage (reader (due.Operations (suc n)) h) seal b in
+      let r : Report = report-at stage (reader (due.Operations (suc n)) h) seal b in
       let less : suc n - 1 ≡ n = omega arith in
       ap (λ (x : Reading Held). held-next r at (x then λ more next. found (reader (operations-due (suc n - 1)) more) next)) (read-operation h s at ∙ then-found _ e)
-      ∙ ap (λ (k : ℕ). moved (report Undo (reader (operations-due k) (with-operation a h)) seal a) next) less
+      ∙ ap (λ (k : ℕ). moved (report-at Undo (reader (operations-due k) (with-operation a h)) seal a) next) less
 
   -- another seal is carried along
   held-seal : (seal : Class) (r : Report) (at : ℕ) (x : Reading Reader) →
@@ -177,7 +153,7 @@ module _ (s : List ℕ) where
 
   -- the letter of an operation, by those that are still to be read
   letter-is : (n : ℕ) (h : Held) (seal a b : Class) (stage : Stage) (at : ℕ) {ops : List Class} {end : ℕ} → operations-at n (h .curve) s at ≡ found ops end →
-      letter-before (h .curve) a (advanced (report stage (reader (operations-due n) h) seal b) s at .report) ≡ letter (h .curve) a ops
+      letter-before (h .curve) a (advanced (report-at stage (reader (operations-due n) h) seal b) s at .report) ≡ letter (h .curve) a ops
   unfolding letter-before letter undoing
   letter-is zero h seal a b stage at e =
       ap (λ (m : Moved). letter-before (h .curve) a (m .report)) (advanced-none stage h seal b at)
@@ -190,12 +166,12 @@ module _ (s : List ℕ) where
   -- an undo's line, and those behind it
   undo-made : (n : ℕ) (h : Held) (seal a : Class) (at k : ℕ) {before : Class} {ops : List Class} {end : ℕ} → operations-at n (h .curve) s at ≡ found ops end →
       h .count ≡ k + suc n → subtract-and-halve-answer (h .curve) seal a .class ≡ before →
-      let m = advanced (report Undo (reader (operations-due n) h) before a) s at in
-      texts (suc n) (report Undo (reader (operations-due n) h) seal a) s at ≡ line (k + 1) (letter (h .curve) a ops) before ∷ texts n (m .report) s (m .next .at)
+      let m = advanced (report-at Undo (reader (operations-due n) h) before a) s at in
+      texts (suc n) (report-at Undo (reader (operations-due n) h) seal a) s at ≡ line (k + 1) (letter (h .curve) a ops) before ∷ texts n (m .report) s (m .next .at)
   unfolding texts next-line next-of undone
   undo-made n h seal a at k {before} {ops} e counted same =
       let c : Curve = h .curve in
-      let r : Report = report Undo (reader (operations-due n) h) seal a in
+      let r : Report = report-at Undo (reader (operations-due n) h) seal a in
       let number : h .count - older (operations-due n) ≡ k + 1 = omega (arith, counted, due-older n) in
       let rest : ℕ → Moved → List (List ℕ) = λ j m. texts j (m .report) s (m .next .at) in
       let carried : Class → Moved = λ x. record { report = with-seal x (advanced r s at .report); next = advanced r s at .next } in
@@ -208,7 +184,7 @@ module _ (s : List ℕ) where
 
   walk-made : (n : ℕ) (stage : Stage) (h : Held) (seal b : Class) (at k : ℕ) {ops : List Class} {end : ℕ} → operations-at n (h .curve) s at ≡ found ops end →
       h .count ≡ k + n → Sound (h .curve) seal →
-      let m = advanced (report stage (reader (operations-due n) h) seal b) s at in texts n (m .report) s (m .next .at) ≡ later-lines (h .curve) k seal ops
+      let m = advanced (report-at stage (reader (operations-due n) h) seal b) s at in texts n (m .report) s (m .next .at) ≡ later-lines (h .curve) k seal ops
   unfolding texts later-lines letters
   walk-made zero stage h seal b at k e counted hs = ap (later-lines (h .curve) k seal) (sym (no-operations (h .curve) s at e))
   walk-made (suc n) stage h seal b at k e counted hs =
@@ -222,7 +198,7 @@ module _ (s : List ℕ) where
       let before : Class = undo-seal c seal a in
       let more : Held = with-operation a h in
       ap (λ (x : Moved). texts (suc n) (x .report) s (x .next .at)) (advanced-more n stage h seal b at (m .this))
-      ∙ undo-made n more seal a next k (m .rest) counted (answer-is c seal a ok hs ha)
+      ∙ undo-made n more seal a next k (m .rest) counted (ap (λ (x : Result). x .class) (step-is ok hs ha))
       ∙ ap (λ (l : List (List ℕ)). line (k + 1) (letter c a ops) before ∷ l)
       (walk-made n Undo more before a next (k + 1) (m .rest) (omega (arith, counted)) (undo-sound ok hs ha))
       ∙ sym (lines-from c (k + 1) (letter c a ops) before ops)
@@ -259,18 +235,18 @@ parts s e =
 
 module _ (s : List ℕ) where
   opened-first : {h : Held} {first : ℕ} → archive-refusal s ≡ 0 → read-fields archive-opening nothing-held s 0 ≡ found h first →
-      opened s ≡ moved (report First (reader (operations-due (h .count)) h) (h .class) neutral-class) first
+      opened s ≡ moved (report-at First (reader (operations-due (h .count)) h) (h .class) neutral-class) first
   unfolding opened opened-by first-report opening
   opened-first z e = ap (λ (n : ℕ). opened-by n (opening s)) z ∙ ap first-report (then-found _ e)
 
   -- the first two lines, and those behind them
   first-made : (n : ℕ) (h : Held) (seal b : Class) (at : ℕ) →
-      let r = report First (reader (operations-due n) h) seal b in
+      let r = report-at First (reader (operations-due n) h) seal b in
       let m = advanced (with-stage Last r) s at in
       texts (lines-left r) r s at ≡ first-line (h .count) (drawing-name (h .drawing)) ∷ line 0 0x2E seal ∷ texts n (m .report) s (m .next .at)
   unfolding texts lines-left next-line next-of
   first-made n h seal b at =
-      let m = advanced (report Last (reader (operations-due n) h) seal b) s at in
+      let m = advanced (report-at Last (reader (operations-due n) h) seal b) s at in
       ap (λ (j : ℕ). first-line (h .count) (drawing-name (h .drawing)) ∷ line 0 0x2E seal ∷ texts j (m .report) s (m .next .at)) (due-older n)
 
   accepted-made : {a : Archive} {end : ℕ} → read-archive s ≡ found a end → texts (lines-left (opened s .report)) (opened s .report) s (opened s .next .at) ≡ walk-lines a
@@ -280,8 +256,7 @@ module _ (s : List ℕ) where
       let h : Held = p .held in
       let c : Curve = h .curve in
       let ops : List Class = p .operations in
-      let f = found-fields s e in
-      let hs : Sound c (h .class) = subst (λ (x : Archive). Sound (x .curve) (x .seal)) (p .archive) (class-sound 0x43 (a .curve) s (f .after-count) (f .seal-found)) in
+      let hs : Sound c (h .class) = subst (λ (x : Archive). Sound (x .curve) (x .seal)) (p .archive) (seal-sound s e) in
       let counted = operations-counted (h .count) c s (p .first) (p .operations-read) in
       ap (λ (m : Moved). texts (lines-left (m .report)) (m .report) s (m .next .at)) (opened-first (ap reading-refusal e) (p .opening-read))
       ∙ first-made (h .count) h (h .class) neutral-class (p .first)

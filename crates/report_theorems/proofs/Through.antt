@@ -12,14 +12,8 @@ use Rattle.archive.specs.declared.Due.the-variants.{End}
 use Rattle.archive.proofs.Windows.{after, step-through, step-last}
 use Rattle.walk_report.specs.declared.{Stage.Stage, Report.Report, Moved.Moved}
 use Rattle.walk_report.specs.declared.Stage.the-variants.{Refusal, First, Last, Undo, Over}
-use Rattle.walk_report.specs.{Text.line, Steps.with-seal, Steps.older, Steps.held-next, Steps.advanced-by, Steps.advanced, Steps.letter-before, Steps.undone, Steps.Next, Steps.next-of, Steps.next-line}
-
--- places counted from k bytes before
-abbrev pub moved-after : ℕ → Moved → Moved
-moved-after k x = record { report = x .report; next = record { at = k + x .next .at } }
-
-abbrev pub next-after : ℕ → Next → Next
-next-after k x = record { text = x .text; after = moved-after k (x .after) }
+use Rattle.walk_report.specs.{Text.line, Steps.with-seal, Steps.older, Steps.held-next, Steps.advanced-by, Steps.advanced, Steps.letter-before, Steps.undone, Steps.next-of, Steps.next-line}
+use Rattle.report_theorems.specs.Through.{moved-after, next-after}
 
 held-after : (k at : ℕ) (r : Report) (x : Reading Reader) → held-next r (k + at) (after k x) ≡ moved-after k (held-next r at x)
 unfolding held-next after

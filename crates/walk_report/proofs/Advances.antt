@@ -14,7 +14,7 @@ use Rattle.stored_form.specs.{Reading.Reading, Reading.found, Reading.refused}
 use Rattle.archive.specs.declared.Reader.{Reader}
 use Rattle.archive.specs.Reader.{step}
 use Rattle.walk_report.specs.{Text.line, Line.in-line, Walk.opposed, Walk.mark}
-use Rattle.walk_report.specs.Steps.{report, with-stage, with-seal, made, undone, moved, older, held-next, advanced-by, advanced, undoing, letter-before, first-report, opened-by, refused-report}
+use Rattle.walk_report.specs.Steps.{report-at, with-stage, with-seal, made, undone, moved, older, held-next, advanced-by, advanced, undoing, letter-before, first-report, opened-by, refused-report}
 use Rattle.walk_report.specs.declared.{Stage.Stage, Report.Report, Moved.Moved, Made.Made, text.Line.Line}
 use Rattle.walk_report.specs.declared.Stage.the-variants.{Undo, Over}
 
@@ -39,7 +39,7 @@ module _ (r : Report) (s : List ℕ) (at : ℕ) where
     next-refused e = sym (ap (held-next r at) e) ∙ some-older h
 
     pub next-held : {reader : Reader} {next : ℕ} → step (r .reader) s at ≡ found reader next →
-        moved (report Undo reader (r .seal) (reader .held .operation)) next ≡ advanced r s at
+        moved (report-at Undo reader (r .seal) (reader .held .operation)) next ≡ advanced r s at
     unfolding held-next
     next-held e = sym (ap (held-next r at) e) ∙ some-older h
 

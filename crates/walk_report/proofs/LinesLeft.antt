@@ -9,7 +9,7 @@ use Rattle.stored_form.specs.{Reading.Reading, Reading.found, Reading.refused, 
 use Rattle.archive.specs.{Reader.reader, Reader.operations-due, Reader.step, declared.Due.Due, declared.Reader.Reader}
 use Rattle.archive.specs.Reader as reading
 use Rattle.archive.specs.declared.Due.the-variants as due
-use Rattle.walk_report.specs.Steps.{report, older, held-next, advanced-by, advanced, undone, next-of, next-line, pending, lines-left}
+use Rattle.walk_report.specs.Steps.{report-at, older, held-next, advanced-by, advanced, undone, next-of, next-line, pending, lines-left}
 use Rattle.walk_report.specs.declared.{Stage.Stage, Report.Report}
 use Rattle.walk_report.specs.declared.Stage.the-variants.{Refusal, First, Last, Undo, Over}
 
@@ -26,16 +26,16 @@ module _ (s : List ℕ) (at : ℕ) where
   read-fewer n r (found more next) = omega (arith, due-older (suc n - 1))
   read-fewer n r (refused k) = omega arith
 
-  due-fewer : (d : Due) (stage : Stage) (h : Held) (seal b : Class) → lines-left (advanced (report stage (reader d h) seal b) s at .report) ≤ older d
+  due-fewer : (d : Due) (stage : Stage) (h : Held) (seal b : Class) → lines-left (advanced (report-at stage (reader d h) seal b) s at .report) ≤ older d
   unfolding advanced advanced-by lines-left older step reading.read-operation
   due-fewer (due.Opening i) stage h seal b = omega arith
   due-fewer (due.Operations zero) stage h seal b = omega arith
-  due-fewer (due.Operations (suc n)) stage h seal b = read-fewer n (report stage (reader (due.Operations (suc n)) h) seal b) (read-field 0x44 h s at)
+  due-fewer (due.Operations (suc n)) stage h seal b = read-fewer n (report-at stage (reader (due.Operations (suc n)) h) seal b) (read-field 0x44 h s at)
   due-fewer due.End stage h seal b = omega arith
   due-fewer due.Nothing stage h seal b = omega arith
 
   stage-fewer : (stage : Stage) (r : Reader) (seal b : Class) → pending stage ≡ true →
-      let t = report stage r seal b in lines-left (next-of stage t s at .after .report) < lines-left t
+      let t = report-at stage r seal b in lines-left (next-of stage t s at .after .report) < lines-left t
   unfolding next-of undone lines-left pending
   stage-fewer (Refusal n) r seal b h = omega arith
   stage-fewer First r seal b h = omega arith

@@ -10,14 +10,15 @@ use Rattle.walk_report.specs.{Text.line, Text.first-line, Text.refusal-t
 use Rattle.walk_report.specs.declared.{Stage.Stage, Report.Report, Moved.Moved, Made.Made}
 use Rattle.walk_report.specs.declared.Stage.the-variants.{Refusal, First, Last, Undo, Over}
 
-abbrev pub report : Stage → Reader → Class → Class → Report
-report stage reader seal a = record { stage = stage; reader = reader; seal = seal; operation = a }
+-- a report at a stage, with its reader, the seal that was met last and the operation that is to be undone
+abbrev pub report-at : Stage → Reader → Class → Class → Report
+report-at stage reader seal a = record { stage = stage; reader = reader; seal = seal; operation = a }
 
 abbrev pub with-stage : Stage → Report → Report
-with-stage stage r = report stage (r .reader) (r .seal) (r .operation)
+with-stage stage r = report-at stage (r .reader) (r .seal) (r .operation)
 
 abbrev pub with-seal : Class → Report → Report
-with-seal seal r = report (r .stage) (r .reader) seal (r .operation)
+with-seal seal r = report-at (r .stage) (r .reader) seal (r .operation)
 
 abbrev pub moved : Report → ℕ → Moved
 moved r at = record { report = r; next = record { at = at } }
@@ -31,7 +32,7 @@ older due.Nothing = 0
 
 -- the next operation was read, and is to be undone then; without one the report is over
 unfoldable pub held-next : Report → ℕ → Reading Reader → Moved
-held-next r at (found reader next) = moved (report Undo reader (r .seal) (reader .held .operation)) next
+held-next r at (found reader next) = moved (report-at Undo reader (r .seal) (reader .held .operation)) next
 held-next r at (refused n) = moved (with-stage Over r) at
 
 unfoldable pub advanced-by : ℕ → Report → List ℕ → ℕ → Moved
@@ -85,11 +86,11 @@ next-line r s at = next-of (r .stage) r s at
 
 -- a report that says a refusal alone
 unfoldable pub refused-report : ℕ → Moved
-refused-report n = moved (report (Refusal n) start neutral-class neutral-class) 0
+refused-report n = moved (report-at (Refusal n) start neutral-class neutral-class) 0
 
 -- the report once the fields before the operations were read
 unfoldable pub first-report : Reading Reader → Moved
-first-report (found reader next) = moved (report First reader (reader .held .class) neutral-class) next
+first-report (found reader next) = moved (report-at First reader (reader .held .class) neutral-class) next
 first-report (refused n) = refused-report n
 
 unfoldable pub opened-by : ℕ → Reading Reader → Moved
