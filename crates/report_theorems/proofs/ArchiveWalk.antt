@@ -14,7 +14,7 @@ use Rattle.history.specs.{Register.undo-seal, Register.sealed, Register.Sound, 
 use Rattle.history.proofs.{Seals.undo-sound, Answers.subtract-and-halve-sealed, Steps.steps-walk}
 use Rattle.archive.specs.Archive.{Archive, operations-at, read-archive}
 use Rattle.archive.proofs.{Operations.newest, Operations.no-operations, ArchiveFields.found-fields}
-use Rattle.walk_report.specs.{Text.first-line, Walk.seals, Walk.letters, Report.seal-lines, Report.walk-lines, Report.lines-of, Report.report-lines}
+use Rattle.walk_report.specs.{Lines.first-line, Walk.seals, Walk.letters, Report.seal-lines, Report.walk-lines, Report.lines-of, Report.report-lines}
 
 -- ---- what was read is sound
 

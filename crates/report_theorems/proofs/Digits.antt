@@ -8,7 +8,7 @@ use native.Mathlib.Nat.{zero-mul, one-mul, pow-zero, pow-suc, mod-lt, div-lt-iff
 use native.Mathlib.Omega.{arith}
 use lib.Dec.{ltb, lit<, lit≤}
 use borrow.Author.Tests.{lt-ltb, le-ltb, ltb-true, ltb-false}
-use Rattle.walk_report.specs.{Text.digit, Text.digits, Text.decimal, Text.hexadecimal}
+use Rattle.text.specs.Text.{digit, digits, decimal, hexadecimal}
 use Rattle.report_theorems.specs.Numerals.{digit-said, said-behind, said, Begins}
 
 digit-back : (n : ℕ) → n < 16 → digit-said (digit n) ≡ n

@@ -1,6 +1,6 @@
 -- The report that the steps make, its numbers and its lines' lengths; an archive's walk, and demand 3 of archives.
 pub mod Digits
-pub mod LineLengths
+pub mod LineRoom
 pub mod ArchiveWalk
 pub mod ReportMade
 pub mod Through

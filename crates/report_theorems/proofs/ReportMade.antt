@@ -18,7 +18,7 @@ use Rattle.archive.specs.Reader as reading
 use Rattle.archive.specs.declared.Due.the-variants as due
 use Rattle.archive.proofs.{Operations.newest, Operations.no-operations, Agreement.archive-is, ArchiveFields.found-fields}
 use Rattle.class_group.specs.Walk.{walk}
-use Rattle.walk_report.specs.{Text.line, Text.first-line, Text.refusal-text, Walk.seals, Walk.letter, Walk.letters, Report.seal-lines, Report.walk-lines, Report.lines-of, Report.report-lines}
+use Rattle.walk_report.specs.{Lines.line, Lines.first-line, Lines.refusal-line, Walk.seals, Walk.letter, Walk.letters, Report.seal-lines, Report.walk-lines, Report.lines-of, Report.report-lines}
 use Rattle.walk_report.specs.Steps.{report-at, with-stage, with-seal, moved, older, held-next, advanced-by, advanced, undoing, letter-before, undone, next-of, next-line, refused-report, first-report, opened-by, opened, pending, lines-left, texts}
 use Rattle.walk_report.proofs.LinesLeft.{due-older}
 use Rattle.report_theorems.proofs.ArchiveWalk.{class-sound, curve-accepted, step-is, seal-sound}
@@ -268,7 +268,7 @@ module _ (s : List ℕ) where
 
   -- ---- a refused one
 
-  refused-made : (n : ℕ) → read-archive s ≡ refused n → texts (lines-left (opened s .report)) (opened s .report) s (opened s .next .at) ≡ refusal-text n ∷ []
+  refused-made : (n : ℕ) → read-archive s ≡ refused n → texts (lines-left (opened s .report)) (opened s .report) s (opened s .next .at) ≡ refusal-line n ∷ []
   unfolding opened opened-by archive-refusal refused-report lines-left texts next-line next-of
   refused-made zero e = absurd (archive-numbered s e)
   refused-made (suc n) e =

@@ -1,6 +1,5 @@
--- Laws of writing into a lent area, and of the report's steps.
-pub mod Writing
+-- Laws of the report's lines, letters and steps.
 pub mod Marks
-pub mod Lines
+pub mod LineParts
 pub mod Advances
 pub mod LinesLeft

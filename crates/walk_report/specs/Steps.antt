@@ -6,7 +6,8 @@ use Rattle.jacobian.specs.{Answer.neutral-class, Answer.subtract-and-halve-answ
 use Rattle.stored_form.specs.{Reading.Reading, Reading.found, Reading.refused, Held.drawing-name, declared.Held.Held}
 use Rattle.archive.specs.{Archive.archive-refusal, Reader.start, Reader.step, Reader.opening, declared.Due.Due, declared.Reader.Reader}
 use Rattle.archive.specs.declared.Due.the-variants as due
-use Rattle.walk_report.specs.{Text.line, Text.first-line, Text.refusal-text, Line.in-line, Walk.opposed, Walk.mark}
+use Rattle.text.specs.Line.{in-line}
+use Rattle.walk_report.specs.{Lines.line, Lines.first-line, Lines.refusal-line, Walk.opposed, Walk.mark}
 use Rattle.walk_report.specs.declared.{Stage.Stage, Report.Report, Moved.Moved, Made.Made}
 use Rattle.walk_report.specs.declared.Stage.the-variants.{Refusal, First, Last, Undo, Over}
 
@@ -75,7 +76,7 @@ undone r s at =
 
 -- the line that is due
 unfoldable pub next-of : Stage → Report → List ℕ → ℕ → Next
-next-of (Refusal n) r s at = record { text = refusal-text n; after = moved (with-stage Over r) at }
+next-of (Refusal n) r s at = record { text = refusal-line n; after = moved (with-stage Over r) at }
 next-of First r s at = record { text = first-line (r .reader .held .count) (drawing-name (r .reader .held .drawing)); after = moved (with-stage Last r) at }
 next-of Last r s at = record { text = line 0 0x2E (r .seal); after = advanced r s at }
 next-of Undo r s at = undone r s at

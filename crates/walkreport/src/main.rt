@@ -1,12 +1,12 @@
 // Reads an archive on standard input, at most 65,536 bytes of it, and writes its walk report, or `refused` and the refusal's number, line by line.
 ghost use Prim.Native.Nat.{min};
 ghost use mathlib.Core.Path.{_≡_};
-ghost use Rattle.walk_report.specs.Line.{line-room};
+ghost use Rattle.text.specs.Line.{line-room};
 use libc::STDIN_FILENO;
 use libc::STDOUT_FILENO;
 use stored_form::Cursor;
-use walk_report::text::LINE;
-use walk_report::text::Line;
+use text::LINE;
+use text::Line;
 
 // No more bytes than a row has.
 fn within(len: usize) -> usize
