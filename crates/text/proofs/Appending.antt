@@ -3,7 +3,7 @@ use Prim.Native.Nat.{ℕ, zero, suc, _+_, _-_, _≤_, _<_}
 use mathlib.Core.Path.{_≡_, refl, sym, ap, _∙_}
 use mathlib.Core.List.{List, [], _∷_, _++_, append-assoc, append-nil}
 use native.Mathlib.Omega.{arith}
-use lib.ListN.{length, set, getD, take, replicate, length-append}
+use lib.ListN.{length, set, getD, take, replicate, length-append, length-replicate}
 use lib.Seq.{take-suc}
 use borrow.Author.Tests.{lt-ltb}
 use Rattle.text.specs.{Line.line-room, Line.in-line, Line.with-byte, Line.with-bytes, declared.Line.Line}
@@ -41,7 +41,8 @@ unfolding with-byte in-line
 one-laid ys b h =
     let len : length (ys ++ b ∷ []) ≡ length ys + 1 = length-append ys (b ∷ []) in
     let left : line-room - length ys ≡ suc (line-room - (length ys + 1)) = omega arith in
-    rw (lt-ltb (length ys) line-room h, len, left) (ap (λ (l : List ℕ). record { len = length ys + 1; bytes = l }) (set-behind ys (line-room - (length ys + 1)) b))
+    let room : length (ys ++ replicate (line-room - length ys) 0) ≡ line-room = omega (arith, length-append ys (replicate (line-room - length ys) 0), length-replicate {A = ℕ} (line-room - length ys) 0) in
+    rw (room, lt-ltb (length ys) line-room h, len, left) (ap (λ (l : List ℕ). record { len = length ys + 1; bytes = l }) (set-behind ys (line-room - (length ys + 1)) b))
 
 behind-laid : (ys xs : List ℕ) → length ys + length xs ≤ line-room → with-bytes (in-line ys) xs ≡ in-line (ys ++ xs)
 unfolding with-bytes

@@ -16,7 +16,7 @@ in-line xs = record { len = length xs; bytes = xs ++ replicate (line-room - leng
 
 -- a line with a byte behind it; where it has no room, the line as it was
 unfoldable pub with-byte : Line → ℕ → Line
-with-byte l b = cond (ltb (l .len) line-room) (record { len = l .len + 1; bytes = set (l .bytes) (l .len) b }) l
+with-byte l b = cond (ltb (l .len) (length (l .bytes))) (record { len = l .len + 1; bytes = set (l .bytes) (l .len) b }) l
 
 -- with one byte after the other behind it
 unfoldable pub with-bytes : Line → List ℕ → Line

@@ -28,20 +28,24 @@ pub fn empty() -> Line
     }
 }
 
+// A byte at a place of a row, and the place after it; where the row has no such place, nothing.
+fn put(out: &mut [u8], at: usize, b: u8) -> usize
+    ensures { λ r. ⌜ record { len = r; bytes = now (out .exit) } ≡ with-bytes (record { len = at; bytes = now (out .entry) }) (b ∷ []) ⌝ }
+{
+    if at < out.len() {
+        out[at] = b;
+        return at + 1;
+    }
+    at
+}
+
 // A byte behind a line; where it has no room, the line as it was.
 pub fn with_byte(line: Line, b: u8) -> Line
     ensures { λ r. ⌜ r ≡ with-bytes line (b ∷ []) ⌝ }
 {
-    let len = line.len;
     let mut bytes = line.bytes;
-    if len < LINE {
-        bytes[len] = b;
-        return Line {
-            len: len + 1,
-            bytes,
-        };
-    }
-    line
+    let len = put(&mut bytes, line.len, b);
+    Line { len, bytes }
 }
 
 // Bytes as they are.
@@ -70,33 +74,41 @@ fn digit(n: u64) -> u8
     0x57 + d
 }
 
-// A number of at most k digits, without leading zeros.
-fn with_digits(line: Line, base: u64, k: usize, n: u64) -> Line
+// A number of at most k digits, without leading zeros, from a place of a row on, and the place after it.
+fn put_digits(out: &mut [u8], at: usize, base: u64, k: usize, n: u64) -> usize
     requires { ⌜ (2 ≤ base) × (base ≤ 16) ⌝ }
-    ensures { λ r. ⌜ r ≡ with-bytes line (digits base k n) ⌝ }
+    ensures { λ r. ⌜ record { len = r; bytes = now (out .exit) } ≡ with-bytes (record { len = at; bytes = now (out .entry) }) (digits base k n) ⌝ }
 {
     if k == 0 {
-        return line;
+        return at;
     }
     if n < base {
-        return with_byte(line, digit(n));
+        let d = digit(n);
+        let one = put(out, at, d);
+        return one;
     }
-    let high = with_digits(line, base, k - 1, n / base);
-    with_byte(high, digit(n % base))
+    let high = put_digits(out, at, base, k - 1, n / base);
+    let d = digit(n % base);
+    let all = put(out, high, d);
+    all
 }
 
 // A number in decimal.
 pub fn with_decimal(line: Line, n: u64) -> Line
     ensures { λ r. ⌜ r ≡ with-bytes line (decimal n) ⌝ }
 {
-    with_digits(line, 10, DECIMAL_DIGITS, n)
+    let mut bytes = line.bytes;
+    let len = put_digits(&mut bytes, line.len, 10, DECIMAL_DIGITS, n);
+    Line { len, bytes }
 }
 
 // An element in hexadecimal.
 pub fn with_hexadecimal(line: Line, n: u64) -> Line
     ensures { λ r. ⌜ r ≡ with-bytes line (hexadecimal n) ⌝ }
 {
-    with_digits(line, 16, HEXADECIMAL_DIGITS, n)
+    let mut bytes = line.bytes;
+    let len = put_digits(&mut bytes, line.len, 16, HEXADECIMAL_DIGITS, n);
+    Line { len, bytes }
 }
 
 // Two coefficients, comma between.

@@ -1,18 +1,10 @@
 -- `with_byte` meets its contract.
-use mathlib.Core.Path.{_≡_}
-use borrow.Author.Tests.{lt-ltb, le-ltb}
-use Rattle.text.specs.Line.{with-byte, with-bytes}
 use borrow.Author.Needs.{needs}
 use Rattle.text.proofs.with_byte.Statement.{statement}
 use Rattle.text.proofs.with_byte.Tie as tie
 
 returns : tie.Need-returns
-unfolding with-bytes with-byte
-returns c = rw (lt-ltb _ _ (c .if1 .taken))
-
-returns-2 : tie.Need-returns-2
-unfolding with-bytes with-byte
-returns-2 c = rw (le-ltb _ _ (c .if1 .left))
+returns c = c .before .put .ensures
 
 pub with-byte-spec : {M : Type 1} → statement M
-with-byte-spec = tie.close (tie.spec (λ c. search needs) (λ c. search needs) returns returns-2)
+with-byte-spec = tie.close (tie.spec (λ c. search needs) (λ c κs. search needs) returns)

@@ -6,7 +6,7 @@ use Rattle.text.proofs.with_decimal.Tie as tie
 
 returns : tie.Need-returns
 unfolding decimal
-returns c = c .with-digits .ensures
+returns c = c .before .put-digits .ensures
 
 pub with-decimal-spec : {M : Type 1} → statement M
-with-decimal-spec = tie.close (tie.spec (λ c κs. search needs) returns)
+with-decimal-spec = tie.close (tie.spec (λ c. search needs) (λ c κs. search needs) returns)

@@ -6,7 +6,7 @@ use Rattle.text.proofs.with_hexadecimal.Tie as tie
 
 returns : tie.Need-returns
 unfolding hexadecimal
-returns c = c .with-digits .ensures
+returns c = c .before .put-digits .ensures
 
 pub with-hexadecimal-spec : {M : Type 1} → statement M
-with-hexadecimal-spec = tie.close (tie.spec (λ c κs. search needs) returns)
+with-hexadecimal-spec = tie.close (tie.spec (λ c. search needs) (λ c κs. search needs) returns)
