@@ -1,8 +1,9 @@
-// Lines of text by value: a row of bytes with its length, to which bytes, numbers and the parts of a class are appended.
-ghost use Prim.Native.Nat.{_≤_, _<_};
+// Lines of text by value: a row of bytes with its length, to which bytes, numbers and the parts of a class are appended, and the writing of one.
+ghost use Prim.Native.Nat.{_≤_, _<_, min};
 ghost use mathlib.Core.Path.{_≡_};
 ghost use mathlib.Core.List.{[], _∷_, _++_};
-ghost use Rattle.text.specs.{Line.with-bytes, Line.in-line, Text.digit, Text.digits, Text.decimal, Text.hexadecimal, Text.row-text, Text.class-text, Text.refusal-text};
+ghost use Rattle.text.specs.{Line.line-room, Line.with-bytes, Line.in-line, Text.digit, Text.digits, Text.decimal, Text.hexadecimal, Text.row-text, Text.class-text, Text.refusal-text};
+use libc::STDOUT_FILENO;
 
 // As many digits as a number of 64 bits may have.
 const DECIMAL_DIGITS: usize = 20;
@@ -155,4 +156,31 @@ pub fn with_refusal(line: Line, n: u32) -> Line
 {
     let word = with_bytes(line, b"refused ");
     with_decimal(word, n as u64)
+}
+
+// No more bytes than a row has.
+fn within(len: usize) -> usize
+    ensures { λ r. ⌜ r ≡ min len line-room ⌝ }
+{
+    if len < LINE {
+        return len;
+    }
+    LINE
+}
+
+// Writes the first bytes of a row.
+fn write_row(len: usize, bytes: [u8; LINE]) -> usize
+    ensures { λ r. ⌜ r ≡ min len line-room ⌝ }
+{
+    let n = within(len);
+    io::write_all(STDOUT_FILENO, &bytes[..n]);
+    n
+}
+
+// Writes a line to standard output, and answers how many bytes it has.
+pub fn write_line(line: Line) -> usize
+    ensures { λ r. ⌜ r ≡ min (line .len) line-room ⌝ }
+{
+    let bytes = line.bytes;
+    write_row(line.len, bytes)
 }

@@ -1,10 +1,10 @@
--- `write_row` is safe and ends: the bytes lie within the row.
+-- `write_row` meets its contract: the bytes lie within the row.
 use mathlib.Core.Path.{sym}
 use native.Mathlib.Omega.{arith}
 use lib.Seq.{length-take-le}
 use borrow.Author.Needs.{needs}
-use Rattle.walkreport.proofs.write_row.Statement.{statement}
-use Rattle.walkreport.proofs.write_row.Tie as tie
+use Rattle.text.proofs.write_row.Statement.{statement}
+use Rattle.text.proofs.write_row.Tie as tie
 
 slice-aggregate-write-all : tie.Need-slice-aggregate-write-all
 slice-aggregate-write-all c =
