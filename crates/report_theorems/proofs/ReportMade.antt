@@ -123,12 +123,12 @@ lines-from c k mark seal (a ∷ older) = refl
 module _ (s : List ℕ) where
   advanced-none : (stage : Stage) (h : Held) (seal b : Class) (at : ℕ) →
       advanced (report-at stage (reader (operations-due 0) h) seal b) s at ≡ moved (report-at Over (reader (operations-due 0) h) seal b) at
-  unfolding advanced advanced-by older operations-due
+  unfolding advanced advanced-by operations-due
   advanced-none stage h seal b at = refl
 
   advanced-more : (n : ℕ) (stage : Stage) (h : Held) (seal b : Class) (at : ℕ) {a : Class} {next : ℕ} → class-at 0x44 (h .curve) s at ≡ found a next →
       advanced (report-at stage (reader (operations-due (suc n)) h) seal b) s at ≡ moved (report-at Undo (reader (operations-due n) (with-operation a h)) seal a) next
-  unfolding advanced advanced-by older operations-due step reading.read-operation held-next _then_
+  unfolding advanced advanced-by operations-due step reading.read-operation held-next _then_
   advanced-more n stage h seal b at {a} {next} e =
       let r : Report = report-at stage (reader (due.Operations (suc n)) h) seal b in
       let less : suc n - 1 ≡ n = omega arith in
@@ -154,7 +154,7 @@ module _ (s : List ℕ) where
   -- the letter of an operation, by those that are still to be read
   letter-is : (n : ℕ) (h : Held) (seal a b : Class) (stage : Stage) (at : ℕ) {ops : List Class} {end : ℕ} → operations-at n (h .curve) s at ≡ found ops end →
       letter-before (h .curve) a (advanced (report-at stage (reader (operations-due n) h) seal b) s at .report) ≡ letter (h .curve) a ops
-  unfolding letter-before letter undoing
+  unfolding letter-before letter
   letter-is zero h seal a b stage at e =
       ap (λ (m : Moved). letter-before (h .curve) a (m .report)) (advanced-none stage h seal b at)
       ∙ ap (letter (h .curve) a) (sym (no-operations (h .curve) s at e))

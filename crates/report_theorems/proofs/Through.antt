@@ -21,7 +21,6 @@ held-after k at r (found reader next) = refl
 held-after k at r (refused n) = refl
 
 none-at-end : (d : Due) (n : ℕ) → older d ≡ suc n → d ≡ End → ⊥
-unfolding older
 none-at-end d n e f = omega (arith, sym e ∙ ap older f)
 
 module _ (k : ℕ) (s t : List ℕ) (at : ℕ) where

@@ -14,7 +14,7 @@ use Rattle.walk_report.specs.declared.{Stage.Stage, Report.Report}
 use Rattle.walk_report.specs.declared.Stage.the-variants.{Refusal, First, Last, Undo, Over}
 
 pub due-older : (n : ℕ) → older (operations-due n) ≡ n
-unfolding older operations-due
+unfolding operations-due
 due-older zero = refl
 due-older (suc n) = refl
 
@@ -27,7 +27,7 @@ module _ (s : List ℕ) (at : ℕ) where
   read-fewer n r (refused k) = omega arith
 
   due-fewer : (d : Due) (stage : Stage) (h : Held) (seal b : Class) → lines-left (advanced (report-at stage (reader d h) seal b) s at .report) ≤ older d
-  unfolding advanced advanced-by lines-left older step reading.read-operation
+  unfolding advanced advanced-by lines-left step reading.read-operation
   due-fewer (due.Opening i) stage h seal b = omega arith
   due-fewer (due.Operations zero) stage h seal b = omega arith
   due-fewer (due.Operations (suc n)) stage h seal b = read-fewer n (report-at stage (reader (due.Operations (suc n)) h) seal b) (read-field 0x44 h s at)
@@ -36,7 +36,7 @@ module _ (s : List ℕ) (at : ℕ) where
 
   stage-fewer : (stage : Stage) (r : Reader) (seal b : Class) → pending stage ≡ true →
       let t = report-at stage r seal b in lines-left (next-of stage t s at .after .report) < lines-left t
-  unfolding next-of undone lines-left pending
+  unfolding next-of undone lines-left
   stage-fewer (Refusal n) r seal b h = omega arith
   stage-fewer First r seal b h = omega arith
   stage-fewer Last r seal b h = omega (arith, due-fewer (r .due) Last (r .held) seal b)

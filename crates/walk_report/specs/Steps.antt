@@ -25,7 +25,7 @@ abbrev pub moved : Report → ℕ → Moved
 moved r at = record { report = r; next = record { at = at } }
 
 -- the operations that are still to be read
-unfoldable pub older : Due → ℕ
+abbrev pub older : Due → ℕ
 older (due.Opening i) = 0
 older (due.Operations n) = n
 older due.End = 0
@@ -44,7 +44,7 @@ unfoldable pub advanced : Report → List ℕ → ℕ → Moved
 advanced r s at = advanced-by (older (r .reader .due)) r s at
 
 -- is there an operation that is to be undone?
-unfoldable pub undoing : Stage → Bool
+abbrev pub undoing : Stage → Bool
 undoing (Refusal n) = false
 undoing First = false
 undoing Last = false
@@ -103,7 +103,7 @@ unfoldable pub opened : List ℕ → Moved
 opened s = opened-by (archive-refusal s) (opening s)
 
 -- is a line still to come?
-unfoldable pub pending : Stage → Bool
+abbrev pub pending : Stage → Bool
 pending (Refusal n) = true
 pending First = true
 pending Last = true
