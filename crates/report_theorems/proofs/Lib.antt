@@ -2,6 +2,7 @@
 pub mod Digits
 pub mod LineRoom
 pub mod ArchiveWalk
+pub mod Numbered
 pub mod ReportMade
 pub mod Through
 pub mod Kept

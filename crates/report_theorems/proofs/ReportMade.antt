@@ -1,105 +1,27 @@
 -- The lines that the report's steps make, one after the other, are the report's lines (`report-made`).
-use Prim.Native.Nat.{ℕ, zero, suc, _+_, _-_, _≤_, _<_}
+use Prim.Native.Nat.{ℕ, zero, suc, _+_, _-_}
 use mathlib.Core.Path.{_≡_, refl, sym, ap, _∙_, subst}
-use mathlib.Core.Bool.{Bool, true, false, not, _||_, true≢false}
 use mathlib.Core.List.{List, [], _∷_}
 use native.Mathlib.Omega.{arith}
-use lib.Dec.{eqb, ltb}
-use lib.ListN.{length, getD}
-use Rattle.jacobian.specs.{Checks.unless, Curves.curve-refusal, Answer.Result, Answer.refusal, Answer.refusal-of-two, Answer.neutral-class, Answer.subtract-and-halve-answer, declared.Curve.Curve, declared.Class.Class}
-use Rattle.jacobian.proofs.{ByValue.Checks.then-zero, Representation.Unrefused.zero-then}
-use Rattle.stored_form.specs.{Number.number-of, Reading.Reading, Reading.found, Reading.refused, Reading.refuse, Reading.checked, Reading._then_, Reading.reading-refusal, Head.allowed, Head.body-length, Head.head-at, Head.body-at, Fields.degree-at, Fields.drawing-refusal, Fields.drawing-at, Fields.count-refusal, Fields.count-at, Fields.end-refusal, Classes.curve-said, Classes.curve-at, Classes.curve-first, Classes.class-said, Classes.class-at}
-use Rattle.stored_form.specs.{Held.drawing-name, Held.nothing-held, Held.with-operation, Held.read-field, Held.read-fields, Held.archive-opening, declared.Held.Held}
-use Rattle.stored_form.proofs.{Readings.then-found, Readings.both-found, Readings.checked-found, Readings.same-found, FieldReadings.read-operation, ClassRoundTrips.class-three}
-use Rattle.history.specs.Register.{undo-seal, sealed, Sound}
-use Rattle.history.proofs.{Seals.undo-sound, Answers.subtract-and-halve-sealed}
-use Rattle.archive.specs.{Archive.Archive, Archive.operations-at, Archive.read-archive, Archive.archive-refusal, Reader.reader, Reader.operations-due, Reader.step, Reader.opening, Reader.read-opened, Reader.archive-of, declared.Due.Due, declared.Reader.Reader}
+use lib.ListN.{length}
+use Rattle.jacobian.specs.{Answer.Result, Answer.neutral-class, Answer.subtract-and-halve-answer, declared.Curve.Curve, declared.Class.Class}
+use Rattle.stored_form.specs.{Reading.Reading, Reading.found, Reading.refused, Reading._then_, Reading.reading-refusal, Fields.end-refusal, Classes.class-at}
+use Rattle.stored_form.specs.{Held.drawing-name, Held.nothing-held, Held.with-operation, Held.read-fields, Held.archive-opening, declared.Held.Held}
+use Rattle.stored_form.proofs.{Readings.then-found, Readings.both-found, Readings.checked-found, Readings.same-found, FieldReadings.read-operation}
+use Rattle.history.specs.Register.{undo-seal, Sound}
+use Rattle.history.proofs.Seals.{undo-sound}
+use Rattle.archive.specs.{Archive.Archive, Archive.operations-at, Archive.read-archive, Archive.archive-refusal, Reader.reader, Reader.operations-due, Reader.step, Reader.opening, Reader.read-opened, Reader.archive-of, declared.Reader.Reader}
 use Rattle.archive.specs.Reader as reading
 use Rattle.archive.specs.declared.Due.the-variants as due
-use Rattle.archive.proofs.{Operations.newest, Operations.no-operations, Agreement.archive-is, ArchiveFields.found-fields}
+use Rattle.archive.proofs.{Operations.newest, Operations.no-operations, Agreement.archive-is}
 use Rattle.class_group.specs.Walk.{walk}
 use Rattle.walk_report.specs.{Lines.line, Lines.first-line, Lines.refusal-line, Walk.seals, Walk.letter, Walk.letters, Report.seal-lines, Report.walk-lines, Report.lines-of, Report.report-lines}
-use Rattle.walk_report.specs.Steps.{report-at, with-stage, with-seal, moved, older, held-next, advanced-by, advanced, undoing, letter-before, undone, next-of, next-line, refused-report, first-report, opened-by, opened, pending, lines-left, texts}
+use Rattle.walk_report.specs.Steps.{report-at, with-stage, with-seal, moved, older, held-next, advanced-by, advanced, letter-before, undone, next-of, next-line, refused-report, first-report, opened-by, opened, lines-left, texts}
 use Rattle.walk_report.proofs.LinesLeft.{due-older}
+use Rattle.report_theorems.proofs.Numbered.{archive-numbered}
 use Rattle.report_theorems.proofs.ArchiveWalk.{class-sound, curve-accepted, step-is, seal-sound}
 use Rattle.walk_report.specs.declared.{Stage.Stage, Report.Report, Moved.Moved}
-use Rattle.walk_report.specs.declared.Stage.the-variants.{Refusal, First, Last, Undo, Over}
-
--- ---- a refusal's number is never 0
-
-abbrev Numbered : {A : Type 0} → Reading A → Type 0
-Numbered x = x ≡ refused 0 → ⊥
-
-module _ {A : Type 0} where
-  found-numbered : (a : A) (n : ℕ) → Numbered (found a n)
-  found-numbered a n e = let z : _≡_ {A = ℕ} 0 1 = cc in omega arith
-
-  suc-numbered : (n : ℕ) → Numbered {A = A} (refused (suc n))
-  suc-numbered n e = let z : suc n ≡ 0 = cc in omega arith
-
-  checked-numbered : (n : ℕ) (x : Reading A) → Numbered x → Numbered (checked n x)
-  unfolding checked
-  checked-numbered zero x h = h
-  checked-numbered (suc n) x h = suc-numbered n
-
-  refuse-numbered : (n : ℕ) (b : Bool) (x : Reading A) → Numbered x → Numbered (refuse (suc n) b x)
-  refuse-numbered n true x h = suc-numbered n
-  refuse-numbered n false x h = h
-
-then-numbered : {A B : Type 0} (x : Reading A) (f : A → ℕ → Reading B) → Numbered x → ((a : A) (n : ℕ) → Numbered (f a n)) → Numbered (x then f)
-unfolding _then_
-then-numbered (found a n) f h g = g a n
-then-numbered (refused n) f h g = λ e. h (let z : n ≡ 0 = cc in ap refused z)
-
-module _ (s : List ℕ) where
-  head-numbered : (tag at : ℕ) → Numbered (head-at tag s at)
-  unfolding head-at
-  head-numbered tag at =
-      let n = body-length s at in
-      let r₄ : Reading ℕ = refuse 105 (ltb (length s) (at + 3 + n)) (found n (at + 3 + n)) in
-      let r₃ : Reading ℕ = refuse 104 (not (allowed tag n)) r₄ in
-      let r₂ : Reading ℕ = refuse 103 (not (eqb (getD s at 0) tag)) r₃ in
-      refuse-numbered 101 (ltb (length s) (at + 3)) r₂
-      (refuse-numbered 102 (not (eqb (getD s at 0) tag)) r₃
-      (refuse-numbered 103 (not (allowed tag n)) r₄
-      (refuse-numbered 104 (ltb (length s) (at + 3 + n)) (found n (at + 3 + n)) (found-numbered n (at + 3 + n)))))
-
-  body-numbered : (tag at : ℕ) → Numbered (body-at tag s at)
-  unfolding body-at
-  body-numbered tag at = then-numbered (head-at tag s at) _ (head-numbered tag at) (λ n next. found-numbered _ _)
-
-  -- what a body says, once it is checked
-  field-numbered : {A : Type 0} (tag at : ℕ) (said : List ℕ → A) (check : A → ℕ) → Numbered (body-at tag s at then λ body next. checked (check (said body)) (found (said body) next))
-  field-numbered tag at said check = then-numbered (body-at tag s at) _ (body-numbered tag at) (λ body next. checked-numbered _ _ (found-numbered _ _))
-
-  class-numbered : (tag : ℕ) (c : Curve) (at : ℕ) → Numbered (class-at tag c s at)
-  unfolding class-at
-  class-numbered tag c at = field-numbered tag at class-said (refusal c)
-
-  curve-numbered : (at : ℕ) → Numbered (curve-first s at)
-  unfolding curve-first degree-at curve-at
-  curve-numbered at =
-      then-numbered (degree-at s at) _ (field-numbered 0x40 at number-of (λ d. unless (eqb d 5 || eqb d 61) 106)) (λ d next. field-numbered 0x41 next (curve-said d) curve-refusal)
-
-  operations-numbered : (n : ℕ) (c : Curve) (at : ℕ) → Numbered (operations-at n c s at)
-  unfolding operations-at
-  operations-numbered zero c at = found-numbered _ _
-  operations-numbered (suc n) c at =
-      then-numbered (class-at 0x44 c s at) _ (class-numbered 0x44 c at)
-      (λ a next. then-numbered (operations-at n c s next) _ (operations-numbered n c next) (λ older next. found-numbered _ _))
-
-  archive-numbered : Numbered (read-archive s)
-  unfolding read-archive drawing-at count-at
-  archive-numbered =
-      then-numbered (curve-first s 0) _ (curve-numbered 0)
-      (λ c next.
-      then-numbered (drawing-at s next) _ (field-numbered 0x46 next (λ body. body) drawing-refusal)
-      (λ name next.
-      then-numbered (count-at s next) _ (field-numbered 0x42 next number-of count-refusal)
-      (λ n next.
-      then-numbered (class-at 0x43 c s next) _ (class-numbered 0x43 c next)
-      (λ seal next.
-      then-numbered (operations-at n c s next) _ (operations-numbered n c next) (λ ops next. checked-numbered _ _ (found-numbered _ _))))))
+use Rattle.walk_report.specs.declared.Stage.the-variants.{First, Last, Undo, Over}
 
 operations-counted : (n : ℕ) (c : Curve) (s : List ℕ) (at : ℕ) {ops : List Class} {end : ℕ} → operations-at n c s at ≡ found ops end → length ops ≡ n
 operations-counted zero c s at e = ap length (no-operations c s at e)

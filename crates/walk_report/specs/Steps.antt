@@ -3,7 +3,7 @@ use Prim.Native.Nat.{ℕ, zero, suc, _-_}
 use mathlib.Core.Bool.{Bool, true, false}
 use mathlib.Core.List.{List, [], _∷_}
 use Rattle.jacobian.specs.{Answer.neutral-class, Answer.subtract-and-halve-answer, declared.Curve.Curve, declared.Class.Class}
-use Rattle.stored_form.specs.{Reading.Reading, Reading.found, Reading.refused, Held.drawing-name, declared.Held.Held}
+use Rattle.stored_form.specs.{Reading.Reading, Reading.found, Reading.refused, Held.drawing-name}
 use Rattle.archive.specs.{Archive.archive-refusal, Reader.start, Reader.step, Reader.opening, declared.Due.Due, declared.Reader.Reader}
 use Rattle.archive.specs.declared.Due.the-variants as due
 use Rattle.text.specs.Line.{in-line}

@@ -1,5 +1,4 @@
 -- `digit` meets its contract.
-use mathlib.Core.Path.{_≡_}
 use borrow.Author.Tests.{lt-ltb, le-ltb}
 use Rattle.text.specs.Text.{digit}
 use borrow.Author.Needs.{needs}

@@ -1,5 +1,4 @@
 -- `put` meets its contract.
-use mathlib.Core.Path.{_≡_}
 use borrow.Author.Tests.{lt-ltb, le-ltb}
 use Rattle.text.specs.Line.{with-byte, with-bytes}
 use borrow.Author.Needs.{needs}
