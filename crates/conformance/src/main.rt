@@ -20,6 +20,7 @@ use jacobian::Class;
 use jacobian::ClassAnswer;
 use jacobian::Curve;
 use jacobian::Outcome;
+use text::Line;
 
 // The class whose seven numbers start at a place of the case.
 fn class(case: &[u8; 138], place: u8) -> Class
@@ -37,42 +38,40 @@ fn curve(case: &[u8; 138]) -> Curve {
     jacobian::curves::curve_with(case[1], trial_text::row(case, 0))
 }
 
-// Writes a class.
-fn write_class(class: Class) {
+// A class behind a line.
+fn with_class(line: Line, class: Class) -> Line {
     let u = class.u;
     let v = class.v;
-    trial_text::write_class(class.degree, u, v, class.degree);
+    text::with_class(line, class.degree, u, v, class.degree)
 }
 
-// Writes what a call that gives no class answers.
-fn write_outcome(outcome: Outcome) {
+// What a call that gives no class answers.
+fn outcome_text(outcome: Outcome) -> Line {
+    let start = text::empty();
     match outcome {
-        Outcome::Accepted => trial_text::write_text(b"accepted"),
-        Outcome::Refused(number) => trial_text::write_refusal(number),
+        Outcome::Accepted => text::with_bytes(start, b"accepted"),
+        Outcome::Refused(number) => text::with_refusal(start, number),
     }
 }
 
-// Writes what a call that gives a class answers.
-fn write_answer(answer: ClassAnswer) {
+// What a call that gives a class answers.
+fn answer_text(answer: ClassAnswer) -> Line {
+    let start = text::empty();
     let outcome = answer.outcome;
     let class = answer.class;
     match outcome {
-        Outcome::Accepted => write_class(class),
-        Outcome::Refused(number) => trial_text::write_refusal(number),
+        Outcome::Accepted => with_class(start, class),
+        Outcome::Refused(number) => text::with_refusal(start, number),
     }
 }
 
-// Writes what a call that counts its reduction steps answers.
-fn write_counted(answer: ClassAnswer) {
+// What a call that counts its reduction steps answers.
+fn counted_text(answer: ClassAnswer) -> Line {
+    let told = answer_text(answer);
     let outcome = answer.outcome;
-    let class = answer.class;
     match outcome {
-        Outcome::Accepted => {
-            write_class(class);
-            trial_text::write_text(b" ");
-            trial_text::write_decimal(answer.steps as u64);
-        }
-        Outcome::Refused(number) => trial_text::write_refusal(number),
+        Outcome::Accepted => text::with_decimal(text::with_byte(told, b' '), answer.steps as u64),
+        Outcome::Refused(_) => told,
     }
 }
 
@@ -98,24 +97,23 @@ fn double_of_half(curve: Curve, class: Class) -> ClassAnswer {
     }
 }
 
-// Makes the call and writes its answer.
-fn answer_call(call: u8, curve: Curve, a: Class, b: Class) {
+// What the call answers.
+fn call_text(call: u8, curve: Curve, a: Class, b: Class) -> Line {
     match call {
-        1 => write_outcome(jacobian::membership(curve, a)),
-        2 => write_answer(jacobian::opposite(curve, a)),
-        3 => write_answer(jacobian::double(curve, a)),
-        4 => write_answer(jacobian::half(curve, a)),
-        5 => write_answer(jacobian::sum(curve, a, b)),
-        6 => write_answer(half_of_double(curve, a)),
-        7 => write_answer(double_of_half(curve, a)),
-        8 => write_counted(jacobian::double(curve, a)),
-        9 => write_counted(jacobian::sum(curve, a, b)),
-        10 => write_answer(jacobian::double_and_add(curve, a, b)),
-        11 => write_answer(jacobian::subtract_and_halve(curve, a, b)),
-        12 => write_outcome(jacobian::accepts_curve(curve)),
-        _ => trial_text::write_text(b"no such call"),
+        1 => outcome_text(jacobian::membership(curve, a)),
+        2 => answer_text(jacobian::opposite(curve, a)),
+        3 => answer_text(jacobian::double(curve, a)),
+        4 => answer_text(jacobian::half(curve, a)),
+        5 => answer_text(jacobian::sum(curve, a, b)),
+        6 => answer_text(half_of_double(curve, a)),
+        7 => answer_text(double_of_half(curve, a)),
+        8 => counted_text(jacobian::double(curve, a)),
+        9 => counted_text(jacobian::sum(curve, a, b)),
+        10 => answer_text(jacobian::double_and_add(curve, a, b)),
+        11 => answer_text(jacobian::subtract_and_halve(curve, a, b)),
+        12 => outcome_text(jacobian::accepts_curve(curve)),
+        _ => text::with_bytes(text::empty(), b"no such call"),
     }
-    trial_text::write_text(b"\n");
 }
 
 // Reads one case, writes its line, and answers whether to go on.
@@ -124,7 +122,8 @@ fn answer_case() -> bool {
     if trial_text::read_case(&mut case) < 138 {
         return false;
     }
-    answer_call(case[0], curve(&case), class(&case, 3), class(&case, 10));
+    let told = call_text(case[0], curve(&case), class(&case, 3), class(&case, 10));
+    text::write_line(text::with_byte(told, b'\n'));
     true
 }
 

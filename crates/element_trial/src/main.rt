@@ -5,25 +5,26 @@
 // is the element in hexadecimal, or `refused` and the refusal's number. Another byte in the call's place is
 // answered by `no such call`, and fewer than 18 bytes at the end by `cut short`.
 use binary_field::Answer;
+use text::Line;
 
-// Writes the line of an answer.
-fn write_answer(answer: Answer) {
+// What an answer says.
+fn answer_text(answer: Answer) -> Line {
+    let start = text::empty();
     match answer {
-        Answer::Element(element) => trial_text::write_element(element),
-        Answer::Refused(number) => trial_text::write_refusal(number),
+        Answer::Element(element) => text::with_hexadecimal(start, element),
+        Answer::Refused(number) => text::with_refusal(start, number),
     }
-    trial_text::write_text(b"\n");
 }
 
-// Makes the call and writes its line.
-fn answer_call(call: u8, d: u8, a: u64, b: u64) {
+// What the call answers.
+fn call_text(call: u8, d: u8, a: u64, b: u64) -> Line {
     match call {
-        1 => write_answer(binary_field::sum(d, a, b)),
-        2 => write_answer(binary_field::product(d, a, b)),
-        3 => write_answer(binary_field::square(d, a)),
-        4 => write_answer(binary_field::square_root(d, a)),
-        5 => write_answer(binary_field::inverse(d, a)),
-        _ => trial_text::write_text(b"no such call\n"),
+        1 => answer_text(binary_field::sum(d, a, b)),
+        2 => answer_text(binary_field::product(d, a, b)),
+        3 => answer_text(binary_field::square(d, a)),
+        4 => answer_text(binary_field::square_root(d, a)),
+        5 => answer_text(binary_field::inverse(d, a)),
+        _ => text::with_bytes(text::empty(), b"no such call"),
     }
 }
 
@@ -33,12 +34,13 @@ fn answer_case() -> bool {
     if trial_text::read_case(&mut case) < 18 {
         return false;
     }
-    answer_call(
+    let told = call_text(
         case[0],
         case[1],
         trial_text::number(&case, 0),
         trial_text::number(&case, 1),
     );
+    text::write_line(text::with_byte(told, b'\n'));
     true
 }
 

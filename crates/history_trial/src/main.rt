@@ -17,6 +17,7 @@ use history::RegisterAnswer;
 use jacobian::Class;
 use jacobian::Curve;
 use jacobian::Outcome;
+use text::Line;
 
 // Whether to go on, and the register to go on with.
 struct Turn {
@@ -50,43 +51,51 @@ fn started(record: &[u8; 146]) -> Register {
     }
 }
 
-// Writes a class, with the coefficients of u and v below x^n.
-fn write_class(class: Class, n: u64) {
+// A class behind a line, with the coefficients of u and v below x^n.
+fn with_class(line: Line, class: Class, n: u64) -> Line {
     let u = class.u;
     let v = class.v;
-    trial_text::write_class(class.degree, u, v, n);
+    text::with_class(line, class.degree, u, v, n)
 }
 
-// Writes what a call on the register answers, and hands back the register of the answer.
-fn write_answer(answer: RegisterAnswer) -> Register {
+// Writes a line with its end.
+fn write_told(told: Line) {
+    text::write_line(text::with_byte(told, b'\n'));
+}
+
+// What a call on the register answers.
+fn answer_text(answer: RegisterAnswer) -> Line {
+    let start = text::empty();
     let outcome = answer.outcome;
     let register = answer.register;
     let seal = register.seal;
     match outcome {
         Outcome::Accepted => {
-            trial_text::write_decimal(register.count);
-            trial_text::write_text(b" ");
-            write_class(seal, seal.degree);
+            let count = text::with_decimal(start, register.count);
+            with_class(text::with_byte(count, b' '), seal, seal.degree)
         }
-        Outcome::Refused(number) => trial_text::write_refusal(number),
+        Outcome::Refused(number) => text::with_refusal(start, number),
     }
-    trial_text::write_text(b"\n");
-    register
 }
 
-// Writes every number of the register, and hands it back.
-fn write_register(register: Register) -> Register {
+// Writes what a call on the register answers, and hands back the register of the answer.
+fn write_answer(answer: RegisterAnswer) -> Register {
+    write_told(answer_text(answer));
+    answer.register
+}
+
+// Every number of the register.
+fn register_text(register: Register) -> Line {
     let curve = register.curve;
     let seal = register.seal;
-    trial_text::write_decimal(curve.degree as u64);
-    trial_text::write_text(b" ");
-    trial_text::write_row(3, [curve.f0, curve.f1, curve.f3]);
-    trial_text::write_text(b" ");
-    trial_text::write_decimal(register.count);
-    trial_text::write_text(b" ");
-    write_class(seal, 3);
-    trial_text::write_text(b"\n");
-    register
+    let degree = text::with_decimal(text::empty(), curve.degree as u64);
+    let row = text::with_row(
+        text::with_byte(degree, b' '),
+        3,
+        [curve.f0, curve.f1, curve.f3],
+    );
+    let count = text::with_decimal(text::with_byte(row, b' '), register.count);
+    with_class(text::with_byte(count, b' '), seal, 3)
 }
 
 // Does what a record says and writes its line; the register that follows.
@@ -95,9 +104,12 @@ fn answer_record(record: &[u8; 146], register: Register) -> Register {
         0 => started(record),
         1 => write_answer(register.commit(class(record, 11))),
         2 => write_answer(register.undo(class(record, 11))),
-        3 => write_register(register),
+        3 => {
+            write_told(register_text(register));
+            register
+        }
         _ => {
-            trial_text::write_text(b"no such call\n");
+            write_told(text::with_bytes(text::empty(), b"no such call"));
             register
         }
     }

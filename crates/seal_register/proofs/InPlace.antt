@@ -94,13 +94,13 @@ module _ (r : Register) (ms : List Made) (s : Session r ms) where
 
     -- no step is refused, and each answers the seal just before its commit
     pub walk-steps : steps-back (r .curve) (left-by r ms .seal) (classes (newest-made r ms)) ≡ map met (newest-made r ms)
-    walk-steps = as-by-value r ms s (λ es t. steps-back (r .curve) (t .seal) (classes es) ≡ map met es) (walking.walk-steps r (calls ms)  only-by-value)
+    walk-steps = as-by-value r ms s (λ es t. steps-back (r .curve) (t .seal) (classes es) ≡ map met es) (walking.walk-steps r (calls ms) only-by-value)
 
     -- all seals of the walk, the last seal first
     pub walk-meets : walk (undo-seal (r .curve)) (left-by r ms .seal) (classes (newest-made r ms)) ≡ seals-made r ms
     unfolding seals-back seals-made
     walk-meets =
-        as-by-value r ms s (λ es t. walk (undo-seal (r .curve)) (t .seal) (classes es) ≡ t .seal ∷ map (λ e. e .before .seal) es) (walking.walk-meets r (calls ms)  only-by-value)
+        as-by-value r ms s (λ es t. walk (undo-seal (r .curve)) (t .seal) (classes es) ≡ t .seal ∷ map (λ e. e .before .seal) es) (walking.walk-meets r (calls ms) only-by-value)
 
     -- the walk over the k newest classes ends in the seal just before the k-th newest commit, and for k = 0 in the last seal
     pub walk-ends : (k : ℕ) → k ≤ length (newest-made r ms)
@@ -108,9 +108,9 @@ module _ (r : Register) (ms : List Made) (s : Session r ms) where
     unfolding seals-back seals-made
     walk-ends =
         as-by-value r ms s (λ es t. (k : ℕ) → k ≤ length es → walk-back (r .curve) (t .seal) (take k (classes es)) ≡ getD (t .seal ∷ map (λ e. e .before .seal) es) k (t .seal))
-        (walking.walk-ends r (calls ms)  only-by-value)
+        (walking.walk-ends r (calls ms) only-by-value)
 
     -- and no step of it is refused
     pub walk-part : (k : ℕ) → steps-back (r .curve) (left-by r ms .seal) (take k (classes (newest-made r ms))) ≡ take k (map met (newest-made r ms))
     walk-part =
-        as-by-value r ms s (λ es t. (k : ℕ) → steps-back (r .curve) (t .seal) (take k (classes es)) ≡ take k (map met es)) (walking.walk-part r (calls ms)  only-by-value)
+        as-by-value r ms s (λ es t. (k : ℕ) → steps-back (r .curve) (t .seal) (take k (classes es)) ≡ take k (map met es)) (walking.walk-part r (calls ms) only-by-value)

@@ -152,4 +152,3 @@ class-short tag c a ok =
     let body : length (class-body a) ≡ 16 * a .degree = length-body a k in
     let all : length (stored tag (class-body a)) ≡ 3 + length (class-body a) = length-stored tag (class-body a) in
     omega arith
-

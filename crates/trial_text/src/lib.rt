@@ -1,4 +1,4 @@
-// The cases that the trial programs read from standard input, and the parts of the lines that they write.
+// The cases that the trial programs read from standard input.
 // A case is a byte for the call, a byte for the degree, and numbers of eight bytes each, high byte first.
 ghost use Prim.Native.Nat.{_≤_, _<_};
 ghost use mathlib.Core.Path.{_≡_};
@@ -14,7 +14,7 @@ pub fn read_case(case: &mut [u8]) -> usize
 {
     let n = io::read_full(STDIN_FILENO, case);
     if n > 0 && n < case.len() {
-        write_text(b"cut short\n");
+        io::write_all(STDOUT_FILENO, b"cut short\n");
     }
     n
 }
@@ -73,49 +73,4 @@ pub fn row(case: &[u8], place: u8) -> [u64; 3]
         eight_bytes(case, at + 8),
         eight_bytes(case, at + 16),
     ]
-}
-
-// Writes bytes as they are.
-pub fn write_text(text: &[u8]) {
-    io::write_all(STDOUT_FILENO, text);
-}
-
-// Writes a number in decimal.
-pub fn write_decimal(n: u64) {
-    io::print_decimal(STDOUT_FILENO, n);
-}
-
-// Writes an element in hexadecimal.
-pub fn write_element(n: u64) {
-    io::print_hex(STDOUT_FILENO, n, 1);
-}
-
-// Writes a refusal.
-pub fn write_refusal(number: u32) {
-    write_text(b"refused ");
-    write_decimal(number as u64);
-}
-
-// Writes the coefficients below x^n, from the highest power down, with commas between.
-pub fn write_row(n: u64, row: [u64; 3]) {
-    if n > 2 {
-        write_element(row[2]);
-        write_text(b",");
-    }
-    if n > 1 {
-        write_element(row[1]);
-        write_text(b",");
-    }
-    if n > 0 {
-        write_element(row[0]);
-    }
-}
-
-// Writes a class as degree, u and v with a colon between, and of u and v the coefficients below x^n.
-pub fn write_class(degree: u64, u: [u64; 3], v: [u64; 3], n: u64) {
-    write_decimal(degree);
-    write_text(b":");
-    write_row(n, u);
-    write_text(b":");
-    write_row(n, v);
 }

@@ -13,9 +13,11 @@ use Rattle.stored_form.specs.declared.Held.{Held}
 use Rattle.stored_form.specs.{Reading.Reading, Reading.found, Reading.refused}
 use Rattle.archive.specs.declared.Reader.{Reader}
 use Rattle.archive.specs.Reader.{step}
-use Rattle.walk_report.specs.{Text.line, Line.in-line, Walk.opposed, Walk.mark}
-use Rattle.walk_report.specs.Steps.{report, with-stage, with-seal, made, undone, moved, older, held-next, advanced-by, advanced, undoing, letter-before, first-report, opened-by, refused-report}
-use Rattle.walk_report.specs.declared.{Stage.Stage, Report.Report, Moved.Moved, Made.Made, text.Line.Line}
+use Rattle.walk_report.specs.{Lines.line, Walk.opposed, Walk.mark}
+use Rattle.text.specs.Line.{in-line}
+use Rattle.walk_report.specs.Steps.{report-at, with-stage, with-seal, made, undone, moved, older, held-next, advanced-by, advanced, undoing, letter-before, next-of, next-line, first-report, opened-by, refused-report}
+use Rattle.walk_report.specs.declared.{Stage.Stage, Report.Report, Moved.Moved, Made.Made}
+use Rattle.text.specs.declared.Line.{Line}
 use Rattle.walk_report.specs.declared.Stage.the-variants.{Undo, Over}
 
 module _ (r : Report) (s : List ℕ) (at : ℕ) where
@@ -39,9 +41,14 @@ module _ (r : Report) (s : List ℕ) (at : ℕ) where
     next-refused e = sym (ap (held-next r at) e) ∙ some-older h
 
     pub next-held : {reader : Reader} {next : ℕ} → step (r .reader) s at ≡ found reader next →
-        moved (report Undo reader (r .seal) (reader .held .operation)) next ≡ advanced r s at
+        moved (report-at Undo reader (r .seal) (reader .held .operation)) next ≡ advanced r s at
     unfolding held-next
     next-held e = sym (ap (held-next r at) e) ∙ some-older h
+
+-- the line that is due, by the stage
+pub line-staged : (r : Report) (s : List ℕ) (at : ℕ) {g : Stage} {m : Made} → r .stage ≡ g → m ≡ made (next-of g r s at) → m ≡ made (next-line r s at)
+unfolding next-line
+line-staged r s at e h = h ∙ ap (λ (g : Stage). made (next-of g r s at)) (sym e)
 
 -- the letter, by whether an older operation is held
 module _ (c : Curve) (a : Class) (r : Report) where

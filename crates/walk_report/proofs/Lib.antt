@@ -1,11 +1,5 @@
--- Laws of writing into a lent area, of the report's steps, of the walk and of its report.
-pub mod Writing
-pub mod Digits
+-- Laws of the report's lines, letters and steps.
 pub mod Marks
-pub mod Lines
-pub mod LineLengths
+pub mod LineParts
 pub mod Advances
-pub mod ReportMade
-pub mod Through
-pub mod Kept
-pub mod Demand3
+pub mod LinesLeft

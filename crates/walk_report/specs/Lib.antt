@@ -1,9 +1,5 @@
 -- The walk of an archive, and the bytes of the walk report.
 pub mod Walk
-pub mod Demand3
-pub mod Text
-pub mod Line
+pub mod Lines
 pub mod Report
 pub mod Steps
-pub mod Numerals
-pub mod internal

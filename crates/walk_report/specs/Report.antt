@@ -5,7 +5,7 @@ use lib.ListN.{length}
 use Rattle.jacobian.specs.declared.Class.{Class}
 use Rattle.stored_form.specs.Reading.{Reading, found, refused}
 use Rattle.archive.specs.Archive.{Archive, read-archive}
-use Rattle.walk_report.specs.{Text.line, Text.first-line, Text.refusal-text, Walk.seals, Walk.letters}
+use Rattle.walk_report.specs.{Lines.line, Lines.first-line, Lines.refusal-line, Walk.seals, Walk.letters}
 
 -- one line for each seal, counted from k, with its letter
 unfoldable pub seal-lines : ℕ → List ℕ → List Class → List (List ℕ)
@@ -21,7 +21,7 @@ walk-lines a =
 
 unfoldable pub lines-of : Reading Archive → List (List ℕ)
 lines-of (found a end) = walk-lines a
-lines-of (refused n) = refusal-text n ∷ []
+lines-of (refused n) = refusal-line n ∷ []
 
 -- the lines that the program writes for these bytes
 unfoldable pub report-lines : List ℕ → List (List ℕ)

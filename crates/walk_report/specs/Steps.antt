@@ -3,27 +3,29 @@ use Prim.Native.Nat.{ℕ, zero, suc, _-_}
 use mathlib.Core.Bool.{Bool, true, false}
 use mathlib.Core.List.{List, [], _∷_}
 use Rattle.jacobian.specs.{Answer.neutral-class, Answer.subtract-and-halve-answer, declared.Curve.Curve, declared.Class.Class}
-use Rattle.stored_form.specs.{Reading.Reading, Reading.found, Reading.refused, Held.drawing-name, declared.Held.Held}
+use Rattle.stored_form.specs.{Reading.Reading, Reading.found, Reading.refused, Held.drawing-name}
 use Rattle.archive.specs.{Archive.archive-refusal, Reader.start, Reader.step, Reader.opening, declared.Due.Due, declared.Reader.Reader}
 use Rattle.archive.specs.declared.Due.the-variants as due
-use Rattle.walk_report.specs.{Text.line, Text.first-line, Text.refusal-text, Line.in-line, Walk.opposed, Walk.mark}
+use Rattle.text.specs.Line.{in-line}
+use Rattle.walk_report.specs.{Lines.line, Lines.first-line, Lines.refusal-line, Walk.opposed, Walk.mark}
 use Rattle.walk_report.specs.declared.{Stage.Stage, Report.Report, Moved.Moved, Made.Made}
 use Rattle.walk_report.specs.declared.Stage.the-variants.{Refusal, First, Last, Undo, Over}
 
-abbrev pub report : Stage → Reader → Class → Class → Report
-report stage reader seal a = record { stage = stage; reader = reader; seal = seal; operation = a }
+-- a report at a stage, with its reader, the seal that was met last and the operation that is to be undone
+abbrev pub report-at : Stage → Reader → Class → Class → Report
+report-at stage reader seal a = record { stage = stage; reader = reader; seal = seal; operation = a }
 
 abbrev pub with-stage : Stage → Report → Report
-with-stage stage r = report stage (r .reader) (r .seal) (r .operation)
+with-stage stage r = report-at stage (r .reader) (r .seal) (r .operation)
 
 abbrev pub with-seal : Class → Report → Report
-with-seal seal r = report (r .stage) (r .reader) seal (r .operation)
+with-seal seal r = report-at (r .stage) (r .reader) seal (r .operation)
 
 abbrev pub moved : Report → ℕ → Moved
 moved r at = record { report = r; next = record { at = at } }
 
 -- the operations that are still to be read
-unfoldable pub older : Due → ℕ
+abbrev pub older : Due → ℕ
 older (due.Opening i) = 0
 older (due.Operations n) = n
 older due.End = 0
@@ -31,7 +33,7 @@ older due.Nothing = 0
 
 -- the next operation was read, and is to be undone then; without one the report is over
 unfoldable pub held-next : Report → ℕ → Reading Reader → Moved
-held-next r at (found reader next) = moved (report Undo reader (r .seal) (reader .held .operation)) next
+held-next r at (found reader next) = moved (report-at Undo reader (r .seal) (reader .held .operation)) next
 held-next r at (refused n) = moved (with-stage Over r) at
 
 unfoldable pub advanced-by : ℕ → Report → List ℕ → ℕ → Moved
@@ -42,7 +44,7 @@ unfoldable pub advanced : Report → List ℕ → ℕ → Moved
 advanced r s at = advanced-by (older (r .reader .due)) r s at
 
 -- is there an operation that is to be undone?
-unfoldable pub undoing : Stage → Bool
+abbrev pub undoing : Stage → Bool
 undoing (Refusal n) = false
 undoing First = false
 undoing Last = false
@@ -74,7 +76,7 @@ undone r s at =
 
 -- the line that is due
 unfoldable pub next-of : Stage → Report → List ℕ → ℕ → Next
-next-of (Refusal n) r s at = record { text = refusal-text n; after = moved (with-stage Over r) at }
+next-of (Refusal n) r s at = record { text = refusal-line n; after = moved (with-stage Over r) at }
 next-of First r s at = record { text = first-line (r .reader .held .count) (drawing-name (r .reader .held .drawing)); after = moved (with-stage Last r) at }
 next-of Last r s at = record { text = line 0 0x2E (r .seal); after = advanced r s at }
 next-of Undo r s at = undone r s at
@@ -85,11 +87,11 @@ next-line r s at = next-of (r .stage) r s at
 
 -- a report that says a refusal alone
 unfoldable pub refused-report : ℕ → Moved
-refused-report n = moved (report (Refusal n) start neutral-class neutral-class) 0
+refused-report n = moved (report-at (Refusal n) start neutral-class neutral-class) 0
 
 -- the report once the fields before the operations were read
 unfoldable pub first-report : Reading Reader → Moved
-first-report (found reader next) = moved (report First reader (reader .held .class) neutral-class) next
+first-report (found reader next) = moved (report-at First reader (reader .held .class) neutral-class) next
 first-report (refused n) = refused-report n
 
 unfoldable pub opened-by : ℕ → Reading Reader → Moved
@@ -101,7 +103,7 @@ unfoldable pub opened : List ℕ → Moved
 opened s = opened-by (archive-refusal s) (opening s)
 
 -- is a line still to come?
-unfoldable pub pending : Stage → Bool
+abbrev pub pending : Stage → Bool
 pending (Refusal n) = true
 pending First = true
 pending Last = true

@@ -6,13 +6,13 @@ ghost use Prim.Native.Nat.{ℕ, _-_, min};
 ghost use mathlib.Core.List.{List};
 ghost use lib.ListN.{take};
 ghost use Rattle.stored_form.specs.{Head.drawing-limit, Held.drawing-name};
-ghost use Rattle.walk_report.specs.{Text.line, Text.first-line, Line.in-line};
+ghost use Rattle.text.specs.Line.{in-line};
+ghost use Rattle.walk_report.specs.Lines.{line, first-line};
 ghost use Rattle.walk_report.specs.Steps.{with-stage, with-seal, moved, older, advanced, undoing, letter-before, made, undone, next-line, refused-report, opened, pending};
 
 mod letters;
-pub mod text;
+mod lines;
 
-use crate::text::Line;
 use archive::Due;
 use archive::Reader;
 use jacobian::Class;
@@ -20,6 +20,7 @@ use jacobian::Curve;
 use stored_form::Cursor;
 use stored_form::DRAWING_LIMIT;
 use stored_form::Place;
+use text::Line;
 
 // The line that is due.
 pub enum Stage {
@@ -171,7 +172,7 @@ fn undone(r: Report, s: &[u8], at: Cursor) -> Made
     let after = m.report;
     let next = m.next;
     let mark = letter_before(curve, a, after);
-    let line = text::seal_line(undone_of(held.count, older(due)), mark, before);
+    let line = lines::seal_line(undone_of(held.count, older(due)), mark, before);
     let stage = after.stage;
     let more = after.reader;
     let operation = after.operation;
@@ -202,7 +203,7 @@ fn first_line(count: u64, len: usize, bytes: [u8; DRAWING_LIMIT]) -> Line
     ensures { λ r. ⌜ r ≡ in-line (first-line count (take len bytes)) ⌝ }
 {
     let n = name_length(len);
-    text::first_line(count, &bytes[..n])
+    lines::first_line(count, &bytes[..n])
 }
 
 // A line, and the report with another line due.
@@ -218,7 +219,7 @@ fn last_line(r: Report, s: &[u8], at: Cursor) -> Made
     ensures { λ m. ⌜ m ≡ made (record { text = line 0 0x2E (r .seal); after = advanced r (now (s .entry)) (at .at) }) ⌝ }
 {
     let seal = r.seal;
-    let line = text::seal_line(0, b'.', seal);
+    let line = lines::seal_line(0, b'.', seal);
     let m = advanced(r, s, at);
     let report = m.report;
     let next = m.next;
@@ -242,11 +243,11 @@ pub fn next_line(r: Report, s: &[u8], at: Cursor) -> Made
 {
     let stage = r.stage;
     match stage {
-        Stage::Refusal(n) => line_made(text::refusal_line(n), Stage::Over, r, at),
+        Stage::Refusal(n) => line_made(lines::refusal_line(n), Stage::Over, r, at),
         Stage::First => line_made(opening_line(r), Stage::Last, r, at),
         Stage::Last => last_line(r, s, at),
         Stage::Undo => undone(r, s, at),
-        Stage::Over => line_made(text::no_line(), Stage::Over, r, at),
+        Stage::Over => line_made(text::empty(), Stage::Over, r, at),
     }
 }
 

@@ -1,5 +1,5 @@
 -- `advanced` meets its contract.
-use mathlib.Core.Path.{_≡_, sym, ap, _∙_}
+use mathlib.Core.Path.{sym, ap, _∙_}
 use borrow.Author.Needs.{needs}
 use Rattle.archive.proofs.ReaderSteps.{advance-found, advance-refused}
 use Rattle.walk_report.specs.Steps.{moved}

@@ -1,12 +1,13 @@
 -- `first_line` meets its contract.
-use mathlib.Core.Path.{_≡_, sym, ap, _∙_}
+use mathlib.Core.Path.{sym, ap, _∙_}
 use mathlib.Core.List.{List}
 use Prim.Native.Nat.{ℕ}
 use lib.ListN.{take}
 use native.Mathlib.Omega.{arith}
 use lib.Seq.{length-take-le}
 use borrow.Author.Needs.{needs}
-use Rattle.walk_report.specs.{Text.first-line, Line.in-line}
+use Rattle.text.specs.Line.{in-line}
+use Rattle.walk_report.specs.Lines.{first-line}
 use Rattle.walk_report.proofs.Advances.{take-min}
 use Rattle.walk_report.proofs.first_line.Statement.{statement}
 use Rattle.walk_report.proofs.first_line.Tie as tie

@@ -2,7 +2,8 @@
 use mathlib.Core.Path.{ap₂}
 use borrow.Author.Needs.{needs}
 use Rattle.walk_report.specs.Steps.{made}
-use Rattle.walk_report.specs.declared.{Report.Report, text.Line.Line}
+use Rattle.walk_report.specs.declared.Report.{Report}
+use Rattle.text.specs.declared.Line.{Line}
 use Rattle.walk_report.proofs.line_made.Statement.{statement}
 use Rattle.walk_report.proofs.line_made.Tie as tie
 

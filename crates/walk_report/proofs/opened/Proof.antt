@@ -1,12 +1,12 @@
 -- `opened` meets its contract.
-use mathlib.Core.Path.{_≡_, sym, ap, _∙_}
+use mathlib.Core.Path.{sym, ap, _∙_}
 use borrow.Author.Needs.{needs}
 use Prim.Native.Nat.{ℕ}
 use Rattle.jacobian.specs.declared.Class.{Class}
 use Rattle.archive.specs.Reader.{opening}
 use Rattle.archive.proofs.ReaderSteps.{advance-found, advance-refused}
 use Rattle.stored_form.specs.Held.{place-refusal}
-use Rattle.walk_report.specs.Steps.{report, moved, refused-report, first-report, opened-by, opened}
+use Rattle.walk_report.specs.Steps.{report-at, moved, refused-report, first-report, opened-by, opened}
 use Rattle.walk_report.specs.declared.Stage.the-variants.{First}
 use Rattle.walk_report.proofs.Advances.{opened-first, opened-refused}
 use Rattle.walk_report.proofs.opened.Statement.{statement}
@@ -40,7 +40,7 @@ returns-3 c =
     let test = t .before in
     let s = test .before .before .before .args .s .now in
     let reader = t .opening .result .reader in
-    ap (λ (a : Class). moved (report First reader (reader .held .class) a) (told .p .given .0 .0 .at)) (c .neutral .ensures)
+    ap (λ (a : Class). moved (report-at First reader (reader .held .class) a) (told .p .given .0 .0 .at)) (c .neutral .ensures)
     ∙ ap first-report (sym (advance-found (t .opening .result) (t .opening .ensures) (told .p .given .1)))
     ∙ opened-first (opening s) (sym (test .before .archive-refusal .ensures) ∙ test .if1 .left)
 

@@ -4,7 +4,7 @@ use Prim.Native.Nat.{_<_}
 use borrow.Author.Needs.{needs}
 use Rattle.walk_report.specs.Steps.{lines-left, made}
 use Rattle.walk_report.specs.declared.Made.{Made}
-use Rattle.walk_report.proofs.ReportMade.{lines-fewer}
+use Rattle.walk_report.proofs.LinesLeft.{lines-fewer}
 use Rattle.walkreport.proofs.main.Statement.{statement}
 use Rattle.walkreport.proofs.main.Tie as tie
 

@@ -1,0 +1,64 @@
+-- Demand 3 of archives (document 01, 'The register'): where the accepted calls of a list are all commits, an accepted archive, whatever its drawing number, with
+-- the register's curve, its last seal and all their classes, newest first, has for k operations undone the seal just before the k-th newest commit,
+-- and for k = 0 the last seal (`archive-seals`: all its seals; `archive-seal`: the one for k). Where the register passes its own checks such an archive exists
+-- for every drawing number that is allowed: the encoding of these values is accepted (`archive-exists`).
+-- The same where each call of the list is by value or in place: `left-archive-seals`, `left-archive-seal`, `left-archive-exists`.
+use Prim.Native.Nat.{ℕ, _≤_}
+use mathlib.Core.Path.{_≡_, refl, ap}
+use mathlib.Core.Bool.{true}
+use mathlib.Core.List.{List, _∷_, map}
+use lib.ListN.{length, getD}
+use Rattle.history.specs.{Register.register-refusal, Calls.Call, Calls.OnlyCommits, Calls.last, Calls.newest, Calls.classes, Calls.seals-back, declared.Register.Register}
+use Rattle.history.proofs.WalkingBack.{walk-meets}
+use Rattle.stored_form.specs.{Reading.found, Head.drawing-limit, Fields.printable}
+use Rattle.archive.specs.Archive.{Archive, read-archive}
+use Rattle.archive_theorems.specs.Written.{archive-bytes}
+use Rattle.archive_theorems.proofs.{ArchiveRoundTrips.archive-read-back, ArchiveBytes.archive-is-bytes}
+use Rattle.seal_register.specs.InPlace.{Made, calls, Session, left-by, newest-made, seals-made}
+use Rattle.seal_register.proofs.InPlace.{left-by-last, newest-is}
+use Rattle.walk_report.specs.Walk.{seals}
+use Rattle.report_theorems.specs.Demand3.{Keeps, kept-archive, Encodes}
+use Rattle.report_theorems.proofs.Kept.{kept-storable}
+
+-- ---- calls by value
+
+module _ (r : Register) (cs : List Call) (only : OnlyCommits (newest r cs)) where
+  list-seals : seals (r .curve) (last r cs .seal) (classes (newest r cs)) ≡ seals-back r cs
+  unfolding seals
+  list-seals = walk-meets r cs only
+
+  module _ (s : List ℕ) {a : Archive} {end : ℕ} (reads : read-archive s ≡ found a end) (keeps : Keeps a r (last r cs) (newest r cs)) where
+    pub archive-seals : seals (a .curve) (a .seal) (a .operations) ≡ seals-back r cs
+    archive-seals = rw (keeps .curve-kept, keeps .seal-kept, keeps .operations-kept) list-seals
+
+    pub archive-seal : (k : ℕ) → getD (seals (a .curve) (a .seal) (a .operations)) k (a .seal) ≡ getD (seals-back r cs) k (a .seal)
+    archive-seal k = ap (λ l. getD l k (a .seal)) archive-seals
+
+  pub archive-exists : register-refusal r ≡ 0 → (drawing : List ℕ) → printable drawing ≡ true → length drawing ≤ drawing-limit →
+      Encodes r (last r cs) (newest r cs) drawing (kept-archive r (last r cs) (newest r cs) drawing)
+  unfolding kept-archive seals-back
+  archive-exists passes drawing clean short =
+      let a : Archive = kept-archive r (last r cs) (newest r cs) drawing in
+      let keeps : Keeps a r (last r cs) (newest r cs) = record { curve-kept = refl; seal-kept = refl; operations-kept = refl } in
+      let reads = archive-read-back a (kept-storable r cs only passes drawing clean short) in
+      record { named = refl; keeps = keeps; bytes = archive-is-bytes a clean; reads = reads; meets = archive-seals (archive-bytes a) reads keeps }
+
+-- ---- each call by value or in place
+
+module _ (r : Register) (ms : List Made) (session : Session r ms) (only : OnlyCommits (newest-made r ms)) where
+  only-by-value : OnlyCommits (newest r (calls ms))
+  only-by-value = rw (newest-is r ms session) at only
+
+  module _ (s : List ℕ) {a : Archive} {end : ℕ} (reads : read-archive s ≡ found a end) (keeps : Keeps a r (left-by r ms) (newest-made r ms)) where
+    pub left-archive-seals : seals (a .curve) (a .seal) (a .operations) ≡ seals-made r ms
+    unfolding seals-back seals-made
+    left-archive-seals =
+        rw (newest-is r ms session, left-by-last r ms session)
+        (archive-seals r (calls ms) only-by-value s reads (rw (newest-is r ms session, left-by-last r ms session) at keeps))
+
+    pub left-archive-seal : (k : ℕ) → getD (seals (a .curve) (a .seal) (a .operations)) k (a .seal) ≡ getD (seals-made r ms) k (a .seal)
+    left-archive-seal k = ap (λ l. getD l k (a .seal)) left-archive-seals
+
+  pub left-archive-exists : register-refusal r ≡ 0 → (drawing : List ℕ) → printable drawing ≡ true → length drawing ≤ drawing-limit →
+      Encodes r (left-by r ms) (newest-made r ms) drawing (kept-archive r (left-by r ms) (newest-made r ms) drawing)
+  left-archive-exists = rw (newest-is r ms session, left-by-last r ms session) (archive-exists r (calls ms) only-by-value)

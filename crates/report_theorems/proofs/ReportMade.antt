@@ -1,0 +1,179 @@
+-- The lines that the report's steps make, one after the other, are the report's lines (`report-made`).
+use Prim.Native.Nat.{ℕ, zero, suc, _+_, _-_}
+use mathlib.Core.Path.{_≡_, refl, sym, ap, _∙_, subst}
+use mathlib.Core.List.{List, [], _∷_}
+use native.Mathlib.Omega.{arith}
+use lib.ListN.{length}
+use Rattle.jacobian.specs.{Answer.Accepts, Answer.Result, Answer.neutral-class, Answer.subtract-and-halve-answer, declared.Curve.Curve, declared.Class.Class}
+use Rattle.stored_form.specs.{Reading.Reading, Reading.found, Reading.refused, Reading._then_, Reading.reading-refusal, Classes.class-at}
+use Rattle.stored_form.specs.{Held.drawing-name, Held.nothing-held, Held.with-operation, Held.read-fields, Held.archive-opening, declared.Held.Held}
+use Rattle.stored_form.proofs.{Readings.found-not-refused, Readings.then-found, FieldReadings.read-operation}
+use Rattle.history.specs.Register.{undo-seal}
+use Rattle.history.proofs.Seals.{undo-sound}
+use Rattle.archive.specs.{Archive.Archive, Archive.operations-at, Archive.read-archive, Archive.archive-refusal, Reader.reader, Reader.operations-due, Reader.step, Reader.opening, declared.Reader.Reader}
+use Rattle.archive.specs.Reader as reading
+use Rattle.archive.specs.declared.Due.the-variants as due
+use Rattle.archive.proofs.ToldApart.{archive-found}
+use Rattle.archive_theorems.proofs.Operations.{newest, no-operations, opening-of}
+use Rattle.class_group.specs.Walk.{walk}
+use Rattle.walk_report.specs.{Lines.line, Lines.first-line, Lines.refusal-line, Walk.seals, Walk.letter, Walk.letters, Report.seal-lines, Report.walk-lines, Report.lines-of, Report.report-lines}
+use Rattle.walk_report.specs.Steps.{report-at, with-stage, with-seal, moved, older, held-next, advanced-by, advanced, letter-before, undone, next-of, next-line, refused-report, first-report, opened-by, opened, lines-left, texts}
+use Rattle.walk_report.proofs.LinesLeft.{due-older}
+use Rattle.report_theorems.proofs.ArchiveWalk.{class-sound, step-is, seal-sound}
+use Rattle.walk_report.specs.declared.{Stage.Stage, Report.Report, Moved.Moved}
+use Rattle.walk_report.specs.declared.Stage.the-variants.{First, Last, Undo, Over}
+
+operations-counted : (n : ℕ) (c : Curve) (s : List ℕ) (at : ℕ) {ops : List Class} {end : ℕ} → operations-at n c s at ≡ found ops end → length ops ≡ n
+operations-counted zero c s at e = ap length (no-operations c s at e)
+operations-counted (suc n) c s at e =
+    let m = newest c s at n e in
+    ap length (m .all) ∙ ap suc (operations-counted n c s (m .next) (m .rest))
+
+-- ---- the report's lines, behind the one of a seal
+
+unfoldable later-lines : Curve → ℕ → Class → List Class → List (List ℕ)
+later-lines c k seal [] = []
+later-lines c k seal (a ∷ older) = seal-lines (k + 1) (letters c (a ∷ older)) (seals c (undo-seal c seal a) older)
+
+lines-from : (c : Curve) (k mark : ℕ) (seal : Class) (ops : List Class) → seal-lines k (mark ∷ letters c ops) (seals c seal ops) ≡ line k mark seal ∷ later-lines c k seal ops
+unfolding later-lines seal-lines letters seals walk
+lines-from c k mark seal [] = refl
+lines-from c k mark seal (a ∷ older) = refl
+
+-- ---- one step
+
+module _ (s : List ℕ) where
+  advanced-none : (stage : Stage) (h : Held) (seal b : Class) (at : ℕ) →
+      advanced (report-at stage (reader (operations-due 0) h) seal b) s at ≡ moved (report-at Over (reader (operations-due 0) h) seal b) at
+  unfolding advanced advanced-by operations-due
+  advanced-none stage h seal b at = refl
+
+  advanced-more : (n : ℕ) (stage : Stage) (h : Held) (seal b : Class) (at : ℕ) {a : Class} {next : ℕ} → class-at 0x44 (h .curve) s at ≡ found a next →
+      advanced (report-at stage (reader (operations-due (suc n)) h) seal b) s at ≡ moved (report-at Undo (reader (operations-due n) (with-operation a h)) seal a) next
+  unfolding advanced advanced-by operations-due step reading.read-operation held-next _then_
+  advanced-more n stage h seal b at {a} {next} e =
+      let r : Report = report-at stage (reader (due.Operations (suc n)) h) seal b in
+      let less : suc n - 1 ≡ n = omega arith in
+      ap (λ (x : Reading Held). held-next r at (x then λ more next. found (reader (operations-due (suc n - 1)) more) next)) (read-operation h s at ∙ then-found _ e)
+      ∙ ap (λ (k : ℕ). moved (report-at Undo (reader (operations-due k) (with-operation a h)) seal a) next) less
+
+  -- another seal is carried along
+  held-seal : (seal : Class) (r : Report) (at : ℕ) (x : Reading Reader) →
+      held-next (with-seal seal r) at x ≡ record { report = with-seal seal (held-next r at x .report); next = held-next r at x .next }
+  unfolding held-next
+  held-seal seal r at (found reader next) = refl
+  held-seal seal r at (refused n) = refl
+
+  advanced-seal : (seal : Class) (r : Report) (at : ℕ) →
+      advanced (with-seal seal r) s at ≡ record { report = with-seal seal (advanced r s at .report); next = advanced r s at .next }
+  unfolding advanced advanced-by
+  advanced-seal seal r at = go (older (r .reader .due))
+    where
+      go : (n : ℕ) → advanced-by n (with-seal seal r) s at ≡ record { report = with-seal seal (advanced-by n r s at .report); next = advanced-by n r s at .next }
+      go zero = refl
+      go (suc n) = held-seal seal r at (step (r .reader) s at)
+
+  -- the letter of an operation, by those that are still to be read
+  letter-is : (n : ℕ) (h : Held) (seal a b : Class) (stage : Stage) (at : ℕ) {ops : List Class} {end : ℕ} → operations-at n (h .curve) s at ≡ found ops end →
+      letter-before (h .curve) a (advanced (report-at stage (reader (operations-due n) h) seal b) s at .report) ≡ letter (h .curve) a ops
+  unfolding letter-before letter
+  letter-is zero h seal a b stage at e =
+      ap (λ (m : Moved). letter-before (h .curve) a (m .report)) (advanced-none stage h seal b at)
+      ∙ ap (letter (h .curve) a) (sym (no-operations (h .curve) s at e))
+  letter-is (suc n) h seal a b stage at e =
+      let m = newest (h .curve) s at n e in
+      ap (λ (m : Moved). letter-before (h .curve) a (m .report)) (advanced-more n stage h seal b at (m .this))
+      ∙ ap (letter (h .curve) a) (sym (m .all))
+
+  -- an undo's line, and those behind it
+  undo-made : (n : ℕ) (h : Held) (seal a : Class) (at k : ℕ) {before : Class} {ops : List Class} {end : ℕ} → operations-at n (h .curve) s at ≡ found ops end →
+      h .count ≡ k + suc n → subtract-and-halve-answer (h .curve) seal a .class ≡ before →
+      let m = advanced (report-at Undo (reader (operations-due n) h) before a) s at in
+      texts (suc n) (report-at Undo (reader (operations-due n) h) seal a) s at ≡ line (k + 1) (letter (h .curve) a ops) before ∷ texts n (m .report) s (m .next .at)
+  unfolding texts next-line next-of undone
+  undo-made n h seal a at k {before} {ops} e counted same =
+      let c : Curve = h .curve in
+      let r : Report = report-at Undo (reader (operations-due n) h) seal a in
+      let number : h .count - older (operations-due n) ≡ k + 1 = omega (arith, counted, due-older n) in
+      let rest : ℕ → Moved → List (List ℕ) = λ j m. texts j (m .report) s (m .next .at) in
+      let carried : Class → Moved = λ x. record { report = with-seal x (advanced r s at .report); next = advanced r s at .next } in
+      ap (λ (x : Class). line (h .count - older (operations-due n)) (letter-before c a (advanced r s at .report)) x ∷ rest n (carried x)) same
+      ∙ ap (λ (j : ℕ). line j (letter-before c a (advanced r s at .report)) before ∷ rest n (carried before)) number
+      ∙ ap (λ (j : ℕ). line (k + 1) j before ∷ rest n (carried before)) (letter-is n h seal a a Undo at e)
+      ∙ ap (λ (m : Moved). line (k + 1) (letter c a ops) before ∷ rest n m) (sym (advanced-seal before r at))
+
+  -- all lines behind the one of a seal
+
+  walk-made : (n : ℕ) (stage : Stage) (h : Held) (seal b : Class) (at k : ℕ) {ops : List Class} {end : ℕ} → operations-at n (h .curve) s at ≡ found ops end →
+      h .count ≡ k + n → Accepts (h .curve) seal →
+      let m = advanced (report-at stage (reader (operations-due n) h) seal b) s at in texts n (m .report) s (m .next .at) ≡ later-lines (h .curve) k seal ops
+  unfolding texts later-lines letters
+  walk-made zero stage h seal b at k e counted hs = ap (later-lines (h .curve) k seal) (sym (no-operations (h .curve) s at e))
+  walk-made (suc n) stage h seal b at k e counted hs =
+      let c : Curve = h .curve in
+      let m = newest c s at n e in
+      let a : Class = m .class in
+      let ops : List Class = m .older in
+      let next : ℕ = m .next in
+      let ha = class-sound 0x44 c s at (m .this) in
+      let before : Class = undo-seal c seal a in
+      let more : Held = with-operation a h in
+      ap (λ (x : Moved). texts (suc n) (x .report) s (x .next .at)) (advanced-more n stage h seal b at (m .this))
+      ∙ undo-made n more seal a next k (m .rest) counted (ap (λ (x : Result). x .class) (step-is hs ha))
+      ∙ ap (λ (l : List (List ℕ)). line (k + 1) (letter c a ops) before ∷ l)
+      (walk-made n Undo more before a next (k + 1) (m .rest) (omega (arith, counted)) (undo-sound hs ha))
+      ∙ sym (lines-from c (k + 1) (letter c a ops) before ops)
+      ∙ ap (later-lines c k seal) (sym (m .all))
+
+-- ---- an accepted archive
+
+module _ (s : List ℕ) where
+  opened-first : {h : Held} {first : ℕ} → archive-refusal s ≡ 0 → read-fields archive-opening nothing-held s 0 ≡ found h first →
+      opened s ≡ moved (report-at First (reader (operations-due (h .count)) h) (h .class) neutral-class) first
+  unfolding opened opened-by first-report opening
+  opened-first z e = ap (λ (n : ℕ). opened-by n (opening s)) z ∙ ap first-report (then-found _ e)
+
+  -- the first two lines, and those behind them
+  first-made : (n : ℕ) (h : Held) (seal b : Class) (at : ℕ) →
+      let r = report-at First (reader (operations-due n) h) seal b in
+      let m = advanced (with-stage Last r) s at in
+      texts (lines-left r) r s at ≡ first-line (h .count) (drawing-name (h .drawing)) ∷ line 0 0x2E seal ∷ texts n (m .report) s (m .next .at)
+  unfolding texts lines-left next-line next-of
+  first-made n h seal b at =
+      let m = advanced (report-at Last (reader (operations-due n) h) seal b) s at in
+      ap (λ (j : ℕ). first-line (h .count) (drawing-name (h .drawing)) ∷ line 0 0x2E seal ∷ texts j (m .report) s (m .next .at)) (due-older n)
+
+  accepted-made : {a : Archive} {end : ℕ} → read-archive s ≡ found a end → texts (lines-left (opened s .report)) (opened s .report) s (opened s .next .at) ≡ walk-lines a
+  unfolding walk-lines archive-refusal
+  accepted-made {a} e =
+      let p = opening-of s e in
+      let h : Held = p .held in
+      let c : Curve = h .curve in
+      let ops : List Class = p .operations in
+      let hs : Accepts c (h .class) = subst (λ (x : Archive). Accepts (x .curve) (x .seal)) (p .archive) (seal-sound s e) in
+      let counted = operations-counted (h .count) c s (p .first) (p .operations-read) in
+      ap (λ (m : Moved). texts (lines-left (m .report)) (m .report) s (m .next .at)) (opened-first (ap reading-refusal e) (p .opening-read))
+      ∙ first-made (h .count) h (h .class) neutral-class (p .first)
+      ∙ ap (λ (l : List (List ℕ)). first-line (h .count) (drawing-name (h .drawing)) ∷ line 0 0x2E (h .class) ∷ l)
+      (walk-made s (h .count) Last h (h .class) neutral-class (p .first) 0 (p .operations-read) (omega arith) hs)
+      ∙ ap (λ (l : List (List ℕ)). first-line (h .count) (drawing-name (h .drawing)) ∷ l) (sym (lines-from c 0 0x2E (h .class) ops))
+      ∙ ap (λ (n : ℕ). first-line n (drawing-name (h .drawing)) ∷ seal-lines 0 (0x2E ∷ letters c ops) (seals c (h .class) ops)) (sym counted)
+      ∙ ap walk-lines (sym (p .archive))
+
+  -- ---- a refused one
+
+  refused-made : (n : ℕ) → read-archive s ≡ refused n → texts (lines-left (opened s .report)) (opened s .report) s (opened s .next .at) ≡ refusal-line n ∷ []
+  unfolding opened opened-by archive-refusal refused-report lines-left texts next-line next-of
+  refused-made zero e = absurd (found-not-refused (sym e ∙ archive-found s (ap reading-refusal e) .2))
+  refused-made (suc n) e =
+      ap (λ (k : ℕ). let m = opened-by k (opening s) in texts (lines-left (m .report)) (m .report) s (m .next .at)) (ap reading-refusal e)
+
+-- ---- the theorem
+
+pub report-made : (s : List ℕ) → texts (lines-left (opened s .report)) (opened s .report) s (opened s .next .at) ≡ report-lines s
+unfolding report-lines lines-of
+report-made s = go (read-archive s) refl
+  where
+    go : (x : Reading Archive) → read-archive s ≡ x → texts (lines-left (opened s .report)) (opened s .report) s (opened s .next .at) ≡ lines-of x
+    go (found a end) e = accepted-made s e
+    go (refused n) e = refused-made s n e

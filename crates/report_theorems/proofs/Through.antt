@@ -1,0 +1,62 @@
+-- A line is made from any part of the input that has the next field: over m bytes from a place k on the line and the report after it are those that the whole input
+-- gives, with the place counted from k on, where the longest field has room (`line-through`) or the m bytes are all that is left (`line-last`).
+use Prim.Native.Nat.{ℕ, zero, suc, _+_, _-_, _≤_}
+use mathlib.Core.Path.{_≡_, refl, sym, ap, _∙_}
+use mathlib.Core.List.{List}
+use native.Mathlib.Omega.{arith}
+use lib.ListN.{length}
+use Rattle.stored_form.specs.{Number.part, Head.longest-body, Reading.Reading, Reading.found, Reading.refused}
+use Rattle.jacobian.specs.Answer.{subtract-and-halve-answer}
+use Rattle.archive.specs.{Reader.step, declared.Due.Due, declared.Reader.Reader}
+use Rattle.archive.specs.declared.Due.the-variants.{End}
+use Rattle.archive_theorems.specs.Places.{after}
+use Rattle.archive_theorems.proofs.Windows.{step-through, step-last}
+use Rattle.walk_report.specs.declared.{Stage.Stage, Report.Report, Moved.Moved}
+use Rattle.walk_report.specs.declared.Stage.the-variants.{Refusal, First, Last, Undo, Over}
+use Rattle.walk_report.specs.{Lines.line, Steps.with-seal, Steps.older, Steps.held-next, Steps.advanced-by, Steps.advanced, Steps.letter-before, Steps.undone, Steps.next-of, Steps.next-line}
+use Rattle.report_theorems.specs.Through.{moved-after, next-after}
+
+held-after : (k at : ℕ) (r : Report) (x : Reading Reader) → held-next r (k + at) (after k x) ≡ moved-after k (held-next r at x)
+unfolding held-next after
+held-after k at r (found reader next) = refl
+held-after k at r (refused n) = refl
+
+none-at-end : (d : Due) (n : ℕ) → older d ≡ suc n → d ≡ End → ⊥
+none-at-end d n e f = omega (arith, sym e ∙ ap older f)
+
+module _ (k : ℕ) (s t : List ℕ) (at : ℕ) where
+  -- where a step over the part is the step over the whole input
+  module _ (r : Report) (same : (r .reader .due ≡ End → ⊥) → step (r .reader) s (k + at) ≡ after k (step (r .reader) t at)) where
+    by-after : (n : ℕ) → older (r .reader .due) ≡ n → advanced-by n r s (k + at) ≡ moved-after k (advanced-by n r t at)
+    unfolding advanced-by
+    by-after zero e = refl
+    by-after (suc n) e = ap (held-next r (k + at)) (same (none-at-end (r .reader .due) n e)) ∙ held-after k at r (step (r .reader) t at)
+
+    advanced-after : advanced r s (k + at) ≡ moved-after k (advanced r t at)
+    unfolding advanced
+    advanced-after = by-after (older (r .reader .due)) refl
+
+    stage-after : (g : Stage) → next-of g r s (k + at) ≡ next-after k (next-of g r t at)
+    unfolding next-of undone
+    stage-after (Refusal n) = refl
+    stage-after First = refl
+    stage-after Last = ap (λ (x : Moved). record { text = line 0 0x2E (r .seal); after = x }) advanced-after
+    stage-after Undo =
+        let held = r .reader .held in
+        let seal = subtract-and-halve-answer (held .curve) (r .seal) (r .operation) .class in
+        ap (λ (x : Moved). record {
+          text = line (held .count - older (r .reader .due)) (letter-before (held .curve) (r .operation) (x .report)) seal;
+          after = record { report = with-seal seal (x .report); next = x .next };
+        }) advanced-after
+    stage-after Over = refl
+
+    line-after : next-line r s (k + at) ≡ next-after k (next-line r t at)
+    unfolding next-line
+    line-after = stage-after (r .stage)
+
+module _ (k m : ℕ) (s : List ℕ) (at : ℕ) (r : Report) where
+  pub line-through : at + (3 + longest-body) ≤ m → next-line r s (k + at) ≡ next-after k (next-line r (part s k m) at)
+  line-through room = line-after k s (part s k m) at r (λ none. step-through k m s at (r .reader) room none)
+
+  pub line-last : length s ≤ k + m → next-line r s (k + at) ≡ next-after k (next-line r (part s k m) at)
+  line-last h = line-after k s (part s k m) at r (λ none. step-last k m s at (r .reader) h)

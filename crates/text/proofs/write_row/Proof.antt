@@ -1,0 +1,22 @@
+-- `write_row` meets its contract: the bytes lie within the row.
+use mathlib.Core.Path.{sym}
+use native.Mathlib.Omega.{arith}
+use lib.Seq.{length-take-le}
+use borrow.Author.Needs.{needs}
+use Rattle.text.proofs.write_row.Statement.{statement}
+use Rattle.text.proofs.write_row.Tie as tie
+
+slice-aggregate-write-all : tie.Need-slice-aggregate-write-all
+slice-aggregate-write-all c =
+    let s = c .before .before in
+    sym (length-take-le (c .before .within .result) (s .args .t2) (omega (arith, c .before .within .ensures, s .good .1 .0 .1 .0 .1)))
+
+pub write-row-spec : {M : Type 1} → statement M
+write-row-spec =
+    tie.close
+    (tie.spec
+    (λ c κs. search needs)
+    (λ c. search needs)
+    slice-aggregate-write-all
+    (λ c κs. search needs)
+    (λ c. search needs))

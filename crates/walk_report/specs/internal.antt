@@ -1,2 +1,0 @@
--- What the private functions promise.
-pub mod Writing
