@@ -90,13 +90,25 @@ def definitions_from_proofs(text):
     return found
 
 
+def is_conditional(record, held):
+    """Has a record that a file declares an arrow in a field?"""
+    fields = re.search(rf"^pub record {re.escape(record)}\b.*?where\n((?:  .*\n?|\n)+)", held, re.M)
+    return bool(fields) and "→" in re.sub(r"--.*", "", fields[1])
+
+
+def meaning(name, held):
+    """What a type that a file defines stands for; nothing where it is a record, or no type."""
+    m = re.search(rf"^(?:abbrev|unfoldable) pub {re.escape(name)} : .*Type 0\n(?:unfolding .*\n)?{re.escape(name)}\b.*? = (.*)", held, re.M)
+    return m[1] if m else ""
+
+
 def conditions(ensures, text):
-    """What an `ensures` promises under a condition: an arrow of its own, or a record of specs/ with an arrow in a field."""
+    """What an `ensures` promises under a condition: an arrow of its own, or a record of specs/ with an arrow in a field, which it names, or which
+    is named by a type that it names."""
     found = {"→"} if "→" in ensures else set()
     names = imports(text)
     for word in words(ensures):
-        path, inner = place(names.get(word, ""), "specs")
-        fields = path and re.search(rf"^pub record {re.escape(inner)}\b.*?where\n((?:  .*\n?|\n)+)", read(path), re.M)
-        if fields and "→" in re.sub(r"--.*", "", fields[1]):
-            found.add(inner)
+        path, name = place(names.get(word, ""), "specs")
+        held = read(path) if path else ""
+        found |= {w for w in {name} | words(meaning(name, held)) if is_conditional(w, held)} if path else set()
     return found

@@ -1,4 +1,4 @@
--- The archive's answer tells whether it was read (demand 1): 0 exactly where `read-archive` finds one (`archive-found`, `found-archive`), and else the number of a
+-- The archive's answer tells whether it was read (docs/SPECIFICATION.md, 6): 0 exactly where `read-archive` finds one (`archive-found`, `found-archive`), and else the number of a
 -- refusal (`archive-told`).
 use Prim.Native.Nat.{ℕ, zero, suc}
 use mathlib.Core.Path.{_≡_, refl}

@@ -1,4 +1,4 @@
--- An archive and how it is read (document 01, 'Stored form', 'In checking order').
+-- An archive and how it is read (docs/SPECIFICATION.md, 6 and 9).
 use Prim.Native.Nat.{ℕ, zero, suc}
 use mathlib.Core.List.{List, [], _∷_}
 use Rattle.stored_form.specs.Reading.{Reading, found, checked, _then_, reading-refusal}

@@ -1,4 +1,4 @@
--- The reader of an archive: a state, and one step for each field (document 01, 'Stored form', 'In checking order').
+-- The reader of an archive: a state, and one step for each field (docs/SPECIFICATION.md, 6 and 9).
 use Prim.Native.Nat.{ℕ, zero, suc, _-_}
 use mathlib.Core.Bool.{Bool, true, false, cond}
 use mathlib.Core.List.{List, [], _∷_}

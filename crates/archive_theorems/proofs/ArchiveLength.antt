@@ -1,4 +1,4 @@
--- Every accepted archive is shorter than 65,536 bytes (document 01, 'The walk report'): the first fields, the drawing number, the count, and the room of each class.
+-- Every accepted archive is shorter than 65,536 bytes (docs/SPECIFICATION.md, 10): the first fields, the drawing number, the count, and the room of each class.
 use Prim.Native.Nat.{ℕ, _*_, _≤_, _<_}
 use mathlib.Core.Path.{_≡_, refl, ap}
 use mathlib.Core.List.{List, [], _∷_, _++_}

@@ -1,4 +1,4 @@
--- The bytes of an archive, and which values have such bytes (document 01, 'Stored form', 'In checking order').
+-- The bytes of an archive, and which values have such bytes (docs/SPECIFICATION.md, 6 and 9).
 use Prim.Native.Nat.{ℕ, _≤_}
 use mathlib.Core.Path.{_≡_}
 use mathlib.Core.Bool.{true}

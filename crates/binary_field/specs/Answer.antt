@@ -1,4 +1,4 @@
--- What the calls on elements answer (document 01, 'The fields' and 'In checking order').
+-- What the calls on elements answer (docs/SPECIFICATION.md, 1 and 6).
 use Prim.Native.Nat.{ℕ, zero, suc, _^_}
 use mathlib.Core.{Bool.Bool, Bool.true, Bool.cond, Bool._||_, Bool._&&_, List.List, List.[], List._∷_}
 use lib.Dec.{eqb, ltb}

@@ -1,4 +1,4 @@
--- The field of elements of degree d, for d = 5 and d = 61, as the record of laws that upper crates use (document 01, 'The fields'),
+-- The field of elements of degree d, for d = 5 and d = 61, as the record of laws that upper crates use (docs/SPECIFICATION.md, 1),
 -- and the element that a number stands for. Its operations compute; which number each gives is said in proofs/Field.
 use Prim.Native.Nat.{ℕ, _-_, _^_}
 use mathlib.Core.{Path._≡_, Path.ap, HLevel.hedberg}

@@ -1,5 +1,5 @@
 -- The laws of the elements: polynomials over GF(2) and their remainders, products and powers of elements, the theorems of
--- document 01, 'The fields', and the field record. Words: how they are computed in words of 64 bits.
+-- docs/SPECIFICATION.md, 1, and the field record. Words: how they are computed in words of 64 bits.
 pub mod Sums
 pub mod Clmul
 pub mod Spread

@@ -1,4 +1,4 @@
--- What document 01, 'The fields', says of the elements of degree 5 and 61: every element has one square root; the inverse of
+-- What docs/SPECIFICATION.md, 1, says of the elements of degree 5 and 61: every element has one square root; the inverse of
 -- 0 is 0; every other inverse times its element is 1. That both moduli are irreducible is
 -- `irreducible` of Irreducible; the field laws are those of the record `field` of binary_field.
 use Prim.Native.Nat.{ℕ, _^_, _<_}

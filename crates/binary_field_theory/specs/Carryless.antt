@@ -1,4 +1,4 @@
--- Polynomials over GF(2), as numbers: bit i is the coefficient of t^i (document 01, 'The fields').
+-- Polynomials over GF(2), as numbers: bit i is the coefficient of t^i (docs/SPECIFICATION.md, 1).
 -- Their sum, their product, and the remainder modulo t^d + low.
 use Prim.Native.Nat.{ℕ, zero, suc, _+_, _*_, _/_, _%_, _^_}
 use lib.Bits.{bitXor}

@@ -1,5 +1,5 @@
 -- Elements of degree d: numbers below 2^d, polynomials over GF(2) modulo t^61 + t^5 + t^2 + t + 1 for d = 61
--- and modulo t^5 + t^2 + 1 for d = 5 (document 01, 'The fields').
+-- and modulo t^5 + t^2 + 1 for d = 5 (docs/SPECIFICATION.md, 1).
 use Prim.Native.Nat.{ℕ, zero, suc, _+_, _-_, _%_, _^_, _<_}
 use mathlib.Core.{Path._≡_, Bool.cond, Bool._||_}
 use lib.Dec.{T, eqb}

@@ -1,4 +1,4 @@
--- The table that spreads a byte to sixteen bits (document 01, 'The fields'): bit i of the byte is bit 2i of its entry.
+-- The table that spreads a byte to sixteen bits (docs/SPECIFICATION.md, 1): bit i of the byte is bit 2i of its entry.
 use mathlib.Core.{Path._≡_, Bool.Bool, Bool.true, Bool._&&_, List.List, List.[], List._∷_}
 use Prim.Native.Nat.{ℕ, zero, suc, _+_, _*_, _/_, _%_, _<_}
 use lib.{Dec.eqb, ListN.getD}

@@ -1,4 +1,4 @@
--- The leading coefficient, and polynomials made monic (document 01, "Curves and classes").
+-- The leading coefficient, and polynomials made monic (docs/SPECIFICATION.md, 2).
 use Prim.Native.Nat.{_-_}
 use mathlib.Core.Path.{_≡_}
 use Rattle.field_laws.specs.Field.{Field2}

@@ -1,5 +1,5 @@
 -- No curve y² + y = f(x) has a singular point: the derivative of y² + y + f(x) by y is 1 everywhere, so at no point over any
--- ring of characteristic 2 with 1 ≠ 0 do both partial derivatives vanish (document 01, 'Curves and classes').
+-- ring of characteristic 2 with 1 ≠ 0 do both partial derivatives vanish (docs/SPECIFICATION.md, 2).
 use mathlib.Core.{Path._≡_, Path.sym, Path._∙_, List.List}
 use Rattle.field_laws.specs.{Ring.Ring2, Field.Field2}
 use Rattle.char2_algebra.specs.Polynomials.{Polynomials}

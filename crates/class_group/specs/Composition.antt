@@ -1,4 +1,4 @@
--- Cantor's composition, in Koblitz's form for even characteristic (document 01, 'Curves and classes', Sum and Double).
+-- Cantor's composition, in Koblitz's form for even characteristic (docs/SPECIFICATION.md, 2).
 use mathlib.Core.Path.{_≡_}
 use Rattle.field_laws.specs.{Ring.Ring2, Field.Field2}
 use Rattle.char2_algebra.specs.{Polynomials.Polynomials, Divides.Divides, Lead.monic-of, Euclid.Bezout3, Euclid.bezout3}

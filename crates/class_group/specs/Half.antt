@@ -1,4 +1,4 @@
--- The half of a class, by rules on its coefficients, by degree (document 01, 'Curves and classes', Half).
+-- The half of a class, by rules on its coefficients, by degree (docs/SPECIFICATION.md, 2).
 -- The rules need not be believed: proofs/Halving.antt shows that the half is the one reduced class whose double is the class given.
 -- A triple u, v, w with u w = v² + v + f is changed by lifts and steps, which keep its class, until the first polynomial is
 -- a constant times a square a²; the half is then [a, v modulo a].

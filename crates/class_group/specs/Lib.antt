@@ -1,4 +1,4 @@
--- Reduced divisor classes on y² + y = f(x), f monic of degree 7 (document 01, 'Curves and classes').
+-- Reduced divisor classes on y² + y = f(x), f monic of degree 7 (docs/SPECIFICATION.md, 2).
 pub mod Curve
 pub mod Mumford
 pub mod Composition

@@ -1,4 +1,4 @@
--- The two rules that move a seal (document 01, 'The register').
+-- The two rules that move a seal (docs/SPECIFICATION.md, 2.8).
 use Prim.Native.Nat.{_+_}
 use Rattle.field_laws.specs.Field.{Field2}
 use Rattle.char2_algebra.specs.Polynomials.{Polynomials}

@@ -1,5 +1,4 @@
--- A class as a Mumford pair [u, v], and which pairs are reduced classes (document 01, 'Curves and classes': u monic of degree
--- at most 3, v of smaller degree than u, u a divisor of v² + v + f). `len` is the degree plus one.
+-- A class as a Mumford pair [u, v], and which pairs are reduced classes (docs/SPECIFICATION.md, 2). `len` is the degree plus one.
 use Prim.Native.Nat.{_≤_, _<_}
 use mathlib.Core.Bool.{true, false}
 use lib.Dec.{ltb}

@@ -1,5 +1,4 @@
--- What it means that a curve has no singular point (document 01, 'Curves and classes': every choice of the coefficients is a
--- curve without singular points). y² + y + f(x) is a polynomial in y whose coefficients are polynomials in x; a polynomial is the
+-- What it means that a curve has no singular point (docs/SPECIFICATION.md, 2). y² + y + f(x) is a polynomial in y whose coefficients are polynomials in x; a polynomial is the
 -- list of its coefficients, the lowest power first. A point may have its coordinates in any ring of characteristic 2 over K, so
 -- in every field that contains K.
 use Prim.Native.Nat.{ℕ, zero, suc}

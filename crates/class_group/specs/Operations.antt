@@ -1,4 +1,4 @@
--- Sum and double of classes: compose, then reduce (document 01, 'Curves and classes').
+-- Sum and double of classes: compose, then reduce (docs/SPECIFICATION.md, 2).
 use Rattle.field_laws.specs.Field.{Field2}
 use Rattle.char2_algebra.specs.Polynomials.{Polynomials}
 use Rattle.class_group.specs.Curve.{Curve}

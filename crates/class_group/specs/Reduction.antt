@@ -1,4 +1,4 @@
--- Cantor's reduction (document 01, 'Curves and classes', Reduction), with the number of its steps.
+-- Cantor's reduction (docs/SPECIFICATION.md, 2), with the number of its steps.
 use Prim.Native.Nat.{ℕ, zero, suc}
 use mathlib.Core.Bool.{true, false}
 use lib.Dec.{ltb}

@@ -1,4 +1,4 @@
--- What a rule leads to over a list, and what it meets on the way (document 01, 'The register').
+-- What a rule leads to over a list, and what it meets on the way (docs/SPECIFICATION.md, 2.8).
 use mathlib.Core.Path.{_≡_}
 use mathlib.Core.List.{List, [], _∷_}
 

@@ -1,4 +1,4 @@
--- The conditions of 109, 113 and 114 at their edges (document 01, 'In checking order'): of a register with accepted curve and seal and a call with an accepted class,
+-- The conditions of 109, 113 and 114 at their edges (docs/SPECIFICATION.md, 6): of a register with accepted curve and seal and a call with an accepted class,
 -- the count alone decides. A commit is accepted below the limit, 114 at it and 109 above; an undo is 113 at 0, accepted up to the limit and 109 above.
 use Prim.Native.Nat.{suc, _≤_, _<_}
 use mathlib.Core.Path.{_≡_, _∙_, ap}

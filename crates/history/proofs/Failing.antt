@@ -1,4 +1,4 @@
--- A register that itself fails a check is refused by every call of a list with that check's number and stays as it was (document 01, 'The register').
+-- A register that itself fails a check is refused by every call of a list with that check's number and stays as it was (docs/SPECIFICATION.md, 11).
 use mathlib.Core.Path.{_≡_, refl, sym, _∙_, ap}
 use mathlib.Core.List.{List, [], _∷_, map}
 use Rattle.class_group.specs.Walk.{after}

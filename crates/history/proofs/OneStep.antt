@@ -1,4 +1,4 @@
--- One commit and one undo take each other back (demand 3, document 01, 'The register'): `step-taken-back`, for either of them.
+-- One commit and one undo take each other back (docs/SPECIFICATION.md, 11): `step-taken-back`, for either of them.
 -- A step keeps the curve, and a register that passes its checks goes on passing them.
 use Prim.Native.Nat.{ℕ, _≤_}
 use mathlib.Core.Path.{_≡_, refl, _∙_, ap, ap₂}

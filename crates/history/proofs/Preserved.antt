@@ -1,4 +1,4 @@
--- What holds of registers and classes along a list of calls (document 01, 'The register').
+-- What holds of registers and classes along a list of calls (docs/SPECIFICATION.md, 11).
 -- `last-passes`: a register that passes its own checks goes on passing them. `accepted-class`, `accepted-class-reduced`: an accepted call has
 -- an accepted class, a reduced one. `accepted-step`: an accepted step leaves a register that passes its checks, and the other step gives back the one given.
 -- `accepted-classes`: no check refuses a class of the accepted calls of a list.

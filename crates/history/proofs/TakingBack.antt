@@ -1,4 +1,4 @@
--- Demand 3 on a list of calls (document 01, 'The register'): from any register, whatever classes the calls carry, refused calls among them.
+-- Demand 3 on a list of calls (docs/SPECIFICATION.md, 11): from any register, whatever classes the calls carry, refused calls among them.
 -- `taken-back-turned`: taking the accepted calls back, newest first, does to each call what `turned` says. So each is accepted (`taken-back-accepted`) and
 -- brings back the register just before the call that it takes back (`taken-back-registers`), its seal and its count; the last brings back the first register.
 -- `curve-kept`, `taken-back-curve`: degree and curve never change. All this is of machines (Machine); a register is one by `reversible`.

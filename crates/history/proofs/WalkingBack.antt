@@ -1,4 +1,4 @@
--- Demand 3 on walks (document 01, 'The register'): where the accepted calls of a list are all commits, a walk from the last seal over their classes,
+-- Demand 3 on walks (docs/SPECIFICATION.md, 11): where the accepted calls of a list are all commits, a walk from the last seal over their classes,
 -- newest first, meets the seals just before them.
 -- `walk-steps`: no step is refused, and each answers the seal just before its commit. `walk-meets`: all seals of the walk. `walk-ends`: where the walk over
 -- the k newest classes ends, and `walk-part`: that no step of it is refused. `accepted-few`: the accepted commits are no more than the limit.

@@ -1,4 +1,4 @@
--- A list of calls on a register, taking them back, and walking back (document 00, demand 3; document 01, 'The register').
+-- A list of calls on a register, taking them back, and walking back (docs/SPECIFICATION.md, 11).
 use mathlib.Core.Path.{_≡_}
 use mathlib.Core.List.{List, [], _∷_, map}
 use Rattle.class_group.specs.Walk.{All, after}

@@ -1,4 +1,4 @@
--- The history register by value, lists of calls on it, and walks back (document 00, demand 3; document 01, 'The register').
+-- The history register by value, lists of calls on it, and walks back (docs/SPECIFICATION.md, 4 and 11).
 pub mod Machine
 pub mod Register
 pub mod Calls

@@ -1,4 +1,4 @@
--- Machines: what a list of calls does, and taking calls back (document 00, demand 3; document 01, 'The register'). A register is one, by value or in place.
+-- Machines: what a list of calls does, and taking calls back (docs/SPECIFICATION.md, 11). A register is one, by value or in place.
 use Prim.Native.Nat.{ℕ}
 use mathlib.Core.Path.{_≡_}
 use mathlib.Core.List.{List, [], _∷_, map, reverse}

@@ -1,4 +1,4 @@
--- The history register by value: its checks, its two steps and what the calls on it answer (document 01, 'The register', 'In checking order').
+-- The history register by value: its checks, its two steps and what the calls on it answer (docs/SPECIFICATION.md, 4 and 6).
 use Prim.Native.Nat.{ℕ, zero, suc, _+_, _-_}
 use mathlib.Core.Bool.{cond}
 use lib.Dec.{eqb, leb}

@@ -1,4 +1,4 @@
--- The calls by value, in terms of their answers, for accepted classes (document 01, demands 2 and 3).
+-- The calls by value, in terms of their answers, for accepted classes (docs/SPECIFICATION.md, 2 and 11).
 -- What each call answers stands for what the theory says (`half-gives` and its like) and is accepted in turn (`half-accepts` and its like).
 -- The double of the half is the class (`double-of-half`), the half of the double too (`half-of-double`), and no other accepted class doubles
 -- to it (`only-half`, and of the theory's double `half-is-only`). Sums are those of a commutative group: `sum-answer-comm`, `sum-answer-assoc`,

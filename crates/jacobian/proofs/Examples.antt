@@ -62,6 +62,6 @@ all-hold (e ∷ es) t =
     let h = and-yes (test e) (test-all es) t in
     (test-holds e (h .0), all-hold es (h .1))
 
--- document 01, 'Twelve proved examples', over either field
+-- the twelve examples, over either field (docs/SPECIFICATION.md, 2.9)
 pub examples : (d : ℕ) → Accepted d → All-hold (table d)
 examples = by-degree (λ d. All-hold (table d)) (all-hold (table 5) (computed .0)) (all-hold (table 61) (computed .1))

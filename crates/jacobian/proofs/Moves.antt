@@ -1,4 +1,4 @@
--- The rules by which a commit and an undo move a seal, by value, for accepted classes (document 01, demand 3): what they answer is accepted in turn
+-- The rules by which a commit and an undo move a seal, by value, for accepted classes (docs/SPECIFICATION.md, 11): what they answer is accepted in turn
 -- (`double-and-add-accepts`, `subtract-and-halve-accepts`), they take each other back (`subtract-of-double-and-add`, `double-of-subtract-and-halve`), and
 -- what the second answers is the only accepted class that the first takes back (`subtract-and-halve-is-only`).
 use mathlib.Core.Path.{_≡_, sym, _∙_, ap}

@@ -1,4 +1,4 @@
--- What the calls on classes by value answer, refusals included (document 01, 'Curves and classes', 'The register', 'In checking order').
+-- What the calls on classes by value answer, refusals included (docs/SPECIFICATION.md, 2, 3, 4 and 6).
 use Prim.Native.Nat.{ℕ, zero, suc}
 use mathlib.Core.Path.{_≡_}
 use mathlib.Core.List.{[], _∷_}

@@ -1,4 +1,4 @@
--- How a call's checks are said (document 01, 'In checking order'): one after the other, and the first that fails gives the refusal's number.
+-- How a call's checks are said (docs/SPECIFICATION.md, 6): one after the other, and the first that fails gives the refusal's number.
 use Prim.Native.Nat.{ℕ, zero, suc}
 use mathlib.Core.{Bool.Bool, Bool.true, Bool.cond, Bool._&&_, List.List, List.[], List._∷_}
 use lib.Dec.{eqb}

@@ -1,4 +1,4 @@
--- A class by value, and the pair that it stands for (document 01, 'Curves and classes', 'The register', 'In checking order').
+-- A class by value, and the pair that it stands for (docs/SPECIFICATION.md, 2, 3, 4 and 6).
 use Prim.Native.Nat.{ℕ, _-_, _^_}
 use mathlib.Core.{Bool.Bool, Bool.cond, Bool._&&_, List.List, List.[], List._∷_, List._++_}
 use lib.{Dec.eqb, Dec.ltb, Dec.leb, ListN.getD, ListN.length, ListN.take, ListN.drop}

@@ -1,4 +1,4 @@
--- A curve by value: which are refused, and the f of those that are not (document 01, 'Curves and classes', 'In checking order').
+-- A curve by value: which are refused, and the f of those that are not (docs/SPECIFICATION.md, 2, 3 and 6).
 -- Of the definitions only `coefficients`, `curve-with` and `f-row` name the fields f3, f1 and f0.
 use Prim.Native.Nat.{ℕ, _^_}
 use mathlib.Core.{Bool._||_, List.List, List.[], List._∷_}

@@ -1,4 +1,4 @@
--- The twelve examples of document 01, 'Twelve proved examples', as one table, and what a row of it says of the definitions.
+-- The twelve examples (docs/SPECIFICATION.md, 2.9) as one table, and what a row of it says of the definitions.
 -- proofs/Examples.antt proves that every row holds over either field.
 use Prim.Native.Nat.{ℕ}
 use mathlib.Core.Path.{_≡_}
@@ -83,7 +83,7 @@ abbrev pub [x³+x²+x+1|x] : Class
 abbrev pub [x³+x²+x+1|x+1] : Class
 [x³+x²+x+1|x+1] = record { degree = 3; u = 1 ∷ 1 ∷ 1 ∷ []; v = 1 ∷ 1 ∷ 0 ∷ [] }
 
--- the examples, in document 01's order
+-- the examples, in order
 abbrev pub table : ℕ → List Example
 table d =
     twice-is (A d) [x|0] [x²|0]

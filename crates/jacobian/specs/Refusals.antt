@@ -1,4 +1,4 @@
--- The numbers of the refusals (document 01, 'In checking order').
+-- The numbers of the refusals (docs/SPECIFICATION.md, 6).
 use Prim.Native.Nat.{ℕ}
 use mathlib.Core.{Path._≡_, Bool.Bool, Bool.true, Bool.false, Bool._||_, List.List, List.[], List._∷_, Logic._⊎_}
 use lib.Dec.{eqb}

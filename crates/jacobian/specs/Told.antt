@@ -1,4 +1,4 @@
--- Answers told apart (document 00, demand 1): an acceptance, or a refusal with one of the numbers, with which nothing else was answered.
+-- Answers told apart (docs/SPECIFICATION.md, 6): an acceptance, or a refusal with one of the numbers, with which nothing else was answered.
 use Prim.Native.Nat.{ℕ}
 use Rattle.jacobian.specs.Refusals.{IsRefusal}
 use Rattle.jacobian.specs.Answer.{Verdict, accepted, refused, Reply, neutral-class}

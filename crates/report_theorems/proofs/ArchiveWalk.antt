@@ -1,4 +1,4 @@
--- The walk of any accepted archive, whatever calls made it (document 01, 'The register', 'The walk report').
+-- The walk of any accepted archive, whatever calls made it (docs/SPECIFICATION.md, 10).
 -- `walk-accepted`: no step of the walk over its operations, newest first, from its last seal, is refused. `walk-seals`: its seals are the last one and what
 -- the steps answer. `report-seals`: the report's lines speak of these seals.
 use Prim.Native.Nat.{ℕ, zero, suc}

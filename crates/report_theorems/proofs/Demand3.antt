@@ -1,4 +1,4 @@
--- Demand 3 of archives (document 01, 'The register'): where the accepted calls of a list are all commits, an accepted archive, whatever its drawing number, with
+-- Demand 3 of archives (docs/SPECIFICATION.md, 10.1): where the accepted calls of a list are all commits, an accepted archive, whatever its drawing number, with
 -- the register's curve, its last seal and all their classes, newest first, has for k operations undone the seal just before the k-th newest commit,
 -- and for k = 0 the last seal (`archive-seals`: all its seals; `archive-seal`: the one for k). Where the register passes its own checks such an archive exists
 -- for every drawing number that is allowed: the encoding of these values is accepted (`archive-exists`).

@@ -1,4 +1,4 @@
--- The archive that keeps what is left of a list of calls, and what demand 3 says of one (document 00, demand 3; document 01, 'The register').
+-- The archive that keeps what is left of a list of calls, and what demand 3 says of one (docs/SPECIFICATION.md, 10.1 and 11).
 -- The list ran on a register r; t is the register after it and es are its accepted calls, newest first: `last`, `newest` of calls by value
 -- (history/specs/Calls.antt), `left-by`, `newest-made` where some were in place (seal_register/specs/InPlace.antt).
 use Prim.Native.Nat.{ℕ}

@@ -1,4 +1,4 @@
--- The number that printed digits say (document 01, 'The walk report').
+-- The number that printed digits say (docs/SPECIFICATION.md, 10).
 use Prim.Native.Nat.{ℕ, _+_, _-_, _*_}
 use mathlib.Core.Path.{_≡_}
 use mathlib.Core.Bool.{cond}

@@ -1,4 +1,4 @@
--- Byte double and byte half undo each other (demand 3). For every record that is read, where the outputs have room for a class field: each writes the field of
+-- Byte double and byte half undo each other (docs/SPECIFICATION.md, 11). For every record that is read, where the outputs have room for a class field: each writes the field of
 -- what its call by value gives (`double-writes`, `half-writes`), so neither is refused; half on the record rebuilt from double's output writes the record's
 -- class field to the byte (`half-of-double-bytes`), and double on the record rebuilt from half's output likewise (`double-of-half-bytes`). The half's record
 -- is the only one of that curve whose byte double is the input's class field (`only-half-bytes`).

@@ -1,6 +1,6 @@
--- A byte commit or undo gives what the register call gives for the record's values (document 01, 'The register').
+-- A byte commit or undo gives what the register call gives for the record's values (docs/SPECIFICATION.md, 11).
 -- If accepted it writes the count and the seal that the register call hands back; a record in stored form, with an output long enough, is refused only
--- where the register call refuses. So byte commit and byte undo take each other back (demand 3): on the record rebuilt from an accepted commit's output, undo
+-- where the register call refuses. So byte commit and byte undo take each other back (docs/SPECIFICATION.md, 11): on the record rebuilt from an accepted commit's output, undo
 -- writes the record's count and seal to the byte (`undo-of-commit-bytes`), and the reverse (`commit-of-undo-bytes`).
 use Prim.Native.Nat.{ℕ, _≤_}
 use mathlib.Core.Path.{_≡_, refl, sym, ap, _∙_, subst}

@@ -1,4 +1,4 @@
--- Demand 3 on a list of byte commits and undos (document 01, 'The register'): from the stored form of any register that no check refuses, whatever bytes stand in
+-- Demand 3 on a list of byte commits and undos (docs/SPECIFICATION.md, 11): from the stored form of any register that no check refuses, whatever bytes stand in
 -- the place of the operations, refused calls among them, each on the record made of what the last accepted one wrote. `taken-back-turned`: taking the accepted
 -- calls back, newest first, into whatever outputs with room, does to each call what `turned` says. So none is refused (`taken-back-accepted`), every
 -- count and seal comes back to the byte (`taken-back-fields`), and at the end the first (`taken-back-all`). All this is of machines;

@@ -1,4 +1,4 @@
--- What half and undo promise (demand 2): where the record is read and the output has room, half writes the one class whose double is the class of the record
+-- What half and undo promise (docs/SPECIFICATION.md, 2): where the record is read and the output has room, half writes the one class whose double is the class of the record
 -- (`halves`), and undo, above count 0, the one seal whose double plus the operation's class is the seal of the record (`undoes`).
 use Prim.Native.Nat.{ℕ, _-_, _≤_}
 use mathlib.Core.Path.{_≡_, sym, ap, _∙_}
@@ -6,7 +6,7 @@ use mathlib.Core.List.{List, _++_}
 use lib.ListN.{length}
 use Rattle.class_group.specs.{Operations.sum, Operations.double, Moves.double-and-add}
 use Rattle.class_group.proofs.Closed.{double-reduced}
-use Rattle.jacobian.specs.{Curves.curve, Classes.pair, Classes.class-of, Answer.Result, Answer.result, Answer.gives, Answer.double-answer, Answer.half-answer, Answer.sum-answer, declared.Curve.Curve, declared.Class.Class}
+use Rattle.jacobian.specs.{Curves.curve, Classes.pair, Classes.class-of, Answer.Only, Answer.Result, Answer.result, Answer.gives, Answer.double-answer, Answer.half-answer, Answer.sum-answer, declared.Curve.Curve, declared.Class.Class}
 use Rattle.jacobian.proofs.{Calls.double-gives, Calls.sum-gives, Calls.double-accepts, Calls.double-of-half, Calls.only-half, Representation.accepts-curve, Representation.accepts-class, Representation.accepted-reduced, Representation.Form.pair-class-of}
 use Rattle.history.specs.Register.{commit-seal, undo-seal, edge, moved, stepped, step-answer, RegisterReply}
 use Rattle.history.specs.declared.{Register.Register, Step.the-variants.Undo}
@@ -14,7 +14,7 @@ use Rattle.history.proofs.{Seals.undo-sound, Seals.undo-of-commit, Seals.commit
 use Rattle.stored_form.specs.{Reading.found, Fields.count-field, Classes.class-field, Passing.ClassPasses, Held.read-record, Held.register-record, declared.Held.Held}
 use Rattle.stored_form.specs.Effect.{Effect, write, register-room}
 use Rattle.seal.specs.Records.{register-fields}
-use Rattle.seal.specs.Calls.{register, half-call, undo-call, Gives, TheOnly, Halves, Undoes}
+use Rattle.seal.specs.Calls.{register, half-call, undo-call, Halves, Undoes}
 use Rattle.seal.proofs.Passing.{class-holds, register-holds, half-given}
 use Rattle.seal.proofs.ByteHalving.{half-writes}
 use Rattle.seal.proofs.ByteRegister.{undo-of-record, step-written}
@@ -22,10 +22,10 @@ use Rattle.seal.proofs.ByteRegister.{undo-of-record, step-written}
 -- ---- half
 
 module _ {c : Curve} {a : Class} (p : ClassPasses c a) where
-  only-halved : TheOnly c (λ b. Gives (double-answer c b) a) (half-answer c a .class)
+  only-halved : Only c (λ b. result (double-answer c b) ≡ gives a) (half-answer c a .class)
   only-halved = record {
-    passes = half-given p .passes;
-    wanted = double-of-half c p;
+    accepts = half-given p .passes;
+    holds = double-of-half c p;
     only = λ b q e. only-half c p q e;
   }
 
@@ -49,12 +49,12 @@ sum-of-double {c} {b} {a} q p =
     sum-gives c (double-accepts c q) p ∙ ap (λ D. gives (class-of d (sum (curve c) D (pair d a)))) is
 
 module _ {c : Curve} {s a : Class} (p : ClassPasses c s) (q : ClassPasses c a) where
-  only-undone : TheOnly c (λ b. Gives (sum-answer c (double-answer c b .class) a) s) (undo-seal c s a)
+  only-undone : Only c (λ b. result (sum-answer c (double-answer c b .class) a) ≡ gives s) (undo-seal c s a)
   only-undone =
       let passes = undo-sound p q in
       record {
-        passes = passes;
-        wanted = sum-of-double passes q ∙ ap gives (commit-of-undo p q);
+        accepts = passes;
+        holds = sum-of-double passes q ∙ ap gives (commit-of-undo p q);
         only = λ b r e.
             sym (undo-of-commit r q)
             ∙ ap (λ (x : Result). undo-seal c (x .class) a) (sym (sum-of-double r q) ∙ e);

@@ -1,4 +1,4 @@
--- Answers and refusals of the byte calls are told apart (demand 1). Every call that writes, on every input and output, writes at most its room and answers that
+-- Answers and refusals of the byte calls are told apart (docs/SPECIFICATION.md, 6). Every call that writes, on every input and output, writes at most its room and answers that
 -- length, or answers the number of a refusal and leaves the output as it was (`told-apart`). The answer alone says which of the two (`tells`): up to 100 it is
 -- a length, above that the number of a refusal. Membership answers 0 exactly where the record is read, and else the number of a refusal
 -- (`membership-told`, `membership-found`, `found-membership`).

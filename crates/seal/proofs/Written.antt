@@ -1,4 +1,4 @@
--- A record and its values determine each other (document 01, 'Stored form'; demand 2): a record that is read is what is written for its values, which
+-- A record and its values determine each other (docs/SPECIFICATION.md, 2 and 5): a record that is read is what is written for its values, which
 -- no check refuses (`class-record-written` and its like), and what is written for such values is read so (`class-record-back` and its like).
 use Prim.Native.Nat.{ℕ}
 use mathlib.Core.Path.{_≡_, sym, ap, _∙_}

@@ -1,13 +1,13 @@
--- What each byte call answers and leaves in the lent output (document 01, 'Stored form' and 'In checking order').
+-- What each byte call answers and leaves in the lent output (docs/SPECIFICATION.md, 5 and 6).
 use Prim.Native.Nat.{ℕ, _-_, _≤_}
 use mathlib.Core.{Path._≡_, List.List, List._++_}
 use lib.ListN.{length}
-use Rattle.jacobian.specs.Answer.{Reply, accepted, result, opposite-answer, double-answer, half-answer, sum-answer}
-use Rattle.jacobian.specs.declared.{Curve.Curve, Class.Class}
+use Rattle.jacobian.specs.Answer.{result, gives, Only, opposite-answer, double-answer, half-answer, sum-answer}
+use Rattle.jacobian.specs.declared.Class.{Class}
 use Rattle.history.specs.declared.{Register.Register, Step.Step}
 use Rattle.history.specs.declared.Step.the-variants as step
 use Rattle.history.specs.Register.{RegisterReply, commit-answer, undo-answer}
-use Rattle.stored_form.specs.{Reading.found, Reading.reading-refusal, Head.class-room, Fields.count-field, Classes.class-field, Passing.ClassPasses}
+use Rattle.stored_form.specs.{Reading.found, Reading.reading-refusal, Head.class-room, Fields.count-field, Classes.class-field}
 use Rattle.stored_form.specs.Held.{read-record, class-record, sum-record, register-record}
 use Rattle.stored_form.specs.Effect.{Effect, Handed, register-room, write, on, class-handed, byte-call}
 use Rattle.stored_form.specs.declared.Held.{Held}
@@ -83,27 +83,17 @@ abbrev pub step-call : Step → List ℕ → List ℕ → Effect
 step-call step.Commit = commit-call
 step-call step.Undo = undo-call
 
--- ---- what half and undo promise besides (document 00, demand 2)
-
--- an answer that is accepted, with this class
-abbrev pub Gives : Reply → Class → Type 0
-Gives r a = result r ≡ record { outcome = accepted; class = a }
-
--- of the classes that no check refuses on a curve, x and no other is as wanted
-pub record TheOnly (c : Curve) (Wanted : Class → Type 0) (x : Class) : Type 0 where
-  pub passes : ClassPasses c x
-  pub wanted : Wanted x
-  pub only : (b : Class) → ClassPasses c b → Wanted b → b ≡ x
+-- ---- what half and undo promise besides (docs/SPECIFICATION.md, 2.7 and 2.8)
 
 -- where the record is read and the output has room, half writes the one class whose double is the class of the record
 pub record Halves (s out : List ℕ) (e : Effect) : Type 0 where
   pub answer : e ≡ half-call s out
   pub half : {h : Held} {end : ℕ} → read-record class-record s ≡ found h end → class-room ≤ length out →
-      (x : Class) × (e ≡ write (class-field 0x43 x) out) × TheOnly (h .curve) (λ b. Gives (double-answer (h .curve) b) (h .class)) x
+      (x : Class) × (e ≡ write (class-field 0x43 x) out) × Only (h .curve) (λ b. result (double-answer (h .curve) b) ≡ gives (h .class)) x
 
 -- and undo, above count 0, a count one lower and the one seal whose double plus the operation's class is the seal of the record
 pub record Undoes (s out : List ℕ) (e : Effect) : Type 0 where
   pub answer : e ≡ undo-call s out
   pub undone : {h : Held} {end : ℕ} → read-record register-record s ≡ found h end → ¬ (h .count ≡ 0) → register-room ≤ length out →
       (x : Class) × (e ≡ write (count-field (h .count - 1) ++ class-field 0x43 x) out)
-      × TheOnly (h .curve) (λ b. Gives (sum-answer (h .curve) (double-answer (h .curve) b .class) (h .operation)) (h .class)) x
+      × Only (h .curve) (λ b. result (sum-answer (h .curve) (double-answer (h .curve) b .class) (h .operation)) ≡ gives (h .class)) x

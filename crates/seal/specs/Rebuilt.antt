@@ -1,4 +1,4 @@
--- A record rebuilt from what a call wrote for it (document 01, demand 3 of the byte calls).
+-- A record rebuilt from what a call wrote for it (docs/SPECIFICATION.md, 11).
 use Prim.Native.Nat.{ℕ}
 use mathlib.Core.List.{List, _++_}
 use lib.ListN.{take, drop}

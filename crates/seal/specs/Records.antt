@@ -1,4 +1,4 @@
--- The records that the byte calls take: what they hold and how they are written (document 01, 'Stored form').
+-- The records that the byte calls take: what they hold and how they are written (docs/SPECIFICATION.md, 5).
 use Prim.Native.Nat.{ℕ}
 use mathlib.Core.Path.{_≡_}
 use mathlib.Core.List.{List, _++_}

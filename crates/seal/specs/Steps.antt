@@ -1,4 +1,4 @@
--- Lists of byte commits and undos, each on the record made of what the last accepted one wrote (document 00, demand 3).
+-- Lists of byte commits and undos, each on the record made of what the last accepted one wrote (docs/SPECIFICATION.md, 11).
 use Prim.Native.Nat.{ℕ}
 use mathlib.Core.{Path._≡_, Bool.cond, List.List, List._++_}
 use lib.Dec.{ltb}

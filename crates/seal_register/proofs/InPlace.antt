@@ -1,5 +1,5 @@
 -- A call in place says what the call by value says, and a refusal leaves the lent register unchanged (`refusal-leaves`).
--- Demand 3 on a list in which each call is by value or in place (document 01, 'The register'): the machine of what was said, carried to the register's,
+-- Demand 3 on a list in which each call is by value or in place (docs/SPECIFICATION.md, 8 and 11): the machine of what was said, carried to the register's,
 -- agrees with it (`agreeing`), so what happens is what happens with all calls by value (`happened-run`), and each theorem of the crate history holds of it.
 -- `taken-back-turned`: taking the accepted calls back, newest first, each by value or in place, does to each call what `turned` says. So none is refused
 -- (`taken-back-accepted`), each brings back the register just before the call that it takes back (`taken-back-registers`), and all of them the first one

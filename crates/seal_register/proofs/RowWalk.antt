@@ -1,4 +1,4 @@
--- Demand 3 of the walk over a lent row (document 01, 'The register'), on a list in which each call is by value or in place: where the accepted calls are all
+-- Demand 3 of the walk over a lent row (docs/SPECIFICATION.md, 8 and 11), on a list in which each call is by value or in place: where the accepted calls are all
 -- commits, on a register that fails no check, the walk from the last seal over the k newest of their classes is not refused and answers the seal just before
 -- the k-th newest commit, and for k = 0 the last seal (`row-walk-meets`); over all of them it answers the first register's seal (`row-walk-first`).
 -- `row-walk-answers`, `row-walk-first-answers` say the same of the code's answer, by its contract.

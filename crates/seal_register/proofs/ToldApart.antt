@@ -1,4 +1,4 @@
--- What the lent calls answer is told apart (document 00, demand 1). For every register and class a commit or an undo in place answers 0 and leaves the register
+-- What the lent calls answer is told apart (docs/SPECIFICATION.md, 6). For every register and class a commit or an undo in place answers 0 and leaves the register
 -- that follows, or answers the number of a refusal and leaves the register as it was (`lent-told`). The walk over a lent row answers 0 and the earliest seal,
 -- which is a class that no check refuses, or the number of a refusal and the neutral class (`row-walk-told`).
 use Prim.Native.Nat.{ℕ, zero, suc}

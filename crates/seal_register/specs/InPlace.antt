@@ -1,4 +1,4 @@
--- A register lent and changed in place, and lists of calls each by value or in place (document 00, demand 3; document 01, 'The register').
+-- A register lent and changed in place, and lists of calls each by value or in place (docs/SPECIFICATION.md, 8 and 11).
 use Prim.Native.Nat.{ℕ}
 use mathlib.Core.Path.{_≡_}
 use mathlib.Core.List.{List, _∷_, map}

@@ -1,4 +1,4 @@
--- The walk over a lent row of classes, newest first, refusals included (document 01, 'The register', 'In checking order').
+-- The walk over a lent row of classes, newest first, refusals included (docs/SPECIFICATION.md, 6 and 8).
 use Prim.Native.Nat.{ℕ}
 use mathlib.Core.List.{List, [], _∷_}
 use lib.Dec.{leb}

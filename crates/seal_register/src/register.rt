@@ -1,4 +1,4 @@
-// One register kept for a session and changed in place (document 01, 'The register').
+// One register kept for a session and changed in place (docs/SPECIFICATION.md, 8).
 // A call copies the register out, makes the call by value and, where it is accepted, writes the register of its answer back: a refusal writes no byte.
 // It answers the refusal's number, and 0 for an acceptance: a function that C calls cannot return an enum.
 ghost use mathlib.Core.Path.{_≡_};

@@ -1,4 +1,4 @@
--- Answers and refusals are told apart (demand 1). Every check says 0 or the number of a refusal (`told-count` and its like), and so does every reading
+-- Answers and refusals are told apart (docs/SPECIFICATION.md, 6). Every check says 0 or the number of a refusal (`told-count` and its like), and so does every reading
 -- (`record-tells`): 0 where the values are found (`reading-found`, `found-reading`). A call whose answers are told apart tells them apart on every input and
 -- output (`call-told-apart`), and then the answer alone says which of the two it was (`answer-tells`): no length written is the number of a refusal.
 use Prim.Native.Nat.{ℕ, zero, suc, _+_, _≤_, _<_}

@@ -1,5 +1,4 @@
--- The fields of a curve and of a class, as they are read and as they are written (document 01, 'Stored form' and
--- 'In checking order').
+-- The fields of a curve and of a class, as they are read and as they are written (docs/SPECIFICATION.md, 5 and 6).
 use Prim.Native.Nat.{ℕ, _+_, _/_}
 use mathlib.Core.List.{List, [], _∷_, _++_, reverse}
 use lib.ListN.{length, take, drop}

@@ -1,4 +1,4 @@
--- What a call on byte areas answers, and what it leaves in the lent output (document 01, 'Stored form' and 'In checking order').
+-- What a call on byte areas answers, and what it leaves in the lent output (docs/SPECIFICATION.md, 5 and 6).
 use Prim.Native.Nat.{ℕ, _+_, _≤_, _<_}
 use mathlib.Core.Path.{_≡_}
 use mathlib.Core.Bool.{cond}

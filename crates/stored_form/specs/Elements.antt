@@ -1,4 +1,4 @@
--- Elements as bytes, eight each, high byte first (document 01, 'Stored form').
+-- Elements as bytes, eight each, high byte first (docs/SPECIFICATION.md, 5).
 use Prim.Native.Nat.{ℕ, zero, suc}
 use mathlib.Core.List.{List, [], _∷_, _++_}
 use lib.ListN.{take, drop}

@@ -1,5 +1,4 @@
--- The fields that hold no class, as they are read and as they are written, and the end (document 01, 'Stored form' and
--- 'In checking order').
+-- The fields that hold no class, as they are read and as they are written, and the end (docs/SPECIFICATION.md, 5 and 6).
 use Prim.Native.Nat.{ℕ}
 use mathlib.Core.Bool.{Bool, true, cond, _||_, _&&_}
 use mathlib.Core.List.{List, [], _∷_}

@@ -1,4 +1,4 @@
--- Tags, the lengths that each allows, and the head of a field (document 01, 'Stored form' and 'In checking order').
+-- Tags, the lengths that each allows, and the head of a field (docs/SPECIFICATION.md, 5 and 6).
 use Prim.Native.Nat.{ℕ, _+_, _*_, max}
 use mathlib.Core.Path.{_≡_}
 use mathlib.Core.Bool.{Bool, false, not, cond, _||_}

@@ -1,5 +1,4 @@
--- What the fields that were read say, and records as lists of the tags that are due (document 01, 'Stored form' and
--- 'In checking order').
+-- What the fields that were read say, and records as lists of the tags that are due (docs/SPECIFICATION.md, 5 and 6).
 use Prim.Native.Nat.{ℕ, _-_}
 use mathlib.Core.Bool.{cond}
 use mathlib.Core.List.{List, [], _∷_, _++_}

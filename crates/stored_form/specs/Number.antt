@@ -1,4 +1,4 @@
--- Numbers as bytes, high byte first (document 01, 'Stored form').
+-- Numbers as bytes, high byte first (docs/SPECIFICATION.md, 5).
 use Prim.Native.Nat.{ℕ, zero, suc, _+_, _*_, _/_, _%_, _^_, _<_}
 use mathlib.Core.List.{List, [], _∷_}
 use lib.ListN.{length, getD, take, drop}

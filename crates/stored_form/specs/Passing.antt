@@ -1,4 +1,4 @@
--- What the values of a record's fields pass (document 01, 'In checking order').
+-- What the values of a record's fields pass (docs/SPECIFICATION.md, 6).
 use Prim.Native.Nat.{ℕ, _≤_}
 use mathlib.Core.{Path._≡_, Bool.true, Bool._||_, List.List}
 use lib.{Dec.eqb, ListN.length}

@@ -1,4 +1,4 @@
--- What reading a field gives, and readings one after the other (document 01, 'In checking order').
+-- What reading a field gives, and readings one after the other (docs/SPECIFICATION.md, 6).
 use Prim.Native.Nat.{ℕ, zero, suc}
 use mathlib.Core.Bool.{Bool, cond}
 

@@ -1,4 +1,4 @@
--- A field by what is held: its body, its bytes, and what it says (document 01, 'Stored form').
+-- A field by what is held: its body, its bytes, and what it says (docs/SPECIFICATION.md, 5).
 use Prim.Native.Nat.{ℕ, _+_}
 use mathlib.Core.Path.{_≡_}
 use mathlib.Core.Bool.{true, cond}

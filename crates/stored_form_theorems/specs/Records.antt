@@ -1,4 +1,4 @@
--- Records as fields one behind the other (document 01, 'Stored form').
+-- Records as fields one behind the other (docs/SPECIFICATION.md, 5).
 use Prim.Native.Nat.{ℕ}
 use mathlib.Core.List.{List, [], _∷_, _++_}
 use Rattle.stored_form.specs.{Held.nothing-held, declared.Held.Held}

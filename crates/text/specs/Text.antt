@@ -1,4 +1,4 @@
--- The texts that a line is made of: numbers, classes and refusals (document 01, 'The walk report').
+-- The texts that a line is made of: numbers, classes and refusals (docs/SPECIFICATION.md, 10).
 use Prim.Native.Nat.{ℕ, zero, suc, _+_, _/_, _%_}
 use mathlib.Core.Bool.{cond}
 use mathlib.Core.List.{List, [], _∷_, _++_}

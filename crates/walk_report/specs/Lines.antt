@@ -1,4 +1,4 @@
--- The lines of the walk report (document 01, 'The walk report').
+-- The lines of the walk report (docs/SPECIFICATION.md, 10).
 use Prim.Native.Nat.{ℕ}
 use mathlib.Core.List.{List, [], _∷_, _++_}
 use Rattle.jacobian.specs.declared.Class.{Class}

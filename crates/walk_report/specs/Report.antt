@@ -1,4 +1,4 @@
--- The walk report, line by line (document 01, 'The walk report').
+-- The walk report, line by line (docs/SPECIFICATION.md, 10).
 use Prim.Native.Nat.{ℕ, _+_}
 use mathlib.Core.List.{List, [], _∷_, flatten}
 use lib.ListN.{length}

@@ -1,4 +1,4 @@
--- The report on its way: a line, and the report after it (document 01, 'The walk report').
+-- The report on its way: a line, and the report after it (docs/SPECIFICATION.md, 10).
 use Prim.Native.Nat.{ℕ, zero, suc, _-_}
 use mathlib.Core.Bool.{Bool, true, false}
 use mathlib.Core.List.{List, [], _∷_}

@@ -1,4 +1,4 @@
--- The walk of an archive: its seals and the letters of its lines (document 01, 'The register', 'The walk report').
+-- The walk of an archive: its seals and the letters of its lines (docs/SPECIFICATION.md, 10).
 use Prim.Native.Nat.{ℕ}
 use mathlib.Core.Bool.{Bool, false, cond}
 use mathlib.Core.List.{List, [], _∷_}

@@ -1,4 +1,4 @@
--- Taking back over any machine (demand 3). From a state where the invariant of a reversible machine holds, over any list whose accepted calls fit, refused
+-- Taking back over any machine (docs/SPECIFICATION.md, 11). From a state where the invariant of a reversible machine holds, over any list whose accepted calls fit, refused
 -- calls among them: taking the accepted calls back, newest first, does to each call what `turned` says (`taken-back-turned`), so none is refused
 -- (`taken-back-accepted`), the states just before them come back one by one (`taken-back-states`), and at the end the first one (`taken-back-all`).
 -- Of a list of which a part cannot be taken back, all this holds of the calls after that part, from the state that it left (`last-append`, `last-holds` of Run).
