@@ -12,10 +12,10 @@ use Rattle.jacobian.specs.{Curves.coefficients, Answer.Reply, Answer.Result, An
 use Rattle.jacobian.proofs.Calls.{double-of-half, half-of-double}
 use Rattle.stored_form.specs.{Number.Bytes, Number.bytes-of, Reading.found, Head.class-room, Head.first-fields-length, Head.stored, Head.head-bytes, Elements.element-bytes, Fields.degree-field}
 use Rattle.stored_form.specs.{Classes.curve-field, Classes.curve-first-fields, Classes.class-field, Passing.ClassPasses, Held.read-record, Held.class-record}
-use Rattle.stored_form.specs.Effect.{Effect, write, on, class-handed, put, byte-call}
+use Rattle.written_form.specs.Effect.{Effect, write, on, class-handed, put, byte-call}
 use Rattle.stored_form.specs.declared.Held.{Held}
 use Rattle.stored_form_theorems.proofs.ClassRoundTrips.{class-short}
-use Rattle.stored_form.proofs.{Effects.call-found, Effects.put-written}
+use Rattle.written_form.proofs.{Effects.call-found, Effects.put-written}
 use Rattle.seal.specs.Records.{class-held, class-record-bytes, ClassStored}
 use Rattle.seal.specs.Rebuilt.{first-fields, last-field, class-rebuilt}
 use Rattle.seal.specs.Calls.{answered, double-call, half-call}

@@ -22,7 +22,7 @@ use Rattle.history.proofs.{Machine.Run.accepted-fit, OneStep.taken, OneStep.ste
 use Rattle.jacobian.proofs.Representation.{accepts-both}
 use Rattle.history.proofs.Machine.TakingBack as machine
 use Rattle.stored_form.specs.{Number.Bytes, Classes.curve-first-fields}
-use Rattle.stored_form.specs.Effect.{Effect, write, register-room}
+use Rattle.written_form.specs.Effect.{Effect, write, register-room}
 use Rattle.stored_form.specs.declared.Held.{Held}
 use Rattle.seal.specs.{Records.register-fields, Records.register-record-bytes, Rebuilt.wrote, Calls.register, Calls.step-call}
 use Rattle.seal.specs.Steps.{Kept, ByteStep, made, outcome, next, byte-steps, back, Stored}

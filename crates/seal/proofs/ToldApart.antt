@@ -12,9 +12,10 @@ use Rattle.history.proofs.Told.{step-refusal-told}
 use Rattle.history.specs.Register.{register-refusal, edge, edge-refusal, step-refusal, stepped, follows, step-answer}
 use Rattle.history.specs.declared.{Register.Register, Step.Step, Step.the-variants.Commit, Step.the-variants.Undo}
 use Rattle.stored_form.specs.{Reading.Reading, Reading.found, Reading.refused as unread, Head.class-room, Held.read-record, Held.class-record, Held.sum-record, Held.register-record, declared.Held.Held, Classes.class-field}
-use Rattle.stored_form.specs.Effect.{Effect, refuse, on, class-handed, register-room, HandedApart, bytes, ToldApart, AnswerTells}
+use Rattle.written_form.specs.Effect.{Effect, refuse, on, class-handed, register-room, HandedApart, bytes, ToldApart, AnswerTells}
 use Rattle.stored_form_theorems.proofs.ClassRoundTrips.{class-short}
-use Rattle.stored_form.proofs.{ToldApart.Tells, ToldApart.record-tells, ToldApart.reading-told, ToldApart.reading-found, ToldApart.found-reading, ToldApart.on-apart, ToldApart.call-told-apart, ToldApart.answer-tells, ToldApart.never-both, Effects.call-refused}
+use Rattle.stored_form.proofs.{ToldApart.Tells, ToldApart.record-tells, ToldApart.reading-told, ToldApart.reading-found, ToldApart.found-reading}
+use Rattle.written_form.proofs.{ToldApart.on-apart, ToldApart.call-told-apart, ToldApart.answer-tells, ToldApart.never-both, Effects.call-refused}
 use Rattle.seal.specs.Records.{register-fields}
 use Rattle.seal.specs.Calls.{register, register-handed, answered, membership-call, room, called, step-call}
 use Rattle.seal.specs.declared.calls.Call.{Call}

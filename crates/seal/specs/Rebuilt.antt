@@ -3,7 +3,7 @@ use Prim.Native.Nat.{ℕ}
 use mathlib.Core.List.{List, _++_}
 use lib.ListN.{take, drop}
 use Rattle.stored_form.specs.{Head.first-fields-length, Classes.curve-first-fields, Classes.class-field}
-use Rattle.stored_form.specs.Effect.{Effect}
+use Rattle.written_form.specs.Effect.{Effect}
 use Rattle.history.specs.declared.Register.{Register}
 use Rattle.jacobian.specs.declared.Class.{Class}
 

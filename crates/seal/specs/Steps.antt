@@ -4,7 +4,8 @@ use mathlib.Core.{Path._≡_, Bool.cond, List.List, List._++_}
 use lib.Dec.{ltb}
 use Rattle.jacobian.specs.Answer.{Verdict, accepted, refused}
 use Rattle.history.specs.{Machine.Machine, Register.other, declared.Register.Register, declared.Step.Step}
-use Rattle.stored_form.specs.{Passing.CountPasses, Passing.ClassPasses, Classes.curve-first-fields, Effect.Effect}
+use Rattle.stored_form.specs.{Passing.CountPasses, Passing.ClassPasses, Classes.curve-first-fields}
+use Rattle.written_form.specs.{Effect.Effect}
 use Rattle.seal.specs.{Records.register-fields, Rebuilt.wrote, Calls.step-call}
 
 -- what is kept from call to call: the fields of degree and curve, and those of count and seal

@@ -2,15 +2,16 @@
 // Each answers the length written, or the number of a refusal, and then no lent byte has changed.
 ghost use mathlib.Core.Path.{_≡_};
 ghost use Rattle.history.specs.Register.{register-reply};
-ghost use Rattle.stored_form.specs.{Head.class-room, Held.class-record, Held.register-record, Effect.register-room, Effect.effect, Effect.handed, Effect.byte-call};
+ghost use Rattle.stored_form.specs.{Head.class-room, Held.class-record, Held.register-record};
+ghost use Rattle.written_form.specs.{Effect.register-room, Effect.effect, Effect.handed, Effect.byte-call};
 ghost use Rattle.seal.specs.Calls.{register-handed, answered, membership-call, opposite-call, double-call, sum-call, commit-call, Halves, Undoes};
 use history::Register;
 use history::RegisterAnswer;
 use stored_form::Held;
 use stored_form::Place;
-use stored_form::effect;
-use stored_form::effect::Output;
-use stored_form::writing;
+use written_form::effect;
+use written_form::effect::Output;
+use written_form::writing;
 
 // Is the pair of the record a class of its curve? 0 where it is.
 #[no_mangle]

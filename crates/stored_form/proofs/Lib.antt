@@ -11,6 +11,4 @@ pub mod FieldReadings
 pub mod Items
 pub mod ElementBytes
 pub mod ClassBytes
-pub mod Effects
-pub mod Rows
 pub mod ToldApart

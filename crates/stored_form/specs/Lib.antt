@@ -7,5 +7,3 @@ pub mod Elements
 pub mod Classes
 pub mod Held
 pub mod Passing
-pub mod Effect
-pub mod internal

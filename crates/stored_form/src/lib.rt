@@ -7,11 +7,9 @@ ghost use Rattle.stored_form.specs.Held.{nothing-held, read-field, read-
 
 pub mod classes;
 mod drawings;
-pub mod effect;
 mod fields;
 mod head;
 mod numbers;
-pub mod writing;
 
 use head::Head;
 use jacobian::Class;

@@ -1,7 +1,7 @@
 -- `calls::answered` meets its contract.
 use mathlib.Core.Path.{ap, _∙_}
 use Rattle.jacobian.specs.Answer.{Reply, result}
-use Rattle.stored_form.specs.Effect.{Handed, class-handed}
+use Rattle.written_form.specs.Effect.{Handed, class-handed}
 use Rattle.seal.specs.Calls.{register-handed, answered}
 use borrow.Author.Needs.{needs}
 use Rattle.seal.proofs.calls.answered.Statement.{statement}

@@ -1,5 +1,5 @@
 -- `calls::byte_call` meets its contract.
-use Rattle.stored_form.proofs.Effects.{call-short, call-unread, call-read}
+use Rattle.written_form.proofs.Effects.{call-short, call-unread, call-read}
 use borrow.Author.Needs.{needs}
 use Rattle.seal.proofs.calls.byte_call.Statement.{statement}
 use Rattle.seal.proofs.calls.byte_call.Tie as tie

@@ -1,6 +1,6 @@
 -- `calls::seal_membership` meets its contract.
 use mathlib.Core.Path.{_∙_}
-use Rattle.stored_form.proofs.Effects.{unread-number}
+use Rattle.written_form.proofs.Effects.{unread-number}
 use Rattle.seal.specs.Calls.{membership-call}
 use borrow.Author.Needs.{needs}
 use Rattle.seal.proofs.calls.seal_membership.Statement.{statement}

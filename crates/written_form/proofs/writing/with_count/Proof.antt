@@ -1,8 +1,8 @@
 -- `writing::with_count` meets its contract.
 use borrow.Author.Needs.{needs}
-use Rattle.stored_form.proofs.Rows.{count-filled}
-use Rattle.stored_form.proofs.writing.with_count.Statement.{statement}
-use Rattle.stored_form.proofs.writing.with_count.Tie as tie
+use Rattle.written_form.proofs.Rows.{count-filled}
+use Rattle.written_form.proofs.writing.with_count.Statement.{statement}
+use Rattle.written_form.proofs.writing.with_count.Tie as tie
 
 returns : tie.Need-returns
 returns c = count-filled (c .args .row) (c .args .at) (c .args .tag) (c .args .n)

@@ -4,12 +4,12 @@ use Prim.Native.Nat.{_≤_, _-_}
 use mathlib.Core.Path.{_≡_, refl}
 use lib.ListN.{take}
 use lib.Seq.{sets}
 use Rattle.stored_form.specs.Number.{bytes-of}
 use native.Mathlib.Omega.{arith}
 use Rattle.stored_form.proofs.Digits.{length-bytes}
 use Rattle.stored_form.proofs.Stores.{store-more, store-all}
-use Rattle.stored_form.proofs.writing.with_element.Statement.{statement}
-use Rattle.stored_form.proofs.writing.with_element.Tie as tie
+use Rattle.written_form.proofs.writing.with_element.Statement.{statement}
+use Rattle.written_form.proofs.writing.with_element.Tie as tie
 
 abbrev Inv-loop : tie.InvT-loop
 Inv-loop at x r₀ i₀ r i = (i ≤ 8) × (r ≡ sets r₀ at (take i (bytes-of 8 x)))

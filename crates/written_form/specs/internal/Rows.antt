@@ -3,7 +3,7 @@ use Prim.Native.Nat.{ℕ, _+_}
 use mathlib.Core.List.{List}
 use lib.ListN.{length}
 use lib.Seq.{sets}
-use Rattle.stored_form.specs.declared.effect.Output.{Output}
+use Rattle.written_form.specs.declared.effect.Output.{Output}
 
 -- a row with bytes stored from a place on, handed over with all that stands before them
 abbrev pub filled : List ℕ → ℕ → List ℕ → Output

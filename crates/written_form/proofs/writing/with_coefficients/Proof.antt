@@ -2,9 +2,9 @@
 use borrow.Author.Needs.{needs}
 use mathlib.Core.Path.{_≡_}
 use native.Mathlib.Omega.{arith}
 use Rattle.stored_form.proofs.ClassBytes.{put-0, put-1, put-2, put-3}
-use Rattle.stored_form.proofs.writing.with_coefficients.Statement.{statement}
-use Rattle.stored_form.proofs.writing.with_coefficients.Tie as tie
+use Rattle.written_form.proofs.writing.with_coefficients.Statement.{statement}
+use Rattle.written_form.proofs.writing.with_coefficients.Tie as tie
 
 returns : tie.Need-returns
 returns c =

@@ -1,13 +1,13 @@
 // What a call on byte areas hands over to be written, and the one place that writes it.
 ghost use mathlib.Core.Path.{_≡_};
-ghost use Rattle.stored_form.specs.Effect.{room, effect, hand, refusal, handed, put};
+ghost use Rattle.written_form.specs.Effect.{room, effect, hand, refusal, handed, put};
 ghost use Prim.Native.Nat.{min};
 ghost use lib.ListN.{take};
 
 // A count's field, and the seal's behind it.
-pub const COUNT_ROOM: usize = 3 + crate::COUNT_LENGTH;
+pub const COUNT_ROOM: usize = 3 + stored_form::COUNT_LENGTH;
 
-pub const REGISTER_ROOM: usize = COUNT_ROOM + crate::CLASS_ROOM;
+pub const REGISTER_ROOM: usize = COUNT_ROOM + stored_form::CLASS_ROOM;
 
 // The most bytes that a call hands over.
 pub const ROOM: usize = REGISTER_ROOM;

@@ -3,10 +3,10 @@ use borrow.Author.Needs.{needs}
 use mathlib.Core.Path.{refl}
 use mathlib.Core.List.{[]}
 use native.Mathlib.Omega.{arith}
-use Rattle.stored_form.specs.Effect.{class-handed}
-use Rattle.stored_form.proofs.Rows.{filled-hands, refuses, writes}
-use Rattle.stored_form.proofs.writing.class_output.Statement.{statement}
-use Rattle.stored_form.proofs.writing.class_output.Tie as tie
+use Rattle.written_form.specs.Effect.{class-handed}
+use Rattle.written_form.proofs.Rows.{filled-hands, refuses, writes}
+use Rattle.written_form.proofs.writing.class_output.Statement.{statement}
+use Rattle.written_form.proofs.writing.class_output.Tie as tie
 
 returns : tie.Need-returns
 unfolding class-handed

@@ -1,8 +1,8 @@
 -- `writing::with_class` meets its contract.
 use borrow.Author.Needs.{needs}
-use Rattle.stored_form.proofs.Rows.{class-filled}
-use Rattle.stored_form.proofs.writing.with_class.Statement.{statement}
-use Rattle.stored_form.proofs.writing.with_class.Tie as tie
+use Rattle.written_form.proofs.Rows.{class-filled}
+use Rattle.written_form.proofs.writing.with_class.Statement.{statement}
+use Rattle.written_form.proofs.writing.with_class.Tie as tie
 
 returns : tie.Need-returns
 returns c =

@@ -5,14 +5,13 @@ ghost use Prim.Native.Nat.{_+_, _*_, _≤_, _<_, min};
 ghost use lib.ListN.{length, getD};
 ghost use lib.Seq.{sets};
 ghost use Rattle.jacobian.specs.Answer.{verdict, reply, result};
 ghost use Rattle.stored_form.specs.Number.{bytes-of};
 ghost use Rattle.stored_form.specs.Head.{class-room, count-length, stored};
 ghost use Rattle.stored_form.specs.Elements.{element-length, element-bytes};
 ghost use Rattle.stored_form.specs.Fields.{count-field};
 ghost use Rattle.stored_form.specs.Classes.{row-written, class-field};
-ghost use Rattle.stored_form.specs.Effect.{room, count-room, on, class-handed, handed};
-ghost use Rattle.stored_form.specs.internal.Rows.{filled};
-use crate::ELEMENT_LENGTH;
+ghost use Rattle.written_form.specs.Effect.{room, count-room, on, class-handed, handed};
+ghost use Rattle.written_form.specs.internal.Rows.{filled};
 use crate::effect::COUNT_ROOM;
 use crate::effect::Output;
 use crate::effect::ROOM;
@@ -20,6 +19,7 @@ use crate::effect::refusal;
 use jacobian::Class;
 use jacobian::ClassAnswer;
 use jacobian::Outcome;
+use stored_form::ELEMENT_LENGTH;
 
 // The byte of an element at a place of its eight, high byte first.
 fn byte_of(x: u64, i: usize) -> u8
@@ -79,7 +79,7 @@ fn with_class(row: [u8; ROOM], at: usize, a: Class) -> Output
 {
     let n = places_of(a.degree);
     let mut d = row;
-    d[at] = crate::CLASS;
+    d[at] = stored_form::CLASS;
     d[at + 1] = 0;
     d[at + 2] = (16 * n) as u8;
     let u = a.u;
@@ -127,7 +127,7 @@ pub fn register_output(o: Outcome, count: u64, seal: Class) -> Output
     match o {
         Outcome::Refused(n) => refusal(n),
         Outcome::Accepted => {
-            let counted = with_count([0u8; ROOM], 0, crate::COUNT, count);
+            let counted = with_count([0u8; ROOM], 0, stored_form::COUNT, count);
             with_class(counted, COUNT_ROOM, seal)
         }
     }

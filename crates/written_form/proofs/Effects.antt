@@ -7,13 +7,13 @@ use native.Mathlib.Omega.{arith}
 use lib.ListN.{length, getD, take, drop, set, length-take}
 use lib.Seq.{sets, sets-eq, take-all, getD-take}
 use borrow.Author.Tests.{lt-ltb, le-ltb}
 use Rattle.stored_form.specs.Reading.{Reading, found, refused, reading-refusal}
-use Rattle.stored_form.specs.Effect.{Effect, Handed, effect, refuse, write, lent, hand, refusal, written, for, put, byte-call, room}
+use Rattle.written_form.specs.Effect.{Effect, Handed, effect, refuse, write, lent, hand, refusal, written, for, put, byte-call, room}
 use Rattle.stored_form.specs.Held.{read-record, read-of, place-refusal}
 use Rattle.stored_form.specs.declared.{Held.Held, Read.Read, Cursor.Cursor}
 use Rattle.stored_form.specs.declared.Place.the-variants.{Next, Refused}
 use Rattle.stored_form.proofs.Readers.{place-found, place-refused, read-refusal}
 use Rattle.stored_form.proofs.Stores.{store-more}
 
 -- ---- the output's length
 

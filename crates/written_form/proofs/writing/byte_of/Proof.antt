@@ -1,8 +1,8 @@
 -- `writing::byte_of` meets its contract.
 use borrow.Author.Needs.{needs}
 use Rattle.stored_form.proofs.Stores.{byte-is}
-use Rattle.stored_form.proofs.writing.byte_of.Statement.{statement}
-use Rattle.stored_form.proofs.writing.byte_of.Tie as tie
+use Rattle.written_form.proofs.writing.byte_of.Statement.{statement}
+use Rattle.written_form.proofs.writing.byte_of.Tie as tie
 
 returns : tie.Need-returns
 returns c = byte-is _ _ (c .pre)

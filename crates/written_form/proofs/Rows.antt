@@ -10,9 +10,11 @@ use Rattle.jacobian.specs.Answer.{verdict}
 use Rattle.jacobian.specs.declared.Class.{Class}
 use Rattle.jacobian.specs.declared.Outcome.{Outcome}
 use Rattle.jacobian.specs.declared.Outcome.the-variants.{Accepted, Refused}
 use Rattle.stored_form.specs.{Number.bytes-of, Head.head-bytes, Head.stored, Elements.element-bytes, Fields.count-field, Classes.row-written, Classes.class-field}
-use Rattle.stored_form.specs.{Effect.Handed, Effect.hand, Effect.written, Effect.refusal, Effect.on, Effect.handed, Effect.room, Effect.count-room, Head.class-room, Head.count-length, internal.Rows.filled, declared.effect.Output.Output}
-use Rattle.stored_form.proofs.{Digits.two-bytes-small, ElementBytes.length-element-bytes, Stores.sets-append, Lengths.length-stored, ClassBytes.length-row, ClassBytes.below-three}
+use Rattle.stored_form.specs.{Head.class-room, Head.count-length}
+use Rattle.written_form.specs.{Effect.Handed, Effect.hand, Effect.written, Effect.refusal, Effect.on, Effect.handed, Effect.room, Effect.count-room, internal.Rows.filled, declared.effect.Output.Output}
+use Rattle.stored_form.proofs.{Digits.two-bytes-small, ElementBytes.length-element-bytes, Stores.sets-append, Lengths.length-stored}
+use Rattle.stored_form.proofs.ClassBytes.{length-row, below-three}
 
 -- three bytes stored one after the other
 three-set : (d : List ℕ) (at x y z : ℕ) → set (set (set d at x) (at + 1) y) (at + 2) z ≡ sets d at (x ∷ y ∷ z ∷ [])

@@ -2,10 +2,10 @@
 use borrow.Author.Needs.{needs}
 use mathlib.Core.Path.{sym}
 use native.Mathlib.Omega.{arith}
 use Rattle.stored_form.specs.Fields.{count-field}
-use Rattle.stored_form.proofs.Rows.{filled-hands, length-count, refuses, writes}
-use Rattle.stored_form.proofs.writing.register_output.Statement.{statement}
-use Rattle.stored_form.proofs.writing.register_output.Tie as tie
+use Rattle.written_form.proofs.Rows.{filled-hands, length-count, refuses, writes}
+use Rattle.written_form.proofs.writing.register_output.Statement.{statement}
+use Rattle.written_form.proofs.writing.register_output.Tie as tie
 
 returns : tie.Need-returns
 returns c = refuses _ (c .before .before .o .given .1) (c .refusal .ensures)

@@ -6,12 +6,12 @@ use mathlib.Core.List.{List, [], _++_}
 use lib.ListN.{length, take, drop}
 use lib.Dec.{ltb}
 use Rattle.jacobian.specs.{Refusals.IsRefusal, Answer.Verdict, Answer.Result, Answer.accepted, Answer.refused as said-no}
 use Rattle.stored_form.specs.Reading.{Reading, found, refused}
 use Rattle.stored_form.specs.Head.{count-length, class-room}
 use Rattle.stored_form.specs.Classes.{class-field}
 use Rattle.stored_form.specs.Held.{read-record}
 use Rattle.stored_form.specs.declared.Held.{Held}
-use Rattle.stored_form.specs.declared.effect.Output.{Output}
+use Rattle.written_form.specs.declared.effect.Output.{Output}
 
 -- ---- the answer, and the lent output afterwards
 

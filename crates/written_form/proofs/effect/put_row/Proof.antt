@@ -5,9 +5,9 @@ use mathlib.Core.Path.{_≡_, refl, ap, _∙_}
 use native.Mathlib.Omega.{arith}
 use lib.ListN.{length, take}
 use lib.Seq.{sets, length-sets}
-use Rattle.stored_form.proofs.Effects.{put-short, put-more, put-all}
-use Rattle.stored_form.proofs.effect.put_row.Statement.{statement}
-use Rattle.stored_form.proofs.effect.put_row.Tie as tie
+use Rattle.written_form.proofs.Effects.{put-short, put-more, put-all}
+use Rattle.written_form.proofs.effect.put_row.Statement.{statement}
+use Rattle.written_form.proofs.effect.put_row.Tie as tie
 
 abbrev Inv-loop : tie.InvT-loop
 Inv-loop answer len output₀ row n i₀ output i = (i ≤ n) × (output ≡ sets output₀ 0 (take i (take len row)))

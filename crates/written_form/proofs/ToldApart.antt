@@ -1,0 +1,61 @@
+-- Answers and refusals of a call on byte areas are told apart (docs/SPECIFICATION.md, 6 and 7). A call whose answers are told apart tells them apart on
+-- every input and output (`call-told-apart`), and then the answer alone says which of the two it was (`answer-tells`): no length written is the
+-- number of a refusal (`never-both`).
+use Prim.Native.Nat.{ℕ, _≤_, _<_}
+use mathlib.Core.Path.{_≡_, refl, sym, ap, subst, _∙_}
+use mathlib.Core.{Bool.Bool, Bool.true, Bool.false, List.List}
+use native.Mathlib.Omega.{arith}
+use lib.{Dec.ltb, ListN.length}
+use borrow.Author.Tests.{ltb-true, ltb-false}
+use Rattle.jacobian.specs.{Refusals.refusals, Refusals.listed, Refusals.IsRefusal, Answer.Verdict, Answer.accepted, Answer.refused as said-no}
+use Rattle.jacobian.proofs.{Refusals.above-100}
+use Rattle.stored_form.specs.{Reading.Reading, Reading.found, Reading.refused, Reading.refuse}
+use Rattle.stored_form.specs.Held.{read-record}
+use Rattle.written_form.specs.Effect.{Effect, Handed, write, on, put, byte-call, HandedApart, bytes, number, ToldApart, wrote, kept, AnswerTells}
+use Rattle.written_form.specs.Effect as specs
+use Rattle.stored_form.specs.declared.Held.{Held}
+use Rattle.stored_form.proofs.ToldApart.{Tells, record-tells}
+use Rattle.written_form.proofs.Effects.{put-written, put-refusal, call-short, call-refused, call-found}
+
+-- ---- a call
+
+pub on-apart : (most : ℕ) (v : Verdict) (xs : List ℕ) → (v ≡ accepted → length xs ≤ most) → ((n : ℕ) → v ≡ said-no n → IsRefusal n) → HandedApart most (on v xs)
+unfolding on
+on-apart most accepted xs short told = bytes xs (short refl) refl
+on-apart most (said-no n) xs short told = number n (told n refl) refl
+
+put-apart : (most : ℕ) (o : Handed) (out : List ℕ) → most ≤ length out → HandedApart most o → ToldApart most out (put o out)
+put-apart most o out fits (bytes xs short e) = wrote xs short fits (ap (λ (x : Handed). put x out) e ∙ put-written xs out (omega arith))
+put-apart most o out fits (number n i e) = kept n i (ap (λ (x : Handed). put x out) e ∙ put-refusal n out)
+
+module _ (most : ℕ) (tags : List ℕ) (answer : Held → Handed) (s out : List ℕ) where
+  long-apart : most ≤ length out → ((h : Held) (end : ℕ) → read-record tags s ≡ found h end → HandedApart most (answer h)) → ToldApart most out (byte-call most tags answer s out)
+  unfolding Tells
+  long-apart fits apart = go (read-record tags s) refl (record-tells tags s)
+    where
+      go : (x : Reading Held) → read-record tags s ≡ x → Tells x → ToldApart most out (byte-call most tags answer s out)
+      go (found h end) e t = subst (ToldApart most out) (sym (call-found most tags answer s out fits e)) (put-apart most (answer h) out fits (apart h end e))
+      go (refused n) e t = kept n t (call-refused most tags answer s out fits e)
+
+  pub call-told-apart : ((h : Held) (end : ℕ) → read-record tags s ≡ found h end → HandedApart most (answer h)) → ToldApart most out (byte-call most tags answer s out)
+  unfolding IsRefusal refusals listed specs.refuse
+  call-told-apart apart = go (ltb (length out) most) refl
+    where
+      go : (b : Bool) → ltb (length out) most ≡ b → ToldApart most out (byte-call most tags answer s out)
+      go true e = kept 101 refl (sym (call-short most tags answer s out (ltb-true _ _ e)))
+      go false e = long-apart (ltb-false _ _ e) apart
+
+-- the answer alone says which of the two
+pub answer-tells : {most : ℕ} {out : List ℕ} {e : Effect} → most ≤ 100 → ToldApart most out e → AnswerTells most out e
+unfolding write specs.refuse
+answer-tells low (wrote xs short fits is) =
+    let n : _ = ap (λ (o : Effect). o .answer) is in
+    record { wrote = λ h. (xs, short, fits, is); kept = λ h. absurd (omega arith) }
+answer-tells low (kept n i is) =
+    let l : 100 < n = above-100 n i in
+    let k = ap (λ (o : Effect). o .answer) is in
+    record { wrote = λ h. absurd (omega arith); kept = λ h. (subst IsRefusal (sym k) i, ap (λ (o : Effect). o .after) is) }
+
+-- no length that a call may write is the number of a refusal
+pub never-both : {n : ℕ} → n ≤ 100 → IsRefusal n → ⊥
+never-both low i = let l = above-100 _ i in omega arith

@@ -1,0 +1,3 @@
+// What is written: fields laid out in a row of bytes, and the answer of a call on byte areas with the output afterwards.
+pub mod effect;
+pub mod writing;
