@@ -8,8 +8,7 @@ use Rattle.class_group.specs.Walk.{All, none, more}
 use Rattle.jacobian.specs.{Curves.coefficients, declared.Curve.Curve, declared.Class.Class}
 use Rattle.stored_form.specs.{Number.bytes-of, Number.Bytes, Reading.found, Head.class-room, Head.first-fields-length, Head.head-bytes, Head.stored, Elements.element-bytes}
 use Rattle.stored_form.specs.{Fields.degree-field, Fields.drawing-field, Fields.count-field, Fields.count-limit, Classes.curve-field, Classes.curve-first-fields, Classes.class-field, Passing.ClassPasses}
-use Rattle.stored_form.proofs.{Lengths.length-stored}
-use Rattle.written_form.proofs.{Rows.length-count}
+use Rattle.stored_form.proofs.Lengths.{length-stored, length-count}
 use Rattle.stored_form_theorems.proofs.ClassRoundTrips.{class-short}
 use Rattle.archive.specs.Archive.{Archive, read-archive}
 use Rattle.archive_theorems.specs.Written.{operation-fields, archive-bytes, Storable}

@@ -6,7 +6,7 @@
 use Prim.Native.Nat.{ℕ, _≤_}
 use mathlib.Core.Path.{_≡_, refl, ap}
 use mathlib.Core.Bool.{true}
-use mathlib.Core.List.{List, _∷_, map}
+use mathlib.Core.List.{List}
 use lib.ListN.{length, getD}
 use Rattle.history.specs.{Register.register-refusal, Calls.Call, Calls.OnlyCommits, Calls.last, Calls.newest, Calls.classes, Calls.seals-back, declared.Register.Register}
 use Rattle.history.proofs.WalkingBack.{walk-meets}

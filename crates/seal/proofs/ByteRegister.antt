@@ -14,11 +14,12 @@ use Rattle.history.specs.declared.{Register.Register, Step.Step, Step.the-varia
 use Rattle.history.specs.Register.{RegisterReply, step-refusal, stepped, other, step-answer, commit-answer, undo-answer}
 use Rattle.history.proofs.Registers.{Passes, step-passes, follows-accepted, follows-zero}
 use Rattle.history.proofs.OneStep.{taken, stepped-curve, stepped-passes, step-taken-back}
-use Rattle.stored_form.specs.{Number.Bytes, Reading.found, Fields.count-field, Classes.class-field, Held.read-record, Held.register-record}
+use Rattle.stored_form.specs.{Reading.found, Fields.count-field, Classes.class-field, Held.read-record, Held.register-record}
 use Rattle.written_form.specs.Effect.{Effect, refuse, write, on, put, register-room}
 use Rattle.stored_form.specs.declared.Held.{Held}
 use Rattle.stored_form_theorems.proofs.ClassRoundTrips.{class-short}
-use Rattle.written_form.proofs.{Rows.length-count, Effects.call-found, Effects.put-written, Effects.put-refusal}
+use Rattle.stored_form.proofs.Lengths.{length-count}
+use Rattle.written_form.proofs.{Effects.call-found, Effects.put-written, Effects.put-refusal}
 use Rattle.seal.specs.Records.{register-held, register-fields, register-record-bytes, RegisterStored}
 use Rattle.seal.specs.Rebuilt.{register-rebuilt}
 use Rattle.seal.specs.Calls.{register, register-handed, answered, commit-call, undo-call, step-call}

@@ -3,6 +3,7 @@
 use Prim.Native.Nat.{ℕ}
 use mathlib.Core.Path.{_≡_, refl, sym, ap, _∙_, subst}
 use mathlib.Core.List.{List, [], _∷_, _++_, append-assoc}
+use lib.Dec.{lit<}
 use lib.ListN.{length, drop}
 use lib.Seq.{drop-append-seam}
 use Rattle.jacobian.specs.declared.Class.{Class}
@@ -13,9 +14,10 @@ use Rattle.stored_form.specs.declared.Held.{Held}
 use Rattle.stored_form.proofs.Readings.{same-found}
 use Rattle.stored_form_theorems.specs.Records.{none}
 use Rattle.stored_form_theorems.specs.Records as records
+use Rattle.stored_form_theorems.proofs.Written.{bytes-append, number-bytes, field-bytes, class-bytes, first-bytes}
 use Rattle.stored_form_theorems.proofs.{Places.apart, Places.whole, RecordRoundTrips.begin-read-back, FieldLaws.more, FieldValues.count-law, FieldValues.class-law, FieldValues.curve-more}
 use Rattle.seal.specs.{Records.register-held, Records.register-fields, Records.register-record-bytes, Calls.register, Steps.Kept, Steps.Stored}
-use Rattle.seal.proofs.{Written.curve-passes, Written.register-record-written, WrittenBytes.append-bytes, WrittenBytes.curve-bytes, WrittenBytes.register-bytes}
+use Rattle.seal.proofs.{Written.curve-passes, Written.register-record-written}
 
 -- the fields before the operation
 abbrev pub before : Register → List ℕ
@@ -23,6 +25,12 @@ before g = curve-first-fields (g .curve) ++ register-fields g
 
 abbrev before-held : Register → Held
 before-held g = with-class (g .seal) (with-count (g .count) (with-curve (g .curve) nothing-held))
+
+before-bytes : (g : Register) → Bytes (before g)
+unfolding count-field
+before-bytes g =
+    bytes-append (curve-first-fields (g .curve)) (register-fields g) (first-bytes (g .curve))
+    (bytes-append (count-field (g .count)) (class-field 0x43 (g .seal)) (field-bytes 0x42 _ (lit< tt) (number-bytes 2 (g .count))) (class-bytes 0x43 (g .seal) (lit< tt)))
 
 -- values that no check refuses
 pub record Passes (g : Register) : Type 0 where
@@ -57,7 +65,7 @@ pub record Operation (g : Register) (op : List ℕ) (h : Held) : Type 0 where
 pub operation : (g : Register) (op : List ℕ) → Passes g → Bytes op → {h : Held} {end : ℕ} → read-record register-record (before g ++ op) ≡ found h end → Operation g op h
 unfolding register-record-bytes
 operation g op p bytes read =
-    let w = register-record-written (append-bytes (before g) op (append-bytes (curve-first-fields (g .curve)) (register-fields g) (curve-bytes (g .curve)) (register-bytes g)) bytes) read .0 in
+    let w = register-record-written (bytes-append (before g) op (before-bytes g) bytes) read .0 in
     let same : g ≡ w .register = same-register g (w .register) op (class-field 0x44 (w .class)) p (record { count = w .count-passes; seal = w .seal-passes }) (w .bytes) in
     record {
       class = w .class;

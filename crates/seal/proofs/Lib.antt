@@ -5,6 +5,5 @@ pub mod ByteRegister
 pub mod ByteHalving
 pub mod ToldApart
 pub mod Promises
-pub mod WrittenBytes
 pub mod KeptFields
 pub mod ByteSteps

@@ -4,12 +4,12 @@
 -- (`membership-told`, `membership-found`, `found-membership`).
 use Prim.Native.Nat.{ℕ, zero, suc, _≤_}
 use mathlib.Core.Path.{_≡_, refl, sym, ap, _∙_, subst}
-use mathlib.Core.{List.List, Logic.inr}
-use lib.{Dec.eqb, Dec.lit≤, ListN.length}
-use Rattle.jacobian.specs.{Refusals.refusals, Refusals.listed, Refusals.IsRefusal, Refusals.Told, Answer.Reply, Answer.Verdict, Answer.accepted, Answer.refused, Answer.result, Answer.verdict-of, declared.Curve.Curve, declared.Class.Class}
+use mathlib.Core.{List.List}
+use lib.{Dec.lit≤, ListN.length}
+use Rattle.jacobian.specs.{Refusals.IsRefusal, Refusals.Told, Answer.Reply, Answer.Verdict, Answer.accepted, Answer.refused, Answer.result, Answer.verdict-of, declared.Curve.Curve, declared.Class.Class}
 use Rattle.jacobian.proofs.Refusals.{refused-told}
 use Rattle.history.proofs.Told.{step-refusal-told}
-use Rattle.history.specs.Register.{register-refusal, edge, edge-refusal, step-refusal, stepped, follows, step-answer}
+use Rattle.history.specs.Register.{step-refusal, stepped, follows, step-answer}
 use Rattle.history.specs.declared.{Register.Register, Step.Step, Step.the-variants.Commit, Step.the-variants.Undo}
 use Rattle.stored_form.specs.{Reading.Reading, Reading.found, Reading.refused as unread, Head.class-room, Held.read-record, Held.class-record, Held.sum-record, Held.register-record, declared.Held.Held, Classes.class-field}
 use Rattle.written_form.specs.Effect.{Effect, refuse, on, class-handed, register-room, HandedApart, bytes, ToldApart, AnswerTells}
@@ -21,7 +21,7 @@ use Rattle.seal.specs.Calls.{register, register-handed, answered, member
 use Rattle.seal.specs.declared.calls.Call.{Call}
 use Rattle.seal.specs.declared.calls.Call.the-variants.{Opposite, Double, Half, Sum}
 use Rattle.seal.specs.declared.calls.Call.the-variants as Call
-use Rattle.seal.proofs.Passing.{Given, class-holds, sum-holds, register-holds, opposite-given, double-given, half-given, sum-given}
+use Rattle.seal.proofs.Passing.{Given, class-holds, sum-holds, opposite-given, double-given, half-given, sum-given}
 use Rattle.seal.proofs.ByteRegister.{follows-fits, of-record, unwritten}
 
 -- ---- membership

@@ -9,7 +9,7 @@ use lib.Dec.{eqb, lit≤}
 use lib.ListN.{length}
 use borrow.Author.Tests.{ne-eqb, eqb-true, leb-true}
 use Rattle.stored_form.specs.Head.{degree-length, curve-length, count-length, drawing-limit, class-length, class-limit, longest-body, allowed, head-bytes, stored}
-use Rattle.stored_form.specs.Number.{bytes-of}
+use Rattle.stored_form.specs.{Number.bytes-of, Fields.count-field}
 
 pub class-length-last : (n : ℕ) → (n ≡ 0 → ⊥) → (n ≡ 16 → ⊥) → (n ≡ 32 → ⊥) → class-length n ≡ eqb n 48
 unfolding class-length
@@ -98,3 +98,7 @@ allowed-short t n h =
 pub length-stored : (tag : ℕ) (body : List ℕ) → length (stored tag body) ≡ 3 + length body
 unfolding stored head-bytes bytes-of
 length-stored tag body = omega arith
+
+pub length-count : (n : ℕ) → length (count-field n) ≡ 3 + count-length
+unfolding count-field stored head-bytes bytes-of
+length-count n = refl

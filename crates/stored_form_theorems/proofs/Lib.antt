@@ -11,3 +11,4 @@ pub mod RecordRoundTrips
 pub mod FieldLaws
 pub mod FieldValues
 pub mod RoundTrips
+pub mod Written

@@ -8,7 +8,7 @@ use Rattle.text.specs.declared.Line.{Line}
 
 -- as many bytes as a line has room for
 abbrev pub line-room : ℕ
-line-room = 401
+line-room = 320
 
 -- bytes as the first of such a row
 unfoldable pub in-line : List ℕ → Line

@@ -10,8 +10,8 @@ const DECIMAL_DIGITS: usize = 20;
 
 const HEXADECIMAL_DIGITS: usize = 16;
 
-// Room for every line of the walk report: two decimal numbers, six elements, a drawing number and ten bytes between them.
-pub const LINE: usize = 2 * DECIMAL_DIGITS + 6 * HEXADECIMAL_DIGITS + 255 + 10;
+// Room for a line. That every line of the walk report has room in it is proved where the report is.
+pub const LINE: usize = 320;
 
 // A line: len bytes, and 0 after them.
 pub struct Line {

@@ -1,6 +1,6 @@
 -- Fields laid out in a row of bytes, as the code fills it, and what the row hands over.
 use Prim.Native.Nat.{ℕ, suc, _+_, _*_, _/_, _%_, _≤_, min}
-use mathlib.Core.Path.{_≡_, refl, sym, ap, ap₂, _∙_}
+use mathlib.Core.Path.{_≡_, sym, ap, ap₂, _∙_}
 use mathlib.Core.List.{List, [], _∷_, _++_}
 use native.Mathlib.Nat.{zero-add}
 use native.Mathlib.Omega.{arith}
@@ -10,9 +10,9 @@ use Rattle.jacobian.specs.Answer.{verdict}
 use Rattle.jacobian.specs.declared.Class.{Class}
 use Rattle.jacobian.specs.declared.Outcome.{Outcome}
 use Rattle.jacobian.specs.declared.Outcome.the-variants.{Accepted, Refused}
-use Rattle.stored_form.specs.{Number.bytes-of, Head.head-bytes, Head.stored, Elements.element-bytes, Fields.count-field, Classes.row-written, Classes.class-field}
+use Rattle.stored_form.specs.{Number.bytes-of, Head.head-bytes, Head.stored, Elements.element-bytes, Classes.row-written, Classes.class-field}
 use Rattle.stored_form.specs.{Head.class-room, Head.count-length}
-use Rattle.written_form.specs.{Effect.Handed, Effect.hand, Effect.written, Effect.refusal, Effect.on, Effect.handed, Effect.room, Effect.count-room, internal.Rows.filled, declared.effect.Output.Output}
+use Rattle.written_form.specs.{Effect.Handed, Effect.hand, Effect.written, Effect.refusal, Effect.on, Effect.handed, Effect.room, internal.Rows.filled, declared.effect.Output.Output}
 use Rattle.stored_form.proofs.{Digits.two-bytes-small, ElementBytes.length-element-bytes, Stores.sets-append, Lengths.length-stored}
 use Rattle.stored_form.proofs.ClassBytes.{length-row, below-three}
 
@@ -35,10 +35,6 @@ module _ (d : List ℕ) (at tag n : ℕ) where
       let four : at + 4 ≡ suc (suc (suc (suc at))) = omega arith in
       let low : n / 1 % 256 ≡ n % 256 = omega arith in
       rw (one, two, three, four, low)
-
-pub length-count : (n : ℕ) → length (count-field n) ≡ count-room
-unfolding count-field stored head-bytes bytes-of
-length-count n = refl
 
 -- ---- the field of a class
 
