@@ -22,30 +22,30 @@ use Rattle.history.proofs.{Machine.Run.accepted-fit, OneStep.taken, OneStep.ste
 use Rattle.jacobian.proofs.Representation.{accepts-both}
 use Rattle.history.proofs.Machine.TakingBack as machine
 use Rattle.stored_form.specs.{Number.Bytes, Classes.curve-first-fields}
-use Rattle.written_form.specs.Effect.{Effect, write, register-room}
+use Rattle.written_form.specs.Effect.{Effect, write, register-room, longest-answer}
 use Rattle.stored_form.specs.declared.Held.{Held}
 use Rattle.seal.specs.{Records.register-fields, Records.register-record-bytes, Rebuilt.wrote, Calls.register, Calls.step-call}
-use Rattle.seal.specs.Steps.{Kept, ByteStep, made, outcome, next, byte-steps, back, Stored}
+use Rattle.seal.specs.Steps.{Kept, ByteStep, made, outcome, next, byte-steps, back, InStoredForm}
 use Rattle.seal.proofs.{KeptFields.before, KeptFields.Passes, KeptFields.Operation, KeptFields.operation, ByteRegister.follows-fits, ByteRegister.step-accepts, ToldApart.accepted-room, ToldApart.accepted-read}
 
 -- ---- one call
 
-outcome-low : (n : ℕ) → n ≤ 100 → outcome n ≡ accepted
+outcome-low : (n : ℕ) → n ≤ longest-answer → outcome n ≡ accepted
 unfolding outcome
-outcome-low n low = ap (λ (b : Bool). cond b (refused n) accepted) (le-ltb 100 n low)
+outcome-low n low = ap (λ (b : Bool). cond b (refused n) accepted) (le-ltb longest-answer n low)
 
-accepted-low : (n : ℕ) → outcome n ≡ accepted → n ≤ 100
+accepted-low : (n : ℕ) → outcome n ≡ accepted → n ≤ longest-answer
 unfolding outcome
-accepted-low n e = go (ltb 100 n) refl e
+accepted-low n e = go (ltb longest-answer n) refl e
   where
-    go : (b : Bool) → ltb 100 n ≡ b → cond b (refused n) accepted ≡ accepted → n ≤ 100
+    go : (b : Bool) → ltb longest-answer n ≡ b → cond b (refused n) accepted ≡ accepted → n ≤ longest-answer
     go true is e = let z : _≡_ {A = ℕ} 0 1 = cc in absurd (omega arith)
-    go false is e = ltb-false 100 n is
+    go false is e = ltb-false longest-answer n is
 
 -- after a refusal all is as it was
 refused-stays : (k : Kept) (e : Effect) (n : ℕ) → outcome (e .answer) ≡ refused n → next k e ≡ k
 unfolding outcome next
-refused-stays k e n = go (ltb 100 (e .answer))
+refused-stays k e n = go (ltb longest-answer (e .answer))
   where
     go : (b : Bool) → cond b (refused (e .answer)) accepted ≡ refused n → cond b k (record { curve = k .curve; register = wrote e }) ≡ k
     go true f = refl
@@ -54,10 +54,10 @@ refused-stays k e n = go (ltb 100 (e .answer))
 abbrev with-register : Kept → List ℕ → Kept
 with-register k xs = record { curve = k .curve; register = xs }
 
-next-written : (k : Kept) (xs out : List ℕ) → length xs ≤ 100 → next k (write xs out) ≡ with-register k xs
+next-written : (k : Kept) (xs out : List ℕ) → length xs ≤ longest-answer → next k (write xs out) ≡ with-register k xs
 unfolding next write
 next-written k xs out low =
-    ap (λ (b : Bool). cond b k (with-register k (wrote (write xs out)))) (le-ltb 100 (length xs) low) ∙ ap (with-register k) (take-append-seam xs _)
+    ap (λ (b : Bool). cond b k (with-register k (wrote (write xs out)))) (le-ltb longest-answer (length xs) low) ∙ ap (with-register k) (take-append-seam xs _)
 
 -- a call that writes is accepted, and what it wrote is kept
 write-event : (k : Kept) (c : ByteStep) (xs : List ℕ) → length xs ≤ register-room → made k c ≡ write xs (c .output) →
@@ -69,7 +69,7 @@ write-event k c xs short e =
     (ap (next k) e ∙ next-written k xs (c .output) (omega arith))
 
 -- an accepted call from the stored form of a register
-module _ (k : Kept) (stored : Stored k) (c : ByteStep) (bytes : Bytes (c .operation)) (ok : outcome (made k c .answer) ≡ accepted) where
+module _ (k : Kept) (stored : InStoredForm k) (c : ByteStep) (bytes : Bytes (c .operation)) (ok : outcome (made k c .answer) ≡ accepted) where
   abbrev g : Register
   g = stored .register
 
@@ -82,8 +82,8 @@ module _ (k : Kept) (stored : Stored k) (c : ByteStep) (bytes : Bytes (c .operat
   made-is : made k c ≡ step-call (c .step) (before g ++ c .operation) (c .output)
   made-is = ap (λ (xs : List ℕ). step-call (c .step) (xs ++ c .operation) (c .output)) kept-is
 
-  low : step-call (c .step) (before g ++ c .operation) (c .output) .answer ≤ 100
-  low = subst (λ (e : Effect). e .answer ≤ 100) made-is (accepted-low _ ok)
+  low : step-call (c .step) (before g ++ c .operation) (c .output) .answer ≤ longest-answer
+  low = subst (λ (e : Effect). e .answer ≤ longest-answer) made-is (accepted-low _ ok)
 
   -- its operation is a class, with which the register's call is accepted
   carries : Operation g (c .operation) (accepted-read (c .step) (before g ++ c .operation) (c .output) low .0)
@@ -113,7 +113,7 @@ module _ (k : Kept) (stored : Stored k) (c : ByteStep) (bytes : Bytes (c .operat
   unfolding answer
   then-curve = stored .curve-bytes ∙ ap curve-first-fields (sym (answer-curve g (record { step = c .step; class = a })))
 
-  left-stored : Stored (with-register k (register-fields then-register))
+  left-stored : InStoredForm (with-register k (register-fields then-register))
   unfolding answer
   left-stored =
       let p = accepted-passes g (record { step = c .step; class = a }) taken-step in
@@ -153,15 +153,15 @@ module _ (k : Kept) (stored : Stored k) (c : ByteStep) (bytes : Bytes (c .operat
 -- ---- a list of calls
 
 module _ (lend : ByteStep → List ℕ) (room : (c : ByteStep) → register-room ≤ length (lend c)) where
-  pub reversible : Reversible byte-steps (back lend) Stored (λ c. Bytes (c .operation))
+  pub reversible : Reversible byte-steps (back lend) InStoredForm (λ c. Bytes (c .operation))
   unfolding event
   reversible = record {
     stays = λ k c n e. refused-stays k (made k c) n e;
-    keeps = λ k c h f e. subst Stored (sym (ap (λ (x : Event Kept ByteStep). x .left) (there k h c f e))) (left-stored k h c f e);
+    keeps = λ k c h f e. subst InStoredForm (sym (ap (λ (x : Event Kept ByteStep). x .left) (there k h c f e))) (left-stored k h c f e);
     returns = λ k c h f e. returned k h c f e lend (room c);
   }
 
-  module _ (k : Kept) (stored : Stored k) (cs : List ByteStep) (bytes : All (λ c. Bytes (c .operation)) cs) where
+  module _ (k : Kept) (stored : InStoredForm k) (cs : List ByteStep) (bytes : All (λ c. Bytes (c .operation)) cs) where
     -- the calls that take the accepted ones back are these, turned back
     pub taken-back-turned : taken-back byte-steps (back lend) k cs ≡ map (turned (back lend)) (newest byte-steps k cs)
     taken-back-turned = machine.taken-back-turned byte-steps (back lend) reversible cs stored (accepted-fit byte-steps k bytes)

@@ -12,11 +12,10 @@ use Rattle.stored_form.specs.{Number.Bytes, Reading.found, Classes.curve-first-
 use Rattle.stored_form.specs.Held.{nothing-held, with-curve, with-count, with-class, read-fields, read-record, register-record}
 use Rattle.stored_form.specs.declared.Held.{Held}
 use Rattle.stored_form.proofs.Readings.{same-found}
-use Rattle.stored_form_theorems.specs.Records.{none}
-use Rattle.stored_form_theorems.specs.Records as records
+use Rattle.stored_form_theorems.specs.Records.{none, Stored}
 use Rattle.stored_form_theorems.proofs.Written.{bytes-append, number-bytes, field-bytes, class-bytes, first-bytes}
 use Rattle.stored_form_theorems.proofs.{Places.apart, Places.whole, RecordRoundTrips.begin-read-back, FieldLaws.more, FieldValues.count-law, FieldValues.class-law, FieldValues.curve-more}
-use Rattle.seal.specs.{Records.register-held, Records.register-fields, Records.register-record-bytes, Calls.register, Steps.Kept, Steps.Stored}
+use Rattle.seal.specs.{Records.register-held, Records.register-fields, Records.register-record-bytes, Calls.register, Steps.Kept, Steps.InStoredForm}
 use Rattle.seal.proofs.{Written.curve-passes, Written.register-record-written}
 
 -- the fields before the operation
@@ -37,7 +36,7 @@ pub record Passes (g : Register) : Type 0 where
   pub count : CountPasses (g .count)
   pub seal : ClassPasses (g .curve) (g .seal)
 
-before-stored : (g : Register) → Passes g → records.Stored (0x40 ∷ 0x41 ∷ 0x42 ∷ 0x43 ∷ []) (before-held g) ((curve-first-fields (g .curve) ++ count-field (g .count)) ++ class-field 0x43 (g .seal))
+before-stored : (g : Register) → Passes g → Stored (0x40 ∷ 0x41 ∷ 0x42 ∷ 0x43 ∷ []) (before-held g) ((curve-first-fields (g .curve) ++ count-field (g .count)) ++ class-field 0x43 (g .seal))
 before-stored g p =
     let begun = with-curve (g .curve) nothing-held in
     curve-more (g .curve) (curve-passes (p .seal))
@@ -46,7 +45,7 @@ before-stored g p =
 before-read : (g : Register) (rest : List ℕ) → Passes g → (at : ℕ) × (read-fields (0x40 ∷ 0x41 ∷ 0x42 ∷ 0x43 ∷ []) nothing-held (before g ++ rest) 0 ≡ found (before-held g) at)
 before-read g rest p =
     let f = apart (before g) rest (whole (before g ++ rest)) in
-    let stored = subst (records.Stored _ (before-held g)) (append-assoc (curve-first-fields (g .curve)) (count-field (g .count)) (class-field 0x43 (g .seal))) (before-stored g p) in
+    let stored = subst (Stored _ (before-held g)) (append-assoc (curve-first-fields (g .curve)) (count-field (g .count)) (class-field 0x43 (g .seal))) (before-stored g p) in
     (f .0, begin-read-back (before g ++ rest) stored (f .1))
 
 -- so two records with the same bytes have the same register
@@ -78,7 +77,7 @@ operation g op p bytes read =
 
 -- every record that is read is such fields and an operation's
 pub record-kept : (s : List ℕ) → Bytes s → {h : Held} {end : ℕ} → read-record register-record s ≡ found h end →
-    (k : Kept) × Stored k × (op : List ℕ) × (s ≡ k .curve ++ k .register ++ op)
+    (k : Kept) × InStoredForm k × (op : List ℕ) × (s ≡ k .curve ++ k .register ++ op)
 unfolding register-record-bytes
 record-kept s bytes read =
     let w = register-record-written bytes read .0 in

@@ -12,7 +12,7 @@ use Rattle.history.proofs.Told.{step-refusal-told}
 use Rattle.history.specs.Register.{step-refusal, stepped, follows, step-answer}
 use Rattle.history.specs.declared.{Register.Register, Step.Step, Step.the-variants.Commit, Step.the-variants.Undo}
 use Rattle.stored_form.specs.{Reading.Reading, Reading.found, Reading.refused as unread, Head.class-room, Held.read-record, Held.class-record, Held.sum-record, Held.register-record, declared.Held.Held, Classes.class-field}
-use Rattle.written_form.specs.Effect.{Effect, refuse, on, class-handed, register-room, HandedApart, bytes, ToldApart, AnswerTells}
+use Rattle.written_form.specs.Effect.{Effect, refuse, on, class-handed, register-room, HandedApart, bytes, ToldApart, AnswerTells, longest-answer}
 use Rattle.stored_form_theorems.proofs.ClassRoundTrips.{class-short}
 use Rattle.stored_form.proofs.{ToldApart.Tells, ToldApart.record-tells, ToldApart.reading-told, ToldApart.reading-found, ToldApart.found-reading}
 use Rattle.written_form.proofs.{ToldApart.on-apart, ToldApart.call-told-apart, ToldApart.answer-tells, ToldApart.never-both, Effects.call-refused}
@@ -82,7 +82,7 @@ told-apart Sum s out = call-told-apart class-room sum-record _ s out (λ h end e
 told-apart Call.Commit s out = step-told-apart Commit s out
 told-apart Call.Undo s out = step-told-apart Undo s out
 
-room-low : (call : Call) → room call ≤ 100
+room-low : (call : Call) → room call ≤ longest-answer
 room-low Opposite = lit≤ tt
 room-low Double = lit≤ tt
 room-low Half = lit≤ tt
@@ -96,13 +96,13 @@ tells call s out = answer-tells (room-low call) (told-apart call s out)
 
 -- ---- a commit or an undo whose answer is a length was read and accepted
 
-module _ (k : Step) (s out : List ℕ) (low : step-call k s out .answer ≤ 100) where
+module _ (k : Step) (s out : List ℕ) (low : step-call k s out .answer ≤ longest-answer) where
   pub accepted-room : register-room ≤ length out
   accepted-room = answer-tells (lit≤ tt) (step-told-apart k s out) .wrote low .2
 
   not-refused : (n : ℕ) → IsRefusal n → step-call k s out ≡ refuse n out → ⊥
   unfolding refuse
-  not-refused n i e = never-both (subst (λ (x : Effect). x .answer ≤ 100) e low) i
+  not-refused n i e = never-both (subst (λ (x : Effect). x .answer ≤ longest-answer) e low) i
 
   unread-refused : {n : ℕ} → read-record register-record s ≡ unread n → step-call k s out ≡ refuse n out
   unread-refused {n} e = go k

@@ -5,7 +5,7 @@ use lib.Dec.{ltb}
 use Rattle.jacobian.specs.Answer.{Verdict, accepted, refused}
 use Rattle.history.specs.{Machine.Machine, Register.other, declared.Register.Register, declared.Step.Step}
 use Rattle.stored_form.specs.{Passing.CountPasses, Passing.ClassPasses, Classes.curve-first-fields}
-use Rattle.written_form.specs.{Effect.Effect}
+use Rattle.written_form.specs.Effect.{Effect, longest-answer}
 use Rattle.seal.specs.{Records.register-fields, Rebuilt.wrote, Calls.step-call}
 
 -- what is kept from call to call: the fields of degree and curve, and those of count and seal
@@ -25,13 +25,13 @@ made k c = step-call (c .step) (k .curve ++ k .register ++ c .operation) (c .out
 
 -- ---- the machine
 
--- up to 100 the answer is a length and says that the call was accepted
+-- an answer that is a length says that the call was accepted
 unfoldable pub outcome : ℕ → Verdict
-outcome n = cond (ltb 100 n) (refused n) accepted
+outcome n = cond (ltb longest-answer n) (refused n) accepted
 
 -- an accepted call's output takes the place of count and seal; after a refusal all is as it was
 unfoldable pub next : Kept → Effect → Kept
-next k e = cond (ltb 100 (e .answer)) k (record { curve = k .curve; register = wrote e })
+next k e = cond (ltb longest-answer (e .answer)) k (record { curve = k .curve; register = wrote e })
 
 abbrev pub byte-steps : Machine Kept ByteStep
 byte-steps = record { outcome = λ k c. outcome (made k c .answer); next = λ k c. next k (made k c) }
@@ -41,7 +41,7 @@ unfoldable pub back : (ByteStep → List ℕ) → ByteStep → ByteStep
 back lend c = record { step = other (c .step); operation = c .operation; output = lend c }
 
 -- what is kept is the stored form of a register that no check refuses
-pub record Stored (k : Kept) : Type 0 where
+pub record InStoredForm (k : Kept) : Type 0 where
   pub register : Register
   pub count-passes : CountPasses (register .count)
   pub seal-passes : ClassPasses (register .curve) (register .seal)

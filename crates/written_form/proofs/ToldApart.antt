@@ -11,7 +11,7 @@ use Rattle.jacobian.specs.{Refusals.refusals, Refusals.listed, Refusals.IsRefus
 use Rattle.jacobian.proofs.{Refusals.above-100}
 use Rattle.stored_form.specs.{Reading.Reading, Reading.found, Reading.refused, Reading.refuse}
 use Rattle.stored_form.specs.Held.{read-record}
-use Rattle.written_form.specs.Effect.{Effect, Handed, write, on, put, byte-call, HandedApart, bytes, number, ToldApart, wrote, kept, AnswerTells}
+use Rattle.written_form.specs.Effect.{Effect, Handed, write, on, put, byte-call, HandedApart, bytes, number, ToldApart, wrote, kept, AnswerTells, longest-answer}
 use Rattle.written_form.specs.Effect as specs
 use Rattle.stored_form.specs.declared.Held.{Held}
 use Rattle.stored_form.proofs.ToldApart.{Tells, record-tells}
@@ -46,16 +46,16 @@ module _ (most : ℕ) (tags : List ℕ) (answer : Held → Handed) (s out : List
       go false e = long-apart (ltb-false _ _ e) apart
 
 -- the answer alone says which of the two
-pub answer-tells : {most : ℕ} {out : List ℕ} {e : Effect} → most ≤ 100 → ToldApart most out e → AnswerTells most out e
+pub answer-tells : {most : ℕ} {out : List ℕ} {e : Effect} → most ≤ longest-answer → ToldApart most out e → AnswerTells most out e
 unfolding write specs.refuse
 answer-tells low (wrote xs short fits is) =
     let n : _ = ap (λ (o : Effect). o .answer) is in
     record { wrote = λ h. (xs, short, fits, is); kept = λ h. absurd (omega arith) }
 answer-tells low (kept n i is) =
-    let l : 100 < n = above-100 n i in
+    let l : longest-answer < n = above-100 n i in
     let k = ap (λ (o : Effect). o .answer) is in
     record { wrote = λ h. absurd (omega arith); kept = λ h. (subst IsRefusal (sym k) i, ap (λ (o : Effect). o .after) is) }
 
 -- no length that a call may write is the number of a refusal
-pub never-both : {n : ℕ} → n ≤ 100 → IsRefusal n → ⊥
+pub never-both : {n : ℕ} → n ≤ longest-answer → IsRefusal n → ⊥
 never-both low i = let l = above-100 _ i in omega arith

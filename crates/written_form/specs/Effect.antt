@@ -105,7 +105,11 @@ pub data ToldApart (most : ℕ) (out : List ℕ) (e : Effect) : Type 0 where
   wrote : (xs : List ℕ) → length xs ≤ most → most ≤ length out → e ≡ write xs out → ToldApart most out e
   kept : (n : ℕ) → IsRefusal n → e ≡ refuse n out → ToldApart most out e
 
--- which of the two, the answer alone says: up to 100 it is the length written, and above that the number of a refusal
+-- an answer up to this is a length; every refusal's number is above it
+abbrev pub longest-answer : ℕ
+longest-answer = 100
+
+-- which of the two, the answer alone says
 pub record AnswerTells (most : ℕ) (out : List ℕ) (e : Effect) : Type 0 where
-  pub wrote : e .answer ≤ 100 → (xs : List ℕ) × (length xs ≤ most) × (most ≤ length out) × (e ≡ write xs out)
-  pub kept : 100 < e .answer → IsRefusal (e .answer) × (e .after ≡ out)
+  pub wrote : e .answer ≤ longest-answer → (xs : List ℕ) × (length xs ≤ most) × (most ≤ length out) × (e ≡ write xs out)
+  pub kept : longest-answer < e .answer → IsRefusal (e .answer) × (e .after ≡ out)
