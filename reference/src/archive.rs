@@ -141,8 +141,8 @@ mod tests {
         assert_eq!(report(&of_count(0, b"").bytes()), "walk 0\n0 . 0::\n");
         assert_eq!(report(&of_count(0, b" ").bytes()), "walk 0  \n0 . 0::\n");
         assert_eq!(report(&of_count(0, b"  ~ \"").bytes()), "walk 0   ~ \"\n0 . 0::\n");
-        let longest = report(&of_count(1024, &[b'z'; 255]).bytes());
-        assert!(longest.starts_with("walk 1024 zzz"));
+        let longest = report(&of_count(1024, &[b'z'; 38]).bytes());
+        assert!(longest.starts_with(&format!("walk 1024 {}\n", "z".repeat(38))));
         assert_eq!(longest.lines().count(), 1026);
     }
 
@@ -191,8 +191,10 @@ mod tests {
             refused(&with(at, byte), number);
         }
         let start = [degree_field(5), field(0x41, &[0; 24])].concat();
-        refused(&[&start, &drawing_field(&[b'a'; 256])[..]].concat(), 104);
-        refused(&[&start, &drawing_field(&[b'a'; 255])[..]].concat(), 102);
+        for length in [39, 255, 65_535] {
+            refused(&[&start, &drawing_field(&vec![b'a'; length])[..]].concat(), 104);
+        }
+        refused(&[&start, &drawing_field(&[b'a'; 38])[..]].concat(), 102);
         refused(&[&start, &drawing_field(&[]), &count_field(1025)[..]].concat(), 109);
         refused(&[&start, &drawing_field(&[]), &count_field(1024)[..]].concat(), 102);
     }
@@ -201,9 +203,9 @@ mod tests {
     #[test]
     fn long_inputs() {
         let three = class(&[0, 0, 0], &[1]);
-        let archive = Archive { seal: three.clone(), operations: vec![three; 1024], ..of_count(0, &[b'a'; 255]) };
+        let archive = Archive { seal: three.clone(), operations: vec![three; 1024], ..of_count(0, &[b'a'; 38]) };
         let bytes = archive.bytes();
-        assert_eq!(bytes.len(), 4 + 27 + 258 + 5 + 51 + 1024 * 51);
+        assert_eq!(bytes.len(), 4 + 27 + 41 + 5 + 51 + 1024 * 51);
         assert!(bytes.len() < REPORT_LIMIT);
         for length in [bytes.len() + 1, 65_535, 65_536, 65_537, 100_000] {
             let mut longer = bytes.clone();

@@ -11,7 +11,7 @@ use crate::archive::{report, Archive};
 use crate::calls::{answer, seal_after_commit, Call, CALLS};
 use crate::jacobian::Class;
 use crate::random::Random;
-use crate::stored::{class_field, count_field, curve_fields, operation_field};
+use crate::stored::{class_field, count_field, curve_fields, operation_field, DRAWING_LIMIT};
 use mutation::mutated;
 use pool::{pools, Pool};
 
@@ -136,7 +136,8 @@ pub fn archives(number: usize) -> Vec<(Vec<u8>, String)> {
             };
             operations.push(next);
         }
-        let drawing: Vec<u8> = (0..random.below(39)).map(|_| 0x20 + random.below(95) as u8).collect();
+        let drawing: Vec<u8> =
+            (0..random.below(DRAWING_LIMIT + 1)).map(|_| 0x20 + random.below(95) as u8).collect();
         let seal = random.pick(&pool.classes).clone();
         let archive = Archive { curve: pool.curve.clone(), drawing, seal, operations };
         let bytes = mutated(&mut random, archive.fields(), pool);

@@ -16,8 +16,8 @@ pub const DRAWING: u8 = 0x46;
 /// The most operations that a register counts and an archive keeps.
 pub const COUNT_LIMIT: u16 = 1024;
 
-/// The longest drawing number.
-pub const DRAWING_LIMIT: usize = 255;
+/// The longest drawing number (document 02, request 1).
+pub const DRAWING_LIMIT: usize = 38;
 
 /// A refusal's number, 101 to 114.
 pub type Refusal = u32;
@@ -264,11 +264,27 @@ mod tests {
             let expected = if (0x20..0x7f).contains(&byte) { Ok(&bytes[3..]) } else { Err(108) };
             assert_eq!(Reader::new(&bytes).drawing(), expected);
         }
-        assert_eq!(Reader::new(&drawing_field(&[b' '; 255])).drawing().unwrap().len(), 255);
-        assert_eq!(Reader::new(&drawing_field(&[b' '; 256])).drawing(), Err(104));
         assert_eq!(Reader::new(&count_field(1024)).count(), Ok(1024));
         assert_eq!(Reader::new(&count_field(1025)).count(), Err(109));
         assert_eq!(Reader::new(&count_field(65535)).count(), Err(109));
+    }
+
+    /// Up to 38 bytes pass; more are 104, also where the body is cut short or has bytes that are 108.
+    #[test]
+    fn drawing_lengths() {
+        for length in 0..=38 {
+            let bytes = drawing_field(&vec![b'~'; length]);
+            assert_eq!(Reader::new(&bytes).drawing(), Ok(&bytes[3..]));
+            assert_eq!(Reader::new(&bytes[..2 + length]).drawing(), Err(if length == 0 { 102 } else { 105 }));
+        }
+        for length in (39..600).chain([32_768, 65_535]) {
+            for byte in [b'~', 0x7f] {
+                let bytes = drawing_field(&vec![byte; length]);
+                assert_eq!(Reader::new(&bytes).drawing(), Err(104));
+                assert_eq!(Reader::new(&bytes[..2 + length]).drawing(), Err(104));
+                assert_eq!(Reader::new(&bytes[..3]).drawing(), Err(104));
+            }
+        }
     }
 
     #[test]

@@ -26,7 +26,7 @@ count-length = 2
 
 -- the longest drawing number
 abbrev pub drawing-limit : ℕ
-drawing-limit = 255
+drawing-limit = 38
 
 -- the lengths of a class of degree 0 to 3
 unfoldable pub class-length : ℕ → Bool

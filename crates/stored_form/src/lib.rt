@@ -52,7 +52,7 @@ pub const CURVE_LENGTH: usize = COEFFICIENTS * ELEMENT_LENGTH;
 pub const COUNT_LENGTH: usize = 2;
 
 // The longest drawing number.
-pub const DRAWING_LIMIT: usize = 255;
+pub const DRAWING_LIMIT: usize = 38;
 
 // The longest body of a class, and its field.
 pub const CLASS_LIMIT: usize = 6 * ELEMENT_LENGTH;

@@ -67,12 +67,12 @@ fn change_fields(random: &mut Random, fields: &mut Vec<Vec<u8>>, pool: &Pool) {
         }
         3 => fields[at][0] = *random.pick(&[0, 0x40, 0x41, 0x42, 0x43, 0x44, 0x45, 0x46, 0x47, 0x48, 0xff]),
         4 => {
-            let length: u16 =
-                *random.pick(&[0, 1, 2, 8, 15, 16, 17, 24, 25, 31, 32, 33, 47, 48, 49, 64, 255, 256, 65535]);
+            let length: u16 = *random
+                .pick(&[0, 1, 2, 8, 15, 16, 17, 24, 25, 31, 32, 33, 38, 39, 47, 48, 49, 64, 255, 256, 65535]);
             fields[at][1..3].copy_from_slice(&length.to_be_bytes());
         }
         5 => {
-            let length = *random.pick(&[0, 1, 2, 3, 16, 23, 24, 25, 32, 48, 56, 64]);
+            let length = *random.pick(&[0, 1, 2, 3, 16, 23, 24, 25, 32, 38, 39, 48, 56, 64]);
             let mut body = fields[at][3..].to_vec();
             body.resize(length, 0);
             fields[at] = with_body(&fields[at], &body);
