@@ -1,13 +1,16 @@
--- What the answers of the calls on elements come to: the refusal where there is one, and else what the field's operation gives.
-use mathlib.Core.{Path._≡_, Path.refl, Path.ap, Path.sym, Path._∙_, Bool.Bool, Bool.true, Bool.false, Bool.cond, Bool._||_, Bool._&&_, List.[], List._∷_}
-use Prim.Native.Nat.{ℕ, zero, suc, _^_, _<_}
+-- What the answers of the calls on elements come to: the refusal where there is one, and else what the field's operation gives, or the root of
+-- y² + y = a with lowest bit 0 where there is one.
+use mathlib.Core.{Path._≡_, Path.refl, Path.ap, Path.sym, Path._∙_, Bool.Bool, Bool.true, Bool.false, Bool.cond, Bool._||_, Bool._&&_, List.[], List._∷_, Option.Option, Option.none, Option.some}
+use Prim.Native.Nat.{ℕ, zero, suc, _%_, _^_, _<_}
 use native.Mathlib.Omega.{arith}
 use lib.Dec.{T, eqb, ltb, ltb→lt}
 use borrow.Author.Tests.{lt-ltb}
 use Rattle.binary_field.specs.{declared.Answer.Answer, declared.Answer.the-variants.Element, declared.Answer.the-variants.Refused, Field.element as at}
-use Rattle.binary_field_theory.specs.{Carryless._⊕_, Element.Accepted, Element.product, Element.square, Element.root, Element.inverse}
-use Rattle.binary_field_theory.proofs.Linear.{both}
-use Rattle.binary_field.specs.{Field.field, Answer.element, Answer.refusal, Answer.reply, Answer.below, Answer.element-refusal, Answer.answered, Answer.sum-reply, Answer.product-reply, Answer.square-reply, Answer.root-reply, Answer.inverse-reply}
+use Rattle.binary_field.specs.declared.{Solution.Solution, Solution.the-variants.Root, Solution.the-variants.NoRoot}
+use Rattle.binary_field.specs.declared.Solution.the-variants as solution
+use Rattle.binary_field_theory.specs.{Carryless._⊕_, Element.Accepted, Element.product, Element.square, Element.root, Element.inverse, Quadratic.even-root, Quadratic.trace, Quadratic.half-trace}
+use Rattle.binary_field_theory.proofs.{Linear.both, Theorems.even-root-by-trace, Theorems.none-by-trace}
+use Rattle.binary_field.specs.{Field.field, Answer.element, Answer.refusal, Answer.reply, Answer.below, Answer.element-refusal, Answer.answered, Answer.sum-reply, Answer.product-reply, Answer.square-reply, Answer.root-reply, Answer.inverse-reply, Answer.solved, Answer.quadratic-answer}
 use Rattle.binary_field.proofs.Field.{add-number, mul-number, root-number, inverse-number, element-small}
 
 refusal-of : (k v : ℕ) → (k ≡ 0 → ⊥) → refusal k ≡ answered k v
@@ -110,3 +113,35 @@ no-refusal {x} {k} {v} e f =
     let g : reply x ≡ refusal k = ap reply e in
     let z : _≡_ {A = ℕ} 0 1 = cc in
     omega arith
+
+-- ---- the root of y² + y = a
+
+refused-of : (k : ℕ) (o : Option ℕ) → (k ≡ 0 → ⊥) → solution.Refused k ≡ solved k o
+unfolding solved
+refused-of zero o h = absurd (h refl)
+refused-of (suc k) o h = refl
+
+pub quadratic-refused : (d a : ℕ) {k : ℕ} → k ≡ element-refusal d (a ∷ a ∷ []) → (k ≡ 0 → ⊥) → solution.Refused k ≡ quadratic-answer d a
+unfolding quadratic-answer
+quadratic-refused d a {k} e h = refused-of k (even-root d a) h ∙ ap (λ (n : ℕ). solved n (even-root d a)) (e ∙ refusal-twice d a)
+
+-- the degree is accepted and the number is an element: the answer is what the search finds, which trace and half-trace say
+module _ (d a : ℕ) (ok : Accepted d) (ha : a < 2 ^ d) where
+  quadratic-solved : quadratic-answer d a ≡ solved 0 (even-root d a)
+  unfolding quadratic-answer
+  quadratic-solved = ap (λ (n : ℕ). solved n (even-root d a)) (none-one d a ok ha)
+
+  pub quadratic-none : even-root d a ≡ none → quadratic-answer d a ≡ NoRoot
+  unfolding solved
+  quadratic-none e = quadratic-solved ∙ ap (solved 0) e
+
+  pub quadratic-some : {y : ℕ} → even-root d a ≡ some y → quadratic-answer d a ≡ Root y
+  unfolding solved
+  quadratic-some e = quadratic-solved ∙ ap (solved 0) e
+
+  pub no-root-by-trace : {t : ℕ} → t ≡ trace d a → (t ≡ 0 → ⊥) → NoRoot ≡ quadratic-answer d a
+  no-root-by-trace {t} e h = sym (quadratic-none (none-by-trace d ok a (λ z. h (e ∙ z))))
+
+  pub root-by-trace : {t h : ℕ} → t ≡ trace d a → t ≡ 0 → h ≡ half-trace d a → Root (h ⊕ h % 2) ≡ quadratic-answer d a
+  root-by-trace {t} {h} e z f =
+      ap (λ (x : ℕ). Root (x ⊕ x % 2)) f ∙ sym (quadratic-some (even-root-by-trace d ok a ha (sym e ∙ z)))

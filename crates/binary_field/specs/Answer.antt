@@ -1,9 +1,11 @@
 -- What the calls on elements answer (docs/SPECIFICATION.md, 1 and 6).
 use Prim.Native.Nat.{ℕ, zero, suc, _^_}
-use mathlib.Core.{Bool.Bool, Bool.true, Bool.cond, Bool._||_, Bool._&&_, List.List, List.[], List._∷_}
+use mathlib.Core.{Bool.Bool, Bool.true, Bool.cond, Bool._||_, Bool._&&_, List.List, List.[], List._∷_, Option.Option, Option.none, Option.some}
 use lib.Dec.{eqb, ltb}
 use Rattle.binary_field.specs.declared.Answer.{Answer, the-variants.Element, the-variants.Refused}
-use Rattle.binary_field_theory.specs.{Carryless._⊕_, Element.product, Element.square, Element.root, Element.inverse}
+use Rattle.binary_field.specs.declared.Solution.{Solution, the-variants.Root, the-variants.NoRoot}
+use Rattle.binary_field.specs.declared.Solution.the-variants as solution
+use Rattle.binary_field_theory.specs.{Carryless._⊕_, Element.product, Element.square, Element.root, Element.inverse, Quadratic.even-root}
 
 -- an answer is an element or a refusal with its number
 pub data Reply : Type 0 where
@@ -29,7 +31,7 @@ unfoldable pub answered : ℕ → ℕ → Reply
 answered zero v = element v
 answered (suc k) v = refusal (suc k)
 
--- ---- the five calls
+-- ---- the six calls
 
 -- the sum is bitwise exclusive or
 unfoldable pub sum-reply : ℕ → ℕ → ℕ → Reply
@@ -50,3 +52,13 @@ root-reply d a = answered (element-refusal d (a ∷ [])) (root d a)
 -- the inverse, which is 0 of 0
 unfoldable pub inverse-reply : ℕ → ℕ → Reply
 inverse-reply d a = answered (element-refusal d (a ∷ [])) (inverse d a)
+
+-- the refusal where there is one, else the root where there is one
+unfoldable pub solved : ℕ → Option ℕ → Solution
+solved zero (some y) = Root y
+solved zero none = NoRoot
+solved (suc k) o = solution.Refused (suc k)
+
+-- the root of y² + y = a with lowest bit 0
+unfoldable pub quadratic-answer : ℕ → ℕ → Solution
+quadratic-answer d a = solved (element-refusal d (a ∷ [])) (even-root d a)

@@ -38,13 +38,8 @@ fn joined_sixfold(x: u64, n: u8, y: u64, sixfold: &[u64; 256]) -> u64
     requires { ⌜ (x < 2 ^ 61) × (y < 2 ^ 61) × Multisquares (now sixfold) ⌝ }
     ensures { λ r. ⌜ (r ≡ product 61 (squarings 61 (n * 6) x) y) × (r < 2 ^ 61) ⌝ }
 {
-    let mut r = x;
-    let mut i = 0u8;
-    while i < n {
-        r = multisquaring::multisquare(r, sixfold);
-        i += 1;
-    }
-    carryless::product_of(61, r, y)
+    let power = multisquaring::multisquare_times(x, n, sixfold);
+    carryless::product_of(61, power, y)
 }
 
 // The chain 1, 2, 3, 6, 12, 24, 48, 60, whose squarings come in sixes from 6 on.

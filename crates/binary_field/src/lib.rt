@@ -3,17 +3,25 @@
 ghost use mathlib.Core.Path.{_≡_};
 ghost use mathlib.Core.Bool.{cond};
 ghost use mathlib.Core.List.{[], _∷_};
-ghost use Rattle.binary_field.specs.Answer.{reply, below, element-refusal, sum-reply, product-reply, square-reply, root-reply, inverse-reply};
+ghost use Rattle.binary_field.specs.Answer.{reply, below, element-refusal, sum-reply, product-reply, square-reply, root-reply, inverse-reply, quadratic-answer};
 
 mod carryless;
 mod inverting;
 mod multisquaring;
+mod quadratics;
 mod rooting;
 mod spreading;
 mod squaring;
 
 pub enum Answer {
     Element(u64),
+    Refused(u32),
+}
+
+// What is answered to an equation that may have no root.
+pub enum Solution {
+    Root(u64),
+    NoRoot,
     Refused(u32),
 }
 
@@ -97,4 +105,19 @@ pub fn inverse(d: u8, a: u64) -> Answer
     }
     let table = spreading::spreads();
     Answer::Element(inverting::inverse_of(d, a, &table))
+}
+
+// The root of y² + y = a whose lowest bit is 0: the half-trace of a, with that bit cleared, where the trace of a is 0.
+pub fn quadratic_root(d: u8, a: u64) -> Solution
+    ensures { λ r. ⌜ r ≡ quadratic-answer d a ⌝ }
+{
+    let n = refusal(d, a, a);
+    if n != 0 {
+        return Solution::Refused(n);
+    }
+    if quadratics::trace_of(d, a) != 0 {
+        return Solution::NoRoot;
+    }
+    let h = quadratics::half_trace_of(d, a);
+    Solution::Root(h ^ (h % 2))
 }

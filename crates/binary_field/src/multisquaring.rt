@@ -1,6 +1,7 @@
 // Six squarings of an element of GF(2^61) at once. Squaring is additive, so the result is the sum of what each hexadecimal digit
 // of the element gives at its place, which a table of 256 entries has.
 ghost use mathlib.Core.Path.{_≡_};
+ghost use Prim.Native.Nat.{_*_, _<_, _^_};
 ghost use Rattle.binary_field_theory.specs.Element.{squarings};
 ghost use Rattle.binary_field_theory.specs.Multisquaring.{Multisquares};
 
@@ -282,6 +283,20 @@ pub(crate) fn multisquare(a: u64, table: &[u64; 256]) -> u64
         let digit = (a >> (4 * i)) & 0xf;
         let place = (16 * i + digit) as usize;
         r ^= table[place];
+        i += 1;
+    }
+    r
+}
+
+// An element squared 6 n times, six times at once.
+pub(crate) fn multisquare_times(a: u64, n: u8, table: &[u64; 256]) -> u64
+    requires { ⌜ (a < 2 ^ 61) × Multisquares (now table) ⌝ }
+    ensures { λ r. ⌜ (r ≡ squarings 61 (n * 6) a) × (r < 2 ^ 61) ⌝ }
+{
+    let mut r = a;
+    let mut i = 0u8;
+    while i < n {
+        r = multisquare(r, table);
         i += 1;
     }
     r

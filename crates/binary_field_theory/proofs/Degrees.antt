@@ -1,6 +1,7 @@
--- The two degrees: one that is accepted and is not 5 is 61, and an element of either has at most 61 digits.
+-- The two degrees: one that is accepted and is not 5 is 61, both lie between 2 and 64, and an element of either has at most
+-- 61 digits.
 use mathlib.Core.Path.{_≡_, refl}
-use Prim.Native.Nat.{ℕ, _^_, _<_}
+use Prim.Native.Nat.{ℕ, _^_, _≤_, _<_}
 use native.Mathlib.Omega.{arith}
 use Rattle.binary_field_theory.specs.Element.{Accepted}
 use Rattle.binary_field_theory.proofs.Products.{degree-cases}
@@ -10,3 +11,6 @@ other-degree = degree-cases (λ (d : ℕ). (d ≡ 5 → ⊥) → d ≡ 61) (λ h
 
 pub digits-61 : (a d : ℕ) → Accepted d → a < 2 ^ d → a < 2 ^ 61
 digits-61 a = degree-cases (λ (d : ℕ). a < 2 ^ d → a < 2 ^ 61) (λ h. omega arith) (λ h. h)
+
+pub degree-between : (d : ℕ) → Accepted d → (2 ≤ d) × (d < 64)
+degree-between = degree-cases (λ (d : ℕ). (2 ≤ d) × (d < 64)) (omega arith, omega arith) (omega arith, omega arith)

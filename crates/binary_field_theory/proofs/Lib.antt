@@ -13,6 +13,9 @@ pub mod Frobenius
 pub mod Certificate
 pub mod Inverses
 pub mod Irreducible
+pub mod Search
+pub mod Quadratic
+pub mod TraceBits
 pub mod Theorems
 pub mod Elements
 pub mod Words

@@ -1,11 +1,15 @@
 -- What docs/SPECIFICATION.md, 1, says of the elements of degree 5 and 61: every element has one square root; the inverse of
--- 0 is 0; every other inverse times its element is 1. That both moduli are irreducible is
--- `irreducible` of Irreducible; the field laws are those of the record `field` of binary_field.
-use Prim.Native.Nat.{ℕ, _^_, _<_}
+-- 0 is 0; every other inverse times its element is 1; y² + y = a has a root exactly where the trace of a is 0, and then two, y and
+-- y + 1. That both moduli are irreducible is `irreducible` of Irreducible; the field laws are those of the record `field` of binary_field.
+use Prim.Native.Nat.{ℕ, _%_, _^_, _<_}
 use mathlib.Core.Path.{_≡_, sym, ap, _∙_}
-use Rattle.binary_field_theory.specs.Element.{Accepted, product, root, inverse, OneRoot}
+use mathlib.Core.{Logic._↔_, Logic._⊎_, Option.Option, Option.none, Option.some}
+use Rattle.binary_field_theory.specs.{Carryless._⊕_, Element.Accepted, Element.product, Element.root, Element.inverse, Element.OneRoot}
+use Rattle.binary_field_theory.specs.Quadratic.{Root, EvenRoot, even-root, trace, half-trace}
 use Rattle.binary_field_theory.proofs.{Products.low-lt, Frobenius.square-root, Frobenius.root-square, Frobenius.root-lt, Certificate.certified}
 use Rattle.binary_field_theory.proofs.Inverses
+use Rattle.binary_field_theory.proofs.Quadratic
+use Rattle.binary_field_theory.proofs.TraceBits.{odd}
 
 module _ (d : ℕ) (ok : Accepted d) where
   pub one-root : (a : ℕ) → a < 2 ^ d → OneRoot d a (root d a)
@@ -21,3 +25,29 @@ module _ (d : ℕ) (ok : Accepted d) where
 
   pub inverse-times : (a : ℕ) → a < 2 ^ d → ¬ (a ≡ 0) → product d a (inverse d a) ≡ 1
   inverse-times = Inverses.product-inverse d (certified d ok)
+
+  -- ---- y² + y = a
+  pub root-iff-trace : (a : ℕ) → a < 2 ^ d → ((y : ℕ) × Root d a y) ↔ (trace d a ≡ 0)
+  root-iff-trace a ha = (
+    λ r. Quadratic.root-trace d (certified d ok) (r .1),
+    λ e. (half-trace d a, Quadratic.trace-root d (certified d ok) (odd d ok) a ha e),
+  )
+
+  pub two-roots : {a y b : ℕ} → Root d a y → Root d a b → (b ≡ y) ⊎ (b ≡ y ⊕ 1)
+  two-roots = Quadratic.two-roots d (certified d ok)
+
+  -- what the search for the root with lowest bit 0 says
+  pub even-root-found : {a y : ℕ} → even-root d a ≡ some y → EvenRoot d a y
+  even-root-found = Quadratic.even-root-found d (certified d ok)
+
+  pub even-root-none : (a : ℕ) → (even-root d a ≡ none) ↔ ((y : ℕ) → Root d a y → ⊥)
+  even-root-none a = (λ e y. Quadratic.none-even-root d (certified d ok) e y, λ h. Quadratic.even-root-none d (certified d ok) a h)
+
+  -- and how it is computed
+  pub even-root-by-trace : (a : ℕ) → a < 2 ^ d → trace d a ≡ 0 → even-root d a ≡ some (half-trace d a ⊕ half-trace d a % 2)
+  even-root-by-trace a ha e =
+      let p = Quadratic.evened d (certified d ok) (Quadratic.trace-root d (certified d ok) (odd d ok) a ha e) in
+      Quadratic.even-root-is d (certified d ok) (p .0) (p .1)
+
+  pub none-by-trace : (a : ℕ) → ¬ (trace d a ≡ 0) → even-root d a ≡ none
+  none-by-trace a h = Quadratic.even-root-none d (certified d ok) a (λ y r. h (Quadratic.root-trace d (certified d ok) r))

@@ -1,5 +1,5 @@
 -- Elements in words of 64 bits, on plain numbers: carry-less products by integer products, from base-16 digits up to two words and
--- their remainder; squares and multisquares by tables; roots and inverses.
+-- their remainder; squares and multisquares by tables; roots, inverses and half-traces.
 pub mod Sixteens
 pub mod Parts
 pub mod Columns
@@ -10,6 +10,7 @@ pub mod Table
 pub mod Halves
 pub mod Multisquares
 pub mod ChainSteps
+pub mod HalfTraces
 pub mod Evens
 pub mod RunOfPowers
 pub mod Roots

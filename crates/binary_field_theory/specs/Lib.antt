@@ -1,6 +1,8 @@
--- Elements of GF(2^5) and GF(2^61): the polynomials over GF(2) that they are, their arithmetic, and the rules of the two tables.
+-- Elements of GF(2^5) and GF(2^61): the polynomials over GF(2) that they are, their arithmetic, the roots of y² + y = a, and the rules of the two tables.
 pub mod Carryless
 pub mod Element
+pub mod Search
+pub mod Quadratic
 pub mod Chain
 pub mod Spreading
 pub mod Multisquaring
