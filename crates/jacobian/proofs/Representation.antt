@@ -35,7 +35,7 @@ module _ (c : Curve) (ok : curve-refusal c ≡ 0) where
       let p = class-passes c a e in
       passes-formed (c .degree) (curve-passes c ok .accepted) a (p .shape) (p .range)
 
-  formed-accepted : (a : Class) → Formed (c .degree) a
+  pub formed-accepted : (a : Class) → Formed (c .degree) a
       → Divides (𝔸 (c .degree) .ring) (pair (c .degree) a .u) (value (curve c) (pair (c .degree) a .v))
       → class-refusal c a ≡ 0
   formed-accepted a h k =

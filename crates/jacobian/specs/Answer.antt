@@ -67,10 +67,14 @@ result r = record { outcome = r .outcome; class = r .class }
 abbrev pub gives : Class → Result
 gives a = record { outcome = accepted; class = a }
 
--- the class and its steps where no refusal is due, and else the refusal with the neutral class and no step
+-- a refusal, with the neutral class and no step
+abbrev pub refusing : ℕ → Reply
+refusing n = record { outcome = refused n; class = neutral-class; steps = 0 }
+
+-- the class and its steps where no refusal is due, and else the refusal
 unfoldable pub answered : (d : ℕ) → ℕ → Counted (Poly d) → Reply
 answered d zero D = record { outcome = accepted; class = class-of d (D .class); steps = D .steps }
-answered d (suc n) D = record { outcome = refused (suc n); class = neutral-class; steps = 0 }
+answered d (suc n) D = refusing (suc n)
 
 -- ---- the calls
 unfoldable pub curve-answer : Curve → Verdict

@@ -5,7 +5,7 @@ use lib.Dec.{eqb}
 
 -- one for each check
 unfoldable pub refusals : List ℕ
-refusals = 101 ∷ 102 ∷ 103 ∷ 104 ∷ 105 ∷ 106 ∷ 107 ∷ 108 ∷ 109 ∷ 110 ∷ 111 ∷ 112 ∷ 113 ∷ 114 ∷ []
+refusals = 101 ∷ 102 ∷ 103 ∷ 104 ∷ 105 ∷ 106 ∷ 107 ∷ 108 ∷ 109 ∷ 110 ∷ 111 ∷ 112 ∷ 113 ∷ 114 ∷ 115 ∷ 116 ∷ []
 
 unfoldable pub listed : ℕ → List ℕ → Bool
 listed n [] = false

@@ -30,7 +30,7 @@ pub fn curve_with(d: u8, cs: [u64; COEFFICIENTS]) -> Curve
 }
 
 // The coefficients of f, the lowest first.
-pub(crate) fn f_row(c: Curve) -> [u64; 12]
+pub fn f_row(c: Curve) -> [u64; 12]
     ensures { λ r. ⌜ r ≡ filled (f-row c) ⌝ }
 {
     [c.f0, c.f1, 0, c.f3, 0, 0, 0, 1, 0, 0, 0, 0]

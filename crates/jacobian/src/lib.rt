@@ -8,7 +8,7 @@ ghost use Rattle.class_group.specs.Reduction.{Counted};
 ghost use Rattle.row_theory.specs.Field.{Poly};
 ghost use Rattle.class_rows.specs.Core.{StandsCounted};
 ghost use Rattle.jacobian.specs.{Checks.unless, Checks._or-else_, Curves.curve-refusal, internal.Refusals.form-refusal, internal.Refusals.FormRefusalOfTwo};
-ghost use Rattle.jacobian.specs.Answer.{outcome-refusal, neutral-class, refusal, verdict, verdict-of, reply, answered, curve-answer, membership-answer, unary-answer, opposite-answer, double-answer, HalfAnswers, binary-answer, sum-answer, double-and-add-answer, SubtractAndHalveAnswers};
+ghost use Rattle.jacobian.specs.Answer.{outcome-refusal, neutral-class, refusal, verdict, verdict-of, reply, refusing, answered, curve-answer, membership-answer, unary-answer, opposite-answer, double-answer, HalfAnswers, binary-answer, sum-answer, double-and-add-answer, SubtractAndHalveAnswers};
 
 pub mod classes;
 pub mod curves;
@@ -121,9 +121,8 @@ fn form_refusal_of_two(c: Curve, a: Class, b: Class) -> u32
 }
 
 // A refusal, with the neutral class and no step.
-fn refused(n: u32) -> ClassAnswer
-    requires { ⌜ ¬ (n ≡ 0) ⌝ }
-    ensures { λ r. ⌜ ((d : ℕ) (D : Counted (Poly d)) → reply r ≡ answered d n D) ⌝ }
+pub fn refused(n: u32) -> ClassAnswer
+    ensures { λ r. ⌜ reply r ≡ refusing n ⌝ }
 {
     let class = neutral();
     ClassAnswer {

@@ -4,7 +4,7 @@ use mathlib.Core.Path.{_≡_, refl, sym, _∙_, ap}
 use native.Mathlib.Omega.{arith}
 use Rattle.class_group.specs.Reduction.{Counted}
 use Rattle.row_theory.specs.Field.{Poly}
-use Rattle.jacobian.specs.{Answer.refused, Answer.verdict, Answer.verdict-of, Answer.outcome-refusal, Answer.refusal, Answer.neutral-class, Answer.Reply, Answer.answered, declared.Curve.Curve, declared.Class.Class, declared.Outcome.Outcome, declared.Outcome.the-variants.Accepted, declared.Outcome.the-variants.Refused}
+use Rattle.jacobian.specs.{Answer.refused, Answer.verdict, Answer.verdict-of, Answer.outcome-refusal, Answer.refusal, Answer.Reply, Answer.refusing, Answer.answered, declared.Curve.Curve, declared.Class.Class, declared.Outcome.Outcome, declared.Outcome.the-variants.Accepted, declared.Outcome.the-variants.Refused}
 use Rattle.jacobian.proofs.ByValue.Checks.{CurvePasses, ClassPasses, then-zero, curve-passes, class-passes}
 
 -- the number of an outcome is the refusal that was due
@@ -21,7 +21,7 @@ refused-verdict zero h = absurd (h refl)
 refused-verdict (suc n) h = refl
 
 module _ (d : ℕ) (D : Counted (Poly d)) where
-  pub refused-answered : (n : ℕ) → ¬ (n ≡ 0) → _≡_ {A = Reply} (record { outcome = refused n; class = neutral-class; steps = 0 }) (answered d n D)
+  pub refused-answered : (n : ℕ) → ¬ (n ≡ 0) → refusing n ≡ answered d n D
   unfolding answered
   refused-answered zero h = absurd (h refl)
   refused-answered (suc n) h = refl

@@ -16,7 +16,7 @@ pub filled-range : (d : ℕ) (r : List ℕ) → InRange d r → InRange d (fille
 filled-range d r h i = rw (getD-filled r i) (h i)
 
 -- ---- the curve
-f-is : (c : Curve) → poly (c .degree) (f-row c) ≡ curve c .f
+pub f-is : (c : Curve) → poly (c .degree) (f-row c) ≡ curve c .f
 unfolding curve curve-of monic-7 poly f-row
 f-is c = simp (el-one (c .degree))
 

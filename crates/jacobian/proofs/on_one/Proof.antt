@@ -2,13 +2,13 @@
 use mathlib.Core.Path.{sym, _∙_}
 use Rattle.class_rows.specs.Operations.{unary}
 use Rattle.jacobian.specs.{Curves.curve, Classes.pair}
-use Rattle.jacobian.proofs.{ByValue.Checks.then-zero, ByValue.Checks.curve-passes, ByValue.Passing.on-curve, ByValue.Passing.rows-pair-is, ByValue.Refusals.form-first, ByValue.Refusals.form-shape, ByValue.Refusals.one-due, ByValue.Answers.at-refusal}
+use Rattle.jacobian.proofs.{ByValue.Checks.then-zero, ByValue.Checks.curve-passes, ByValue.Passing.on-curve, ByValue.Passing.rows-pair-is, ByValue.Refusals.form-first, ByValue.Refusals.form-shape, ByValue.Refusals.one-due, ByValue.Answers.at-refusal, ByValue.Answers.refused-answered}
 use borrow.Author.Needs.{needs}
 use Rattle.jacobian.proofs.on_one.Statement.{statement}
 use Rattle.jacobian.proofs.on_one.Tie as tie
 
 returns : tie.Need-returns
-returns c = at-refusal _ _ (form-first _ _ (c .before .before .curve-and-form-refusal .ensures) (c .before .if1 .taken)) (c .refused .ensures _ _)
+returns c = at-refusal _ _ (form-first _ _ (c .before .before .curve-and-form-refusal .ensures) (c .before .if1 .taken)) (c .refused .ensures ∙ refused-answered _ _ _ (c .before .if1 .taken))
 
 to-rows-requires : tie.Need-to-rows-requires
 to-rows-requires c κs =

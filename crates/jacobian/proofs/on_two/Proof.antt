@@ -1,16 +1,14 @@
 -- `on_two` meets its contract: what no check before the divisions refuses goes through the rows, and the divisions settle it.
+use mathlib.Core.Path.{_∙_}
 use Rattle.class_rows.specs.Operations.{binary}
 use Rattle.jacobian.specs.{Curves.curve, Classes.pair}
-use Rattle.jacobian.proofs.{ByValue.Checks.curve-passes, ByValue.Passing.on-curve, ByValue.Passing.rows-pair-is, ByValue.Refusals.form-shape, ByValue.Refusals.two-due, ByValue.Answers.at-refusal}
+use Rattle.jacobian.proofs.{ByValue.Checks.curve-passes, ByValue.Passing.on-curve, ByValue.Passing.rows-pair-is, ByValue.Refusals.form-shape, ByValue.Refusals.two-due, ByValue.Answers.at-refusal, ByValue.Answers.refused-answered}
 use borrow.Author.Needs.{needs}
 use Rattle.jacobian.proofs.on_two.Statement.{statement}
 use Rattle.jacobian.proofs.on_two.Tie as tie
 
-refused-requires : tie.Need-refused-requires
-refused-requires c κs = c .if1 .taken
-
 returns : tie.Need-returns
-returns c = at-refusal _ _ (c .before .before .form-refusal-of-two .ensures .refused (c .before .if1 .taken)) (c .refused .ensures _ _)
+returns c = at-refusal _ _ (c .before .before .form-refusal-of-two .ensures .refused (c .before .if1 .taken)) (c .refused .ensures ∙ refused-answered _ _ _ (c .before .if1 .taken))
 
 to-rows-requires : tie.Need-to-rows-requires
 to-rows-requires c κs =
@@ -40,4 +38,4 @@ returns-2 c =
     (λ held. rw (rows-pair-is d first, rows-pair-is d second) at (gives .stands held C (on-curve (s .args .curve) (curve-passes _ (z .0)) f))))
 
 pub on-two-spec : {M : Type 1} → statement M
-on-two-spec = tie.close (tie.spec (λ c κs. search needs) refused-requires returns (λ c κs. search needs) to-rows-requires to-rows-requires-2 (λ c κs. search needs) (λ c κs. search needs) returns-2)
+on-two-spec = tie.close (tie.spec (λ c κs. search needs) (λ c κs. search needs) returns (λ c κs. search needs) to-rows-requires to-rows-requires-2 (λ c κs. search needs) (λ c κs. search needs) returns-2)

@@ -1,0 +1,2 @@
+-- The candidates of a stamp in order.
+use Prim.Native.Nat.{ℕ}

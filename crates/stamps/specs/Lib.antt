@@ -1,0 +1,2 @@
+-- The class of a stamp.
+pub mod Stamps

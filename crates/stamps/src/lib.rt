@@ -1,0 +1,116 @@
+// The class of a stamp, by value: of eight candidates x the first for which y² + y = f(x) has a root, and the root with lowest bit 0.
+// A refusal is the first that is due: 106 and 107 for the curve, 115 for the stamp, 116 where no candidate has a root.
+ghost use Prim.Native.Nat.{_-_, _*_, _+_, _<_, _^_};
+ghost use mathlib.Core.Path.{_≡_};
+ghost use mathlib.Core.Option.{some};
+ghost use Rattle.binary_field_theory.specs.{Carryless._⊕_, Element.Accepted, Element.product};
+ghost use Rattle.row_theory.specs.Row.{InRange};
+ghost use Rattle.jacobian.specs.Answer.{reply};
+ghost use Rattle.stamps.specs.Stamps.{value-at, point-class, first-class, stamp-refusal, stamped, stamp-answer};
+use binary_field::Answer;
+use binary_field::Solution;
+use jacobian::Class;
+use jacobian::ClassAnswer;
+use jacobian::Curve;
+use jacobian::Outcome;
+
+// How many candidates a stamp has.
+pub const CANDIDATES: u64 = 8;
+
+// r x + a; no product is made where r is 0.
+fn times_plus(d: u8, r: u64, x: u64, a: u64) -> u64
+    requires { ⌜ Accepted d × (r < 2 ^ d) × (x < 2 ^ d) × (a < 2 ^ d) ⌝ }
+    ensures { λ s. ⌜ s ≡ a ⊕ product d x r ⌝ }
+{
+    if r == 0 {
+        return a;
+    }
+    let answer = binary_field::product(d, x, r);
+    match answer {
+        Answer::Element(p) => a ^ p,
+        Answer::Refused(_) => 0,
+    }
+}
+
+// The value of f at x, by Horner's rule.
+fn value_at(d: u8, f: [u64; 12], x: u64) -> u64
+    requires { ⌜ Accepted d × InRange d f × (x < 2 ^ d) ⌝ }
+    ensures { λ r. ⌜ r ≡ value-at d f x ⌝ }
+{
+    let mut r = 0u64;
+    let mut i: usize = 12;
+    while i > 0 {
+        i -= 1;
+        r = times_plus(d, r, x, f[i]);
+    }
+    r
+}
+
+// The class of the point (x, y), which no reduction step led to.
+fn point(x: u64, y: u64) -> ClassAnswer
+    ensures { λ r. ⌜ reply r ≡ stamped 0 (some (point-class x y)) ⌝ }
+{
+    ClassAnswer {
+        outcome: Outcome::Accepted,
+        class: Class {
+            degree: 1,
+            u: [x, 0, 0],
+            v: [y, 0, 0],
+        },
+        steps: 0,
+    }
+}
+
+// The class of the first candidate that has one, else 116.
+fn first_class(d: u8, f: [u64; 12], s: u64) -> ClassAnswer
+    requires { ⌜ Accepted d × InRange d f × (s < 2 ^ (d - 3)) ⌝ }
+    ensures { λ r. ⌜ reply r ≡ stamped 0 (first-class d f s) ⌝ }
+{
+    let mut i = 0u64;
+    while i < CANDIDATES {
+        let x = CANDIDATES * s + i;
+        let root = binary_field::quadratic_root(d, value_at(d, f, x));
+        if let Solution::Root(y) = root {
+            return point(x, y);
+        }
+        i += 1;
+    }
+    jacobian::refused(116)
+}
+
+// One past the largest stamp of a degree: eight candidates of each one below it make up the field.
+fn limit(d: u8) -> u64
+    requires { ⌜ Accepted d ⌝ }
+    ensures { λ r. ⌜ r ≡ 2 ^ (d - 3) ⌝ }
+{
+    if d == 61 {
+        return 0x0400_0000_0000_0000;
+    }
+    4
+}
+
+// The refusal that is due before any candidate is tried, and 0 where none is.
+fn stamp_refusal(curve: Curve, s: u64) -> u32
+    ensures { λ r. ⌜ r ≡ stamp-refusal curve s ⌝ }
+{
+    let n = jacobian::curves::curve_refusal(curve);
+    if n != 0 {
+        return n;
+    }
+    if s >= limit(curve.degree) {
+        return 115;
+    }
+    0
+}
+
+// The class of a stamp on a curve.
+pub fn stamp(curve: Curve, s: u64) -> ClassAnswer
+    ensures { λ r. ⌜ reply r ≡ stamp-answer curve s ⌝ }
+{
+    let n = stamp_refusal(curve, s);
+    if n != 0 {
+        return jacobian::refused(n);
+    }
+    let f = jacobian::curves::f_row(curve);
+    first_class(curve.degree, f, s)
+}
