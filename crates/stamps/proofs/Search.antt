@@ -1,2 +1,129 @@
--- The candidates of a stamp in order.
-use Prim.Native.Nat.{ℕ}
+-- The candidates of a stamp in order, and what is answered.
+use Prim.Native.Nat.{ℕ, zero, suc, _+_, _-_, _*_, _^_, _≤_, _<_}
+use mathlib.Core.{Path._≡_, Path.refl, Path.sym, Path.ap, Path.subst, Path.fun-ext, Path._∙_, List.List, Option.Option, Option.none, Option.some, Option.Option·map}
+use native.Mathlib.{Numerals.add-one, Omega.arith}
+use lib.Dec.{ltb}
+use borrow.Author.Tests.{lt-ltb, le-ltb, ltb-true}
+use Rattle.binary_field_theory.specs.{Element.Accepted, Search.first, Quadratic.even-root}
+use Rattle.binary_field_theory.proofs.{Products.degree-cases, Search.first-zero, Search.none-yet, Search.found-first}
+use Rattle.binary_field.specs.{Answer.quadratic-answer, declared.Solution.Solution, declared.Solution.the-variants.Root, declared.Solution.the-variants.NoRoot}
+use Rattle.binary_field.specs.declared.Solution.the-variants as solution
+use Rattle.binary_field.proofs.Replies.{quadratic-none, quadratic-some}
+use Rattle.row_theory.specs.Row.{filled}
+use Rattle.jacobian.specs.{Checks.unless, Curves.f-row, Curves.curve-refusal, Answer.Reply, Answer.refusing, declared.Curve.Curve, declared.Class.Class}
+use Rattle.jacobian.proofs.ByValue.Checks.{next-due, then-zero, unless-zero}
+use Rattle.stamps.specs.Stamps.{value-at, point-class, class-at, first-class, stamp-refusal, stamped, stamp-answer}
+use Rattle.stamps.proofs.Values.{value-lt, value-filled}
+
+-- ---- the candidates are elements
+
+pub eight-times : (d : ℕ) → Accepted d → 8 * 2 ^ (d - 3) ≡ 2 ^ d
+eight-times = degree-cases (λ d. 8 * 2 ^ (d - 3) ≡ 2 ^ d) refl refl
+
+pub candidate-lt : (d s i : ℕ) → Accepted d → s < 2 ^ (d - 3) → i < 8 → 8 * s + i < 2 ^ d
+candidate-lt d s i ok hs hi = let e : 8 * 2 ^ (d - 3) ≡ 2 ^ d = eight-times d ok in omega arith
+
+pub bound-le : (d : ℕ) → Accepted d → 2 ^ (d - 3) ≤ 2 ^ 58
+bound-le = degree-cases (λ d. 2 ^ (d - 3) ≤ 2 ^ 58) (omega arith) (omega arith)
+
+-- ---- one candidate
+
+root-of : Solution → ℕ
+root-of (Root y) = y
+root-of NoRoot = 0
+root-of (solution.Refused k) = 0
+
+root-is : {y z : ℕ} → Root y ≡ Root z → y ≡ z
+unfolding root-of
+root-is e = ap root-of e
+
+root-not-none : {y : ℕ} → Root y ≡ NoRoot → ⊥
+root-not-none {y} e = let z : _≡_ {A = ℕ} 0 1 = cc in omega arith
+
+module _ (d : ℕ) (f : List ℕ) (x : ℕ) where
+  class-some : {y : ℕ} → even-root d (value-at d f x) ≡ some y → class-at d f x ≡ some (point-class x y)
+  unfolding class-at
+  class-some e = ap (Option·map (point-class x)) e
+
+  class-none : even-root d (value-at d f x) ≡ none → class-at d f x ≡ none
+  unfolding class-at
+  class-none e = ap (Option·map (point-class x)) e
+
+  -- what the call on its value says of it
+  module _ (ok : Accepted d) {v : ℕ} (is : v ≡ value-at d f x) where
+    v-lt : v < 2 ^ d
+    v-lt = rw is (value-lt d ok f x)
+
+    pub class-found : {t : Solution} {y : ℕ} → t ≡ Root y → t ≡ quadratic-answer d v → class-at d f x ≡ some (point-class x y)
+    class-found {t} {y} e g = by (even-root d v) refl
+      where
+        by : (o : Option ℕ) → even-root d v ≡ o → class-at d f x ≡ some (point-class x y)
+        by none h = absurd (root-not-none (sym e ∙ g ∙ quadratic-none d v ok v-lt h))
+        by (some z) h = class-some (ap (even-root d) (sym is) ∙ h ∙ ap some (sym (root-is (sym e ∙ g ∙ quadratic-some d v ok v-lt h))))
+
+    pub class-missed : {t : Solution} → ((y : ℕ) → t ≡ Root y → ⊥) → t ≡ quadratic-answer d v → class-at d f x ≡ none
+    class-missed {t} e g = by (even-root d v) refl
+      where
+        by : (o : Option ℕ) → even-root d v ≡ o → class-at d f x ≡ none
+        by none h = class-none (ap (even-root d) (sym is) ∙ h)
+        by (some z) h = absurd (e z (g ∙ quadratic-some d v ok v-lt h))
+
+-- ---- the search
+
+module _ (d : ℕ) (f : List ℕ) (s : ℕ) where
+  -- none of the first i
+  abbrev pub NoneYet : ℕ → Type 0
+  NoneYet i = first (λ j. class-at d f (8 * s + j)) i ≡ none
+
+  pub none-first : NoneYet 0
+  none-first = first-zero _
+
+  pub one-more : (i : ℕ) → NoneYet i → class-at d f (8 * s + i) ≡ none → NoneYet (i + 1)
+  one-more i e g = rw (add-one i) (none-yet _ i e g)
+
+  pub found-at : (i : ℕ) {a : Class} → i < 8 → NoneYet i → class-at d f (8 * s + i) ≡ some a → some a ≡ first-class d f s
+  unfolding first-class
+  found-at i h e g = sym (found-first _ i 8 h e g)
+
+  pub found-none : (i : ℕ) → i ≤ 8 → 8 ≤ i → NoneYet i → none ≡ first-class d f s
+  unfolding first-class
+  found-none i h k e = let z : i ≡ 8 = omega arith in sym (rw z at e)
+
+-- ---- what is answered
+
+pub too-large : (c : Curve) (s : ℕ) {n m : ℕ} → n ≡ curve-refusal c → n ≡ 0 → m ≡ 2 ^ (c .degree - 3) → m ≤ s → 115 ≡ stamp-refusal c s
+unfolding stamp-refusal unless
+too-large c s e z l h = next-due e z (rw (le-ltb s _ (rw l at h)))
+
+pub none-due : (c : Curve) (s : ℕ) {n m : ℕ} → n ≡ curve-refusal c → n ≡ 0 → m ≡ 2 ^ (c .degree - 3) → s < m → 0 ≡ stamp-refusal c s
+unfolding stamp-refusal unless
+none-due c s e z l h = next-due e z (rw (lt-ltb s _ (rw l at h)))
+
+pub none-stamped : refusing 116 ≡ stamped 0 none
+unfolding stamped
+none-stamped = refl
+
+refusing-stamped : (n : ℕ) (o : Option Class) → ¬ (n ≡ 0) → refusing n ≡ stamped n o
+unfolding stamped
+refusing-stamped zero o h = absurd (h refl)
+refusing-stamped (suc n) o h = refl
+
+pub refused-first : (c : Curve) (s : ℕ) {n : ℕ} {r : Reply} → n ≡ stamp-refusal c s → ¬ (n ≡ 0) → r ≡ refusing n → r ≡ stamp-answer c s
+unfolding stamp-answer
+refused-first c s {n} e h g = g ∙ refusing-stamped n _ h ∙ ap (λ m. stamped m (first-class (c .degree) (f-row c) s)) e
+
+pub answered-last : (c : Curve) (s : ℕ) {n : ℕ} {f : List ℕ} {r : Reply} → n ≡ stamp-refusal c s → n ≡ 0 → f ≡ filled (f-row c)
+    → r ≡ stamped 0 (first-class (c .degree) f s) → r ≡ stamp-answer c s
+unfolding stamp-answer first-class class-at
+answered-last c s {n} {f} e z g h =
+    let d = c .degree in
+    h ∙ ap (λ (v : ℕ → ℕ). stamped 0 (first (λ i. Option·map (point-class (8 * s + i)) (even-root d (v (8 * s + i)))) 8))
+    (fun-ext (λ x. ap (λ k. value-at d k x) g ∙ value-filled d (f-row c) x))
+    ∙ ap (λ m. stamped m (first (λ i. Option·map (point-class (8 * s + i)) (even-root d (value-at d (f-row c) (8 * s + i)))) 8)) (sym z ∙ e)
+
+-- what is not refused before the search: the curve is accepted, and the stamp is below the bound
+pub passed : (c : Curve) (s : ℕ) {n : ℕ} → n ≡ stamp-refusal c s → n ≡ 0 → (curve-refusal c ≡ 0) × (s < 2 ^ (c .degree - 3))
+unfolding stamp-refusal
+passed c s e z =
+    let p = then-zero _ _ (sym e ∙ z) in
+    (p .0, ltb-true _ _ (unless-zero _ 115 (omega arith) (p .1)))

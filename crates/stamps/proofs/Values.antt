@@ -1,12 +1,14 @@
 -- The value of a polynomial at an element, as Horner's rule computes it.
 use Prim.Native.Nat.{ℕ, zero, suc, _+_, _-_, _^_, _≤_, _<_}
-use mathlib.Core.{Path._≡_, Path.refl, Path.sym, Path.ap, Path.ap₂, Path._∙_, List.List, List.[], List._∷_, List._++_, List.map}
+use mathlib.Core.{Path._≡_, Path.refl, Path.sym, Path.ap, Path.ap₂, Path.subst, Path._∙_, List.List, List.[], List._∷_, List._++_, List.map}
 use native.Mathlib.Omega.{arith}
-use lib.ListN.{length, getD, drop, replicate}
+use lib.{Bits.bitXor, ListN.length, ListN.getD, ListN.drop, ListN.replicate}
 use Rattle.field_laws.specs.Ring.{Ring2}
 use Rattle.char2_algebra.proofs.Ring.{+-𝟘, 𝟘-+, ·-𝟘}
 use Rattle.binary_field_theory.specs.{Carryless._⊕_, Element.Accepted, Element.product}
-use Rattle.binary_field.proofs.Field.{add-number, mul-number, nought-number}
+use Rattle.binary_field_theory.proofs.{Sums.sum-zero, Products.product-zero}
+use Rattle.binary_field.specs.{Answer.reply, Answer.product-reply, declared.Answer.Answer, declared.Answer.the-variants.Element, declared.Answer.the-variants.Refused}
+use Rattle.binary_field.proofs.{Field.add-number, Field.mul-number, Field.nought-number, Replies.element-is, Replies.no-refusal, Replies.product-replies}
 use Rattle.class_group.specs.NonSingular.{evaluate}
 use Rattle.row_theory.specs.{Field.degree-of, Field.accepted, Field.K, Field.F, Field.el, Row.InRange, Row.filled}
 use Rattle.row_theory.proofs.Rows.Elements.{degree-is, el-number, el-zero}
@@ -26,13 +28,14 @@ module _ (d : ℕ) where
   pub value-step : Accepted d → (a x : ℕ) (f : List ℕ) → a < 2 ^ d → x < 2 ^ d → value-at d (a ∷ f) x ≡ a ⊕ product d x (value-at d f x)
   unfolding value-at evaluate
   value-step ok a x f ha hx =
-      number-of (el d a) (el d x) _
+      let e = evaluate (F d .ring) (map (el d) f) (el d x) in
+      number-of (el d a) (el d x) e
       ∙ ap₂ _⊕_ (el-number d a (rw (degree-is d ok) ha))
-      (ap₂ (λ n m. product n m _) (degree-is d ok) (el-number d x (rw (degree-is d ok) hx)))
+      (ap₂ (λ n m. product n m (e .0)) (degree-is d ok) (el-number d x (rw (degree-is d ok) hx)))
 
   pub value-lt : Accepted d → (f : List ℕ) (x : ℕ) → value-at d f x < 2 ^ d
   unfolding value-at
-  value-lt ok f x = rw (degree-is d ok) at ((evaluate (F d .ring) (map (el d) f) (el d x)) .1)
+  value-lt ok f x = subst (λ (n : ℕ). value-at d f x < 2 ^ n) (degree-is d ok) ((evaluate (F d .ring) (map (el d) f) (el d x)) .1)
 
   -- noughts at the end change nothing
   zeros : (n : ℕ) (t : K d) → evaluate (F d .ring) (map (el d) (replicate n 0)) t ≡ F d .ring .nought
@@ -50,13 +53,44 @@ module _ (d : ℕ) where
   value-filled f x = ap (λ (e : K d). e .0) (filled-zeros f (12 - length f) (el d x))
 
 -- ---- the loop, from the last place down
-pub drop-all : (f : List ℕ) (n : ℕ) → length f ≡ n → drop n f ≡ []
+drop-all : (f : List ℕ) (n : ℕ) → length f ≡ n → drop n f ≡ []
 drop-all [] zero e = refl
 drop-all [] (suc n) e = refl
 drop-all (a ∷ f) zero e = absurd (omega arith)
 drop-all (a ∷ f) (suc n) e = drop-all f n (omega arith)
 
-pub drop-less : (f : List ℕ) (i : ℕ) → i < length f → drop i f ≡ getD f i 0 ∷ drop (suc i) f
+drop-less : (f : List ℕ) (i : ℕ) → i < length f → drop i f ≡ getD f i 0 ∷ drop (suc i) f
 drop-less [] i h = absurd (omega arith)
 drop-less (a ∷ f) zero h = refl
 drop-less (a ∷ f) (suc i) h = drop-less f i (omega arith)
+
+pub range-lt : (d : ℕ) (f : List ℕ) → Accepted d → InRange d f → (i : ℕ) → getD f i 0 < 2 ^ d
+range-lt d f ok h i = subst (λ (j : ℕ). getD f i 0 < 2 ^ j) (degree-is d ok) (h i)
+
+module _ (d : ℕ) (f : List ℕ) (x : ℕ) where
+  pub no-place : length f ≡ 12 → 0 ≡ value-at d (drop 12 f) x
+  no-place e = value-none d x ∙ sym (ap (λ g. value-at d g x) (drop-all f 12 e))
+
+  pub one-place-more : Accepted d → InRange d f → x < 2 ^ d → length f ≡ 12 → {i r s : ℕ} → 0 < i → i ≤ 12 → r ≡ value-at d (drop i f) x
+      → s ≡ getD f (i - 1) 0 ⊕ product d x r → s ≡ value-at d (drop (i - 1) f) x
+  one-place-more ok h hx l {i} {r} {s} pos low e g =
+      let n : suc (i - 1) ≡ i = omega arith in
+      let k : i - 1 < length f = omega arith in
+      g ∙ ap (λ z. getD f (i - 1) 0 ⊕ product d x z) (e ∙ sym (ap (λ j. value-at d (drop j f) x) n))
+      ∙ sym (value-step d ok (getD f (i - 1) 0) x (drop (suc (i - 1)) f) (range-lt d f ok h (i - 1)) hx)
+      ∙ sym (ap (λ g. value-at d g x) (drop-less f (i - 1) k))
+
+  pub all-places : {i r : ℕ} → i ≤ 0 → r ≡ value-at d (drop i f) x → r ≡ value-at d f x
+  all-places {i} h e = let z : i ≡ 0 = omega arith in e ∙ ap (λ j. value-at d (drop j f) x) z
+
+-- the product of Horner's step, as it is answered
+pub nought-times : (d x a : ℕ) {r : ℕ} → r ≡ 0 → a ≡ a ⊕ product d x r
+nought-times d x a e = sym (ap (λ z. a ⊕ product d x z) e ∙ ap (λ z. a ⊕ z) (product-zero d x) ∙ sum-zero a)
+
+pub times-answered : (d x a : ℕ) {r p : ℕ} → Accepted d → x < 2 ^ d → r < 2 ^ d → {y : Answer} → y ≡ Element p → reply y ≡ product-reply d x r
+    → bitXor a p ≡ a ⊕ product d x r
+unfolding _⊕_
+times-answered d x a {r} ok hx hr e f = ap (bitXor a) (element-is e (f ∙ product-replies d x ok hx r hr))
+
+pub never-refused : (d x : ℕ) {r k : ℕ} → Accepted d → x < 2 ^ d → r < 2 ^ d → {y : Answer} → y ≡ Refused k → reply y ≡ product-reply d x r → ⊥
+never-refused d x {r} ok hx hr e f = no-refusal e (f ∙ product-replies d x ok hx r hr)
