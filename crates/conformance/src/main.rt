@@ -10,6 +10,7 @@
 //     4 half                                 10 double of the first class, and the second added
 //     5 sum                                  11 the second class subtracted from the first, and the half
 //     6 half of the double                   12 is the curve accepted?
+//    13 the class of a stamp, which is the number in the place of the first class's degree
 //
 // The line is the class as degree, u and v with a colon between, coefficients from the highest power down in
 // hexadecimal with commas between, then for 8 and 9 a space and the number of steps; for 1 and 12 `accepted`; or
@@ -112,6 +113,7 @@ fn call_text(call: u8, curve: Curve, a: Class, b: Class) -> Line {
         10 => answer_text(jacobian::double_and_add(curve, a, b)),
         11 => answer_text(jacobian::subtract_and_halve(curve, a, b)),
         12 => outcome_text(jacobian::accepts_curve(curve)),
+        13 => answer_text(stamps::stamp(curve, a.degree)),
         _ => text::with_bytes(text::empty(), b"no such call"),
     }
 }

@@ -1,10 +1,12 @@
 // Answers calls on elements that it reads from standard input, one line for each.
 //
-// A case is 18 bytes: the call (1 sum, 2 product, 3 square, 4 square root, 5 inverse), the degree, and two
-// numbers of eight bytes, high byte first; the calls on one element leave the second number aside. Its line
-// is the element in hexadecimal, or `refused` and the refusal's number. Another byte in the call's place is
-// answered by `no such call`, and fewer than 18 bytes at the end by `cut short`.
+// A case is 18 bytes: the call (1 sum, 2 product, 3 square, 4 square root, 5 inverse, 6 the root of y² + y = a with
+// lowest bit 0), the degree, and two numbers of eight bytes, high byte first; the calls on one element leave the second
+// number aside. Its line is the element in hexadecimal, for 6 `no root` where there is none, or `refused` and the
+// refusal's number. Another byte in the call's place is answered by `no such call`, and fewer than 18 bytes at the end
+// by `cut short`.
 use binary_field::Answer;
+use binary_field::Solution;
 use text::Line;
 
 // What an answer says.
@@ -16,6 +18,16 @@ fn answer_text(answer: Answer) -> Line {
     }
 }
 
+// What an answer to an equation says.
+fn solution_text(solution: Solution) -> Line {
+    let start = text::empty();
+    match solution {
+        Solution::Root(element) => text::with_hexadecimal(start, element),
+        Solution::NoRoot => text::with_bytes(start, b"no root"),
+        Solution::Refused(number) => text::with_refusal(start, number),
+    }
+}
+
 // What the call answers.
 fn call_text(call: u8, d: u8, a: u64, b: u64) -> Line {
     match call {
@@ -24,6 +36,7 @@ fn call_text(call: u8, d: u8, a: u64, b: u64) -> Line {
         3 => answer_text(binary_field::square(d, a)),
         4 => answer_text(binary_field::square_root(d, a)),
         5 => answer_text(binary_field::inverse(d, a)),
+        6 => solution_text(binary_field::quadratic_root(d, a)),
         _ => text::with_bytes(text::empty(), b"no such call"),
     }
 }

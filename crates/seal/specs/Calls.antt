@@ -7,13 +7,14 @@ use Rattle.jacobian.specs.declared.Class.{Class}
 use Rattle.history.specs.declared.{Register.Register, Step.Step}
 use Rattle.history.specs.declared.Step.the-variants as step
 use Rattle.history.specs.Register.{RegisterReply, commit-answer, undo-answer}
+use Rattle.stamps.specs.Stamps.{stamp-answer}
 use Rattle.stored_form.specs.{Reading.found, Reading.reading-refusal, Head.class-room, Fields.count-field, Classes.class-field}
-use Rattle.stored_form.specs.Held.{read-record, class-record, sum-record, register-record}
+use Rattle.stored_form.specs.Held.{read-record, curve-fields, class-record, sum-record, register-record}
 use Rattle.written_form.specs.Effect.{Effect, Handed, register-room, write, on, class-handed, byte-call}
 use Rattle.stored_form.specs.declared.Held.{Held}
 use Rattle.seal.specs.Records.{register-fields}
 use Rattle.seal.specs.declared.calls.Call.{Call}
-use Rattle.seal.specs.declared.calls.Call.the-variants.{Opposite, Double, Half, Sum, Commit, Undo}
+use Rattle.seal.specs.declared.calls.Call.the-variants.{Opposite, Double, Half, Sum, Commit, Undo, Stamp}
 
 -- the register of a record: its 0x43 is the seal
 abbrev pub register : Held → Register
@@ -31,6 +32,7 @@ answered Half h = class-handed (result (half-answer (h .curve) (h .class)))
 answered Sum h = class-handed (result (sum-answer (h .curve) (h .previous) (h .class)))
 answered Commit h = register-handed (commit-answer (register h) (h .operation))
 answered Undo h = register-handed (undo-answer (register h) (h .operation))
+answered (Stamp s) h = class-handed (result (stamp-answer (h .curve) s))
 
 -- ---- the calls
 
@@ -46,6 +48,7 @@ tags Half = class-record
 tags Sum = sum-record
 tags Commit = register-record
 tags Undo = register-record
+tags (Stamp s) = curve-fields
 
 -- how long its output must be, and the most bytes that it writes
 abbrev pub room : Call → ℕ
@@ -55,6 +58,7 @@ room Half = class-room
 room Sum = class-room
 room Commit = register-room
 room Undo = register-room
+room (Stamp s) = class-room
 
 -- a call that writes
 abbrev pub called : Call → List ℕ → List ℕ → Effect
@@ -77,6 +81,10 @@ commit-call = called Commit
 
 abbrev pub undo-call : List ℕ → List ℕ → Effect
 undo-call = called Undo
+
+-- the stamp is handed over beside the record
+abbrev pub stamp-call : ℕ → List ℕ → List ℕ → Effect
+stamp-call s = called (Stamp s)
 
 -- the call of a step
 abbrev pub step-call : Step → List ℕ → List ℕ → Effect

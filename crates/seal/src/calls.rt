@@ -4,7 +4,7 @@ ghost use mathlib.Core.Path.{_≡_};
 ghost use Rattle.history.specs.Register.{register-reply};
 ghost use Rattle.stored_form.specs.{Head.class-room, Held.class-record, Held.register-record};
 ghost use Rattle.written_form.specs.{Effect.register-room, Effect.effect, Effect.handed, Effect.byte-call};
-ghost use Rattle.seal.specs.Calls.{register-handed, answered, membership-call, opposite-call, double-call, sum-call, commit-call, Halves, Undoes};
+ghost use Rattle.seal.specs.Calls.{register-handed, answered, membership-call, opposite-call, double-call, sum-call, commit-call, stamp-call, Halves, Undoes};
 use history::Register;
 use history::RegisterAnswer;
 use stored_form::Held;
@@ -32,6 +32,7 @@ enum Call {
     Sum,
     Commit,
     Undo,
+    Stamp(u64),
 }
 
 // The fields of count and seal, unless the call refused.
@@ -65,6 +66,7 @@ fn answered(call: Call, h: Held) -> Output
         Call::Sum => writing::class_output(jacobian::sum(curve, previous, class)),
         Call::Commit => register_output(Register::commit(register, operation)),
         Call::Undo => register_output(Register::undo(register, operation)),
+        Call::Stamp(s) => writing::class_output(stamps::stamp(curve, s)),
     }
 }
 
@@ -147,4 +149,13 @@ pub extern "C" fn seal_undo(input: &[u8], output: &mut [u8]) -> u32
     ensures { λ r. ⌜ Undoes (now (input .entry)) (now (output .entry)) (effect r (now (output .exit))) ⌝ }
 {
     register_call(Call::Undo, input, output)
+}
+
+// The class of the stamp on the curve of the record.
+#[no_mangle]
+pub extern "C" fn seal_stamp(input: &[u8], stamp: u64, output: &mut [u8]) -> u32
+    ensures { λ r. ⌜ effect r (now (output .exit)) ≡ stamp-call stamp (now (input .entry)) (now (output .entry)) ⌝ }
+{
+    let tags = stored_form::CURVE_RECORD;
+    byte_call(Call::Stamp(stamp), stored_form::CLASS_ROOM, &tags, input, output)
 }

@@ -93,7 +93,7 @@ ended s h end = checked (end-refusal s end) (found h end)
 unfoldable pub read-record : List ℕ → List ℕ → Reading Held
 read-record tags s = read-fields tags nothing-held s 0 then ended s
 
--- with which every record begins
+-- with which every record begins; a stamp's record has no other
 abbrev pub curve-fields : List ℕ
 curve-fields = 0x40 ∷ 0x41 ∷ []
 

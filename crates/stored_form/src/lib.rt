@@ -30,6 +30,8 @@ pub const OPERATION: u8 = 0x44;
 pub const DRAWING: u8 = 0x46;
 
 // The records: the tags that are due, in order.
+pub const CURVE_RECORD: [u8; 2] = [DEGREE, CURVE];
+
 pub const CLASS_RECORD: [u8; 3] = [DEGREE, CURVE, CLASS];
 
 pub const SUM_RECORD: [u8; 4] = [DEGREE, CURVE, CLASS, CLASS];

@@ -34,10 +34,17 @@ returns-6 : tie.Need-returns-6
 unfolding answered
 returns-6 c = rw (c .before .before .enum-told6 .given .1) (c .register-output2 .ensures ∙ ap register-handed (c .before .undo .ensures))
 
+returns-7 : tie.Need-returns-7
+unfolding answered
+returns-7 c = ?
+
 pub answered-spec : {M : Type 1} → statement M
 answered-spec =
     tie.close
     (tie.spec
+    (λ c. search needs)
+    (λ c κs. search needs)
+    (λ c κs. search needs)
     (λ c. search needs)
     (λ c κs. search needs)
     (λ c κs. search needs)
@@ -61,4 +68,5 @@ answered-spec =
     returns-3
     returns-4
     returns-5
-    returns-6)
+    returns-6
+    returns-7)

@@ -1,0 +1,151 @@
+-- What the call on a stamp answers (docs/SPECIFICATION.md, 2 and 6). An accepted stamp's class is that of its first candidate with a root (`stamp-gives`), is accepted on the curve
+-- and has degree 1 (`stamp-accepts`); two accepted stamps of a curve have different classes (`stamp-injective`). A stamp is refused with 116 exactly where the curve
+-- is accepted, the stamp is below 2^(d-3) and none of its eight candidates has a root (`stamp-rootless`), and with 115 where the curve is accepted and the stamp is not below
+-- (`stamp-too-large`). Every answer is a class or a refusal with one of the numbers (`stamp-told`).
+use Prim.Native.Nat.{ℕ, zero, suc, _+_, _-_, _*_, _/_, _^_, _≤_, _<_}
+use mathlib.Core.{Path._≡_, Path.refl, Path.sym, Path.ap, Path.subst, Path._∙_, Bool.Bool, Bool.true, Bool.false, Logic._↔_, Logic.inl, Logic.inr, List.[], List._∷_, List.List, Option.Option, Option.none, Option.some, Option.Option·map, Option.map-eq-none-iff, Option.map-eq-some-iff}
+use native.Mathlib.Omega.{arith}
+use lib.ListN.{getD}
+use borrow.Author.Tests.{lt-ltb, le-ltb}
+use Rattle.binary_field_theory.specs.{Element.Accepted, Search.first, Quadratic.Root, Quadratic.even-root}
+use Rattle.binary_field_theory.proofs.{Search.first-found, Search.none-before, Search.all-none, Theorems.even-root-found, Theorems.even-root-none}
+use Rattle.jacobian.specs.{Checks.unless, Checks._or-else_, Refusals.IsRefusal, Refusals.refusals, Refusals.listed, Refusals.Told, Told.ReplyTold, Curves.f-row, Curves.degree-refusal, Curves.coefficient-refusal, Curves.curve-refusal, Answer.Reply, Answer.Verdict, Answer.accepted, Answer.refused, Answer.Accepts, declared.Curve.Curve, declared.Class.Class}
+use Rattle.jacobian.specs.Told as told
+use Rattle.jacobian.proofs.{Refusals.told-unless, Refusals.told-or-else, Told.curve-refusal-told, ByValue.Checks.curve-passes, ByValue.Checks.next-due}
+use Rattle.stamps.specs.Stamps.{value-at, point-class, class-at, first-class, stamp-refusal, stamped, stamp-answer, Rootless, FirstClass}
+use Rattle.stamps.proofs.{Search.candidate-lt, Search.passed, Points.point-accepts}
+
+-- ---- told apart
+
+refusal-told : (c : Curve) (s : ℕ) → Told (stamp-refusal c s)
+unfolding stamp-refusal IsRefusal refusals listed
+refusal-told c s = told-or-else _ _ (curve-refusal-told c) (told-unless _ 115 refl)
+
+stamped-told : (n : ℕ) (o : Option Class) → Told n → ReplyTold (stamped n o)
+unfolding stamped Told IsRefusal refusals listed
+stamped-told zero (some a) t = told.ReplyTold.acceptance a 0
+stamped-told zero none t = told.ReplyTold.refusal 116 refl
+stamped-told (suc n) o (inl e) = absurd (omega arith)
+stamped-told (suc n) o (inr r) = told.ReplyTold.refusal (suc n) r
+
+pub stamp-told : (c : Curve) (s : ℕ) → ReplyTold (stamp-answer c s)
+unfolding stamp-answer
+stamp-told c s = stamped-told (stamp-refusal c s) _ (refusal-told c s)
+
+-- ---- an accepted stamp
+
+accepted-not-refused : {n : ℕ} → _≡_ {A = Verdict} (refused n) accepted → ⊥
+accepted-not-refused e = let z : _≡_ {A = ℕ} 0 1 = cc in omega arith
+
+stamped-accepted : (n : ℕ) (o : Option Class) → stamped n o .outcome ≡ accepted → (n ≡ 0) × (o ≡ some (stamped n o .class))
+unfolding stamped
+stamped-accepted zero (some a) e = (refl, refl)
+stamped-accepted zero none e = absurd (accepted-not-refused e)
+stamped-accepted (suc n) o e = absurd (accepted-not-refused e)
+
+point-degree : (x y : ℕ) → point-class x y .degree ≡ 1
+unfolding point-class
+point-degree x y = refl
+
+-- ---- 116 comes from the search alone
+
+verdict-number : Verdict → ℕ
+verdict-number accepted = 0
+verdict-number (refused n) = n
+
+stamped-none : (n : ℕ) (o : Option Class) → ¬ (n ≡ 116) → stamped n o .outcome ≡ refused 116 → (n ≡ 0) × (o ≡ none)
+unfolding stamped verdict-number
+stamped-none zero none h e = (refl, refl)
+stamped-none zero (some a) h e = absurd (accepted-not-refused (sym e))
+stamped-none (suc n) o h e = absurd (h (ap verdict-number e))
+
+other-numbers : (x y z : Bool) → ¬ ((unless x 106 or-else unless y 107) or-else unless z 115 ≡ 116)
+unfolding unless _or-else_
+other-numbers false y z e = omega arith
+other-numbers true false z e = omega arith
+other-numbers true true false e = omega arith
+other-numbers true true true e = omega arith
+
+never-116 : (c : Curve) (s : ℕ) → ¬ (stamp-refusal c s ≡ 116)
+unfolding stamp-refusal curve-refusal degree-refusal coefficient-refusal
+never-116 c s = other-numbers _ _ _
+
+module _ (c : Curve) (s : ℕ) where
+  abbrev d : ℕ
+  d = c .degree
+
+  -- no candidate without a root has a class
+  none-rootless : (x : ℕ) → Accepted d → class-at d (f-row c) x ≡ none → Rootless c x
+  unfolding class-at
+  none-rootless x ok e = even-root-none d ok _ .0 (map-eq-none-iff (point-class x) _ .0 e)
+
+  rootless-none : (x : ℕ) → Accepted d → Rootless c x → class-at d (f-row c) x ≡ none
+  unfolding class-at
+  rootless-none x ok h = map-eq-none-iff (point-class x) _ .1 (even-root-none d ok _ .1 h)
+
+  pub stamp-gives : stamp-answer c s .outcome ≡ accepted → (i : ℕ) × FirstClass c s i (stamp-answer c s .class)
+  unfolding stamp-answer first-class class-at
+  stamp-gives e =
+      let p = stamped-accepted (stamp-refusal c s) (first-class d (f-row c) s) e in
+      let ok = curve-passes c (passed c s refl (p .0) .0) .accepted in
+      let f = first-found (λ i. class-at d (f-row c) (8 * s + i)) 8 (p .1) in
+      let m = map-eq-some-iff (point-class (8 * s + f .0)) (even-root d (value-at d (f-row c) (8 * s + f .0))) .0 (f .2) in (
+        f .0,
+        record {
+          place = f .1;
+          y = m .0;
+          root = even-root-found d ok (m .1);
+          class = sym (m .2);
+          earlier = λ j h. none-rootless (8 * s + j) ok (none-before (λ i. class-at d (f-row c) (8 * s + i)) (f .0) (f .3) j h);
+        },
+      )
+
+  pub stamp-accepts : stamp-answer c s .outcome ≡ accepted → Accepts c (stamp-answer c s .class) × (stamp-answer c s .class .degree ≡ 1)
+  unfolding stamp-answer
+  stamp-accepts e =
+      let none-due = stamped-accepted (stamp-refusal c s) (first-class d (f-row c) s) e .0 in
+      let p = passed c s refl none-due in
+      let g = stamp-gives e in
+      let h = g .1 in
+      let x-lt = candidate-lt d s (g .0) (curve-passes c (p .0) .accepted) (p .1) (h .place) in
+      (subst (Accepts c) (sym (h .class)) (point-accepts c (p .0) (8 * s + g .0) (h .y) x-lt (h .root .root)), ap (λ (a : Class). a .degree) (h .class) ∙ point-degree (8 * s + g .0) (h .y))
+
+  -- ---- refusals
+  pub stamp-too-large : curve-refusal c ≡ 0 → 2 ^ (d - 3) ≤ s → stamp-answer c s .outcome ≡ refused 115
+  unfolding stamp-answer stamp-refusal stamped unless _or-else_
+  stamp-too-large ok h = rw (ok, le-ltb s _ h) refl
+
+  rootless-refused : curve-refusal c ≡ 0 → s < 2 ^ (d - 3) → ((i : ℕ) → i < 8 → Rootless c (8 * s + i)) → stamp-answer c s .outcome ≡ refused 116
+  unfolding stamp-answer stamp-refusal stamped unless _or-else_ first-class
+  rootless-refused ok h k =
+      rw (ok, lt-ltb s _ h)
+      (ap (λ (o : Option Class). stamped 0 o .outcome)
+      (all-none (λ i. class-at d (f-row c) (8 * s + i)) 8 (λ i l. rootless-none (8 * s + i) (curve-passes c ok .accepted) (k i l))))
+
+  pub stamp-rootless : (stamp-answer c s .outcome ≡ refused 116) ↔ ((curve-refusal c ≡ 0) × (s < 2 ^ (d - 3)) × ((i : ℕ) → i < 8 → Rootless c (8 * s + i)))
+  unfolding stamp-answer first-class
+  stamp-rootless = (
+    λ e.
+        let p = stamped-none (stamp-refusal c s) (first-class d (f-row c) s) (never-116 c s) e in
+        let q = passed c s refl (p .0) in
+        (q .0, q .1, λ i l. none-rootless (8 * s + i) (curve-passes c (q .0) .accepted) (none-before (λ j. class-at d (f-row c) (8 * s + j)) 8 (p .1) i l)),
+    λ h. rootless-refused (h .0) (h .1) (h .2),
+  )
+
+-- ---- two stamps
+
+point-number : Class → ℕ
+point-number a = getD (a .u) 0 0 / 8
+
+point-of-stamp : (s i y : ℕ) → i < 8 → point-number (point-class (8 * s + i) y) ≡ s
+unfolding point-number point-class
+point-of-stamp s i y h = omega arith
+
+pub stamp-injective : (c : Curve) (s t : ℕ) → stamp-answer c s .outcome ≡ accepted → stamp-answer c t .outcome ≡ accepted
+    → stamp-answer c s .class ≡ stamp-answer c t .class → s ≡ t
+stamp-injective c s t e f same =
+    let g = stamp-gives c s e in
+    let h = stamp-gives c t f in
+    sym (point-of-stamp s (g .0) (g .1 .y) (g .1 .place))
+    ∙ ap point-number (sym (g .1 .class) ∙ same ∙ h .1 .class)
+    ∙ point-of-stamp t (h .0) (h .1 .y) (h .1 .place)
