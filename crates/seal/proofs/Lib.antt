@@ -3,6 +3,7 @@ pub mod Written
 pub mod Passing
 pub mod ByteRegister
 pub mod ByteHalving
+pub mod ByteStamps
 pub mod ToldApart
 pub mod Promises
 pub mod KeptFields

@@ -1,15 +1,16 @@
--- What a record that is read holds passes its checks, whatever its bytes (`class-holds`, `sum-holds`, `register-holds`), and so does what each call by
+-- What a record that is read holds passes its checks, whatever its bytes (`curve-holds`, `class-holds`, `sum-holds`, `register-holds`), and so does what each call by
 -- value then gives (`opposite-given` and its like).
 use Prim.Native.Nat.{ℕ}
 use mathlib.Core.Path.{_≡_, sym, ap, _∙_, subst}
 use mathlib.Core.List.{List, [], _∷_}
 use lib.Dec.{lit<}
 use borrow.Author.Tests.{leb-true}
+use Rattle.jacobian.specs.Curves.{curve-refusal}
 use Rattle.jacobian.specs.Answer.{Reply, Result, result, gives, opposite-answer, double-answer, half-answer, sum-answer}
 use Rattle.jacobian.specs.declared.{Curve.Curve, Class.Class}
 use Rattle.jacobian.proofs.Calls.{opposite-gives, double-gives, half-gives, sum-gives, opposite-accepts, double-accepts, half-accepts, sum-accepts}
 use Rattle.stored_form.specs.{Reading.found, Head.body-at, Fields.count-refusal, Passing.CountPasses, Passing.ClassPasses}
-use Rattle.stored_form.specs.Held.{nothing-held, hold, field-refusal, read-field, read-fields, ended, read-record, class-record, sum-record, register-record}
+use Rattle.stored_form.specs.Held.{nothing-held, hold, field-refusal, read-field, read-fields, ended, read-record, curve-fields, class-record, sum-record, register-record}
 use Rattle.stored_form.specs.declared.Held.{Held}
 use Rattle.stored_form.proofs.{Readings.same-found, Readings.both-found, Readings.checked-found, Readings.test-passed}
 
@@ -36,6 +37,10 @@ record-holds P tags s p e =
     subst P (same-found (checked-found _ _ (f .3) .1) .0) (fields-hold P tags nothing-held s 0 p (f .2))
 
 module _ (s : List ℕ) {h : Held} {end : ℕ} where
+  pub curve-holds : read-record curve-fields s ≡ found h end → curve-refusal (h .curve) ≡ 0
+  unfolding Holds hold field-refusal
+  curve-holds = record-holds (λ m. curve-refusal (m .curve) ≡ 0) curve-fields s (λ d _ c e. e)
+
   pub class-holds : read-record class-record s ≡ found h end → ClassPasses (h .curve) (h .class)
   unfolding Holds hold field-refusal
   class-holds = record-holds (λ m. ClassPasses (m .curve) (m .class)) class-record s (λ d _ c _ a e. record { none = e })

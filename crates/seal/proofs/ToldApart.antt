@@ -8,10 +8,12 @@ use mathlib.Core.{List.List}
 use lib.{Dec.lit≤, ListN.length}
 use Rattle.jacobian.specs.{Refusals.IsRefusal, Refusals.Told, Answer.Reply, Answer.Verdict, Answer.accepted, Answer.refused, Answer.result, Answer.verdict-of, declared.Curve.Curve, declared.Class.Class}
 use Rattle.jacobian.proofs.Refusals.{refused-told}
+use Rattle.stamps.specs.Stamps.{stamp-answer}
+use Rattle.stamps.proofs.Theorems.{stamp-accepts, stamp-refuses}
 use Rattle.history.proofs.Told.{step-refusal-told}
 use Rattle.history.specs.Register.{step-refusal, stepped, follows, step-answer}
 use Rattle.history.specs.declared.{Register.Register, Step.Step, Step.the-variants.Commit, Step.the-variants.Undo}
-use Rattle.stored_form.specs.{Reading.Reading, Reading.found, Reading.refused as unread, Head.class-room, Held.read-record, Held.class-record, Held.sum-record, Held.register-record, declared.Held.Held, Classes.class-field}
+use Rattle.stored_form.specs.{Reading.Reading, Reading.found, Reading.refused as unread, Head.class-room, Held.read-record, Held.curve-fields, Held.class-record, Held.sum-record, Held.register-record, declared.Held.Held, Classes.class-field}
 use Rattle.written_form.specs.Effect.{Effect, refuse, on, class-handed, register-room, HandedApart, bytes, ToldApart, AnswerTells, longest-answer}
 use Rattle.stored_form_theorems.proofs.ClassRoundTrips.{class-short}
 use Rattle.stored_form.proofs.{ToldApart.Tells, ToldApart.record-tells, ToldApart.reading-told, ToldApart.reading-found, ToldApart.found-reading}
@@ -19,7 +21,7 @@ use Rattle.written_form.proofs.{ToldApart.on-apart, ToldApart.call-told-apart, 
 use Rattle.seal.specs.Records.{register-fields}
 use Rattle.seal.specs.Calls.{register, register-handed, answered, membership-call, room, called, step-call}
 use Rattle.seal.specs.declared.calls.Call.{Call}
-use Rattle.seal.specs.declared.calls.Call.the-variants.{Opposite, Double, Half, Sum}
+use Rattle.seal.specs.declared.calls.Call.the-variants.{Opposite, Double, Half, Sum, Stamp}
 use Rattle.seal.specs.declared.calls.Call.the-variants as Call
 use Rattle.seal.proofs.Passing.{Given, class-holds, sum-holds, opposite-given, double-given, half-given, sum-given}
 use Rattle.seal.proofs.ByteRegister.{follows-fits, of-record, unwritten}
@@ -66,6 +68,14 @@ step-apart k g a =
 step-of-record : (k : Step) (s : List ℕ) {h : Held} {end : ℕ} → read-record register-record s ≡ found h end → HandedApart register-room (register-handed (step-answer k (register h) (h .operation)))
 step-of-record k s {h} e = step-apart k (register h) (h .operation)
 
+-- the class of a stamp, or its refusal
+stamp-apart : (c : Curve) (n : ℕ) → HandedApart class-room (class-handed (result (stamp-answer c n)))
+unfolding class-handed
+stamp-apart c n =
+    on-apart class-room (stamp-answer c n .outcome) (class-field 0x43 (stamp-answer c n .class))
+    (λ e. class-short 0x43 c _ (stamp-accepts c n e .0 .none))
+    (stamp-refuses c n)
+
 -- ---- the calls
 
 step-told-apart : (k : Step) (s out : List ℕ) → ToldApart register-room out (step-call k s out)
@@ -81,6 +91,7 @@ told-apart Half s out = call-told-apart class-room class-record _ s out (λ h en
 told-apart Sum s out = call-told-apart class-room sum-record _ s out (λ h end e. let p = sum-holds s e in class-apart (sum-given (p .0) (p .1)))
 told-apart Call.Commit s out = step-told-apart Commit s out
 told-apart Call.Undo s out = step-told-apart Undo s out
+told-apart (Stamp n) s out = call-told-apart class-room curve-fields _ s out (λ h end e. stamp-apart (h .curve) n)
 
 room-low : (call : Call) → room call ≤ longest-answer
 room-low Opposite = lit≤ tt
@@ -89,6 +100,7 @@ room-low Half = lit≤ tt
 room-low Sum = lit≤ tt
 room-low Call.Commit = lit≤ tt
 room-low Call.Undo = lit≤ tt
+room-low (Stamp n) = lit≤ tt
 
 -- by the answer alone
 pub tells : (call : Call) (s out : List ℕ) → AnswerTells (room call) out (called call s out)

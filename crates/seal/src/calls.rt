@@ -157,5 +157,11 @@ pub extern "C" fn seal_stamp(input: &[u8], stamp: u64, output: &mut [u8]) -> u32
     ensures { λ r. ⌜ effect r (now (output .exit)) ≡ stamp-call stamp (now (input .entry)) (now (output .entry)) ⌝ }
 {
     let tags = stored_form::CURVE_RECORD;
-    byte_call(Call::Stamp(stamp), stored_form::CLASS_ROOM, &tags, input, output)
+    byte_call(
+        Call::Stamp(stamp),
+        stored_form::CLASS_ROOM,
+        &tags,
+        input,
+        output,
+    )
 }

@@ -17,6 +17,13 @@ use Rattle.stamps.proofs.{Search.candidate-lt, Search.passed, Points.po
 
 -- ---- told apart
 
+accepted-not-refused : {n : ℕ} → _≡_ {A = Verdict} (refused n) accepted → ⊥
+accepted-not-refused e = let z : _≡_ {A = ℕ} 0 1 = cc in omega arith
+
+verdict-number : Verdict → ℕ
+verdict-number accepted = 0
+verdict-number (refused n) = n
+
 refusal-told : (c : Curve) (s : ℕ) → Told (stamp-refusal c s)
 unfolding stamp-refusal IsRefusal refusals listed
 refusal-told c s = told-or-else _ _ (curve-refusal-told c) (told-unless _ 115 refl)
@@ -32,10 +39,15 @@ pub stamp-told : (c : Curve) (s : ℕ) → ReplyTold (stamp-answer c s)
 unfolding stamp-answer
 stamp-told c s = stamped-told (stamp-refusal c s) _ (refusal-told c s)
 
--- ---- an accepted stamp
+reply-refuses : {r : Reply} {k : ℕ} → ReplyTold r → r .outcome ≡ refused k → IsRefusal k
+unfolding verdict-number
+reply-refuses (told.ReplyTold.acceptance a n) e = absurd (accepted-not-refused (sym e))
+reply-refuses (told.ReplyTold.refusal n i) e = subst IsRefusal (ap verdict-number e) i
 
-accepted-not-refused : {n : ℕ} → _≡_ {A = Verdict} (refused n) accepted → ⊥
-accepted-not-refused e = let z : _≡_ {A = ℕ} 0 1 = cc in omega arith
+pub stamp-refuses : (c : Curve) (s k : ℕ) → stamp-answer c s .outcome ≡ refused k → IsRefusal k
+stamp-refuses c s k e = reply-refuses (stamp-told c s) e
+
+-- ---- an accepted stamp
 
 stamped-accepted : (n : ℕ) (o : Option Class) → stamped n o .outcome ≡ accepted → (n ≡ 0) × (o ≡ some (stamped n o .class))
 unfolding stamped
@@ -48,10 +60,6 @@ unfolding point-class
 point-degree x y = refl
 
 -- ---- 116 comes from the search alone
-
-verdict-number : Verdict → ℕ
-verdict-number accepted = 0
-verdict-number (refused n) = n
 
 stamped-none : (n : ℕ) (o : Option Class) → ¬ (n ≡ 116) → stamped n o .outcome ≡ refused 116 → (n ≡ 0) × (o ≡ none)
 unfolding stamped verdict-number

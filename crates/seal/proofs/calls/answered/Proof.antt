@@ -36,7 +36,7 @@ returns-6 c = rw (c .before .before .enum-told6 .given .1) (c .register-output2 
 
 returns-7 : tie.Need-returns-7
 unfolding answered
-returns-7 c = ?
+returns-7 c = rw (c .before .before .before .call .given .1) (c .class-output5 .ensures ∙ ap handed-result (c .before .stamp .ensures))
 
 pub answered-spec : {M : Type 1} → statement M
 answered-spec =
