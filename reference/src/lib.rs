@@ -13,7 +13,7 @@
 //! - `history_cases`: the same for the program `history_trial`: commits and undos on a register, and taking them back.
 //! - `stamp`: the class of an operation's stamp.
 //! - `stored`: the stored form's writer and checking reader.
-//! - `calls`: the seven calls on byte areas.
+//! - `calls`: the eight calls on byte areas.
 //! - `archive`: the archive, its walk and the walk report.
 //! - `byte_cases`: records and archives, mutated or not, and what the byte calls and the walk report owe for them.
 //! - `samples`: the archives that are kept in examples/.
