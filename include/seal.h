@@ -86,7 +86,7 @@ uint32_t seal_undo(const uint8_t *in, size_t in_len, uint8_t *out, size_t out_le
 /* The class of an operation's stamp, a number below 2^(d-3). Of the eight numbers x from 8 stamp on it takes the first
  * for which y^2 + y = f(x) has a root y, and of the two roots the one whose lowest bit is 0: the class is [X + x, y].
  * Two stamps that are accepted have different classes. A few stamps have none, which is 116: the caller takes another
- * stamp, and the same stamp on the same curve is always answered alike.
+ * stamp, as examples/stamped_model.c does, since the same stamp on the same curve is always answered alike.
  * Reads 0x40, 0x41; writes 0x43, 19 bytes. Refusals: 101 to 107, 112, 115, 116. */
 uint32_t seal_stamp(const uint8_t *in, size_t in_len, uint64_t stamp, uint8_t *out, size_t out_len);
 
