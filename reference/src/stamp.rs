@@ -46,6 +46,10 @@ mod tests {
             && !(8 * stamp..x).any(has_root)
     }
 
+    fn has_no_class(curve: &Curve, stamp: u64) -> bool {
+        (8 * stamp..8 * stamp + 8).all(|x| curve.point(x).is_none())
+    }
+
     /// Every stamp on every curve of the bench field: its class by the definition, or 116. The classes on a curve differ.
     #[test]
     fn every_stamp_of_the_bench_field() {
@@ -59,7 +63,7 @@ mod tests {
                     }
                     Err(refusal) => {
                         assert_eq!(refusal, 116);
-                        assert!((8 * stamp..8 * stamp + 8).all(|x| curve.point(x).is_none()));
+                        assert!(has_no_class(&curve, stamp));
                         without += 1;
                         None
                     }
@@ -89,7 +93,7 @@ mod tests {
                 *stamp,
                 class.as_ref().unwrap()
             )));
-            assert!(refused.iter().all(|(_, answer)| *answer == Err(116)));
+            assert!(refused.iter().all(|(stamp, answer)| *answer == Err(116) && has_no_class(&curve, *stamp)));
             without += refused.len();
         }
         assert!(without > 10);
@@ -112,8 +116,8 @@ mod tests {
         }
     }
 
-    /// The edges of the stamp at both degrees: 2^(d-3) - 1 passes 115 and 2^(d-3) does not. Over both fields the last two
-    /// stamps on f = x^7 have a class.
+    /// The edges of the stamp at both degrees: 2^(d-3) - 1 has a class on f = x^7 and on f = x^7 + 1, and from 2^(d-3) on all
+    /// are 115.
     #[test]
     fn limits_of_stamps() {
         for (field, limit) in [(BENCH, 4), (WIDE, 1 << 58)] {
