@@ -1,4 +1,4 @@
-/* Seals of a model's history: the seven calls on byte areas of the proved library seal.
+/* Seals of a model's history: the eight calls on byte areas of the proved library seal.
  *
  * To build and link (x86-64 Linux, nothing else is linked):
  *
@@ -52,7 +52,7 @@ extern "C" {
 #define SEAL_TAG_OPERATION 0x44
 
 /* How long an output must be, and so how long one is always long enough. */
-#define SEAL_CLASS_OUTPUT 51    /* opposite, sum, double, half: one 0x43 */
+#define SEAL_CLASS_OUTPUT 51    /* opposite, sum, double, half, stamp: one 0x43 */
 #define SEAL_REGISTER_OUTPUT 56 /* commit, undo: 0x42, then 0x43 */
 
 /* Is the class one of the curve?
@@ -82,6 +82,13 @@ uint32_t seal_commit(const uint8_t *in, size_t in_len, uint8_t *out, size_t out_
 /* The register before an operation: the half of the seal less the operation's class, and the count one lower.
  * Reads 0x40, 0x41, 0x42, 0x43 (the seal), 0x44; writes 0x42, 0x43. Refusals: 101 to 107, 109 to 113. */
 uint32_t seal_undo(const uint8_t *in, size_t in_len, uint8_t *out, size_t out_len);
+
+/* The class of an operation's stamp, a number below 2^(d-3). Of the eight numbers x from 8 stamp on it takes the first
+ * for which y^2 + y = f(x) has a root y, and of the two roots the one whose lowest bit is 0: the class is [X + x, y].
+ * Two stamps that are accepted have different classes. A few stamps have none, which is 116: the caller takes another
+ * stamp, as examples/stamped_model.c does, since the same stamp on the same curve is always answered alike.
+ * Reads 0x40, 0x41; writes 0x43, 19 bytes. Refusals: 101 to 107, 112, 115, 116. */
+uint32_t seal_stamp(const uint8_t *in, size_t in_len, uint64_t stamp, uint8_t *out, size_t out_len);
 
 #ifdef __cplusplus
 }

@@ -3,7 +3,7 @@
 #define SEAL_REFUSALS_H
 
 /* Grows by 1 with every change that a caller can see: an answer, a number, a struct, a length. */
-#define SEAL_VERSION 1
+#define SEAL_VERSION 2
 
 /* The most operations that a register counts, and the most classes of a row. */
 #define SEAL_COUNT_LIMIT 1024
@@ -13,21 +13,23 @@
 #define SEAL_STACK 65536
 
 /* The refusals, in checking order (docs/SPECIFICATION.md, section 6). */
-#define SEAL_OUTPUT_TOO_SHORT 101  /* the output has fewer than 51 bytes, or 56 for commit and undo */
-#define SEAL_HEAD_CUT 102          /* the input ends before the three bytes of a field's head */
-#define SEAL_WRONG_TAG 103         /* the tag is not the one due there */
-#define SEAL_WRONG_LENGTH 104      /* the length is not allowed for the tag */
-#define SEAL_WRONG_SHAPE 104       /* the same by value: a degree above 3, or a number not 0 at or past the degree */
-#define SEAL_BODY_CUT 105          /* the input ends before the body does */
-#define SEAL_WRONG_DEGREE 106      /* the degree is neither 5 nor 61 */
-#define SEAL_CURVE_COEFFICIENT 107 /* a curve coefficient is 2^d or more */
-#define SEAL_DRAWING_NUMBER 108    /* a drawing number byte lies outside 0x20 to 0x7E; in archives alone */
-#define SEAL_COUNT_TOO_HIGH 109    /* the count, or the number of classes in a row, exceeds 1,024 */
-#define SEAL_CLASS_COEFFICIENT 110 /* a class coefficient is 2^d or more */
-#define SEAL_NOT_A_CLASS 111       /* u does not divide v^2 + v + f */
-#define SEAL_BYTES_REMAIN 112      /* bytes remain after the last field */
-#define SEAL_UNDO_AT_ZERO 113      /* an undo is called at count 0 */
-#define SEAL_COMMIT_AT_LIMIT 114   /* a commit is called at count 1,024 */
+#define SEAL_OUTPUT_TOO_SHORT 101    /* the output has fewer than 51 bytes, or 56 for commit and undo */
+#define SEAL_HEAD_CUT 102            /* the input ends before the three bytes of a field's head */
+#define SEAL_WRONG_TAG 103           /* the tag is not the one due there */
+#define SEAL_WRONG_LENGTH 104        /* the length is not allowed for the tag */
+#define SEAL_WRONG_SHAPE 104         /* the same by value: a degree above 3, or a number not 0 at or past the degree */
+#define SEAL_BODY_CUT 105            /* the input ends before the body does */
+#define SEAL_WRONG_DEGREE 106        /* the degree is neither 5 nor 61 */
+#define SEAL_CURVE_COEFFICIENT 107   /* a curve coefficient is 2^d or more */
+#define SEAL_DRAWING_NUMBER 108      /* a drawing number byte lies outside 0x20 to 0x7E; in archives alone */
+#define SEAL_COUNT_TOO_HIGH 109      /* the count, or the number of classes in a row, exceeds 1,024 */
+#define SEAL_CLASS_COEFFICIENT 110   /* a class coefficient is 2^d or more */
+#define SEAL_NOT_A_CLASS 111         /* u does not divide v^2 + v + f */
+#define SEAL_BYTES_REMAIN 112        /* bytes remain after the last field */
+#define SEAL_UNDO_AT_ZERO 113        /* an undo is called at count 0 */
+#define SEAL_COMMIT_AT_LIMIT 114     /* a commit is called at count 1,024 */
+#define SEAL_STAMP_TOO_LARGE 115     /* the stamp is 2^(d-3) or more */
+#define SEAL_STAMP_WITHOUT_CLASS 116 /* none of the stamp's eight candidates has a root: take another stamp */
 
 /* Is an answer a refusal? An accepted call answers at most 56, so that no answer is both. */
 #define SEAL_IS_REFUSAL(answer) ((answer) >= SEAL_OUTPUT_TOO_SHORT)

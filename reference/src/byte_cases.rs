@@ -1,4 +1,4 @@
-//! Records of the seven byte calls and archives, most of them mutated, with what the calls and the walk report owe for
+//! Records of the eight byte calls and archives, most of them mutated, with what the calls and the walk report owe for
 //! them. They are made by a generator with a fixed seed, so that the first n are the same in every run.
 //!
 //! - `pool`: curves over both fields with classes of every degree, from which the records are made.
@@ -11,6 +11,7 @@ use crate::archive::{report, Archive};
 use crate::calls::{answer, seal_after_commit, Call, CALLS};
 use crate::jacobian::Class;
 use crate::random::Random;
+use crate::stamp::stamp_limit;
 use crate::stored::{class_field, count_field, curve_fields, operation_field, DRAWING_LIMIT};
 use mutation::mutated;
 use pool::{pools, Pool};
@@ -31,13 +32,13 @@ impl ByteCase {
         ByteCase { call, input, output_length, answer, written }
     }
 
-    /// The case in a file: the call's place in `CALLS` in one byte; the lengths of output and input, and the answer, in
-    /// four bytes each, high byte first; the input; the bytes written, which are as many as the answer says where it is
-    /// no refusal.
+    /// The case in a file: the call's number in one byte; the stamp, 0 where the call takes none, in eight, high byte first;
+    /// the lengths of output and input, and the answer, in four each; the input; the bytes written, which are as many as the
+    /// answer says where it is no refusal.
     pub fn bytes(&self) -> Vec<u8> {
-        let call = CALLS.iter().position(|&call| call == self.call).expect("the row has every call") as u8;
         let numbers = [self.output_length as u32, self.input.len() as u32, self.answer].map(u32::to_be_bytes);
-        [&[call], &numbers.concat()[..], &self.input, &self.written].concat()
+        let stamp = self.call.stamp().to_be_bytes();
+        [&[self.call.number()], &stamp[..], &numbers.concat(), &self.input, &self.written].concat()
     }
 }
 
@@ -47,6 +48,17 @@ fn count(random: &mut Random) -> u16 {
         0 => *random.pick(&[0, 1, 1023, 1024]),
         1 => *random.pick(&[2, 255, 256, 1022]),
         _ => random.below(1025) as u16,
+    }
+}
+
+/// Stamps of the pool's field, those at its edges and those without a class often, and numbers that are too large.
+fn stamp(random: &mut Random, pool: &Pool) -> u64 {
+    let limit = stamp_limit(pool.curve.field);
+    match random.below(8) {
+        0 => *random.pick(&[0, 1, 2, limit - 1]),
+        1 => *random.pick(&[limit, limit + 1, 31, 32, 1 << 58, 1 << 61, 1 << 63, u64::MAX]),
+        2..=4 if !pool.stamps_without_class.is_empty() => *random.pick(&pool.stamps_without_class),
+        _ => random.number() % limit,
     }
 }
 
@@ -69,6 +81,7 @@ fn record(random: &mut Random, pool: &Pool, call: Call) -> Vec<Vec<u8>> {
             };
             fields.extend([class_field(first), class_field(&second)]);
         }
+        Call::Stamp(_) => {}
         _ => fields.push(class_field(first)),
     }
     fields
@@ -112,7 +125,10 @@ impl Iterator for Mutated {
     fn next(&mut self) -> Option<ByteCase> {
         let random = &mut self.random;
         let pool = random.pick(&self.pools);
-        let call = *random.pick(&CALLS);
+        let call = match *random.pick(&CALLS) {
+            Call::Stamp(_) => Call::Stamp(stamp(random, pool)),
+            other => other,
+        };
         let fields = record(random, pool, call);
         let input = mutated(random, fields, pool);
         let length = output_length(random, call);
@@ -159,9 +175,11 @@ mod tests {
         let curve = Curve::new(BENCH, 0, 0, 0);
         let input = [curve_fields(&curve).concat(), class_field(&Class::neutral())].concat();
         let case = ByteCase::new(Call::Double, input.clone(), 51);
-        let owed = [vec![3, 0, 0, 0, 51, 0, 0, 0, 34, 0, 0, 0, 3], input, vec![0x43, 0, 0]].concat();
+        let numbers = vec![0, 0, 0, 51, 0, 0, 0, 34, 0, 0, 0, 3];
+        let owed = [vec![3], vec![0; 8], numbers, input, vec![0x43, 0, 0]].concat();
         assert_eq!(case.bytes(), owed);
-        assert_eq!(ByteCase::new(Call::Undo, vec![], 56).bytes(), [6, 0, 0, 0, 56, 0, 0, 0, 0, 0, 0, 0, 102]);
+        let stamp = ByteCase::new(Call::Stamp(0x0102030405060708), vec![], 51).bytes();
+        assert_eq!(stamp, [7, 1, 2, 3, 4, 5, 6, 7, 8, 0, 0, 0, 51, 0, 0, 0, 0, 0, 0, 0, 102]);
     }
 
     /// Among the first ten thousand every call meets every refusal that it can give, and writes classes of every degree
@@ -170,21 +188,45 @@ mod tests {
     fn every_outcome_of_every_call() {
         let cases: Vec<ByteCase> = Mutated::new().take(10_000).collect();
         for call in CALLS {
-            let met: HashSet<u32> = cases.iter().filter(|case| case.call == call).map(|case| case.answer).collect();
-            let mut owed = HashSet::from([102, 103, 104, 105, 106, 107, 110, 111, 112]);
+            let made = || cases.iter().filter(|case| case.call.without_stamp() == call);
+            let met: HashSet<u32> = made().map(|case| case.answer).collect();
+            let mut owed = HashSet::from([102, 103, 104, 105, 106, 107, 112]);
             owed.extend(match call {
-                Call::Membership => vec![0],
-                Call::Commit => vec![101, 109, 114, 8, 24, 40, 56],
-                Call::Undo => vec![101, 109, 113, 8, 24, 40, 56],
-                _ => vec![101, 3, 19, 35, 51],
+                Call::Membership => vec![110, 111, 0],
+                Call::Commit => vec![101, 109, 110, 111, 114, 8, 24, 40, 56],
+                Call::Undo => vec![101, 109, 110, 111, 113, 8, 24, 40, 56],
+                Call::Stamp(_) => vec![101, 115, 116, 19],
+                _ => vec![101, 110, 111, 3, 19, 35, 51],
             });
             assert_eq!(met, owed, "{call:?}");
             for degree in [5, 61] {
-                let accepted =
-                    |case: &&ByteCase| case.call == call && case.answer <= 100 && case.input[3] == degree;
-                assert!(cases.iter().filter(accepted).count() > 50, "{call:?} {degree}");
+                let accepted = |case: &&ByteCase| case.answer <= 100 && case.input[3] == degree;
+                assert!(made().filter(accepted).count() > 50, "{call:?} {degree}");
             }
         }
+    }
+
+    /// Among the first ten thousand stamps are refused with 115 and with 116 over both fields, the latter often, and one
+    /// that is too large with 112.
+    #[test]
+    fn refused_stamps() {
+        let cases: Vec<ByteCase> = Mutated::new().take(10_000).collect();
+        let stamps = |answer, degree| {
+            let wanted =
+                |case: &&ByteCase| case.call.number() == 7 && case.answer == answer && case.input[3] == degree;
+            cases.iter().filter(wanted).collect::<Vec<_>>()
+        };
+        for degree in [5, 61] {
+            for answer in [115, 116] {
+                assert!(!stamps(answer, degree).is_empty(), "{answer} {degree}");
+            }
+        }
+        assert!(
+            stamps(116, 5).len() + stamps(116, 61).len() >= 20,
+            "stamps without a class are not met by chance alone"
+        );
+        let too_large = |case: &&ByteCase| case.call.stamp() >= 1 << 58;
+        assert!(stamps(112, 5).into_iter().chain(stamps(112, 61)).any(|case| too_large(&case)));
     }
 
     /// Among the first three hundred archives the report meets every refusal that it can give, and every letter.

@@ -1,7 +1,9 @@
-//! The seven calls on byte areas (document 01, 'Stored form', 'The register' and 'In checking order').
+//! The eight calls on byte areas (document 01, 'Stored form', 'The register' and 'In checking order'; document 02,
+//! request 2).
 
 use crate::halving::half;
 use crate::jacobian::{Class, Curve};
+use crate::stamp::class_of_stamp;
 use crate::stored::{class_field, count_field, Reader, Refusal, COUNT_LIMIT};
 
 #[derive(Clone, Copy, Debug, PartialEq, Eq, Hash)]
@@ -13,18 +15,49 @@ pub enum Call {
     Half,
     Commit,
     Undo,
+    /// With the stamp, which is handed over beside the input.
+    Stamp(u64),
 }
 
-/// All of them; the place in this row is the call's number in a file of cases.
-pub const CALLS: [Call; 7] =
-    [Call::Membership, Call::Opposite, Call::Sum, Call::Double, Call::Half, Call::Commit, Call::Undo];
+/// All of them, the last with a stamp of 0.
+pub const CALLS: [Call; 8] = [
+    Call::Membership,
+    Call::Opposite,
+    Call::Sum,
+    Call::Double,
+    Call::Half,
+    Call::Commit,
+    Call::Undo,
+    Call::Stamp(0),
+];
 
 impl Call {
+    /// The call with a stamp of 0, which is what the calls that take none have.
+    pub fn without_stamp(self) -> Call {
+        match self {
+            Call::Stamp(_) => Call::Stamp(0),
+            other => other,
+        }
+    }
+
+    /// The call's number in a file of cases: its place in `CALLS`.
+    pub fn number(self) -> u8 {
+        let same = |&call: &Call| call == self.without_stamp();
+        CALLS.iter().position(same).expect("the row has every call") as u8
+    }
+
+    pub fn stamp(self) -> u64 {
+        match self {
+            Call::Stamp(stamp) => stamp,
+            _ => 0,
+        }
+    }
+
     /// How many bytes the output must have, else 101.
     pub fn output_bound(self) -> usize {
         match self {
             Call::Membership => 0,
-            Call::Opposite | Call::Sum | Call::Double | Call::Half => 51,
+            Call::Opposite | Call::Sum | Call::Double | Call::Half | Call::Stamp(_) => 51,
             Call::Commit | Call::Undo => 56,
         }
     }
@@ -61,6 +94,10 @@ fn written(call: Call, input: &[u8]) -> Result<Vec<u8>, Refusal> {
             _ if count == COUNT_LIMIT => Err(114),
             _ => Ok([count_field(count + 1), class_field(&seal_after_commit(&curve, &seal, &operation))].concat()),
         };
+    }
+    if let Call::Stamp(stamp) = call {
+        reader.end()?;
+        return Ok(class_field(&class_of_stamp(&curve, stamp)?));
     }
     let class = reader.class(&curve)?;
     let second = if call == Call::Sum { Some(reader.class(&curve)?) } else { None };

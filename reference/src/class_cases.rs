@@ -2,21 +2,25 @@
 //! each.
 //!
 //! A case is 138 bytes: the call, the degree d, f3, f1 and f0, and two classes; the calls on one class leave the second
-//! aside. A class is its degree, u0, u1, u2, v0, v1 and v2. All numbers but d take eight bytes, high byte first.
+//! aside. A class is its degree, u0, u1, u2, v0, v1 and v2. All numbers but d take eight bytes, high byte first. The call
+//! on a stamp finds it in the place of the first class's degree, and leaves all else of the classes aside.
 //!
 //! - `examples`: document 01's twelve, over both fields.
 //! - `edges`: every refusal at its edges and in its order.
 //! - `drawn`: classes of every degree over GF(2^61), on curves drawn at random.
 //! - `sweep`: every class of a curve over the bench field.
+//! - `stamps`: classes of stamps over both fields.
 
 pub mod drawn;
 pub mod edges;
 pub mod examples;
+pub mod stamps;
 pub mod sweep;
 
 use crate::field::Field;
 use crate::halving::is_half;
 use crate::jacobian::{Class, Curve, Reduced};
+use crate::stamp::class_of_stamp;
 
 pub const MEMBERSHIP: u8 = 1;
 pub const OPPOSITE: u8 = 2;
@@ -30,7 +34,8 @@ pub const SUM_IN_STEPS: u8 = 9;
 pub const DOUBLE_AND_ADD: u8 = 10;
 pub const SUBTRACT_AND_HALVE: u8 = 11;
 pub const CURVE: u8 = 12;
-/// The calls on classes, all but that on the curve alone; and of these the calls on two.
+pub const STAMP: u8 = 13;
+/// The calls on classes, all but that on the curve alone and that on a stamp; and of these the calls on two.
 pub const CALLS: std::ops::RangeInclusive<u8> = 1..=11;
 pub const CALLS_ON_TWO: [u8; 4] = [SUM, SUM_IN_STEPS, DOUBLE_AND_ADD, SUBTRACT_AND_HALVE];
 
@@ -157,6 +162,9 @@ fn answer(call: u8, curve: CurveValues, a: ClassValues, b: ClassValues) -> Resul
     if call == CURVE {
         return Ok("accepted".to_string());
     }
+    if call == STAMP {
+        return class_of_stamp(&curve, a.degree).map(|class| printed(&class));
+    }
     let a = a.class(&curve)?;
     let b = if CALLS_ON_TWO.contains(&call) { b.class(&curve)? } else { Class::neutral() };
     match call {
@@ -190,6 +198,11 @@ impl Case {
     /// A call on two classes.
     pub fn on_two(call: u8, curve: CurveValues, a: &Class, b: &Class) -> Case {
         Case::new(call, curve, a.into(), b.into())
+    }
+
+    /// The class of a stamp; what is left aside is taken from the values given.
+    pub fn stamp(curve: CurveValues, stamp: u64, aside: ClassValues) -> Case {
+        Case::new(STAMP, curve, ClassValues { degree: stamp, ..aside }, aside)
     }
 
     /// The half of a class, with the answer given, which is held to the definition.
@@ -226,7 +239,7 @@ impl Case {
 fn no_calls() -> Vec<Case> {
     let curve = CurveValues { degree: 5, f3: 0, f1: 0, f0: 0 };
     let line = "no such call\n".to_string();
-    [0, 13, 255].map(|call| Case { call, curve, a: NEUTRAL, b: NEUTRAL, line: line.clone() }).to_vec()
+    [0, 14, 255].map(|call| Case { call, curve, a: NEUTRAL, b: NEUTRAL, line: line.clone() }).to_vec()
 }
 
 /// The stored cases, in their order.
@@ -276,16 +289,21 @@ mod tests {
         assert_eq!(ClassValues::from(&Class::neutral()), NEUTRAL);
     }
 
-    /// Every call on classes meets every refusal and an answer, over both fields; that on the curve those of the curve.
+    /// Every call on classes meets every refusal and an answer, over both fields; that on the curve those of the curve, and
+    /// that on a stamp those and its own two.
     #[test]
     fn every_outcome_of_every_call() {
         let cases = stored_cases();
-        for call in CALLS.chain([CURVE]) {
+        for call in CALLS.chain([CURVE, STAMP]) {
             for degree in [5, 61] {
                 let wanted = |case: &&Case| case.call == call && case.curve.degree == degree;
                 let lines: Vec<&str> = cases.iter().filter(wanted).map(|case| case.line.as_str()).collect();
-                for number in [104, 106, 107, 110, 111] {
-                    let due = if call == CURVE { number == 107 } else { number != 106 };
+                for number in [104, 106, 107, 110, 111, 115, 116] {
+                    let due = match call {
+                        CURVE => number == 107,
+                        STAMP => [107, 115, 116].contains(&number),
+                        _ => [104, 107, 110, 111].contains(&number),
+                    };
                     assert_eq!(
                         lines.contains(&format!("refused {number}\n").as_str()),
                         due,

@@ -1,10 +1,10 @@
 //! The cases of the program `element_trial`: calls on elements, in the bytes that it reads, and the line that it
 //! owes for each.
 //!
-//! A case is 18 bytes: the call (1 sum, 2 product, 3 square, 4 square root, 5 inverse), the degree, and two numbers
-//! of eight bytes, high byte first; the calls on one element leave the second number aside.
+//! A case is 18 bytes: the call (1 sum, 2 product, 3 square, 4 square root, 5 inverse, 6 root of y^2 + y = a), the
+//! degree, and two numbers of eight bytes, high byte first; the calls on one element leave the second number aside.
 
-use crate::field::{inverse, product, square, square_root, sum, Answer, BENCH, WIDE};
+use crate::field::{inverse, product, quadratic_root, square, square_root, sum, Answer, BENCH, WIDE};
 use crate::random::Random;
 
 #[derive(Clone, Copy, Debug, PartialEq, Eq)]
@@ -17,7 +17,8 @@ pub struct Case {
 
 /// The calls on two elements, then those on one.
 const ON_TWO: [u8; 2] = [1, 2];
-const ON_ONE: [u8; 3] = [3, 4, 5];
+const ON_ONE: [u8; 4] = [3, 4, 5, QUADRATIC_ROOT];
+const QUADRATIC_ROOT: u8 = 6;
 
 impl Case {
     pub fn bytes(&self) -> Vec<u8> {
@@ -25,7 +26,7 @@ impl Case {
         [&head[..], &self.a.to_be_bytes(), &self.b.to_be_bytes()].concat()
     }
 
-    /// The element in hexadecimal, `refused` and the number, or `no such call`; with the line's end.
+    /// The element in hexadecimal, `no root`, `refused` and the number, or `no such call`; with the line's end.
     pub fn line(&self) -> String {
         let answer = match self.call {
             1 => sum(self.degree, self.a, self.b),
@@ -33,10 +34,12 @@ impl Case {
             3 => square(self.degree, self.a),
             4 => square_root(self.degree, self.a),
             5 => inverse(self.degree, self.a),
+            QUADRATIC_ROOT => quadratic_root(self.degree, self.a),
             _ => return "no such call\n".to_string(),
         };
         match answer {
             Answer::Element(element) => format!("{:x}\n", element),
+            Answer::NoRoot => "no root\n".to_string(),
             Answer::Refused(number) => format!("refused {}\n", number),
         }
     }
@@ -99,7 +102,7 @@ fn edges() -> Vec<Case> {
 
 /// Bytes in the call's place that name no call.
 fn no_calls() -> Vec<Case> {
-    [0, 6, 255].map(|call| Case { call, degree: 5, a: 1, b: 1 }).to_vec()
+    [0, 7, 255].map(|call| Case { call, degree: 5, a: 1, b: 1 }).to_vec()
 }
 
 /// All cases, in their stored order.
@@ -141,21 +144,27 @@ mod tests {
         assert_eq!(line(5, 61, 0, 0), "0\n");
         assert_eq!(line(1, 4, 0, 99), "refused 106\n");
         assert_eq!(line(1, 5, 0, 99), "refused 110\n");
-        assert_eq!(line(6, 5, 0, 0), "no such call\n");
+        assert_eq!(line(6, 5, 6, 99), "2\n");
+        assert_eq!(line(6, 5, 1, 99), "no root\n");
+        assert_eq!(line(6, 6, 64, 99), "refused 106\n");
+        assert_eq!(line(6, 61, 1 << 61, 99), "refused 110\n");
+        assert_eq!(line(7, 5, 0, 0), "no such call\n");
     }
 
-    /// Each call meets each of the two refusals and an element, over both fields.
+    /// Each call meets each of the two refusals and an element, over both fields; a root of y^2 + y = a is also missing.
     #[test]
     fn every_outcome_of_every_call() {
         let cases = all_cases();
-        for call in 1..=5 {
+        for call in 1..=6 {
             let lines = |degree| -> Vec<String> {
                 let wanted = |case: &&Case| case.call == call && case.degree == degree;
                 cases.iter().filter(wanted).map(Case::line).collect()
             };
             for degree in [5, 61] {
                 assert!(lines(degree).contains(&"refused 110\n".to_string()));
-                assert!(lines(degree).contains(&"1\n".to_string()));
+                let element = if call == QUADRATIC_ROOT { "0\n" } else { "1\n" };
+                assert!(lines(degree).contains(&element.to_string()));
+                assert_eq!(lines(degree).contains(&"no root\n".to_string()), call == QUADRATIC_ROOT);
                 assert!(!lines(degree).contains(&"refused 106\n".to_string()));
             }
             for degree in [0, 4, 6, 60, 62, 255] {

@@ -1,7 +1,11 @@
 //! The fields (document 01, 'The fields'): an element is a number below 2^d, bit i the coefficient of t^i.
 //!
 //! The arithmetic is that of polynomials over GF(2), held as the bits of a `u128`: schoolbook product, then long
-//! division by the modulus. The square root is repeated squaring, the inverse is Euclid's rule.
+//! division by the modulus. The square root is repeated squaring, the inverse is Euclid's rule. Roots of y^2 + y = c
+//! are tried for in the bench field, and over GF(2^61) linear equations are solved for them; the proved crates take
+//! sums of powers of c.
+
+use std::sync::OnceLock;
 
 /// GF(2^degree), the polynomials over GF(2) modulo `modulus`.
 #[derive(Clone, Copy, Debug, PartialEq, Eq)]
@@ -86,19 +90,57 @@ impl Field {
         upper.1 as u64
     }
 
-    /// A root y of y^2 + y = c where there is one. It is the half-trace, which needs an odd degree.
+    /// The root y of y^2 + y = c whose lowest bit is 0, where there is one; the other root is y + 1.
+    pub fn even_root_of_artin_schreier(&self, c: u64) -> Option<u64> {
+        if *self == WIDE {
+            static EQUATIONS: OnceLock<Equations> = OnceLock::new();
+            return EQUATIONS.get_or_init(|| Equations::new(WIDE)).solution(c);
+        }
+        assert!(self.degree < 16, "the elements are few enough to try them all");
+        (0..1 << self.degree).step_by(2).find(|&y| self.square(y) ^ y == c)
+    }
+
+    /// A root y of y^2 + y = c where there is one: of the two the one for which y = z^2 + z has a root too. In a field of
+    /// odd degree that is so of one of them, since 1 = z^2 + z has none. The stored cases hang on which is taken.
     pub fn root_of_artin_schreier(&self, c: u64) -> Option<u64> {
-        assert!(self.degree % 2 == 1);
-        let (mut root, mut power) = (c, c);
-        for _ in 0..(self.degree - 1) / 2 {
-            power = self.square(self.square(power));
-            root ^= power;
+        let even = self.even_root_of_artin_schreier(c)?;
+        Some(if self.even_root_of_artin_schreier(even).is_some() { even } else { even ^ 1 })
+    }
+}
+
+/// The equations y^2 + y = c over GF(2) in the bits of y but the lowest, after Gaussian elimination: rows y^2 + y and y,
+/// with falling leading bits of y^2 + y.
+struct Equations {
+    rows: Vec<(u64, u64)>,
+}
+
+impl Equations {
+    fn new(field: Field) -> Equations {
+        let mut equations = Equations { rows: vec![] };
+        for y in (1..field.degree).map(|i| 1 << i) {
+            let row = equations.reduced((field.square(y) ^ y, y));
+            assert_ne!(row.0, 0, "y^2 + y is 0 for 0 and 1 alone");
+            equations.rows.push(row);
+            equations.rows.sort_by(|a, b| b.cmp(a));
         }
-        if self.square(root) ^ root == c {
-            Some(root)
-        } else {
-            None
-        }
+        equations
+    }
+
+    /// A row with each row added whose leading bit is met on the way down.
+    fn reduced(&self, row: (u64, u64)) -> (u64, u64) {
+        let add = |sum: (u64, u64), row: &(u64, u64)| {
+            if sum.0 ^ row.0 < sum.0 {
+                (sum.0 ^ row.0, sum.1 ^ row.1)
+            } else {
+                sum
+            }
+        };
+        self.rows.iter().fold(row, add)
+    }
+
+    fn solution(&self, c: u64) -> Option<u64> {
+        let (rest, y) = self.reduced((c, 0));
+        (rest == 0).then_some(y)
     }
 }
 
@@ -106,16 +148,23 @@ impl Field {
 #[derive(Clone, Copy, Debug, PartialEq, Eq)]
 pub enum Answer {
     Element(u64),
+    /// Of `quadratic_root` alone.
+    NoRoot,
     Refused(u32),
 }
 
 /// The checks of every call on elements, in their order: 106 for the degree, then 110 for the numbers.
-fn checked(degree: u8, numbers: &[u64], call: impl Fn(Field) -> u64) -> Answer {
+fn checked_answer(degree: u8, numbers: &[u64], call: impl Fn(Field) -> Answer) -> Answer {
     match Field::of_degree(degree) {
         None => Answer::Refused(106),
         Some(field) if numbers.iter().any(|&n| !field.contains(n)) => Answer::Refused(110),
-        Some(field) => Answer::Element(call(field)),
+        Some(field) => call(field),
     }
+}
+
+/// The same for a call that has an element for all numbers that pass.
+fn checked(degree: u8, numbers: &[u64], call: impl Fn(Field) -> u64) -> Answer {
+    checked_answer(degree, numbers, |field| Answer::Element(call(field)))
 }
 
 pub fn sum(degree: u8, a: u64, b: u64) -> Answer {
@@ -132,6 +181,12 @@ pub fn square(degree: u8, a: u64) -> Answer {
 
 pub fn square_root(degree: u8, a: u64) -> Answer {
     checked(degree, &[a], |field| field.square_root(a))
+}
+
+/// The root of y^2 + y = a with lowest bit 0 (document 02, request 2).
+pub fn quadratic_root(degree: u8, a: u64) -> Answer {
+    let root = |field: Field| field.even_root_of_artin_schreier(a);
+    checked_answer(degree, &[a], |field| root(field).map_or(Answer::NoRoot, Answer::Element))
 }
 
 pub fn inverse(degree: u8, a: u64) -> Answer {
@@ -201,17 +256,64 @@ mod tests {
         }
     }
 
+    /// The sum of the conjugates, which says whether y^2 + y = c has a root: it has where this is 0 (Hilbert's theorem 90).
+    fn trace(field: Field, c: u64) -> u64 {
+        (1..field.degree).fold((c, c), |(sum, power), _| (sum ^ field.square(power), field.square(power))).0
+    }
+
+    /// The roots of y^2 + y = c are held to the equation, and where there are none to the trace.
+    fn artin_schreier(field: Field, c: u64) {
+        let even = field.even_root_of_artin_schreier(c);
+        let root = field.root_of_artin_schreier(c);
+        assert_eq!(even.is_some(), trace(field, c) == 0);
+        assert_eq!(root.is_some(), even.is_some());
+        for y in even.into_iter().chain(root) {
+            assert!(field.contains(y));
+            assert_eq!(field.square(y) ^ y, c);
+        }
+        assert_eq!(even.unwrap_or(0) & 1, 0);
+        assert_eq!(trace(field, root.unwrap_or(0)), 0);
+    }
+
     #[test]
-    fn artin_schreier_roots() {
-        for field in [BENCH, WIDE] {
-            let mut random = Random::new(2);
-            for _ in 0..100 {
-                let y = random.element(field);
-                let root = field.root_of_artin_schreier(field.square(y) ^ y).unwrap();
-                assert!(root == y || root == y ^ 1);
-            }
-            // the degrees are odd, so 1 has trace 1
-            assert_eq!(field.root_of_artin_schreier(1), None);
+    fn artin_schreier_roots_of_the_bench_field() {
+        (0..32).for_each(|c| artin_schreier(BENCH, c));
+        let with_root = (0..32).filter(|&c| BENCH.even_root_of_artin_schreier(c).is_some());
+        assert_eq!(with_root.count(), 16);
+    }
+
+    /// Elements of which half have a root, and others that are made to have one.
+    #[test]
+    fn artin_schreier_roots_of_the_wide_field() {
+        let mut random = Random::new(2);
+        for _ in 0..2000 {
+            let y = random.element(WIDE);
+            artin_schreier(WIDE, y);
+            let c = WIDE.square(y) ^ y;
+            artin_schreier(WIDE, c);
+            assert_eq!(WIDE.even_root_of_artin_schreier(c), Some(y & !1));
+        }
+        // every power of t, the lowest and the highest bit alone
+        (0..61).for_each(|i| artin_schreier(WIDE, 1 << i));
+    }
+
+    /// The equations give over the bench field what trying every element gives.
+    #[test]
+    fn equations_of_the_bench_field() {
+        let equations = Equations::new(BENCH);
+        for c in 0..32 {
+            assert_eq!(equations.solution(c), BENCH.even_root_of_artin_schreier(c));
+        }
+    }
+
+    #[test]
+    fn quadratic_roots_by_hand() {
+        for degree in [5, 61] {
+            // t^2 + t has the roots t and t + 1; 1 has trace 1, the degrees being odd
+            assert_eq!(quadratic_root(degree, 0), Answer::Element(0));
+            assert_eq!(quadratic_root(degree, 1), Answer::NoRoot);
+            assert_eq!(quadratic_root(degree, 0b110), Answer::Element(0b10));
+            assert_eq!(quadratic_root(degree, 0b111), Answer::NoRoot);
         }
     }
 
@@ -225,5 +327,8 @@ mod tests {
         assert_eq!(square(5, 32), Answer::Refused(110));
         assert_eq!(square_root(62, 0), Answer::Refused(106));
         assert_eq!(inverse(5, 0), Answer::Element(0));
+        assert_eq!(quadratic_root(4, 32), Answer::Refused(106));
+        assert_eq!(quadratic_root(5, 32), Answer::Refused(110));
+        assert_eq!(quadratic_root(61, 1 << 61), Answer::Refused(110));
     }
 }

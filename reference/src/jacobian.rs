@@ -156,6 +156,12 @@ impl Curve {
         Some(Class::new(vec![a, 1], vec![y]))
     }
 
+    /// The same with the y of lowest bit 0.
+    pub fn even_point(&self, a: u64) -> Option<Class> {
+        let y = self.field.even_root_of_artin_schreier(self.f.at(self.field, a))?;
+        Some(Class::new(vec![a, 1], vec![y]))
+    }
+
     /// A curve whose three coefficients are drawn from the whole field.
     pub fn drawn(random: &mut Random, field: Field) -> Curve {
         let [f3, f1, f0] = [0; 3].map(|_| random.element(field));

@@ -1,6 +1,6 @@
-//! A second implementation of document 01, written from its text alone and by other methods than the proved
-//! crates where there is a choice. Nothing here is proved: it makes the stored vectors and the cases that the
-//! proved crates are run on.
+//! A second implementation of document 01, and of what document 02 adds to it, written from their text alone and by
+//! other methods than the proved crates where there is a choice. Nothing here is proved: it makes the stored vectors
+//! and the cases that the proved crates are run on.
 //!
 //! - `field`: GF(2^d) as polynomials over GF(2); the checked calls on elements.
 //! - `polynomial`: polynomials in x over such a field.
@@ -11,8 +11,9 @@
 //! - `element_cases`: the cases that the program `element_trial` is run on, and the lines that it owes.
 //! - `class_cases`: the same for the program `conformance`: calls on classes.
 //! - `history_cases`: the same for the program `history_trial`: commits and undos on a register, and taking them back.
+//! - `stamp`: the class of an operation's stamp.
 //! - `stored`: the stored form's writer and checking reader.
-//! - `calls`: the seven calls on byte areas.
+//! - `calls`: the eight calls on byte areas.
 //! - `archive`: the archive, its walk and the walk report.
 //! - `byte_cases`: records and archives, mutated or not, and what the byte calls and the walk report owe for them.
 //! - `samples`: the archives that are kept in examples/.
@@ -32,6 +33,7 @@ pub mod jacobian;
 pub mod polynomial;
 pub mod random;
 pub mod samples;
+pub mod stamp;
 pub mod stored;
 
 /// Writes what a program is given to the file stdin of a folder, and what it owes for that to the file stdout.

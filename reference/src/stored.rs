@@ -19,7 +19,7 @@ pub const COUNT_LIMIT: u16 = 1024;
 /// The longest drawing number (document 02, request 1).
 pub const DRAWING_LIMIT: usize = 38;
 
-/// A refusal's number, 101 to 114.
+/// A refusal's number, 101 to 116.
 pub type Refusal = u32;
 
 /// May the body of a field with this tag have this length?

@@ -45,7 +45,8 @@ static void curve_coefficients(void) {
                 }
                 row[place] = least - 1; /* d = 5: 31 passes, 32 is 107 */
                 struct bytes b = with_row(&r, 1, row, 3);
-                refused(call, &b, 102);
+                put(&b, SEAL_TAG_CLASS);
+                refused(call, &b, call == STAMP ? 112 : 102); /* what is left is too short for a head, or too much */
             }
     end_test("107: 2^d and above at each of f3, f1 and f0; 2^d - 1 passes");
 }

@@ -1,4 +1,4 @@
-/* The edges, written out from document 01: each function makes the tests of one file. */
+/* The edges, written out from documents 01 and 02: each function makes the tests of one file. */
 #ifndef EDGES_H
 #define EDGES_H
 
@@ -6,5 +6,6 @@ void test_accepted(void);
 void test_heads(void);
 void test_bodies(void);
 void test_ends(void);
+void test_stamps(void);
 
 #endif

@@ -33,7 +33,7 @@ static void bytes_remain(void) {
             put(&b, 0x43);
         refused(call, &b, 112);
     }
-    end_test("112: 1 to 60 bytes and a page of them after the last field, before 113 and 114");
+    end_test("112: 1 to 60 bytes and a page of them after the last field, before 113, 114 and 115");
 }
 
 static void first_and_last_count(void) {
@@ -81,13 +81,13 @@ static void long_areas(void) {
         struct bytes b = {0}, owed = owed_of_accepted(call);
         append_fields(&b, &r, 0, r.fields);
         memcpy(in, b.at, b.length);
-        uint32_t long_input = call_library(call, in, four_gigabytes + b.length, out, 100);
+        uint32_t long_input = call_library(call, in, four_gigabytes + b.length, 0, out, 100);
         if (long_input != 112)
-            complain(call, b.at, b.length, 100, "4 GB more of input", 112, long_input);
+            complain(call, b.at, b.length, 0, 100, "4 GB more of input", 112, long_input);
         memset(out, 0, AREA);
-        uint32_t long_output = call_library(call, in, b.length, out, four_gigabytes + 1);
+        uint32_t long_output = call_library(call, in, b.length, 0, out, four_gigabytes + 1);
         if (long_output != owed.length || memcmp(out, owed.at, owed.length) != 0)
-            complain(call, b.at, b.length, 1, "4 GB more of output", (uint32_t)owed.length, long_output);
+            complain(call, b.at, b.length, 0, 1, "4 GB more of output", (uint32_t)owed.length, long_output);
         count_call();
         count_call();
     }

@@ -57,6 +57,8 @@ struct record accepted(enum call call, int d) {
         put_class(&r.field[3], SEAL_TAG_CLASS, x_0);
         put_class(&r.field[4], SEAL_TAG_OPERATION, x_0);
         r.fields = 5;
+    } else if (call == STAMP) {
+        r.fields = 2;
     } else {
         put_class(&r.field[2], SEAL_TAG_CLASS, x_0);
         put_class(&r.field[3], SEAL_TAG_CLASS, x_0);
@@ -90,6 +92,7 @@ struct bytes owed_of_accepted(enum call call) {
         put_count(&b, 6);
         put_class(&b, SEAL_TAG_CLASS, neutral);
         break;
+    case STAMP: put_class(&b, SEAL_TAG_CLASS, x_0); break; /* x^7 is 0 at x = 0, and so is its root */
     default: break;
     }
     return b;
@@ -97,6 +100,8 @@ struct bytes owed_of_accepted(enum call call) {
 
 void refused(enum call call, const struct bytes *in, uint32_t number) {
     expect(call, in->at, in->length, output_bound(call), number, NULL);
+    if (call == STAMP)
+        expect_stamp(in->at, in->length, UINT64_MAX, output_bound(call), number, NULL);
 }
 
 struct bytes with_row(const struct record *r, int f, const uint64_t *row, int numbers) {

@@ -21,7 +21,7 @@ void append(struct bytes *b, const struct bytes *more);
 
 void put_class(struct bytes *b, int tag, struct seal_class class);
 
-/* The fields of an accepted record on f = x^7, one by one: classes [x, 0], count 7. */
+/* The fields of an accepted record on f = x^7, one by one: classes [x, 0], count 7; for STAMP no class. */
 struct record {
     int fields;
     struct bytes field[5];
@@ -32,7 +32,8 @@ struct record accepted(enum call call, int d);
 /* Appends the fields from one to before another. */
 void append_fields(struct bytes *b, const struct record *r, int from, int to);
 
-/* What the call on an accepted record writes: examples 1 and 3 of document 01, and the definitions. */
+/* What the call on an accepted record writes, STAMP with stamp 0: examples 1 and 3 of document 01, and the
+ * definitions. */
 struct bytes owed_of_accepted(enum call call);
 
 /* An accepted record up to a field, and that field with another row of numbers as its body. */
@@ -41,7 +42,8 @@ struct bytes with_row(const struct record *r, int f, const uint64_t *row, int nu
 /* A record of a register on f = x^7. */
 struct bytes register_record(int d, int count, struct seal_class seal, struct seal_class operation);
 
-/* Holds a call to a refusal, with an output that is just long enough. */
+/* Holds a call to a refusal by its input, with an output that is just long enough; STAMP also with a stamp that is too
+ * large, which is looked at later. */
 void refused(enum call call, const struct bytes *in, uint32_t number);
 
 #endif

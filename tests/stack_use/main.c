@@ -1,6 +1,6 @@
 /* How much stack each call takes: it is run on a stack of its own that was filled with one byte, and the deepest byte
  * that changed is looked up. The calls are made on classes of every degree over both fields, every two of them where a
- * call takes two, and on refused records.
+ * call takes two, on stamps, and on refused records.
  *
  * Prints a line for each call with the most bytes that it took, the caller's copy of its arguments included, and ends
  * with 1 where one took more than half of SEAL_STACK. */
@@ -23,6 +23,7 @@ static ucontext_t here, there;
 /* What the call under measure gets. */
 static uint8_t in[256], out[SEAL_REGISTER_OUTPUT];
 static size_t in_len;
+static uint64_t operation_stamp;
 static uint32_t answer;
 static struct seal_register lent;
 static struct seal_class operation, row[CLASSES];
@@ -37,6 +38,7 @@ static void twice(void) { answer = seal_double(in, in_len, out, sizeof out); }
 static void half(void) { answer = seal_half(in, in_len, out, sizeof out); }
 static void commit(void) { answer = seal_commit(in, in_len, out, sizeof out); }
 static void undo(void) { answer = seal_undo(in, in_len, out, sizeof out); }
+static void stamp(void) { answer = seal_stamp(in, in_len, operation_stamp, out, sizeof out); }
 static void commit_in_place(void) { answer = seal_register_commit(&lent, operation); }
 static void undo_in_place(void) { answer = seal_register_undo(&lent, operation); }
 static void walk_row(void) {
@@ -59,12 +61,13 @@ static struct measure calls[] = {
     {"seal_half", half, 0, 0, 0},
     {"seal_commit", commit, 0, 0, 0},
     {"seal_undo", undo, 0, 0, 0},
+    {"seal_stamp", stamp, 0, 0, 0},
     {"seal_register_commit", commit_in_place, 0, 0, 0},
     {"seal_register_undo", undo_in_place, 0, 0, 0},
     {"seal_walk_row", walk_row, 0, 0, 0},
 };
 
-enum { MEMBERSHIP, OPPOSITE, SUM, TWICE, HALF, COMMIT, UNDO, COMMIT_IN_PLACE, UNDO_IN_PLACE, WALK_ROW, CALLS };
+enum { MEMBERSHIP, OPPOSITE, SUM, TWICE, HALF, COMMIT, UNDO, STAMP, COMMIT_IN_PLACE, UNDO_IN_PLACE, WALK_ROW, CALLS };
 
 /* How many bytes of the stack a function used, from its top down. */
 static size_t depth(void (*call)(void)) {
@@ -181,8 +184,21 @@ static void on_one(struct seal_curve c, struct seal_class a) {
         measure(which);
 }
 
+/* Stamps, one of which has no class over GF(2^61) and is too large over the bench field; and a record that is cut. */
+static void on_stamps(struct seal_curve c) {
+    static const uint64_t stamps[] = {0, 1, 2, 3, 784, UINT64_MAX};
+    put_curve(c);
+    for (size_t i = 0; i < sizeof stamps / sizeof stamps[0]; i++) {
+        operation_stamp = stamps[i];
+        measure(STAMP);
+    }
+    in_len--;
+    measure(STAMP);
+}
+
 /* Classes of every degree, made of one of degree 1. */
 static void on_curve(struct seal_curve c, struct seal_class point) {
+    on_stamps(c);
     row[0] = (struct seal_class){0, {0}, {0}};
     row[1] = point;
     for (int i = 2; i < CLASSES - 1; i++)

@@ -1,10 +1,10 @@
-//! The byte calls: document 01's examples, every refusal at its edges, the order of the checks.
+//! The byte calls: document 01's examples, every refusal at its edges, the order of the checks; stamps.
 
 use super::*;
 use crate::field::{Field, BENCH, WIDE};
 use crate::stored::{curve_field, curve_fields, degree_field, field, operation_field, CLASS, OPERATION};
 
-const CLASS_CALLS: [Call; 4] = [Call::Opposite, Call::Sum, Call::Double, Call::Half];
+const CLASS_CALLS: [Call; 5] = [Call::Opposite, Call::Sum, Call::Double, Call::Half, Call::Stamp(0)];
 
 fn curve_a(field: Field) -> Curve {
     Curve::new(field, 0, 0, 0)
@@ -22,7 +22,9 @@ fn fields(call: Call, field: Field) -> Vec<Vec<u8>> {
     if call.is_of_register() {
         fields.push(count_field(7));
     }
-    fields.push(class_field(&x()));
+    if !matches!(call, Call::Stamp(_)) {
+        fields.push(class_field(&x()));
+    }
     match call {
         Call::Sum => fields.push(class_field(&x())),
         Call::Commit | Call::Undo => fields.push(operation_field(&x())),
@@ -148,7 +150,7 @@ fn heads_of_every_field() {
     }
 }
 
-/// 106, 107, 109, 110 and 111 in every field that can have them, the next field being cut off.
+/// 106, 107, 109, 110 and 111 in every field that can have them, the next field being cut after a byte.
 #[test]
 fn bodies_of_every_field() {
     for call in CALLS {
@@ -173,7 +175,9 @@ fn bodies_of_every_field() {
                             row[place] = least;
                             assert_eq!(numbers(&row), 107);
                             row[place] = least - 1;
-                            assert_eq!(numbers(&row), 102);
+                            let passed = [fields[..i].concat(), curve_field(row[0], row[1], row[2]), vec![0]];
+                            let next = if i + 1 < fields.len() { 102 } else { 112 };
+                            assert_eq!(answered(call, &passed.concat()), next);
                         }
                     }
                     0x42 => {
@@ -225,6 +229,34 @@ fn counts() {
     let off_curve = Class::new(vec![1, 1], vec![]);
     assert_eq!(answered(Call::Undo, &register(0, &input, &off_curve)), 111);
     assert_eq!(answered(Call::Commit, &register(1024, &off_curve, &input)), 111);
+}
+
+/// The class of a stamp is written in 19 bytes. 115 and 116 come after all that is wrong with the input, 115 first.
+#[test]
+fn stamps() {
+    let input = |curve: &Curve| curve_fields(curve).concat();
+    let owed = |x: u64, y: u64| {
+        let body = [x.to_be_bytes(), y.to_be_bytes()].concat();
+        [vec![0x43, 0, 16], body, vec![9; 41]].concat()
+    };
+    for (field, limit) in [(BENCH, 4), (WIDE, 1 << 58)] {
+        let a = curve_a(field);
+        assert_eq!(run(Call::Stamp(0), &input(&a), &[9; 60]), (19, owed(0, 0)));
+        assert_eq!(run(Call::Stamp(0), &input(&Curve::new(field, 0, 0, 6)), &[9; 60]), (19, owed(0, 2)));
+        assert_eq!(answered(Call::Stamp(limit - 1), &input(&a)), 19);
+        let without = if field == BENCH { Curve::new(field, 4, 5, 1) } else { Curve::new(field, 0, 1, 1) };
+        assert_eq!(answered(Call::Stamp(0), &input(&without)), 116);
+        for stamp in [limit, limit + 1, 1 << 61, u64::MAX] {
+            for curve in [&a, &without] {
+                assert_eq!(answered(Call::Stamp(stamp), &input(curve)), 115);
+                assert_eq!(answered(Call::Stamp(stamp), &[input(curve), vec![0]].concat()), 112);
+            }
+            let coefficient = [degree_field(field.degree as u8), curve_field(0, 0, 1 << field.degree)].concat();
+            assert_eq!(answered(Call::Stamp(stamp), &coefficient), 107);
+            assert_eq!(answer(Call::Stamp(stamp), &input(&a), 50), (101, vec![]));
+        }
+        assert_eq!(answered(Call::Stamp(0), &[input(&without), vec![0]].concat()), 112);
+    }
 }
 
 /// An undo takes back a commit; the longest output has 56 bytes, that of a class 51.

@@ -1,8 +1,9 @@
 //! Every refusal of the calls by value at its edges, and the order of the checks: 106 and 107 for the curve, then 104,
-//! 110 and 111 for each class, the first class before the second is begun.
+//! 110 and 111 for each class, the first class before the second is begun; for a stamp 115 and 116 after the curve.
 
 use super::{Case, ClassValues, CurveValues, CALLS, CALLS_ON_TWO, CURVE, HALF, NEUTRAL, SUBTRACT_AND_HALVE};
 use crate::field::{Field, BENCH, WIDE};
+use crate::stamp::stamp_limit;
 
 /// No class by its degree, by what stands beyond it, and by the size of its numbers.
 pub const NONSENSE: ClassValues = ClassValues { degree: u64::MAX, u: [u64::MAX; 3], v: [u64::MAX; 3] };
@@ -130,10 +131,51 @@ fn two_classes(field: Field) -> Vec<Case> {
     cases
 }
 
+/// The first two stamps, the last, those after it and the largest number.
+fn stamps_around(field: Field) -> [u64; 6] {
+    let limit = stamp_limit(field);
+    [0, 1, limit - 1, limit, limit + 1, u64::MAX]
+}
+
+/// Stamps on a curve, with nothing and with nonsense in the places that the call leaves aside.
+fn stamps_on(curve: CurveValues, stamps: &[u64]) -> Vec<Case> {
+    stamps.iter().flat_map(|&stamp| [NEUTRAL, NONSENSE].map(|aside| Case::stamp(curve, stamp, aside))).collect()
+}
+
+/// Stamps at the edges, on f = x^7, on f = x^7 + 1 and on a curve where stamp 0 is 116. There 2^(d-3) has the candidates of
+/// 0, but for bits that no element has, and still is 115. Over GF(2^61) also a stamp of f = x^7 that is 116.
+fn stamps(field: Field) -> Vec<Case> {
+    let on = |f3, f1, f0| CurveValues::new(field, f3, f1, f0);
+    let (without, others) = if field == BENCH { (on(4, 5, 1), vec![2]) } else { (on(0, 1, 1), vec![785]) };
+    let mut cases = vec![];
+    for curve in [on(0, 0, 0), on(0, 0, 1), without] {
+        cases.extend(stamps_on(curve, &stamps_around(field)));
+        cases.extend(stamps_on(curve, &others));
+    }
+    for n in around(field).into_iter().chain([u64::MAX]) {
+        for curve in [on(n, 0, 0), on(0, n, 0), on(0, 0, n)] {
+            cases.extend(stamps_on(curve, &stamps_around(field)));
+        }
+    }
+    cases
+}
+
+/// Stamps with a degree that is none, a coefficient that is too large or none, and a stamp that is too large or none.
+fn stamps_of_no_field() -> Vec<Case> {
+    let mut cases = vec![];
+    for degree in [0, 4, 6, 60, 62, 255] {
+        for f3 in [0, u64::MAX] {
+            cases.extend(stamps_on(CurveValues { degree, f3, f1: 0, f0: 0 }, &stamps_around(WIDE)));
+        }
+    }
+    cases
+}
+
 pub fn cases() -> Vec<Case> {
     let mut cases = degrees();
+    cases.extend(stamps_of_no_field());
     for field in [BENCH, WIDE] {
-        for part in [coefficients, shapes, numbers, largest, two_classes] {
+        for part in [coefficients, shapes, numbers, largest, two_classes, stamps] {
             cases.extend(part(field));
         }
     }
@@ -164,6 +206,29 @@ mod tests {
         assert_eq!(line(curve, class(1, [0; 3], [31, 0, 0]), NONSENSE), "refused 111\n");
         assert_eq!(line(curve, class(1, [0; 3], [1, 0, 0]), NONSENSE), "refused 104\n");
         assert_eq!(line(curve, class(1, [0; 3], [1, 0, 0]), NEUTRAL), "1:0:1\n");
+    }
+
+    /// Stamps written out by hand: 106, 107, 115 and 116 in their order.
+    #[test]
+    fn stamps_by_hand() {
+        let line = |degree, f3, f0, stamp| {
+            let lines =
+                stamps_on(CurveValues { degree, f3, f1: 0, f0 }, &[stamp]).into_iter().map(|case| case.line);
+            let lines: Vec<String> = lines.collect();
+            assert_eq!(lines[0], lines[1], "what stands aside does not count");
+            lines[0].clone()
+        };
+        for (degree, limit) in [(5, 4), (61, 1 << 58)] {
+            assert_eq!(line(degree, 0, 0, 0), "1:0:0\n");
+            assert_eq!(line(degree, 0, 1, 0), "1:1:0\n");
+            assert_eq!(line(degree, 0, 6, 0), "1:0:2\n");
+            assert_eq!(line(degree, 0, 0, limit), "refused 115\n");
+            assert_eq!(line(degree, 0, 1 << degree, limit), "refused 107\n");
+            assert_eq!(line(degree + 1, 0, 1 << degree, limit), "refused 106\n");
+        }
+        assert_eq!(line(5, 12, 0, 1), "refused 116\n");
+        assert_eq!(line(61, 0, 0, 785), "refused 116\n");
+        assert_eq!(line(5, 0, 0, 3), "1:18:16\n");
     }
 
     /// The sums of two classes meet each refusal at each of the two places, and both orders of any two.

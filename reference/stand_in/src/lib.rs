@@ -1,8 +1,10 @@
-//! The seven byte calls of the reference under the C names of include/seal.h, as a static library. It stands in for
+//! The eight byte calls of the reference under the C names of include/seal.h, as a static library. It stands in for
 //! the proved library where tests/seal_calls is tested itself: the variable SEAL_FAULT, one of `FAULTS`, makes the calls
 //! wrong in one way, and that test has to fail.
 
 use reference::calls::{answer, Call};
+use reference::stamp::{first_class, stamp_limit};
+use reference::stored::{class_field, Reader, Refusal};
 use std::sync::OnceLock;
 
 /// The faults, by name.
@@ -14,7 +16,27 @@ use std::sync::OnceLock;
 /// - `input`: a byte of the input is written and written back.
 /// - `over-read`: one byte after the input is read.
 /// - `half`: the half of a class of degree 1 is that class.
-const FAULTS: [&str; 8] = ["bound", "scratch", "beyond", "order", "limit", "input", "over-read", "half"];
+/// - `candidate`: the second candidate of a stamp is tried before the first.
+/// - `six`: only the first six candidates are tried. With seven the answers would be right: the number of candidates that
+///   have a root is even, so that the eighth is never the first.
+/// - `lowest-bit`: the root with lowest bit 1 is taken.
+/// - `stamp-bound`: the stamp 2^(d-3) is accepted.
+/// - `stamp-order`: a stamp that is too large is refused before bytes that remain.
+const FAULTS: [&str; 13] = [
+    "bound",
+    "scratch",
+    "beyond",
+    "order",
+    "limit",
+    "input",
+    "over-read",
+    "half",
+    "candidate",
+    "six",
+    "lowest-bit",
+    "stamp-bound",
+    "stamp-order",
+];
 
 /// The fault that is asked for.
 fn fault() -> &'static str {
@@ -22,6 +44,35 @@ fn fault() -> &'static str {
     let name = FAULT.get_or_init(|| std::env::var("SEAL_FAULT").unwrap_or_default());
     assert!(name.is_empty() || FAULTS.contains(&name.as_str()), "SEAL_FAULT is one of {FAULTS:?}");
     name
+}
+
+/// The candidates of a stamp in the order in which they are tried.
+fn candidates(stamp: u64) -> impl Iterator<Item = u64> {
+    let places: &[u64] = match fault() {
+        "candidate" => &[1, 0, 2, 3, 4, 5, 6, 7],
+        "six" => &[0, 1, 2, 3, 4, 5],
+        _ => &[0, 1, 2, 3, 4, 5, 6, 7],
+    };
+    places.iter().map(move |c| 8 * stamp + c)
+}
+
+/// What a stamp's call writes, with one of its faults.
+fn faulty_stamp(stamp: u64, input: &[u8]) -> Result<Vec<u8>, Refusal> {
+    let mut reader = Reader::new(input);
+    let curve = reader.curve()?;
+    let limit = stamp_limit(curve.field);
+    if fault() == "stamp-order" && stamp >= limit {
+        return Err(115);
+    }
+    reader.end()?;
+    if stamp > limit || stamp == limit && fault() != "stamp-bound" {
+        return Err(115);
+    }
+    let mut bytes = class_field(&first_class(&curve, candidates(stamp)).ok_or(116u32)?);
+    if fault() == "lowest-bit" {
+        bytes[18] ^= 1;
+    }
+    Ok(bytes)
 }
 
 /// An answer that is wrong in the way asked for.
@@ -46,6 +97,13 @@ fn faulty(call: Call, input: &[u8], length: usize) -> (u32, Vec<u8>) {
         }
         "half" if call == Call::Half && right.0 <= 100 && input[33] == 16 => {
             return (19, input[31..].to_vec());
+        }
+        "candidate" | "six" | "lowest-bit" | "stamp-bound" | "stamp-order" => {
+            if let Call::Stamp(stamp) = call {
+                if right.0 != 101 {
+                    return faulty_stamp(stamp, input).map_or_else(|number| (number, vec![]), |bytes| (19, bytes));
+                }
+            }
         }
         _ => {}
     }
@@ -102,3 +160,16 @@ macro_rules! exported {
 exported!(
     seal_opposite Opposite, seal_sum Sum, seal_double Double, seal_half Half, seal_commit Commit, seal_undo Undo
 );
+
+/// # Safety
+/// The areas are as long as said and do not overlap.
+#[no_mangle]
+pub unsafe extern "C" fn seal_stamp(
+    input: *const u8,
+    input_length: usize,
+    stamp: u64,
+    output: *mut u8,
+    output_length: usize,
+) -> u32 {
+    run(Call::Stamp(stamp), input, input_length, output, output_length)
+}
