@@ -28,7 +28,7 @@ add-x c = let p = c .before .before .pre in omega (arith, p .2, bound-le (c .bef
 value-at-requires : tie.Need-value-at-requires Inv-loop μ-loop
 value-at-requires c κs =
     let p = c .before .before .pre in
-    (p .0, p .1, candidate-lt _ _ _ (p .0) (p .2) (c .loop-test .taken))
+    (p .0, p .1, candidate-lt _ _ (c .before .loop .i) (p .0) (p .2) (omega arith))
 
 enum-known-root : tie.Need-enum-known-root Inv-loop μ-loop
 enum-known-root c = search needs
@@ -41,7 +41,7 @@ returns c =
     let t = v .before in
     let p = t .before .before .pre in
     c .point .ensures
-    ∙ ap (stamped 0) (found-at _ _ _ _ (t .loop-test .taken) (t .before .loop .inv .1) (class-found _ _ _ (p .0) (v .value-at .ensures) (told .root .given .1) (q .quadratic-root .ensures)))
+    ∙ ap (stamped 0) (found-at _ _ _ (t .before .loop .i) (omega arith) (t .before .loop .inv .1) (class-found _ _ _ (p .0) (v .value-at .ensures) (told .root .given .1) (q .quadratic-root .ensures)))
 
 loop-again : tie.Need-loop-again Inv-loop μ-loop
 loop-again c =

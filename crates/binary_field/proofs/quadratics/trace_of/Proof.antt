@@ -8,7 +8,7 @@ pub trace-of-spec : {M : Type 1} → statement M
 trace-of-spec =
     tie.close
     (tie.spec
-    (λ c. degree-between (c .args .d) (c .pre .0) .0)
+    (λ c. omega (arith, degree-between (c .args .d) (c .pre .0) .0))
     (λ c. omega (arith, degree-between (c .args .d) (c .pre .0) .1))
     (λ c. omega (arith, degree-between (c .args .d) (c .pre .0) .1))
     (λ c. trace-by-digits _ _ (c .pre .0) (c .pre .1)))
