@@ -5,7 +5,7 @@
 //     calls ARCHIVE WALKREPORT
 //
 // The classes are of degree 3, on a curve and from a point drawn at random. Before anything is measured every double and sum is
-// held to NTL's, every half to NTL's double, and every answer to that in C. The operations take turns, and the least time
+// held to NTL's, every half to NTL's double, every stamp to NTL's traces, and every answer to that in C. The operations take turns, and the least time
 // of all rounds counts. Calls on elements run as a chain, each on what the last one answered. ARCHIVE has 1,024 operations, and
 // the program WALKREPORT is timed with it on standard input.
 #include <NTL/GF2EX.h>
@@ -37,9 +37,11 @@ uint64_t element_product(uint8_t d, uint64_t a, uint64_t b);
 uint64_t element_square(uint8_t d, uint64_t a);
 uint64_t element_square_root(uint8_t d, uint64_t a);
 uint64_t element_inverse(uint8_t d, uint64_t a);
+uint64_t element_quadratic_root(uint8_t d, uint64_t a);
+uint32_t class_stamp(uint8_t d, const uint64_t *f, uint64_t stamp, uint64_t *r);
 }
 
-enum { DEGREE = 61, CLASSES = 100, ROUNDS = 300, CHAIN = 10, KEPT = 1024 };
+enum { DEGREE = 61, CLASSES = 100, ROUNDS = 300, CHAIN = 10, KEPT = 1024, CURVE_FIELDS = 31 };
 
 // Numbers that look random and are the same in every run: splitmix64 from a fixed seed.
 static uint64_t drawn() {
@@ -177,6 +179,32 @@ static void hold(bool held, const char *what, int i) {
     exit(1);
 }
 
+// Is a number the root of y^2 + y = a with lowest bit 0, or all ones where NTL's trace of a is not 0?
+static bool is_root(uint64_t y, const GF2E &a) {
+    if (IsOne(trace(a))) return y == UINT64_MAX;
+    return y % 2 == 0 && sqr(element(y)) + element(y) == a;
+}
+
+// Stamps that have a class, and stamps whose first candidate has it.
+static std::vector<uint64_t> stamps, first_stamps;
+
+// Draws as many of each as there are classes, each held to NTL's trace of f at its candidates and to the same in C.
+static void draw_stamps() {
+    while (stamps.size() < CLASSES || first_stamps.size() < CLASSES) {
+        uint64_t stamp = drawn() >> 3, x = 8 * stamp;
+        Class r, plain;
+        uint32_t answer = class_stamp(DEGREE, curve, stamp, r.numbers);
+        while (x < 8 * stamp + 8 && IsOne(trace(eval(f, element(x))))) x++;
+        hold(answer == plain_stamp(curve, stamp, plain.numbers), "stamp", stamps.size());
+        hold((answer == 116) == (x == 8 * stamp + 8), "stamp", stamps.size());
+        if (answer == 116) continue;
+        hold(answer == 0 && r == plain && r.numbers[0] == 1 && r.numbers[1] == x, "stamp", stamps.size());
+        hold(is_root(r.numbers[4], eval(f, element(x))), "stamp", stamps.size());
+        if (stamps.size() < CLASSES) stamps.push_back(stamp);
+        if (x == 8 * stamp && first_stamps.size() < CLASSES) first_stamps.push_back(stamp);
+    }
+}
+
 // Each call on each class, and on it and the next, held to NTL and to the same in C.
 static void compare() {
     for (int i = 0; i < CLASSES; i++) {
@@ -191,6 +219,7 @@ static void compare() {
         hold(element_square(DEGREE, x) == number(sqr(element(x))) && element_square(DEGREE, x) == plain_square(x), "square", i);
         hold(element_square_root(DEGREE, x) == plain_root(x) && plain_square(plain_root(x)) == x, "square root", i);
         hold(element_inverse(DEGREE, x) == number(inv(element(x))) && element_inverse(DEGREE, x) == plain_inverse(x), "inverse", i);
+        hold(element_quadratic_root(DEGREE, x) == plain_quadratic_root(x) && is_root(plain_quadratic_root(x), element(x)), "root", i);
         hold(class_membership(DEGREE, curve, a) == 0 && plain_membership(curve, a) == 0, "membership", i);
         hold(class_double(DEGREE, curve, a, r.numbers) == 0 && r == class_of(twice), "double", i);
         hold(plain_double(curve, a, plain.numbers) == 0 && r == plain, "double", i);
@@ -206,12 +235,19 @@ static void compare() {
         hold(register_undo(DEGREE, curve, 8, r.numbers, b, back.numbers) == 0 && back == classes[i], "undo", i);
         hold(plain_subtract_and_halve(curve, r.numbers, b, plain.numbers) == 0 && back == plain, "undo", i);
         hold(seal_undo(records[i].data(), records[i].size(), out, sizeof out) == 56 && out[4] == 7, "undo by bytes", i);
+        hold(seal_stamp(records[i].data(), CURVE_FIELDS, stamps[i], out, sizeof out) == 19, "stamp by bytes", i);
     }
 }
 
 // What is measured: an operation by the proved code, in C, or by NTL.
-enum Operation { PRODUCT, SQUARE, ROOT, INVERSE, MEMBERSHIP, DOUBLE, HALF, SUM, COMMIT, UNDO, BYTE_UNDO, LOOP_PRODUCT, OPERATIONS };
+enum Operation { PRODUCT, SQUARE, ROOT, INVERSE, QUADRATIC, MEMBERSHIP, DOUBLE, HALF, SUM, COMMIT, UNDO, STAMP, FIRST_STAMP, BYTE_UNDO, BYTE_STAMP,
+    LOOP_PRODUCT, OPERATIONS };
 enum Maker { PROVED, PLAIN, NTL_LIBRARY, MAKERS };
+
+// An element for which y^2 + y has a root: the trace is the sum of the bits 0 and 59.
+static uint64_t with_root(uint64_t x) {
+    return x ^ ((x ^ x >> 59) & 1);
+}
 
 static uint64_t element_step(int operation, int maker, uint64_t x, uint64_t y) {
     switch (operation * MAKERS + maker) {
@@ -223,6 +259,8 @@ static uint64_t element_step(int operation, int maker, uint64_t x, uint64_t y) {
     case ROOT * MAKERS + PLAIN: return plain_root(x);
     case INVERSE * MAKERS + PROVED: return element_inverse(DEGREE, x) ^ 1;
     case INVERSE * MAKERS + PLAIN: return plain_inverse(x) ^ 1;
+    case QUADRATIC * MAKERS + PROVED: return element_quadratic_root(DEGREE, with_root(x));
+    case QUADRATIC * MAKERS + PLAIN: return plain_quadratic_root(with_root(x));
     default: return plain_loop_product(x, y);
     }
 }
@@ -235,13 +273,13 @@ static GF2E element_step_by_ntl(int operation, const GF2E &x, const GF2E &y) {
 
 static bool is_made(int operation, int maker) {
     if (maker == PROVED) return operation != LOOP_PRODUCT;
-    if (maker == PLAIN) return operation != BYTE_UNDO;
+    if (maker == PLAIN) return operation != BYTE_UNDO && operation != BYTE_STAMP;
     return operation == PRODUCT || operation == SQUARE || operation == INVERSE || operation == DOUBLE || operation == SUM ||
         operation == COMMIT;
 }
 
 static bool is_of_elements(int operation) {
-    return operation <= INVERSE || operation == LOOP_PRODUCT;
+    return operation <= QUADRATIC || operation == LOOP_PRODUCT;
 }
 
 // One round on classes: the operation on every class, or on each class and the next.
@@ -267,6 +305,11 @@ static uint64_t class_round(int operation, int maker, uint64_t x) {
         case COMMIT * MAKERS + NTL_LIBRARY: x += deg(sum_by_ntl(double_by_ntl(pairs[i]), pairs[j]).u); break;
         case UNDO * MAKERS + PROVED: x += register_undo(DEGREE, curve, 8, a, b, r.numbers); break;
         case UNDO * MAKERS + PLAIN: x += plain_subtract_and_halve(curve, a, b, r.numbers); break;
+        case STAMP * MAKERS + PROVED: x += class_stamp(DEGREE, curve, stamps[i], r.numbers); break;
+        case STAMP * MAKERS + PLAIN: x += plain_stamp(curve, stamps[i], r.numbers); break;
+        case FIRST_STAMP * MAKERS + PROVED: x += class_stamp(DEGREE, curve, first_stamps[i], r.numbers); break;
+        case FIRST_STAMP * MAKERS + PLAIN: x += plain_stamp(curve, first_stamps[i], r.numbers); break;
+        case BYTE_STAMP * MAKERS + PROVED: x += seal_stamp(records[i].data(), CURVE_FIELDS, stamps[i], out, sizeof out); break;
         default: x += seal_undo(records[i].data(), records[i].size(), out, sizeof out); break;
         }
     }
@@ -336,6 +379,7 @@ int main(int words, char **word) {
     for (int i : {61, 5, 2, 1, 0}) SetCoeff(modulus, i);
     GF2E::init(modulus);
     draw();
+    draw_stamps();
     compare();
     for (int round = 0; round < ROUNDS; round++) {
         for (int operation = 0; operation < OPERATIONS; operation++) {
@@ -349,9 +393,9 @@ int main(int words, char **word) {
     printf("GF(2^61), %d classes of degree 3; the checks that a call makes are timed with it, NTL makes none\n", CLASSES);
     printf("  %-30s %10s %8s %8s %8s\n", "", "time in", "time in", "C by", "NTL by");
     printf("  %-30s %10s %8s %8s %8s\n", "", "products", "halves", "ours", "ours");
-    const char *names[] = {"product", "square", "square root", "inverse", "membership", "double", "half", "sum", "commit", "undo",
-        "undo by bytes"};
-    for (int operation = 0; operation <= BYTE_UNDO; operation++) print_line(names[operation], operation);
+    const char *names[] = {"product", "square", "square root", "inverse", "root of y^2 + y = a", "membership", "double", "half", "sum", "commit", "undo",
+        "stamp", "stamp, first candidate", "undo by bytes", "stamp by bytes"};
+    for (int operation = 0; operation <= BYTE_STAMP; operation++) print_line(names[operation], operation);
     double program = program_time(word[2], word[1]) / least[HALF][PROVED];
     printf("  the program walkreport on %d operations takes %.0f halves, %.2f for each operation\n", KEPT, program, program / KEPT);
     printf("  NTL's double and sum take %.2f of an undo, a plain loop of 61 turns in C %.2f of a product\n",

@@ -1,4 +1,4 @@
-/* A straightforward implementation in C, over GF(2^61), of the algorithms of crates/binary_field, class_rows and jacobian: the same
+/* A straightforward implementation in C, over GF(2^61), of the algorithms of crates/binary_field, class_rows, jacobian and stamps: the same
  * products by integer multiplication, squares by a table, roots by shifts, the chain of the inverse with its table of six squarings at
  * once, Euclid's rule, composition, reduction and halving rules, and w from the division that checks a class. What differs is how C is
  * written: tables are static and not bound at each call, and rows are handed over by their addresses. Nothing of it is proved. */
@@ -91,19 +91,38 @@ __attribute__((constructor)) static void fill(void) {
     }
 }
 
-static uint64_t joined_sixfold(uint64_t x, int n, uint64_t y) {
+static uint64_t multisquare(uint64_t x, int n) {
     while (n-- > 0) {
         uint64_t r = 0;
         for (int i = 0; i < 16; i++) r ^= sixfold[16 * i + (x >> 4 * i & 15)];
         x = r;
     }
-    return plain_product(x, y);
+    return x;
+}
+
+static uint64_t joined_sixfold(uint64_t x, int n, uint64_t y) {
+    return plain_product(multisquare(x, n), y);
 }
 
 uint64_t plain_inverse(uint64_t a) {
     uint64_t a2 = joined(a, 1, a), a3 = joined(a2, 1, a), a6 = joined(a3, 3, a3), a12 = joined_sixfold(a6, 1, a6);
     uint64_t a24 = joined_sixfold(a12, 2, a12), a48 = joined_sixfold(a24, 4, a24);
     return plain_square(joined_sixfold(a48, 2, a12));
+}
+
+static uint64_t fourth_power_plus(uint64_t x, uint64_t a) {
+    return plain_square(plain_square(x)) ^ a;
+}
+
+uint64_t plain_quadratic_root(uint64_t a) {
+    uint64_t h3, h6, h12, h24, h;
+    if ((a ^ a >> 59) & 1) return UINT64_MAX;
+    h3 = fourth_power_plus(fourth_power_plus(a, a), a);
+    h6 = multisquare(h3, 1) ^ h3;
+    h12 = multisquare(h6, 2) ^ h6;
+    h24 = multisquare(h12, 4) ^ h12;
+    h = fourth_power_plus(multisquare(h24, 2) ^ h6, a);
+    return h ^ (h & 1);
 }
 
 static uint64_t times(uint64_t a, uint64_t b) {
@@ -446,4 +465,20 @@ uint32_t plain_subtract_and_halve(const uint64_t *f, const uint64_t *a, const ui
     Row fs = f_row(f);
     Pair p = pair_of(a), q = opposite(pair_of(b)), s = sum_rows(&fs, &p, &q), h = half_rows(&s, cofactor(&fs, &s));
     return store(&h, r);
+}
+
+uint32_t plain_stamp(const uint64_t *f, uint64_t stamp, uint64_t *r) {
+    Row row = f_row(f);
+    if (f[0] > MASK || f[1] > MASK || f[2] > MASK) return 107;
+    if (stamp >> 58) return 115;
+    for (uint64_t x = 8 * stamp; x < 8 * stamp + 8; x++) {
+        uint64_t value = 0, y;
+        for (int i = 11; i >= 0; i--) value = row.c[i] ^ (value ? plain_product(value, x) : 0);
+        y = plain_quadratic_root(value);
+        if (y == UINT64_MAX) continue;
+        memset(r, 0, 7 * sizeof *r);
+        r[0] = 1, r[1] = x, r[4] = y;
+        return 0;
+    }
+    return 116;
 }

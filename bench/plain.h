@@ -13,6 +13,8 @@ uint64_t plain_product(uint64_t a, uint64_t b);
 uint64_t plain_square(uint64_t a);
 uint64_t plain_root(uint64_t a);
 uint64_t plain_inverse(uint64_t a);
+/* The root of y^2 + y = a with lowest bit 0, or all ones. */
+uint64_t plain_quadratic_root(uint64_t a);
 /* The product by 61 turns of shift and exclusive or, without a branch on a bit. */
 uint64_t plain_loop_product(uint64_t a, uint64_t b);
 
@@ -22,6 +24,7 @@ uint32_t plain_half(const uint64_t *f, const uint64_t *a, uint64_t *r);
 uint32_t plain_sum(const uint64_t *f, const uint64_t *a, const uint64_t *b, uint64_t *r);
 uint32_t plain_double_and_add(const uint64_t *f, const uint64_t *a, const uint64_t *b, uint64_t *r);
 uint32_t plain_subtract_and_halve(const uint64_t *f, const uint64_t *a, const uint64_t *b, uint64_t *r);
+uint32_t plain_stamp(const uint64_t *f, uint64_t stamp, uint64_t *r);
 
 #ifdef __cplusplus
 }

@@ -119,7 +119,7 @@ module _ (c : Curve) (s : ℕ) where
       (subst (Accepts c) (sym (h .class)) (point-accepts c (p .0) (8 * s + g .0) (h .y) x-lt (h .root .root)), ap (λ (a : Class). a .degree) (h .class) ∙ point-degree (8 * s + g .0) (h .y))
 
   -- ---- refusals
-  pub stamp-too-large : curve-refusal c ≡ 0 → 2 ^ (d - 3) ≤ s → stamp-answer c s .outcome ≡ refused 115
+  pub stamp-too-large : curve-refusal c ≡ 0 → 2 ^ (c .degree - 3) ≤ s → stamp-answer c s .outcome ≡ refused 115
   unfolding stamp-answer stamp-refusal stamped unless _or-else_
   stamp-too-large ok h = rw (ok, le-ltb s _ h) refl
 
@@ -130,7 +130,7 @@ module _ (c : Curve) (s : ℕ) where
       (ap (λ (o : Option Class). stamped 0 o .outcome)
       (all-none (λ i. class-at d (f-row c) (8 * s + i)) 8 (λ i l. rootless-none (8 * s + i) (curve-passes c ok .accepted) (k i l))))
 
-  pub stamp-rootless : (stamp-answer c s .outcome ≡ refused 116) ↔ ((curve-refusal c ≡ 0) × (s < 2 ^ (d - 3)) × ((i : ℕ) → i < 8 → Rootless c (8 * s + i)))
+  pub stamp-rootless : (stamp-answer c s .outcome ≡ refused 116) ↔ ((curve-refusal c ≡ 0) × (s < 2 ^ (c .degree - 3)) × ((i : ℕ) → i < 8 → Rootless c (8 * s + i)))
   unfolding stamp-answer first-class
   stamp-rootless = (
     λ e.
