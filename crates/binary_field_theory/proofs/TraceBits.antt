@@ -19,10 +19,6 @@ unfolding two-digits
 two-digits-sum d a b =
     ap (λ x. (a ⊕ b ⊕ x) % 2) (sum-shr a b (d - 2)) ∙ ap (λ x. x % 2) (sum-middle a b _ _) ∙ sum-odd _ _
 
-two-digits-lt : (d a : ℕ) → two-digits d a < 2
-unfolding two-digits
-two-digits-lt d a = bit-lt _
-
 -- ---- the computations
 squared-same : ℕ → Bool
 squared-same d = same (λ n. two-digits d (square d n)) (two-digits d) d
