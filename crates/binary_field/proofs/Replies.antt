@@ -9,8 +9,8 @@ use Rattle.binary_field.specs.{declared.Answer.Answer, declared.Answer.t
 use Rattle.binary_field.specs.declared.{Solution.Solution, Solution.the-variants.Root, Solution.the-variants.NoRoot}
 use Rattle.binary_field.specs.declared.Solution.the-variants as solution
 use Rattle.binary_field_theory.specs.{Carryless._⊕_, Element.Accepted, Element.product, Element.square, Element.root, Element.inverse, Quadratic.even-root, Quadratic.trace, Quadratic.half-trace}
-use Rattle.binary_field_theory.proofs.{Linear.both, Theorems.even-root-by-trace, Theorems.none-by-trace}
-use Rattle.binary_field.specs.{Field.field, Answer.element, Answer.refusal, Answer.reply, Answer.below, Answer.element-refusal, Answer.answered, Answer.sum-reply, Answer.product-reply, Answer.square-reply, Answer.root-reply, Answer.inverse-reply, Answer.solved, Answer.quadratic-answer}
+use Rattle.binary_field_theory.proofs.{Linear.both, Theorems.even-root-found, Theorems.even-root-none, Theorems.even-root-by-trace, Theorems.none-by-trace}
+use Rattle.binary_field.specs.{Field.field, Answer.element, Answer.refusal, Answer.reply, Answer.below, Answer.element-refusal, Answer.answered, Answer.sum-reply, Answer.product-reply, Answer.square-reply, Answer.root-reply, Answer.inverse-reply, Answer.solved, Answer.quadratic-answer, Answer.Means}
 use Rattle.binary_field.proofs.Field.{add-number, mul-number, root-number, inverse-number, element-small}
 
 refusal-of : (k v : ℕ) → (k ≡ 0 → ⊥) → refusal k ≡ answered k v
@@ -145,3 +145,16 @@ module _ (d a : ℕ) (ok : Accepted d) (ha : a < 2 ^ d) where
   pub root-by-trace : {t h : ℕ} → t ≡ trace d a → t ≡ 0 → h ≡ half-trace d a → Root (h ⊕ h % 2) ≡ quadratic-answer d a
   root-by-trace {t} {h} e z f =
       ap (λ (x : ℕ). Root (x ⊕ x % 2)) f ∙ sym (quadratic-some (even-root-by-trace d ok a ha (sym e ∙ z)))
+
+-- what the answer says is so
+pub quadratic-means : (d a : ℕ) → Means d a (quadratic-answer d a)
+unfolding quadratic-answer solved
+quadratic-means d a = by (element-refusal d (a ∷ [])) refl (even-root d a) refl
+  where
+    accepted : element-refusal d (a ∷ []) ≡ 0 → Accepted d
+    accepted e = none-refused d a a refl (refusal-twice d a ∙ e) .0
+
+    by : (k : ℕ) → element-refusal d (a ∷ []) ≡ k → (o : Option ℕ) → even-root d a ≡ o → Means d a (solved k o)
+    by zero e (some y) f = (e, even-root-found d (accepted e) f)
+    by zero e none f = (e, even-root-none d (accepted e) a .0 f)
+    by (suc k) e o f = (sym e, λ z. omega arith)

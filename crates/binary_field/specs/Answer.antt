@@ -1,10 +1,11 @@
 -- What the calls on elements answer (docs/SPECIFICATION.md, 1 and 6).
 use Prim.Native.Nat.{ℕ, zero, suc, _^_}
-use mathlib.Core.{Bool.Bool, Bool.true, Bool.cond, Bool._||_, Bool._&&_, List.List, List.[], List._∷_, Option.Option, Option.none, Option.some}
+use mathlib.Core.{Path._≡_, Bool.Bool, Bool.true, Bool.cond, Bool._||_, Bool._&&_, List.List, List.[], List._∷_, Option.Option, Option.none, Option.some}
 use lib.Dec.{eqb, ltb}
 use Rattle.binary_field.specs.declared.Answer.{Answer, the-variants.Element, the-variants.Refused}
 use Rattle.binary_field.specs.declared.Solution.{Solution, the-variants.Root, the-variants.NoRoot}
 use Rattle.binary_field.specs.declared.Solution.the-variants as solution
+use Rattle.binary_field_theory.specs.Quadratic as equation
 use Rattle.binary_field_theory.specs.{Carryless._⊕_, Element.product, Element.square, Element.root, Element.inverse, Quadratic.even-root}
 
 -- an answer is an element or a refusal with its number
@@ -62,3 +63,9 @@ solved (suc k) o = solution.Refused (suc k)
 -- the root of y² + y = a with lowest bit 0
 unfoldable pub quadratic-answer : ℕ → ℕ → Solution
 quadratic-answer d a = solved (element-refusal d (a ∷ [])) (even-root d a)
+
+-- what each case of the answer says: the root with lowest bit 0, and that its neighbour is the only other one; that no element is a root; or the refusal
+abbrev pub Means : ℕ → ℕ → Solution → Type 0
+Means d a (Root y) = (element-refusal d (a ∷ []) ≡ 0) × equation.EvenRoot d a y
+Means d a NoRoot = (element-refusal d (a ∷ []) ≡ 0) × ((y : ℕ) → equation.Root d a y → ⊥)
+Means d a (solution.Refused k) = (k ≡ element-refusal d (a ∷ [])) × ¬ (k ≡ 0)
