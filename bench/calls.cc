@@ -5,9 +5,9 @@
 //     calls ARCHIVE WALKREPORT
 //
 // The classes are of degree 3, on a curve and from a point drawn at random. Before anything is measured every double and sum is
-// held to NTL's, every half to NTL's double, every stamp to NTL's traces, and every answer to that in C. The operations take turns, and the least time
-// of all rounds counts. Calls on elements run as a chain, each on what the last one answered. ARCHIVE has 1,024 operations, and
-// the program WALKREPORT is timed with it on standard input.
+// held to NTL's, every half to NTL's double, every stamp to NTL's traces, and every answer to that in C. The operations take
+// turns, and the least time of all rounds counts. Calls on elements run as a chain, each on what the last one answered.
+// ARCHIVE has 1,024 operations, and the program WALKREPORT is timed with it on standard input.
 #include <NTL/GF2EX.h>
 
 #include <cstdint>
@@ -240,8 +240,8 @@ static void compare() {
 }
 
 // What is measured: an operation by the proved code, in C, or by NTL.
-enum Operation { PRODUCT, SQUARE, ROOT, INVERSE, QUADRATIC, MEMBERSHIP, DOUBLE, HALF, SUM, COMMIT, UNDO, STAMP, FIRST_STAMP, BYTE_UNDO, BYTE_STAMP,
-    LOOP_PRODUCT, OPERATIONS };
+enum Operation { PRODUCT, SQUARE, ROOT, INVERSE, QUADRATIC, MEMBERSHIP, DOUBLE, HALF, SUM, COMMIT, UNDO, STAMP, FIRST_STAMP,
+    BYTE_UNDO, BYTE_STAMP, LOOP_PRODUCT, OPERATIONS };
 enum Maker { PROVED, PLAIN, NTL_LIBRARY, MAKERS };
 
 // An element for which y^2 + y has a root: the trace is the sum of the bits 0 and 59.
@@ -393,8 +393,8 @@ int main(int words, char **word) {
     printf("GF(2^61), %d classes of degree 3; the checks that a call makes are timed with it, NTL makes none\n", CLASSES);
     printf("  %-30s %10s %8s %8s %8s\n", "", "time in", "time in", "C by", "NTL by");
     printf("  %-30s %10s %8s %8s %8s\n", "", "products", "halves", "ours", "ours");
-    const char *names[] = {"product", "square", "square root", "inverse", "root of y^2 + y = a", "membership", "double", "half", "sum", "commit", "undo",
-        "stamp", "stamp, first candidate", "undo by bytes", "stamp by bytes"};
+    const char *names[] = {"product", "square", "square root", "inverse", "root of y^2 + y = a", "membership", "double", "half",
+        "sum", "commit", "undo", "stamp", "stamp, first candidate", "undo by bytes", "stamp by bytes"};
     for (int operation = 0; operation <= BYTE_STAMP; operation++) print_line(names[operation], operation);
     double program = program_time(word[2], word[1]) / least[HALF][PROVED];
     printf("  the program walkreport on %d operations takes %.0f halves, %.2f for each operation\n", KEPT, program, program / KEPT);

@@ -1,19 +1,23 @@
 -- The stamp's call on bytes (docs/SPECIFICATION.md, 2 and 6). For every record of a degree and a curve that is read, where the output has room for a class field: an accepted stamp's
 -- class field is written (`stamp-writes`), and a refused stamp's number is the answer (`stamp-refused`): 115 for a stamp of 2^(d-3) or more, whatever its candidates
--- (`too-large-bytes`), 116 exactly where none of the eight has a root (`rootless-bytes`). Two accepted stamps write different fields (`stamps-apart`).
+-- (`too-large-bytes`), 116 exactly where the stamp is below that and none of its eight candidates has a root (`rootless-bytes`). Two stamps for which a call on the same areas
+-- writes the same are one stamp, whatever the areas hold (`stamps-apart`).
 use Prim.Native.Nat.{ℕ, _+_, _-_, _*_, _^_, _≤_, _<_}
-use mathlib.Core.{Path._≡_, Path.sym, Path.ap, Path._∙_, List.List}
+use mathlib.Core.{Path._≡_, Path.refl, Path.sym, Path.ap, Path.subst, Path._∙_, Logic._↔_, List.List}
 use native.Mathlib.Omega.{arith}
 use lib.{ListN.length, ListN.drop, Seq.take-append-seam}
-use Rattle.jacobian.specs.{Answer.Verdict, Answer.accepted, Answer.refused, Answer.refusal, declared.Curve.Curve, declared.Class.Class}
+use Rattle.jacobian.specs.{Refusals.IsRefusal, Refusals.refusals, Refusals.listed, Answer.Verdict, Answer.accepted, Answer.refused, Answer.refusal, declared.Curve.Curve, declared.Class.Class}
+use Rattle.jacobian.proofs.Refusals.{above-100}
 use Rattle.stamps.specs.Stamps.{stamp-answer, Rootless}
-use Rattle.stamps.proofs.Theorems.{stamp-accepts, stamp-too-large, stamp-rootless, stamp-injective}
-use Rattle.stored_form.specs.{Number.bytes-of, Reading.found, Head.class-room, Head.stored, Head.head-bytes, Classes.class-said, Classes.class-field, Held.read-record, Held.curve-fields, declared.Held.Held}
+use Rattle.stamps.proofs.Theorems.{stamp-accepts, stamp-refuses, stamp-too-large, stamp-rootless, stamp-injective}
+use Rattle.stored_form.specs.{Number.bytes-of, Reading.Reading, Reading.found, Reading.refused as unread, Head.class-room, Head.stored, Head.head-bytes, Classes.class-said, Classes.class-field, Held.read-record, Held.curve-fields, declared.Held.Held}
+use Rattle.stored_form.proofs.{ToldApart.Tells, ToldApart.record-tells}
 use Rattle.stored_form_theorems.proofs.ClassRoundTrips.{body-said, class-short}
-use Rattle.written_form.specs.Effect.{Effect, write, refuse, on, class-handed, put}
-use Rattle.written_form.proofs.{Effects.call-found, Effects.put-written, Effects.put-refusal}
+use Rattle.written_form.specs.Effect.{Effect, write, refuse, on, class-handed, put, longest-answer}
+use Rattle.written_form.proofs.{Effects.call-found, Effects.call-refused, Effects.put-written, Effects.put-refusal, ToldApart.never-both}
 use Rattle.seal.specs.{Calls.answered, Calls.stamp-call, Rebuilt.wrote}
-use Rattle.seal.proofs.Passing.{curve-holds}
+use Rattle.seal.specs.declared.calls.Call.the-variants.{Stamp}
+use Rattle.seal.proofs.{Passing.curve-holds, ToldApart.tells}
 
 module _ (s out : List ℕ) (room : class-room ≤ length out) {h : Held} {end : ℕ} (read : read-record curve-fields s ≡ found h end) (n : ℕ) where
   handed-out : stamp-call n s out ≡ put (on (stamp-answer (h .curve) n .outcome) (class-field 0x43 (stamp-answer (h .curve) n .class))) out
@@ -35,8 +39,30 @@ module _ (s out : List ℕ) (room : class-room ≤ length out) {h : Held} {end :
   pub too-large-bytes : 2 ^ (h .curve .degree - 3) ≤ n → stamp-call n s out ≡ refuse 115 out
   too-large-bytes l = stamp-refused (stamp-too-large (h .curve) n (curve-holds s read) l)
 
-  pub rootless-bytes : n < 2 ^ (h .curve .degree - 3) → ((i : ℕ) → i < 8 → Rootless (h .curve) (8 * n + i)) → stamp-call n s out ≡ refuse 116 out
-  rootless-bytes l k = stamp-refused (stamp-rootless (h .curve) n .1 (curve-holds s read, l, k))
+  -- which number a refused call answers, its output says
+  answers : (v : Verdict) (k : ℕ) → stamp-answer (h .curve) n .outcome ≡ v → IsRefusal k → stamp-call n s out ≡ refuse k out → v ≡ refused k
+  unfolding refuse write
+  answers accepted k e i is =
+      let short : length (class-field 0x43 (stamp-answer (h .curve) n .class)) ≤ class-room = class-short 0x43 (h .curve) _ (stamp-accepts (h .curve) n e .0 .none) in
+      let same : length (class-field 0x43 (stamp-answer (h .curve) n .class)) ≡ k = ap (λ (x : Effect). x .answer) (sym (stamp-writes e) ∙ is) in
+      absurd (omega (arith, above-100 k i))
+  answers (refused m) k e i is = ap refused (ap (λ (x : Effect). x .answer) (sym (stamp-refused e) ∙ is))
+
+  pub rootless-bytes : (stamp-call n s out ≡ refuse 116 out) ↔ ((n < 2 ^ (h .curve .degree - 3)) × ((i : ℕ) → i < 8 → Rootless (h .curve) (8 * n + i)))
+  unfolding IsRefusal refusals listed
+  rootless-bytes = (
+    λ is. let p = stamp-rootless (h .curve) n .0 (answers _ 116 refl refl is) in (p .1, p .2),
+    λ p. stamp-refused (stamp-rootless (h .curve) n .1 (curve-holds s read, p .0, p .1)),
+  )
+
+  -- an answer that is a length says that the stamp was accepted
+  pub length-accepted : stamp-call n s out .answer ≤ longest-answer → stamp-answer (h .curve) n .outcome ≡ accepted
+  unfolding refuse
+  length-accepted low = by (stamp-answer (h .curve) n .outcome) refl
+    where
+      by : (v : Verdict) → stamp-answer (h .curve) n .outcome ≡ v → v ≡ accepted
+      by accepted e = refl
+      by (refused k) e = absurd (never-both (subst (λ (x : Effect). x .answer ≤ longest-answer) (stamp-refused e) low) (stamp-refuses (h .curve) n k e))
 
 -- ---- two stamps
 
@@ -45,11 +71,27 @@ said : (c : Curve) (a : Class) → refusal c a ≡ 0 → class-said (drop 3 (cla
 unfolding class-field stored head-bytes bytes-of
 said c a e = body-said c a e
 
-pub stamps-apart : (s out : List ℕ) → class-room ≤ length out → {h : Held} {end : ℕ} → read-record curve-fields s ≡ found h end → (m n : ℕ)
-    → stamp-answer (h .curve) m .outcome ≡ accepted → stamp-answer (h .curve) n .outcome ≡ accepted → stamp-call m s out ≡ stamp-call n s out → m ≡ n
+-- an answer that is a length says that the record was read, and that the output has room
+length-read : (s out : List ℕ) (n : ℕ) → stamp-call n s out .answer ≤ longest-answer → (class-room ≤ length out) × ((h : Held) × (end : ℕ) × (read-record curve-fields s ≡ found h end))
+unfolding refuse Tells
+length-read s out n low = (room, by (read-record curve-fields s) refl (record-tells curve-fields s))
+  where
+    room : class-room ≤ length out
+    room = tells (Stamp n) s out .wrote low .2
+
+    by : (x : Reading Held) → read-record curve-fields s ≡ x → Tells x → (h : Held) × (end : ℕ) × (read-record curve-fields s ≡ found h end)
+    by (found h end) e t = (h, end, e)
+    by (unread k) e t = absurd (never-both (subst (λ (x : Effect). x .answer ≤ longest-answer) (call-refused class-room curve-fields _ s out room e) low) t)
+
+pub stamps-apart : (s out : List ℕ) (m n : ℕ) → stamp-call m s out .answer ≤ longest-answer → stamp-call m s out ≡ stamp-call n s out → m ≡ n
 unfolding write
-stamps-apart s out room {h} read m n e f same =
-    let c = h .curve in
+stamps-apart s out m n low same =
+    let p = length-read s out m low in
+    let room = p .0 in
+    let c = p .1 .0 .curve in
+    let read = p .1 .2 in
+    let e = length-accepted s out room read m low in
+    let f = length-accepted s out room read n (subst (λ (x : Effect). x .answer ≤ longest-answer) same low) in
     let x = stamp-answer c m .class in
     let y = stamp-answer c n .class in
     let fields : class-field 0x43 x ≡ class-field 0x43 y =

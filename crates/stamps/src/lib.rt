@@ -15,7 +15,7 @@ use jacobian::Curve;
 use jacobian::Outcome;
 
 // How many candidates a stamp has.
-pub const CANDIDATES: u64 = 8;
+const CANDIDATES: u64 = 8;
 
 // r x + a; no product is made where r is 0.
 fn times_plus(d: u8, r: u64, x: u64, a: u64) -> u64
