@@ -74,14 +74,14 @@ said c a e = body-said c a e
 -- an answer that is a length says that the record was read, and that the output has room
 length-read : (s out : List ℕ) (n : ℕ) → stamp-call n s out .answer ≤ longest-answer → (class-room ≤ length out) × ((h : Held) × (end : ℕ) × (read-record curve-fields s ≡ found h end))
 unfolding refuse Tells
-length-read s out n low = (room, by (read-record curve-fields s) refl (record-tells curve-fields s))
+length-read s out n low = (long, by (read-record curve-fields s) refl (record-tells curve-fields s))
   where
-    room : class-room ≤ length out
-    room = tells (Stamp n) s out .wrote low .2
+    long : class-room ≤ length out
+    long = tells (Stamp n) s out .wrote low .2
 
     by : (x : Reading Held) → read-record curve-fields s ≡ x → Tells x → (h : Held) × (end : ℕ) × (read-record curve-fields s ≡ found h end)
     by (found h end) e t = (h, end, e)
-    by (unread k) e t = absurd (never-both (subst (λ (x : Effect). x .answer ≤ longest-answer) (call-refused class-room curve-fields _ s out room e) low) t)
+    by (unread k) e t = absurd (never-both (subst (λ (x : Effect). x .answer ≤ longest-answer) (call-refused class-room curve-fields _ s out long e) low) t)
 
 pub stamps-apart : (s out : List ℕ) (m n : ℕ) → stamp-call m s out .answer ≤ longest-answer → stamp-call m s out ≡ stamp-call n s out → m ≡ n
 unfolding write
