@@ -10,14 +10,13 @@ use Rattle.jacobian.specs.{Refusals.IsRefusal, Refusals.refusals, Refusals.list
 use Rattle.jacobian.proofs.Refusals.{above-100}
 use Rattle.stamps.specs.Stamps.{stamp-answer, Rootless}
 use Rattle.stamps.proofs.Theorems.{stamp-accepts, stamp-refuses, stamp-too-large, stamp-rootless, stamp-injective}
-use Rattle.stored_form.specs.{Number.bytes-of, Reading.Reading, Reading.found, Reading.refused as unread, Head.class-room, Head.stored, Head.head-bytes, Classes.class-said, Classes.class-field, Held.read-record, Held.curve-fields, declared.Held.Held}
-use Rattle.stored_form.proofs.{ToldApart.Tells, ToldApart.record-tells}
+use Rattle.stored_form.specs.{Number.bytes-of, Reading.found, Head.class-room, Head.stored, Head.head-bytes, Classes.class-said, Classes.class-field, Held.read-record, Held.curve-fields, declared.Held.Held}
 use Rattle.stored_form_theorems.proofs.ClassRoundTrips.{body-said, class-short}
 use Rattle.written_form.specs.Effect.{Effect, write, refuse, on, class-handed, put, longest-answer}
-use Rattle.written_form.proofs.{Effects.call-found, Effects.call-refused, Effects.put-written, Effects.put-refusal, ToldApart.never-both}
+use Rattle.written_form.proofs.{Effects.call-found, Effects.put-written, Effects.put-refusal, ToldApart.never-both}
 use Rattle.seal.specs.{Calls.answered, Calls.stamp-call, Rebuilt.wrote}
 use Rattle.seal.specs.declared.calls.Call.the-variants.{Stamp}
-use Rattle.seal.proofs.{Passing.curve-holds, ToldApart.tells}
+use Rattle.seal.proofs.{Passing.curve-holds, ToldApart.length-read}
 
 module _ (s out : List ℕ) (room : class-room ≤ length out) {h : Held} {end : ℕ} (read : read-record curve-fields s ≡ found h end) (n : ℕ) where
   handed-out : stamp-call n s out ≡ put (on (stamp-answer (h .curve) n .outcome) (class-field 0x43 (stamp-answer (h .curve) n .class))) out
@@ -39,7 +38,7 @@ module _ (s out : List ℕ) (room : class-room ≤ length out) {h : Held} {end :
   pub too-large-bytes : 2 ^ (h .curve .degree - 3) ≤ n → stamp-call n s out ≡ refuse 115 out
   too-large-bytes l = stamp-refused (stamp-too-large (h .curve) n (curve-holds s read) l)
 
-  -- which number a refused call answers, its output says
+  -- where the call is refused with a number, so is the one by value
   answers : (v : Verdict) (k : ℕ) → stamp-answer (h .curve) n .outcome ≡ v → IsRefusal k → stamp-call n s out ≡ refuse k out → v ≡ refused k
   unfolding refuse write
   answers accepted k e i is =
@@ -56,7 +55,7 @@ module _ (s out : List ℕ) (room : class-room ≤ length out) {h : Held} {end :
   )
 
   -- an answer that is a length says that the stamp was accepted
-  pub length-accepted : stamp-call n s out .answer ≤ longest-answer → stamp-answer (h .curve) n .outcome ≡ accepted
+  length-accepted : stamp-call n s out .answer ≤ longest-answer → stamp-answer (h .curve) n .outcome ≡ accepted
   unfolding refuse
   length-accepted low = by (stamp-answer (h .curve) n .outcome) refl
     where
@@ -71,22 +70,10 @@ said : (c : Curve) (a : Class) → refusal c a ≡ 0 → class-said (drop 3 (cla
 unfolding class-field stored head-bytes bytes-of
 said c a e = body-said c a e
 
--- an answer that is a length says that the record was read, and that the output has room
-length-read : (s out : List ℕ) (n : ℕ) → stamp-call n s out .answer ≤ longest-answer → (class-room ≤ length out) × ((h : Held) × (end : ℕ) × (read-record curve-fields s ≡ found h end))
-unfolding refuse Tells
-length-read s out n low = (long, by (read-record curve-fields s) refl (record-tells curve-fields s))
-  where
-    long : class-room ≤ length out
-    long = tells (Stamp n) s out .wrote low .2
-
-    by : (x : Reading Held) → read-record curve-fields s ≡ x → Tells x → (h : Held) × (end : ℕ) × (read-record curve-fields s ≡ found h end)
-    by (found h end) e t = (h, end, e)
-    by (unread k) e t = absurd (never-both (subst (λ (x : Effect). x .answer ≤ longest-answer) (call-refused class-room curve-fields _ s out long e) low) t)
-
 pub stamps-apart : (s out : List ℕ) (m n : ℕ) → stamp-call m s out .answer ≤ longest-answer → stamp-call m s out ≡ stamp-call n s out → m ≡ n
 unfolding write
 stamps-apart s out m n low same =
-    let p = length-read s out m low in
+    let p = length-read (Stamp m) s out low in
     let room = p .0 in
     let c = p .1 .0 .curve in
     let read = p .1 .2 in

@@ -19,7 +19,7 @@ use Rattle.stored_form_theorems.proofs.ClassRoundTrips.{class-short}
 use Rattle.stored_form.proofs.{ToldApart.Tells, ToldApart.record-tells, ToldApart.reading-told, ToldApart.reading-found, ToldApart.found-reading}
 use Rattle.written_form.proofs.{ToldApart.on-apart, ToldApart.call-told-apart, ToldApart.answer-tells, ToldApart.never-both, Effects.call-refused}
 use Rattle.seal.specs.Records.{register-fields}
-use Rattle.seal.specs.Calls.{register, register-handed, answered, membership-call, room, called, step-call}
+use Rattle.seal.specs.Calls.{register, register-handed, answered, membership-call, tags, room, called, step-call}
 use Rattle.seal.specs.declared.calls.Call.{Call}
 use Rattle.seal.specs.declared.calls.Call.the-variants.{Opposite, Double, Half, Sum, Stamp}
 use Rattle.seal.specs.declared.calls.Call.the-variants as Call
@@ -106,33 +106,41 @@ room-low (Stamp n) = lit≤ tt
 pub tells : (call : Call) (s out : List ℕ) → AnswerTells (room call) out (called call s out)
 tells call s out = answer-tells (room-low call) (told-apart call s out)
 
--- ---- a commit or an undo whose answer is a length was read and accepted
+-- ---- a call whose answer is a length was read
+
+pub length-read : (call : Call) (s out : List ℕ) → called call s out .answer ≤ longest-answer
+    → (room call ≤ length out) × ((h : Held) × (end : ℕ) × (read-record (tags call) s ≡ found h end))
+unfolding refuse Tells
+length-read call s out low = (long, by (read-record (tags call) s) refl (record-tells (tags call) s))
+  where
+    long : room call ≤ length out
+    long = tells call s out .wrote low .2
+
+    by : (x : Reading Held) → read-record (tags call) s ≡ x → Tells x → (h : Held) × (end : ℕ) × (read-record (tags call) s ≡ found h end)
+    by (found h end) e t = (h, end, e)
+    by (unread k) e t = absurd (never-both (subst (λ (x : Effect). x .answer ≤ longest-answer) (call-refused (room call) (tags call) _ s out long e) low) t)
+
+-- ---- and a commit or an undo was accepted
 
 module _ (k : Step) (s out : List ℕ) (low : step-call k s out .answer ≤ longest-answer) where
+  step-read : (register-room ≤ length out) × ((h : Held) × (end : ℕ) × (read-record register-record s ≡ found h end))
+  step-read = by k low
+    where
+      by : (j : Step) → step-call j s out .answer ≤ longest-answer → (register-room ≤ length out) × ((h : Held) × (end : ℕ) × (read-record register-record s ≡ found h end))
+      by Commit l = length-read Call.Commit s out l
+      by Undo l = length-read Call.Undo s out l
+
   pub accepted-room : register-room ≤ length out
-  accepted-room = answer-tells (lit≤ tt) (step-told-apart k s out) .wrote low .2
+  accepted-room = step-read .0
 
   not-refused : (n : ℕ) → IsRefusal n → step-call k s out ≡ refuse n out → ⊥
   unfolding refuse
   not-refused n i e = never-both (subst (λ (x : Effect). x .answer ≤ longest-answer) e low) i
 
-  unread-refused : {n : ℕ} → read-record register-record s ≡ unread n → step-call k s out ≡ refuse n out
-  unread-refused {n} e = go k
-    where
-      go : (j : Step) → step-call j s out ≡ refuse n out
-      go Commit = call-refused register-room register-record _ s out accepted-room e
-      go Undo = call-refused register-room register-record _ s out accepted-room e
-
   pub accepted-read : (h : Held) × (end : ℕ) × (read-record register-record s ≡ found h end) × (step-answer k (register h) (h .operation) .outcome ≡ accepted)
-  unfolding Tells
-  accepted-read = go (read-record register-record s) refl (record-tells register-record s)
+  accepted-read = let r = step-read .1 in (r .0, r .1, r .2, taken (r .0) (r .1) (r .2) (step-answer k (register (r .0)) (r .0 .operation) .outcome) refl)
     where
       taken : (h : Held) (end : ℕ) → read-record register-record s ≡ found h end → (v : Verdict) → step-answer k (register h) (h .operation) .outcome ≡ v → v ≡ accepted
       taken h end e accepted f = refl
       taken h end e (refused n) f =
           absurd (not-refused n (step-refuses k (register h) (h .operation) n f) (of-record s out accepted-room e k ∙ unwritten out (step-answer k (register h) (h .operation)) f))
-
-      go : (x : Reading Held) → read-record register-record s ≡ x → Tells x
-          → (h : Held) × (end : ℕ) × (read-record register-record s ≡ found h end) × (step-answer k (register h) (h .operation) .outcome ≡ accepted)
-      go (found h end) e t = (h, end, e, taken h end e (step-answer k (register h) (h .operation) .outcome) refl)
-      go (unread n) e t = absurd (not-refused n t (unread-refused e))
