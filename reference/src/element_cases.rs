@@ -17,7 +17,8 @@ pub struct Case {
 
 /// The calls on two elements, then those on one.
 const ON_TWO: [u8; 2] = [1, 2];
-const ON_ONE: [u8; 4] = [3, 4, 5, QUADRATIC_ROOT];
+const ON_ONE: [u8; 4] = [3, 4, INVERSE, QUADRATIC_ROOT];
+const INVERSE: u8 = 5;
 const QUADRATIC_ROOT: u8 = 6;
 
 impl Case {
@@ -33,7 +34,7 @@ impl Case {
             2 => product(self.degree, self.a, self.b),
             3 => square(self.degree, self.a),
             4 => square_root(self.degree, self.a),
-            5 => inverse(self.degree, self.a),
+            INVERSE => inverse(self.degree, self.a),
             QUADRATIC_ROOT => quadratic_root(self.degree, self.a),
             _ => return "no such call\n".to_string(),
         };
@@ -141,7 +142,9 @@ mod tests {
         assert_eq!(line(2, 5, 16, 2), "5\n");
         assert_eq!(line(3, 5, 3, 0), "5\n");
         assert_eq!(line(4, 5, 5, 0), "3\n");
-        assert_eq!(line(5, 61, 0, 0), "0\n");
+        assert_eq!(line(5, 61, 1, 99), "1\n");
+        assert_eq!(line(5, 61, 0, 1), "refused 117\n");
+        assert_eq!(line(5, 6, 0, 1), "refused 106\n");
         assert_eq!(line(1, 4, 0, 99), "refused 106\n");
         assert_eq!(line(1, 5, 0, 99), "refused 110\n");
         assert_eq!(line(6, 5, 6, 99), "2\n");
@@ -151,7 +154,8 @@ mod tests {
         assert_eq!(line(7, 5, 0, 0), "no such call\n");
     }
 
-    /// Each call meets each of the two refusals and an element, over both fields; a root of y^2 + y = a is also missing.
+    /// Each call meets 106 and 110 and an element, over both fields; a root of y^2 + y = a is also missing, and an inverse
+    /// alone is refused with 117, for 0 and for nothing else.
     #[test]
     fn every_outcome_of_every_call() {
         let cases = all_cases();
@@ -166,6 +170,11 @@ mod tests {
                 assert!(lines(degree).contains(&element.to_string()));
                 assert_eq!(lines(degree).contains(&"no root\n".to_string()), call == QUADRATIC_ROOT);
                 assert!(!lines(degree).contains(&"refused 106\n".to_string()));
+                let inverted = |case: &&Case| case.call == call && case.degree == degree;
+                for case in cases.iter().filter(inverted) {
+                    assert_eq!(case.line() == "refused 117\n", call == INVERSE && case.a == 0);
+                }
+                assert_eq!(lines(degree).contains(&"refused 117\n".to_string()), call == INVERSE);
             }
             for degree in [0, 4, 6, 60, 62, 255] {
                 assert!(lines(degree).iter().all(|line| line == "refused 106\n"));

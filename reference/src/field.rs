@@ -73,11 +73,8 @@ impl Field {
         (1..self.degree).fold(a, |root, _| self.square(root))
     }
 
-    /// The inverse by Euclid's rule on `a` and the modulus; that of 0 is 0.
-    pub fn inverse(&self, a: u64) -> u64 {
-        if a == 0 {
-            return 0;
-        }
+    /// The inverse by Euclid's rule on `a` and the modulus, where the rule ends in 1. For 0 it ends in the modulus.
+    pub fn inverse(&self, a: u64) -> Option<u64> {
         // in each row (r, s), r and s a differ by a multiple of the modulus
         let (mut upper, mut lower) = ((self.modulus, 0), (a as u128, 1));
         while lower.0 != 0 {
@@ -86,8 +83,12 @@ impl Field {
             upper = lower;
             lower = next;
         }
-        assert_eq!(upper.0, 1, "the modulus is irreducible");
-        upper.1 as u64
+        (upper.0 == 1).then_some(upper.1 as u64)
+    }
+
+    /// The inverse of a divisor that is not 0.
+    pub fn reciprocal(&self, divisor: u64) -> u64 {
+        self.inverse(divisor).expect("the divisor is not 0, and the modulus is irreducible")
     }
 
     /// The root y of y^2 + y = c whose lowest bit is 0, where there is one; the other root is y + 1.
@@ -189,8 +190,9 @@ pub fn quadratic_root(degree: u8, a: u64) -> Answer {
     checked_answer(degree, &[a], |field| root(field).map_or(Answer::NoRoot, Answer::Element))
 }
 
+/// 117 where there is no inverse (document 02, request 3).
 pub fn inverse(degree: u8, a: u64) -> Answer {
-    checked(degree, &[a], |field| field.inverse(a))
+    checked_answer(degree, &[a], |field| field.inverse(a).map_or(Answer::Refused(117), Answer::Element))
 }
 
 #[cfg(test)]
@@ -230,8 +232,18 @@ mod tests {
     fn roots_and_inverses(field: Field, a: u64) {
         assert_eq!(field.square(field.square_root(a)), a);
         assert_eq!(field.square_root(field.square(a)), a);
-        let expected = if a == 0 { 0 } else { 1 };
-        assert_eq!(field.mul(a, field.inverse(a)), expected);
+        assert_eq!(field.inverse(a).is_some(), a != 0);
+        assert!(field.inverse(a).map_or(true, |b| field.contains(b) && field.mul(a, b) == 1));
+    }
+
+    /// Trying every element of the bench field: each but 0 has one whose product with it is 1, and only that one.
+    #[test]
+    fn inverses_of_the_bench_field() {
+        for a in 0..32 {
+            let found: Vec<u64> = (0..32).filter(|&b| BENCH.mul(a, b) == 1).collect();
+            assert_eq!(found, BENCH.inverse(a).into_iter().collect::<Vec<u64>>());
+            assert_eq!(found.len(), usize::from(a != 0));
+        }
     }
 
     #[test]
@@ -254,6 +266,7 @@ mod tests {
             laws(WIDE, a, b, c);
             roots_and_inverses(WIDE, a);
         }
+        roots_and_inverses(WIDE, 0);
     }
 
     /// The sum of the conjugates, which says whether y^2 + y = c has a root: it has where this is 0 (Hilbert's theorem 90).
@@ -326,7 +339,14 @@ mod tests {
         assert_eq!(product(61, 0, 1 << 61), Answer::Refused(110));
         assert_eq!(square(5, 32), Answer::Refused(110));
         assert_eq!(square_root(62, 0), Answer::Refused(106));
-        assert_eq!(inverse(5, 0), Answer::Element(0));
+        for degree in [5, 61] {
+            assert_eq!(inverse(degree, 0), Answer::Refused(117));
+            assert_eq!(inverse(degree, 1), Answer::Element(1));
+            assert_eq!(inverse(degree, 1 << degree), Answer::Refused(110));
+        }
+        // where 106 and 117 could both be said, it is 106
+        assert_eq!(inverse(6, 0), Answer::Refused(106));
+        assert_eq!(inverse(0, 0), Answer::Refused(106));
         assert_eq!(quadratic_root(4, 32), Answer::Refused(106));
         assert_eq!(quadratic_root(5, 32), Answer::Refused(110));
         assert_eq!(quadratic_root(61, 1 << 61), Answer::Refused(110));

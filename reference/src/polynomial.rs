@@ -90,14 +90,14 @@ impl Polynomial {
     pub fn monic(&self, field: Field) -> Polynomial {
         match self.0.last() {
             None => Polynomial::zero(),
-            Some(&leading) => self.scale(field, field.inverse(leading)),
+            Some(&leading) => self.scale(field, field.reciprocal(leading)),
         }
     }
 
     /// Quotient and remainder by a divisor other than 0.
     pub fn divide(&self, field: Field, divisor: &Polynomial) -> (Polynomial, Polynomial) {
         let n = divisor.degree().expect("the divisor is not 0");
-        let inverse = field.inverse(divisor.0[n]);
+        let inverse = field.reciprocal(divisor.0[n]);
         let mut rest = self.0.clone();
         let mut quotient = vec![0; (rest.len() + 1).saturating_sub(divisor.0.len())];
         for i in (0..quotient.len()).rev() {
@@ -133,7 +133,7 @@ impl Polynomial {
             lower = next;
         }
         let (g, s, t) = upper;
-        let c = g.0.last().map_or(1, |&leading| field.inverse(leading));
+        let c = g.0.last().map_or(1, |&leading| field.reciprocal(leading));
         (g.scale(field, c), s.scale(field, c), t.scale(field, c))
     }
 }

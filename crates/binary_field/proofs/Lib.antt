@@ -1,3 +1,5 @@
--- The numbers of the field's operations, and what the calls answer.
+-- The numbers of the field's operations, laws of checks, and what the calls answer.
 pub mod Field
+pub mod Checks
 pub mod Replies
+pub mod Told

@@ -1,17 +1,19 @@
 -- What the answers of the calls on elements come to: the refusal where there is one, and else what the field's operation gives, or the root of
--- y² + y = a with lowest bit 0 where there is one.
-use mathlib.Core.{Path._≡_, Path.refl, Path.ap, Path.sym, Path._∙_, Bool.Bool, Bool.true, Bool.false, Bool.cond, Bool._||_, Bool._&&_, List.[], List._∷_, Option.Option, Option.none, Option.some}
-use Prim.Native.Nat.{ℕ, zero, suc, _%_, _^_, _<_}
+-- y² + y = a with lowest bit 0 where there is one. The inverse of an element other than 0 is the only one whose product with it is 1, and 0 is refused with 117 (`inverse-means`, `inverse-zero-refused`).
+use mathlib.Core.{Path._≡_, Path.refl, Path.ap, Path.sym, Path._∙_, Bool.Bool, Bool.true, Bool.false, Bool._||_, Bool._&&_, List.[], List._∷_, Option.Option, Option.none, Option.some}
+use Prim.Native.Nat.{ℕ, zero, suc, _-_, _%_, _^_, _<_}
 use native.Mathlib.Omega.{arith}
-use lib.Dec.{T, eqb, ltb, ltb→lt}
+use lib.{Dec.T, Dec.eqb, Dec.ltb, Dec.ltb→lt, Pow.pow-pos}
 use borrow.Author.Tests.{lt-ltb}
 use Rattle.binary_field.specs.{declared.Answer.Answer, declared.Answer.the-variants.Element, declared.Answer.the-variants.Refused, Field.element as at}
 use Rattle.binary_field.specs.declared.{Solution.Solution, Solution.the-variants.Root, Solution.the-variants.NoRoot}
 use Rattle.binary_field.specs.declared.Solution.the-variants as solution
-use Rattle.binary_field_theory.specs.{Carryless._⊕_, Element.Accepted, Element.product, Element.square, Element.root, Element.inverse, Quadratic.even-root, Quadratic.trace, Quadratic.half-trace}
-use Rattle.binary_field_theory.proofs.{Linear.both, Theorems.even-root-found, Theorems.even-root-none, Theorems.even-root-by-trace, Theorems.none-by-trace}
-use Rattle.binary_field.specs.{Field.field, Answer.element, Answer.refusal, Answer.reply, Answer.below, Answer.element-refusal, Answer.answered, Answer.sum-reply, Answer.product-reply, Answer.square-reply, Answer.root-reply, Answer.inverse-reply, Answer.solved, Answer.quadratic-answer, Answer.Means}
-use Rattle.binary_field.proofs.Field.{add-number, mul-number, root-number, inverse-number, element-small}
+use Rattle.binary_field_theory.specs.{Carryless._⊕_, Element.Accepted, Element.product, Element.square, Element.power, Element.root, Element.inverse, Quadratic.even-root, Quadratic.trace, Quadratic.half-trace}
+use Rattle.binary_field_theory.proofs.{Linear.both, Elements.element-path, Theorems.one-inverse, Theorems.even-root-found, Theorems.even-root-none, Theorems.even-root-by-trace, Theorems.none-by-trace}
+use Rattle.binary_field.specs.{Field.field, Answer.element, Answer.refusal, Answer.reply, Answer.below, Answer.element-refusal, Answer.inverse-refusal, Answer.answered, Answer.sum-reply, Answer.product-reply, Answer.square-reply, Answer.root-reply, Answer.inverse-reply, Answer.InverseMeans, Answer.solved, Answer.quadratic-answer, Answer.Means, Checks.unless, Checks._or-else_}
+use Rattle.field_laws.specs.Division.{inverse-of}
+use Rattle.binary_field.proofs.Field.{add-number, mul-number, nought-number, root-number, inverse-number, element-small}
+use Rattle.binary_field.proofs.Checks.{then-zero}
 
 refusal-of : (k v : ℕ) → (k ≡ 0 → ⊥) → refusal k ≡ answered k v
 unfolding answered
@@ -27,7 +29,8 @@ pub replies : {k n u v : ℕ} → k ≡ n → k ≡ 0 → u ≡ v → element u 
 unfolding answered
 replies e h f = rw (← e, h) (ap element f)
 
-both-pass : (x y : Bool) → _≡_ {A = ℕ} 0 (cond x (cond y 0 110) 106) → T x × T y
+both-pass : (x y : Bool) → _≡_ {A = ℕ} 0 (unless x 106 or-else unless y 110) → T x × T y
+unfolding unless _or-else_
 both-pass true true e = (tt, tt)
 both-pass true false e = absurd (omega arith)
 both-pass false y e = absurd (omega arith)
@@ -43,7 +46,7 @@ none-refused d a b e h =
 -- a call on one number tests it twice
 pub refusal-twice : (d a : ℕ) → element-refusal d (a ∷ a ∷ []) ≡ element-refusal d (a ∷ [])
 unfolding element-refusal below
-refusal-twice d a = ap (λ (x : Bool). cond (eqb d 5 || eqb d 61) (cond x 0 110) 106) (twice (ltb a (2 ^ d)))
+refusal-twice d a = ap (λ (x : Bool). unless (eqb d 5 || eqb d 61) 106 or-else unless x 110) (twice (ltb a (2 ^ d)))
   where
     twice : (x : Bool) → (x && (x && true)) ≡ (x && true)
     twice true = refl
@@ -56,11 +59,11 @@ of-T false t = absurd t
 -- the degree is accepted and the numbers are in range: the answer is the element
 module _ (d a : ℕ) (hd : Accepted d) (ha : a < 2 ^ d) where
   none-one : element-refusal d (a ∷ []) ≡ 0
-  unfolding element-refusal below
+  unfolding element-refusal below unless _or-else_
   none-one = rw (of-T (eqb d 5 || eqb d 61) hd, lt-ltb _ _ ha)
 
   none-two : (b : ℕ) → b < 2 ^ d → element-refusal d (a ∷ b ∷ []) ≡ 0
-  unfolding element-refusal below
+  unfolding element-refusal below unless _or-else_
   none-two b hb = rw (of-T (eqb d 5 || eqb d 61) hd, lt-ltb _ _ ha, lt-ltb _ _ hb)
 
   pub sum-replies : (b : ℕ) → b < 2 ^ d → sum-reply d a b ≡ element (a ⊕ b)
@@ -79,9 +82,64 @@ module _ (d a : ℕ) (hd : Accepted d) (ha : a < 2 ^ d) where
   unfolding root-reply answered
   root-replies = rw none-one
 
-  pub inverse-replies : inverse-reply d a ≡ element (inverse d a)
-  unfolding inverse-reply answered
-  inverse-replies = rw none-one
+  none-inverse : ¬ (a ≡ 0) → inverse-refusal d a ≡ 0
+  unfolding inverse-refusal unless _or-else_
+  none-inverse ne = rw (none-one, lt-ltb 0 a (omega (arith, ne)))
+
+-- ---- the inverse
+
+nonzero-due : (k : ℕ) → ¬ (k or-else 117 ≡ 0)
+unfolding _or-else_
+nonzero-due zero e = omega arith
+nonzero-due (suc k) e = omega arith
+
+-- 0 is refused whatever the degree
+zero-due : (d : ℕ) → ¬ (inverse-refusal d 0 ≡ 0)
+unfolding inverse-refusal unless
+zero-due d = nonzero-due (element-refusal d (0 ∷ []))
+
+-- no refusal: the number is an element of an accepted degree, and not 0
+pub inverse-unrefused : (d a : ℕ) {k : ℕ} → k ≡ inverse-refusal d a → k ≡ 0 → Accepted d × (a < 2 ^ d) × ¬ (a ≡ 0)
+unfolding inverse-refusal
+inverse-unrefused d a e h =
+    let z = then-zero (element-refusal d (a ∷ [])) _ (sym e ∙ h) in
+    let p = none-refused d a a refl (refusal-twice d a ∙ z .0) in
+    (p .0, p .1, λ is. zero-due d (ap (inverse-refusal d) (sym is) ∙ sym e ∙ h))
+
+pub inverse-refuses : (d a : ℕ) {k : ℕ} → k ≡ inverse-refusal d a → (k ≡ 0 → ⊥) → refusal k ≡ inverse-reply d a
+unfolding inverse-reply
+inverse-refuses d zero e h = ap refusal e
+inverse-refuses d (suc n) e h = refuses _ e h
+
+pub inverse-answers : (d a : ℕ) {k b : ℕ} → k ≡ inverse-refusal d a → k ≡ 0 → b ≡ power d a (2 ^ d - 2) → element b ≡ inverse-reply d a
+unfolding inverse-reply
+inverse-answers d zero e h f = absurd (zero-due d (sym e ∙ h))
+inverse-answers d (suc n) e h f = replies e h f
+
+inverse-replies : (d a : ℕ) → Accepted d → a < 2 ^ d → (ne : ¬ (a ≡ 0)) → inverse-reply d a ≡ element (inverse d a ne)
+inverse-replies d a hd ha ne = sym (inverse-answers d a (sym (none-inverse d a hd ha ne)) refl refl)
+
+-- 0 is refused with 117 in each field
+pub zero-refusal : (d : ℕ) → Accepted d → inverse-refusal d 0 ≡ 117
+unfolding inverse-refusal unless _or-else_
+zero-refusal d hd = rw (none-one d 0 hd (pow-pos d))
+
+pub inverse-zero-refused : (d : ℕ) → Accepted d → inverse-reply d 0 ≡ refusal 117
+unfolding inverse-reply
+inverse-zero-refused d hd = ap refusal (zero-refusal d hd)
+
+-- what the answer says is so
+pub inverse-means : (d a : ℕ) → InverseMeans d a (inverse-reply d a)
+unfolding inverse-reply answered
+inverse-means d zero = (refl, zero-due d)
+inverse-means d (suc n) = by (inverse-refusal d (suc n)) refl
+  where
+    not-zero : ¬ (suc n ≡ 0)
+    not-zero e = omega arith
+
+    by : (k : ℕ) → inverse-refusal d (suc n) ≡ k → InverseMeans d (suc n) (answered k (inverse d (suc n) not-zero))
+    by zero e = let p = inverse-unrefused d (suc n) refl e in (e, one-inverse d (p .0) (suc n) (p .1) not-zero)
+    by (suc k) e = (sym e, λ z. omega arith)
 
 -- the calls give the sums, products, squares, roots and inverses of the field
 module _ (d : ℕ) (ok : Accepted d) (a : ℕ) (ha : a < 2 ^ d) where
@@ -99,8 +157,10 @@ module _ (d : ℕ) (ok : Accepted d) (a : ℕ) (ha : a < 2 ^ d) where
   pub root-in-field : root-reply d a ≡ element ((field d ok .root (at d ok a)) .0)
   root-in-field = rw (root-number d ok, element-small d ok a ha) (root-replies d a ok ha)
 
-  pub inverse-in-field : inverse-reply d a ≡ element ((field d ok .inverse (at d ok a)) .0)
-  inverse-in-field = rw (inverse-number d ok, element-small d ok a ha) (inverse-replies d a ok ha)
+  pub inverse-in-field : (ne : ¬ (at d ok a ≡ field d ok .ring .nought)) → inverse-reply d a ≡ element ((inverse-of (field d ok) (at d ok a) ne) .0)
+  inverse-in-field ne =
+      rw (inverse-number d ok, element-small d ok a ha)
+      (inverse-replies d a ok ha (λ e. ne (element-path d (element-small d ok a ha ∙ e ∙ sym (nought-number d ok)))))
 
 -- for a caller that takes the answer apart: its element is the one that the reply says, and it is no refusal
 pub element-is : {x : Answer} {n v : ℕ} → x ≡ Element n → reply x ≡ element v → n ≡ v

@@ -1,12 +1,14 @@
 -- What the calls on elements answer (docs/SPECIFICATION.md, 1 and 6).
 use Prim.Native.Nat.{ℕ, zero, suc, _^_}
-use mathlib.Core.{Path._≡_, Bool.Bool, Bool.true, Bool.cond, Bool._||_, Bool._&&_, List.List, List.[], List._∷_, Option.Option, Option.none, Option.some}
+use mathlib.Core.{Path._≡_, Bool.Bool, Bool.true, Bool._||_, Bool._&&_, List.List, List.[], List._∷_, Logic._⊎_, Option.Option, Option.none, Option.some}
+use native.Mathlib.Omega.{arith}
 use lib.Dec.{eqb, ltb}
+use Rattle.binary_field.specs.Checks.{unless, _or-else_, listed}
 use Rattle.binary_field.specs.declared.Answer.{Answer, the-variants.Element, the-variants.Refused}
 use Rattle.binary_field.specs.declared.Solution.{Solution, the-variants.Root, the-variants.NoRoot}
 use Rattle.binary_field.specs.declared.Solution.the-variants as solution
 use Rattle.binary_field_theory.specs.Quadratic as equation
-use Rattle.binary_field_theory.specs.{Carryless._⊕_, Element.product, Element.square, Element.root, Element.inverse, Quadratic.even-root}
+use Rattle.binary_field_theory.specs.{Carryless._⊕_, Element.product, Element.square, Element.root, Element.inverse, Element.OneInverse, Quadratic.even-root}
 
 -- an answer is an element or a refusal with its number
 pub data Reply : Type 0 where
@@ -25,7 +27,19 @@ below m (n ∷ ns) = ltb n m && below m ns
 
 -- the refusal of a call on elements, and 0 where there is none: 106 for a degree other than 5 and 61, then 110 for a number of 2^d or more
 unfoldable pub element-refusal : ℕ → List ℕ → ℕ
-element-refusal d ns = cond (eqb d 5 || eqb d 61) (cond (below (2 ^ d) ns) 0 110) 106
+element-refusal d ns = unless (eqb d 5 || eqb d 61) 106 or-else unless (below (2 ^ d) ns) 110
+
+-- that of an inverse: then 117 for 0, which has none
+unfoldable pub inverse-refusal : ℕ → ℕ → ℕ
+inverse-refusal d a = element-refusal d (a ∷ []) or-else unless (ltb 0 a) 117
+
+-- the numbers with which calls on elements refuse
+unfoldable pub element-refusals : List ℕ
+element-refusals = 106 ∷ 110 ∷ 117 ∷ []
+
+-- what their checks say: 0, or one of these
+unfoldable pub ElementTold : ℕ → Type 0
+ElementTold n = (n ≡ 0) ⊎ (listed n element-refusals ≡ true)
 
 -- the refusal where there is one, else the element
 unfoldable pub answered : ℕ → ℕ → Reply
@@ -50,9 +64,15 @@ square-reply d a = answered (element-refusal d (a ∷ [])) (square d a)
 unfoldable pub root-reply : ℕ → ℕ → Reply
 root-reply d a = answered (element-refusal d (a ∷ [])) (root d a)
 
--- the inverse, which is 0 of 0
+-- the inverse of an element other than 0; for 0 there is no element to answer
 unfoldable pub inverse-reply : ℕ → ℕ → Reply
-inverse-reply d a = answered (element-refusal d (a ∷ [])) (inverse d a)
+inverse-reply d zero = refusal (inverse-refusal d zero)
+inverse-reply d (suc n) = answered (inverse-refusal d (suc n)) (inverse d (suc n) (λ e. omega arith))
+
+-- what each case says: the only element whose product with a is 1, or the refusal
+abbrev pub InverseMeans : ℕ → ℕ → Reply → Type 0
+InverseMeans d a (element b) = (inverse-refusal d a ≡ 0) × OneInverse d a b
+InverseMeans d a (refusal k) = (k ≡ inverse-refusal d a) × ¬ (k ≡ 0)
 
 -- the refusal where there is one, else the root where there is one
 unfoldable pub solved : ℕ → Option ℕ → Solution

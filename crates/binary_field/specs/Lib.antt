@@ -1,3 +1,4 @@
--- The field of elements, and what the calls on elements answer.
+-- The field of elements, and what the calls on elements check and answer.
 pub mod Field
+pub mod Checks
 pub mod Answer

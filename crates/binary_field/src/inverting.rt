@@ -1,8 +1,8 @@
-// The inverse of an element, the power 2^d - 2 = 2 (2^(d-1) - 1), by an addition chain (Itoh and Tsujii): from the powers 2^j - 1 and
-// 2^k - 1 of a, k squarings and one product make the power 2^(j+k) - 1.
+// The inverse of an element other than 0, its power 2^d - 2 = 2 (2^(d-1) - 1), by an addition chain (Itoh and Tsujii): from the powers
+// 2^j - 1 and 2^k - 1 of a, k squarings and one product make the power 2^(j+k) - 1.
 ghost use mathlib.Core.Path.{_≡_};
-ghost use Prim.Native.Nat.{_*_, _<_, _^_};
-ghost use Rattle.binary_field_theory.specs.Element.{Accepted, product, squarings, inverse};
+ghost use Prim.Native.Nat.{_-_, _*_, _<_, _^_};
+ghost use Rattle.binary_field_theory.specs.Element.{Accepted, product, squarings, power};
 ghost use Rattle.binary_field_theory.specs.Spreading.{Spreads};
 ghost use Rattle.binary_field_theory.specs.Multisquaring.{Multisquares};
 use crate::carryless;
@@ -26,7 +26,7 @@ fn joined(d: u8, x: u64, k: u8, y: u64, table: &[u16; 256]) -> u64
 // The chain 1, 2, 4.
 fn inverse_5(a: u64, table: &[u16; 256]) -> u64
     requires { ⌜ (a < 2 ^ 5) × Spreads (now table) ⌝ }
-    ensures { λ r. ⌜ r ≡ inverse 5 a ⌝ }
+    ensures { λ r. ⌜ r ≡ power 5 a (2 ^ 5 - 2) ⌝ }
 {
     let a2 = joined(5, a, 1, a, table);
     let a4 = joined(5, a2, 2, a2, table);
@@ -45,7 +45,7 @@ fn joined_sixfold(x: u64, n: u8, y: u64, sixfold: &[u64; 256]) -> u64
 // The chain 1, 2, 3, 6, 12, 24, 48, 60, whose squarings come in sixes from 6 on.
 fn inverse_61(a: u64, table: &[u16; 256], sixfold: &[u64; 256]) -> u64
     requires { ⌜ (a < 2 ^ 61) × Spreads (now table) × Multisquares (now sixfold) ⌝ }
-    ensures { λ r. ⌜ r ≡ inverse 61 a ⌝ }
+    ensures { λ r. ⌜ r ≡ power 61 a (2 ^ 61 - 2) ⌝ }
 {
     let a2 = joined(61, a, 1, a, table);
     let a3 = joined(61, a2, 1, a, table);
@@ -57,10 +57,10 @@ fn inverse_61(a: u64, table: &[u16; 256], sixfold: &[u64; 256]) -> u64
     squaring::square_of(61, a60, table)
 }
 
-// The inverse of an element, by the chain of its degree.
+// The inverse of an element other than 0, by the chain of the degree.
 pub(crate) fn inverse_of(d: u8, a: u64, table: &[u16; 256]) -> u64
-    requires { ⌜ Accepted d × (a < 2 ^ d) × Spreads (now table) ⌝ }
-    ensures { λ r. ⌜ r ≡ inverse d a ⌝ }
+    requires { ⌜ Accepted d × (a < 2 ^ d) × ¬ (a ≡ 0) × Spreads (now table) ⌝ }
+    ensures { λ r. ⌜ r ≡ power d a (2 ^ d - 2) ⌝ }
 {
     if d == 5 {
         return inverse_5(a, table);

@@ -1,9 +1,9 @@
 // Elements of GF(2^5) and GF(2^61): numbers below 2^d whose bit i is the coefficient of t^i.
-// A call refuses a degree other than 5 and 61 with 106, then a number of 2^d or more with 110.
+// A call refuses a degree other than 5 and 61 with 106, then a number of 2^d or more with 110; the inverse then refuses 0 with 117.
 ghost use mathlib.Core.Path.{_≡_};
-ghost use mathlib.Core.Bool.{cond};
 ghost use mathlib.Core.List.{[], _∷_};
-ghost use Rattle.binary_field.specs.Answer.{reply, below, element-refusal, sum-reply, product-reply, square-reply, root-reply, inverse-reply, quadratic-answer};
+ghost use Rattle.binary_field.specs.Checks.{unless};
+ghost use Rattle.binary_field.specs.Answer.{reply, below, element-refusal, inverse-refusal, sum-reply, product-reply, square-reply, root-reply, inverse-reply, quadratic-answer};
 
 mod carryless;
 mod inverting;
@@ -27,7 +27,7 @@ pub enum Solution {
 
 // 110 where one of two numbers is m or more, else 0.
 fn range_refusal(m: u64, a: u64, b: u64) -> u32
-    ensures { λ r. ⌜ r ≡ cond (below m (a ∷ b ∷ [])) 0 110 ⌝ }
+    ensures { λ r. ⌜ r ≡ unless (below m (a ∷ b ∷ [])) 110 ⌝ }
 {
     if a < m {
         if b < m {
@@ -48,6 +48,19 @@ fn refusal(d: u8, a: u64, b: u64) -> u32
         return range_refusal(0x2000_0000_0000_0000, a, b);
     }
     106
+}
+
+// The refusal of an inverse, and 0 where there is none: 117 for 0, after the others.
+fn inverse_refusal(d: u8, a: u64) -> u32
+    ensures { λ r. ⌜ r ≡ inverse-refusal d a ⌝ }
+{
+    let n = refusal(d, a, a);
+    if n == 0 {
+        if a == 0 {
+            return 117;
+        }
+    }
+    n
 }
 
 // The sum of two elements.
@@ -95,11 +108,11 @@ pub fn square_root(d: u8, a: u64) -> Answer
     Answer::Element(rooting::root_of(d, a))
 }
 
-// The inverse of an element, and 0 of 0.
+// The inverse of an element other than 0, which is refused.
 pub fn inverse(d: u8, a: u64) -> Answer
     ensures { λ r. ⌜ reply r ≡ inverse-reply d a ⌝ }
 {
-    let n = refusal(d, a, a);
+    let n = inverse_refusal(d, a);
     if n != 0 {
         return Answer::Refused(n);
     }

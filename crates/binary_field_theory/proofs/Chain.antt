@@ -1,10 +1,10 @@
--- Repeated spreading is repeated squaring, and the inverse by few products is the inverse.
+-- Repeated spreading is repeated squaring, and the inverse by few products is the power 2^d - 2.
 use Prim.Native.Nat.{ℕ, zero, suc, _+_, _-_, _*_, _/_, _%_, _^_, _<_}
 use mathlib.Core.Path.{_≡_, refl, sym, ap, ap₂, _∙_}
 use native.Mathlib.Omega.{arith}
 use lib.Arith.{bin-ind}
 use Rattle.binary_field_theory.specs.Carryless.{digits-to, digits, spread, remainder}
-use Rattle.binary_field_theory.specs.Element.{low, product, square, squarings, power, inverse}
+use Rattle.binary_field_theory.specs.Element.{low, product, square, squarings, power}
 use Rattle.binary_field_theory.specs.Chain.{spreadings, chain-turn, chain, chain-inverse}
 use Rattle.binary_field_theory.proofs.{Sums.bit-cases, Sums.bit-lt, Clmul.digits-step}
 use Rattle.binary_field_theory.proofs.Products
@@ -52,8 +52,8 @@ module _ (d : ℕ) (h : low d < 2 ^ d) (a : ℕ) (ha : a < 2 ^ d) where
       (λ k ih. let e : 2 * (k / 2) + k % 2 ≡ k = omega arith in
       digits-step 1 (chain-turn d a) turn-zero k ∙ ap (chain-turn d a k) ih ∙ (rw e at (turn-ones (k / 2) (k % 2) (bit-lt k))))
 
-  pub chain-is-inverse : chain-inverse d a ≡ inverse d a
+  pub chain-is-power : chain-inverse d a ≡ power d a (2 ^ d - 2)
   unfolding chain-inverse
-  chain-is-inverse =
+  chain-is-power =
       spreadings-squarings d 1 (chain d a (d - 1)) ∙ Power.squarings-suc d 0 (chain d a (d - 1))
-      ∙ ap (square d) (Power.squarings-zero d (chain d a (d - 1)) ∙ chain-ones (d - 1)) ∙ sym (Power.inverse-ones d h a)
+      ∙ ap (square d) (Power.squarings-zero d (chain d a (d - 1)) ∙ chain-ones (d - 1)) ∙ sym (Power.ones-squared d h a)

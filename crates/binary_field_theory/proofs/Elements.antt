@@ -3,10 +3,10 @@
 use Prim.Native.Nat.{ℕ, _-_, _^_, _<_}
 use mathlib.Core.Path.{_≡_}
 use native.Mathlib.Decide.{Fin·val-path}
-use Rattle.binary_field_theory.specs.Element.{Accepted, Element, product, square, root, inverse}
+use Rattle.binary_field_theory.specs.Element.{Accepted, Element, product, square, root, power}
 use Rattle.binary_field_theory.specs.Chain.{spreadings, chain-inverse}
 use Rattle.binary_field_theory.proofs.{Products.low-lt, Frobenius.root-lt, Frobenius.square-root, Certificate.certified}
-use Rattle.binary_field_theory.proofs.{Inverses.inverse-lt, Inverses.product-inverse, Chain.chain-is-inverse, Chain.spreadings-squarings}
+use Rattle.binary_field_theory.proofs.{Inverses.product-inverse, Power.power-lt, Chain.chain-is-power, Chain.spreadings-squarings}
 
 pub element-path : (d : ℕ) {x y : Element d} → x .0 ≡ y .0 → x ≡ y
 element-path d {x} {y} = Fin·val-path {n = 2 ^ d} {i = x} {j = y}
@@ -24,11 +24,11 @@ module _ (d : ℕ) (ok : Accepted d) where
     unfolding square
     spreadings-square = rw (spreadings-root a) (square-root d (low-lt d ok) (certified d ok .fixed) a ha)
 
-    pub chain-number : chain-inverse d a ≡ inverse d a
-    chain-number = chain-is-inverse d (low-lt d ok) a ha
+    pub chain-number : chain-inverse d a ≡ power d a (2 ^ d - 2)
+    chain-number = chain-is-power d (low-lt d ok) a ha
 
     pub chain-lt : chain-inverse d a < 2 ^ d
-    chain-lt = rw chain-number (inverse-lt d (certified d ok) a ha)
+    chain-lt = rw chain-number (power-lt d (low-lt d ok) a (2 ^ d - 2))
 
     pub product-chain : ¬ (a ≡ 0) → product d a (chain-inverse d a) ≡ 1
     product-chain ne = rw chain-number (product-inverse d (certified d ok) a ha ne)

@@ -4,7 +4,7 @@ use Prim.Native.Nat.{ℕ, zero, suc, _+_, _-_, _*_, _/_, _%_, _^_, _<_}
 use mathlib.Core.{Path._≡_, Path.refl, Path.sym, Path.ap, Path._∙_, Bool.cond}
 use native.Mathlib.{Nat.zero-add, Nat.suc-add, Nat.add-zero, Nat.one-mul, Nat.mul-comm, Nat.mul-assoc, Nat.pow-succ', Omega.arith}
 use lib.{Dec.eqb, Arith.bin-ind, Pow.ones-split}
-use Rattle.binary_field_theory.specs.{Carryless._⊕_, Carryless.digits-to, Carryless.digits, Carryless.remainder, Element.low, Element.product, Element.square, Element.squarings, Element.power, Element.inverse}
+use Rattle.binary_field_theory.specs.{Carryless._⊕_, Carryless.digits-to, Carryless.digits, Carryless.remainder, Element.low, Element.product, Element.square, Element.squarings, Element.power}
 use Rattle.binary_field_theory.proofs.{Sums.bit-cases, Sums.bit-lt, Clmul.digits-step}
 use Rattle.binary_field_theory.proofs.Products
 
@@ -121,9 +121,8 @@ module _ (d : ℕ) (h : low d < 2 ^ d) where
       ∙ power-add a (2 ^ k * (2 ^ j - 1)) (2 ^ k - 1)
       ∙ ap (λ x. product d x (power d a (2 ^ k - 1))) (sym (squarings-power k a (2 ^ j - 1)))
 
-  pub inverse-ones : (a : ℕ) → inverse d a ≡ square d (power d a (2 ^ (d - 1) - 1))
-  unfolding inverse
-  inverse-ones a = ap (power d a) even ∙ power-even a (2 ^ (d - 1) - 1)
+  pub ones-squared : (a : ℕ) → power d a (2 ^ d - 2) ≡ square d (power d a (2 ^ (d - 1) - 1))
+  ones-squared a = ap (power d a) even ∙ power-even a (2 ^ (d - 1) - 1)
     where
       even : 2 ^ d - 2 ≡ 2 * (2 ^ (d - 1) - 1)
       even = let p : d ≡ suc (d - 1) = omega (arith, Products.degree-pos d h) in ap (λ n. 2 ^ n - 2) p ∙ (omega arith)

@@ -1,10 +1,10 @@
--- What docs/SPECIFICATION.md, 1, says of the elements of degree 5 and 61: every element has one square root; the inverse of
--- 0 is 0; every other inverse times its element is 1; y² + y = a has a root exactly where the trace of a is 0, and then two, y and
+-- What docs/SPECIFICATION.md, 1, says of the elements of degree 5 and 61: every element has one square root (`one-root`); every element but 0 has one
+-- inverse (`one-inverse`), and 0 has none (`zero-no-inverse`); y² + y = a has a root exactly where the trace of a is 0, and then two, y and
 -- y + 1. That both moduli are irreducible is `irreducible` of Irreducible; the field laws are those of the record `field` of binary_field.
 use Prim.Native.Nat.{ℕ, _%_, _^_, _<_}
 use mathlib.Core.Path.{_≡_, sym, ap, _∙_}
 use mathlib.Core.{Logic._↔_, Logic._⊎_, Option.Option, Option.none, Option.some}
-use Rattle.binary_field_theory.specs.{Carryless._⊕_, Element.Accepted, Element.product, Element.root, Element.inverse, Element.OneRoot}
+use Rattle.binary_field_theory.specs.{Carryless._⊕_, Element.Accepted, Element.product, Element.root, Element.inverse, Element.OneRoot, Element.OneInverse}
 use Rattle.binary_field_theory.specs.Quadratic.{Root, EvenRoot, even-root, trace, half-trace}
 use Rattle.binary_field_theory.proofs.{Products.low-lt, Frobenius.square-root, Frobenius.root-square, Frobenius.root-lt, Certificate.certified}
 use Rattle.binary_field_theory.proofs.Inverses
@@ -20,11 +20,11 @@ module _ (d : ℕ) (ok : Accepted d) where
         only = λ b hb e. sym (root-square d (low-lt d ok) (certified d ok .fixed) b hb) ∙ ap (root d) e;
       }
 
-  pub zero-inverse : inverse d 0 ≡ 0
-  zero-inverse = Inverses.inverse-zero d (certified d ok)
+  pub one-inverse : (a : ℕ) → a < 2 ^ d → (ne : ¬ (a ≡ 0)) → OneInverse d a (inverse d a ne)
+  one-inverse = Inverses.one-inverse d (certified d ok)
 
-  pub inverse-times : (a : ℕ) → a < 2 ^ d → ¬ (a ≡ 0) → product d a (inverse d a) ≡ 1
-  inverse-times = Inverses.product-inverse d (certified d ok)
+  pub zero-no-inverse : (b : ℕ) → ¬ (product d 0 b ≡ 1)
+  zero-no-inverse = Inverses.zero-times d
 
   -- ---- y² + y = a
   pub root-iff-trace : (a : ℕ) → a < 2 ^ d → ((y : ℕ) × Root d a y) ↔ (trace d a ≡ 0)

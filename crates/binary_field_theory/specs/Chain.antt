@@ -1,4 +1,4 @@
--- Square root and inverse by few products, as the field record computes them: they are `root` and `inverse` of Element. The power 2^k - 1
+-- Square root and inverse by few products, as the field record computes them: the powers 2^(d-1) and 2^d - 2. The power 2^k - 1
 -- of a comes from the power 2^(k/2) - 1 by k/2 squarings and a product, or one squaring and one product more where k is odd.
 use Prim.Native.Nat.{ℕ, zero, suc, _-_, _/_, _%_}
 use mathlib.Core.Bool.{cond}

@@ -45,6 +45,12 @@ pub record OneRoot (d a r : ℕ) : Type 0 where
   pub squares : square d r ≡ a
   pub only : (b : ℕ) → b < 2 ^ d → square d b ≡ a → b ≡ r
 
--- the inverse: a to the power 2^d - 2
-unfoldable pub inverse : ℕ → ℕ → ℕ
-inverse d a = power d a (2 ^ d - 2)
+-- the inverse of an element that is shown not to be 0: its power 2^d - 2
+abbrev pub inverse : (d a : ℕ) → ¬ (a ≡ 0) → ℕ
+inverse d a shown = power d a (2 ^ d - 2)
+
+-- b is an element whose product with a is 1, and the only one
+pub record OneInverse (d a b : ℕ) : Type 0 where
+  pub below : b < 2 ^ d
+  pub inverts : product d a b ≡ 1
+  pub only : (c : ℕ) → c < 2 ^ d → product d a c ≡ 1 → c ≡ b

@@ -2,14 +2,14 @@
 use Prim.Native.Nat.{ℕ, zero, suc, pred, max, _+_ as _+ℕ_, _≤_, _<_}
 use mathlib.Core.Path.{_≡_, refl, sym, _∙_, ap}
 use native.Mathlib.{Omega.arith, Decide.decLe}
-use Rattle.field_laws.specs.{Ring.Ring2, Field.Field2}
-use Rattle.char2_algebra.specs.{Polynomials.Polynomials, Divides.Divides, Lead.lead, Lead.Monic, Lead.monic-of}
-use Rattle.char2_algebra.specs.Euclid.{Bezout, Bezout3, IsBezout, IsBezout3, bezout-to, bezout, bezout3}
+use Rattle.field_laws.specs.{Ring.Ring2, Field.Field2, Division.inverse-of}
+use Rattle.char2_algebra.specs.{Polynomials.Polynomials, Divides.Divides, Lead.lead, Lead.Monic}
+use Rattle.char2_algebra.specs.Euclid.{Bezout, Bezout3, IsBezout, IsBezout3, bezout-nought, bezout-to, bezout, bezout3}
 use Rattle.char2_algebra.proofs.Ring.{ring2, +-𝟘, 𝟘-+, ·-𝟘, 𝟘-·, by, both, combine}
 use Rattle.char2_algebra.proofs.Degree.{len-zero, len-nonzero, len-add, nonzero-of-len}
 use Rattle.char2_algebra.proofs.{Product.len-mul-le, Division.len-quot, Division.rem-short, Division.quot-short}
 use Rattle.char2_algebra.proofs.Divides.{divides-eq, divides-nought, divides-add, divides-mul, divides-trans, divides-by-eq, nought-divides, one-divides}
-use Rattle.char2_algebra.proofs.Lead.{monic-of-monic, monic-of-divides, monic-nonzero, monic-antisym, monic-one, monic-constant, len-monic-of}
+use Rattle.char2_algebra.proofs.Lead.{scaled-factor, scaled-monic, scaled-len, nought-of-lead, monic-nonzero, monic-antisym, monic-one, monic-constant}
 
 -- from g = s b + t r and a = q b + r
 back-substitution : {A : Type 0} (R : Ring2 A) (a b g q r s t : A) → g ≡ R .add (R .mul s b) (R .mul t r) → a ≡ R .add (R .mul q b) r
@@ -25,12 +25,14 @@ substitution R a b c g e s t s' t' h k = combine R e _ (both R (by R s' h) (by R
 module _ {K P : Type 0} {F : Field2 K} (A : Polynomials F P) where
   open Polynomials A using (ring as R, con, len, quot, rem)
   open Ring2 (A .ring) using (add as _+_, mul as _·_, nought as 𝟘, one as 𝟙)
+  open Ring2 (F .ring) using (mul as _⊙_, nought as 𝟎, one as 𝟏)
 
   infixl 60 _+_
   infixl 70 _·_
+  infixl 70 _⊙_
   -- the two cases of the rule
-  bezout-stop : (n : ℕ) (a b : P) → len b ≡ 0 → bezout-to A (suc n) a b ≡ record { g = monic-of A a; s = con (F .inverse (lead A a)); t = 𝟘 }
-  unfolding bezout-to monic-of
+  bezout-stop : (n : ℕ) (a b : P) → len b ≡ 0 → bezout-to A (suc n) a b ≡ bezout-nought A a
+  unfolding bezout-to
   bezout-stop n a b e = rw (e, bezout-to)
 
   bezout-go : (n k : ℕ) (a b : P) → len b ≡ suc k → bezout-to A (suc n) a b
@@ -38,13 +40,13 @@ module _ {K P : Type 0} {F : Field2 K} (A : Polynomials F P) where
   unfolding bezout-to
   bezout-go n k a b e = rw (e, bezout-to)
 
-  pub bezout-nought-is : (a b : P) → b ≡ 𝟘 → IsBezout A a b (record { g = monic-of A a; s = con (F .inverse (lead A a)); t = 𝟘 })
-  unfolding monic-of
-  bezout-nought-is a b e = record {
-    combination = sym (ap (λ z. con (F .inverse (lead A a)) · a + z) (𝟘-· R b) ∙ +-𝟘 R _);
-    divides-first = monic-of-divides A a;
+  -- where b is 0, with any constant whose product with the leading coefficient of a is one
+  pub bezout-scaled-is : (a b : P) (c : K) → lead A a ⊙ c ≡ 𝟏 → b ≡ 𝟘 → IsBezout A a b (record { g = con c · a; s = con c; t = 𝟘 })
+  bezout-scaled-is a b c unit e = record {
+    combination = sym (ap (λ z. con c · a + z) (𝟘-· R b) ∙ +-𝟘 R _);
+    divides-first = (con (lead A a), scaled-factor A a c unit);
     divides-second = divides-eq R (sym e) (divides-nought R _);
-    monic = λ h. monic-of-monic A a (λ d. h (d, e));
+    monic = λ _. scaled-monic A a c unit;
   }
 
   -- the divisor of 0 and 0 is 0, whatever the coefficients
@@ -55,6 +57,19 @@ module _ {K P : Type 0} {F : Field2 K} (A : Polynomials F P) where
     divides-second = divides-eq R (sym k) (divides-nought R 𝟘);
     monic = λ n. absurd (n (h, k));
   }
+
+  bezout-nought-is : (a b : P) → b ≡ 𝟘 → IsBezout A a b (bezout-nought A a)
+  unfolding bezout-nought
+  bezout-nought-is a b e = go (F .discrete (lead A a) 𝟎)
+    where
+      go : (d : Dec (lead A a ≡ 𝟎))
+          → IsBezout A a b
+          (elim d as (λ _. Bezout P) [
+            | yes _ ↦ record { g = 𝟘; s = 𝟘; t = 𝟘 }
+            | no shown ↦ record { g = con (inverse-of F (lead A a) shown) · a; s = con (inverse-of F (lead A a) shown); t = 𝟘 }
+          ])
+      go (yes z) = bezout-noughts-is a b (nought-of-lead A a z) e
+      go (no n) = bezout-scaled-is a b _ (F .mul-inverse (lead A a) n) e
 
   pub bezout-step-is : (a b : P) (r : Bezout P) → ¬ (b ≡ 𝟘) → IsBezout A b (rem a b) r
       → IsBezout A a b (record { g = r .g; s = r .t; t = r .s + r .t · quot a b })
@@ -83,17 +98,16 @@ module _ {K P : Type 0} {F : Field2 K} (A : Polynomials F P) where
   ]
 
   -- a constant other than 0 has the divisor 1 with every polynomial
-  pub bezout-constant-is : (a b : P) → len b ≡ 1 → IsBezout A a b (record { g = 𝟙; s = 𝟘; t = con (F .inverse (lead A b)) })
-  unfolding monic-of
-  bezout-constant-is a b e = record {
-    combination = sym (ap (λ z. z + con (F .inverse (lead A b)) · b) (𝟘-· R a) ∙ 𝟘-+ R _ ∙ unit);
+  pub bezout-constant-is : (a b : P) (c : K) → len b ≡ 1 → lead A b ⊙ c ≡ 𝟏 → IsBezout A a b (record { g = 𝟙; s = 𝟘; t = con c })
+  bezout-constant-is a b c e unit = record {
+    combination = sym (ap (λ z. z + con c · b) (𝟘-· R a) ∙ 𝟘-+ R _ ∙ made-one);
     divides-first = one-divides R a;
     divides-second = one-divides R b;
     monic = λ _. monic-one A;
   }
     where
-      unit : con (F .inverse (lead A b)) · b ≡ 𝟙
-      unit = monic-constant A (monic-of A b) (monic-of-monic A b (nonzero-of-len A b (omega arith))) (let l : len (monic-of A b) ≡ len b = len-monic-of A b in omega arith)
+      made-one : con c · b ≡ 𝟙
+      made-one = monic-constant A (con c · b) (scaled-monic A b c unit) (let l : len (con c · b) ≡ len b = scaled-len A b c unit in omega arith)
 
   bezout-to-is : (n : ℕ) (a b : P) → len b < n → IsBezout A a b (bezout-to A n a b)
   bezout-to-is zero a b h = absurd (omega arith)

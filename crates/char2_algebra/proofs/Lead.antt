@@ -2,11 +2,11 @@
 use Prim.Native.Nat.{ℕ, zero, suc, _+_ as _+ℕ_, _≤_, _<_}
 use mathlib.Core.Path.{_≡_, refl, sym, _∙_, ap, ap₂}
 use native.Mathlib.Omega.{arith}
-use Rattle.field_laws.specs.{Ring.Ring2, Field.Field2}
+use Rattle.field_laws.specs.{Ring.Ring2, Field.Field2, Division.inverse-of}
 use Rattle.char2_algebra.specs.{Polynomials.Polynomials, Divides.Divides, Lead.lead, Lead.Monic, Lead.monic-of}
 use Rattle.char2_algebra.proofs.{Ring.𝟘-+, Ring.·-comm, Ring.·-assoc, Ring.·-𝟘, Ring.𝟘-·, Ring.·-𝟙, Ring.𝟙-·, Divides.divides-eq, Divides.divides-nought}
 use Rattle.char2_algebra.proofs.Degree.{coeff-nought, len-bound, len-is, len-zero, len-nonzero, nonzero-of-len, len-add-less, len-one, len-con, con-mul, con-of-len, coeff-one, is-nought}
-use Rattle.char2_algebra.proofs.{Product.len-mul, Product.coeff-mul-top, Product.len-con-mul, Division.divides-len, Division.quot-exact}
+use Rattle.char2_algebra.proofs.{Product.len-mul, Product.coeff-mul-top, Product.len-con-mul, Product.inverse-only, Division.divides-len, Division.quot-exact}
 
 module _ {K P : Type 0} {F : Field2 K} (A : Polynomials F P) where
   open Polynomials A using (ring as R, coeff, con, x, len, quot, rem)
@@ -91,36 +91,64 @@ module _ {K P : Type 0} {F : Field2 K} (A : Polynomials F P) where
       let l : 0 < len p = len-nonzero A p (monic-nonzero p m) in
       con-of-len A p h ∙ ap con (monic-top p 0 m (omega arith)) ∙ sym (A .one-con)
 
+  -- p times a constant whose product with the leading coefficient is one
+  module _ (p : P) (c : K) (unit : lead A p ⊙ c ≡ 𝟏) where
+    c≢ : ¬ (c ≡ 𝟎)
+    c≢ e = F .one≢nought (sym unit ∙ ap (λ z. lead A p ⊙ z) e ∙ ·-𝟘 (F .ring) (lead A p))
+
+    pub scaled-factor : p ≡ con (lead A p) · (con c · p)
+    scaled-factor =
+        sym (𝟙-· R p)
+        ∙ ap (λ z. z · p) (A .one-con ∙ ap con (sym unit) ∙ con-mul A (lead A p) c)
+        ∙ ·-assoc R (con (lead A p)) (con c) p
+
+    pub scaled-monic : Monic A (con c · p)
+    scaled-monic = lead-mul (con c) p ∙ ap (λ z. z ⊙ lead A p) (lead-con c c≢) ∙ ·-comm (F .ring) c (lead A p) ∙ unit
+
+    pub scaled-len : len (con c · p) ≡ len p
+    scaled-len = len-con-mul A c p c≢
+
+    -- it is p made monic
+    pub monic-of-scaled : monic-of A p ≡ con c · p
+    unfolding monic-of
+    monic-of-scaled = go (F .discrete (lead A p) 𝟎)
+      where
+        go : (d : Dec (lead A p ≡ 𝟎)) → elim d as (λ _. P) [ yes _ ↦ p | no shown ↦ con (inverse-of F (lead A p) shown) · p ] ≡ con c · p
+        go (yes e) = absurd (F .one≢nought (sym unit ∙ ap (λ z. z ⊙ c) e ∙ 𝟘-· (F .ring) c))
+        go (no n) = ap (λ z. con z · p) (sym (inverse-only F (lead A p) c n unit))
+
+  pub nought-of-lead : (p : P) → lead A p ≡ 𝟎 → p ≡ 𝟘
+  nought-of-lead p e = elim (is-nought A p) [ yes z ↦ z | no h ↦ absurd (lead-nonzero p h e) ]
+
+  -- 0 stays
+  monic-of-nought : (p : P) → p ≡ 𝟘 → monic-of A p ≡ p
+  unfolding monic-of
+  monic-of-nought p e = go (F .discrete (lead A p) 𝟎)
+    where
+      go : (d : Dec (lead A p ≡ 𝟎)) → elim d as (λ _. P) [ yes _ ↦ p | no shown ↦ con (inverse-of F (lead A p) shown) · p ] ≡ p
+      go (yes _) = refl
+      go (no n) = absurd (n (ap (lead A) e ∙ lead-nought))
+
   -- p made monic
-  pub monic-of-factor : (p : P) → ¬ (p ≡ 𝟘) → p ≡ con (lead A p) · monic-of A p
-  unfolding monic-of
-  monic-of-factor p h =
-      sym (𝟙-· R p)
-      ∙ ap (λ z. z · p) (A .one-con ∙ ap con (sym (F .mul-inverse (lead A p) (lead-nonzero p h))) ∙ con-mul A (lead A p) (F .inverse (lead A p)))
-      ∙ ·-assoc R (con (lead A p)) (con (F .inverse (lead A p))) p
+  module _ (p : P) (h : ¬ (p ≡ 𝟘)) where
+    unit : lead A p ⊙ inverse-of F (lead A p) (lead-nonzero p h) ≡ 𝟏
+    unit = F .mul-inverse (lead A p) (lead-nonzero p h)
 
-  inverse-nonzero : (a : K) → ¬ (a ≡ 𝟎) → ¬ (F .inverse a ≡ 𝟎)
-  inverse-nonzero a h e = F .one≢nought (sym (F .mul-inverse a h) ∙ ap (λ z. a ⊙ z) e ∙ ·-𝟘 (F .ring) a)
+    pub monic-of-factor : p ≡ con (lead A p) · monic-of A p
+    monic-of-factor = scaled-factor p _ unit ∙ ap (λ z. con (lead A p) · z) (sym (monic-of-scaled p _ unit))
 
-  pub monic-of-monic : (p : P) → ¬ (p ≡ 𝟘) → Monic A (monic-of A p)
-  unfolding monic-of
-  monic-of-monic p h =
-      let k : ¬ (lead A p ≡ 𝟎) = lead-nonzero p h in
-      lead-mul (con (F .inverse (lead A p))) p
-      ∙ ap (λ z. z ⊙ lead A p) (lead-con (F .inverse (lead A p)) (inverse-nonzero (lead A p) k))
-      ∙ ·-comm (F .ring) (F .inverse (lead A p)) (lead A p)
-      ∙ F .mul-inverse (lead A p) k
+    pub monic-of-monic : Monic A (monic-of A p)
+    monic-of-monic = ap (lead A) (monic-of-scaled p _ unit) ∙ scaled-monic p _ unit
+
+    pub monic-of-nonzero : ¬ (monic-of A p ≡ 𝟘)
+    monic-of-nonzero = monic-nonzero (monic-of A p) monic-of-monic
 
   pub len-monic-of : (p : P) → len (monic-of A p) ≡ len p
-  unfolding monic-of
   len-monic-of p = go (is-nought A p)
     where
-      go : Dec (p ≡ 𝟘) → len (con (F .inverse (lead A p)) · p) ≡ len p
-      go (yes e) = ap len (ap (λ z. con (F .inverse (lead A p)) · z) e ∙ ·-𝟘 R _ ∙ sym e)
-      go (no h) = len-con-mul A (F .inverse (lead A p)) p (inverse-nonzero (lead A p) (lead-nonzero p h))
-
-  pub monic-of-nonzero : (p : P) → ¬ (p ≡ 𝟘) → ¬ (monic-of A p ≡ 𝟘)
-  monic-of-nonzero p h = monic-nonzero (monic-of A p) (monic-of-monic p h)
+      go : Dec (p ≡ 𝟘) → len (monic-of A p) ≡ len p
+      go (yes e) = ap len (monic-of-nought p e)
+      go (no h) = ap len (monic-of-scaled p _ (unit p h)) ∙ scaled-len p _ (unit p h)
 
   pub monic-of-divides : (p : P) → Divides R (monic-of A p) p
   monic-of-divides p = go (is-nought A p)
@@ -130,8 +158,11 @@ module _ {K P : Type 0} {F : Field2 K} (A : Polynomials F P) where
       go (no h) = (con (lead A p), monic-of-factor p h)
 
   pub divides-monic-of : (p : P) → Divides R p (monic-of A p)
-  unfolding monic-of
-  divides-monic-of p = (con (F .inverse (lead A p)), refl)
+  divides-monic-of p = go (is-nought A p)
+    where
+      go : Dec (p ≡ 𝟘) → Divides R p (monic-of A p)
+      go (yes e) = (𝟙, monic-of-nought p e ∙ sym (𝟙-· R p))
+      go (no h) = (_, monic-of-scaled p _ (unit p h))
 
   -- monic polynomials that divide each other are equal
   pub monic-antisym : (p q : P) → Monic A p → Monic A q → Divides R p q → Divides R q p → p ≡ q

@@ -4,7 +4,7 @@ use Prim.Native.Nat.{ℕ, zero, suc, _≤_, _<_, suc-le-suc}
 use mathlib.Core.{Path._≡_, Path.refl, Path.sym, Path._∙_, Path.ap, Path.ap₂, Path.subst, List.List, List.[], List._∷_}
 use native.Mathlib.{Omega.arith, Decide.ℕ-discrete}
 use lib.ListN.{length, List·getD-eq-default}
-use Rattle.field_laws.specs.{Ring.Ring2, Field.Field2}
+use Rattle.field_laws.specs.{Ring.Ring2, Field.Field2, Division.inverse-of}
 use Rattle.char2_algebra.specs.Polynomial.{Polynomial, Trimmed, trim, trim-trimmed, of-list, add-lists, scale-list, invert, divide-steps, divide-lists, coeff, nought, con, x, add, mul, quot, rem}
 use Rattle.char2_algebra.proofs.Ring.{ring2, 𝟘-·, 𝟘-+, +-𝟘, +-self, ·-𝟘, by, combine}
 use Rattle.char2_algebra.proofs.ListCoefficients.{at, at-add, at-scale, at-trim, at-end, length-le}
@@ -20,7 +20,7 @@ module _ {A : Type 0} (R : Ring2 A) where
   step-identity a b c q r t = simp (ring2, R)
 
 module _ {K : Type 0} (F : Field2 K) where
-  open Field2 F using (ring as K-ring, discrete, inverse)
+  open Field2 F using (ring as K-ring, discrete)
   open Ring2 K-ring using (add as _+_, mul as _·_, nought as 𝟘, one as 𝟙)
 
   infixl 60 _+_
@@ -96,7 +96,14 @@ module _ {K : Type 0} (F : Field2 K) where
       → of-list F p ≡ add F (mul F (of-list F ((divide-lists F p b) .0)) (of-list F b)) (of-list F ((divide-lists F p b) .1))
   unfolding divide-lists
   divide-law p [] = nought-law (of-list F []) p
-  divide-law p (a ∷ b) = steps-law (a ∷ b) (length b) (invert F (at F (a ∷ b) (length b))) p
+  divide-law p (a ∷ b) = by-test (discrete (at F (a ∷ b) (length b)) 𝟘)
+    where
+      leading : K
+      leading = at F (a ∷ b) (length b)
+
+      by-test : (t : Dec (leading ≡ 𝟘)) → (let s : List K × List K = elim t as (λ _. List K × List K) [ yes _ ↦ ([], p) | no shown ↦ divide-steps F (a ∷ b) (length b) (invert F leading shown) p ] in of-list F p ≡ add F (mul F (of-list F (s .0)) (of-list F (a ∷ b))) (of-list F (s .1)))
+      by-test (yes _) = nought-law (of-list F (a ∷ b)) p
+      by-test (no shown) = steps-law (a ∷ b) (length b) (invert F leading shown) p
 
   -- the place of the divisor's leading coefficient is cleared
   cleared : (a b i : K) → b · i ≡ 𝟙 → a + a · i · b ≡ 𝟘
@@ -126,31 +133,29 @@ module _ {K : Type 0} (F : Field2 K) where
   steps-below b d i hb hi [] = λ j l. refl
   steps-below b d i hb hi (a ∷ p) = step-below b d i a ((divide-steps F b d i p) .1) hb hi (steps-below b d i hb hi p)
 
-  invert-law : (a : K) → ¬ (a ≡ 𝟘) → a · invert F a ≡ 𝟙
+  invert-law : (a : K) (h : ¬ (a ≡ 𝟘)) → a · invert F a h ≡ 𝟙
   unfolding invert
   invert-law a h = by-test (discrete a 𝟙)
     where
-      by-test : (d : Dec (a ≡ 𝟙)) → a · elim d [ yes _ ↦ 𝟙 | no _ ↦ inverse a ] ≡ 𝟙
+      by-test : (d : Dec (a ≡ 𝟙)) → a · elim d [ yes _ ↦ 𝟙 | no _ ↦ inverse-of F a h ] ≡ 𝟙
       by-test (yes e) = K-ring .mul-one a ∙ e
       by-test (no _) = F .mul-inverse a h
 
   pub divide-short : (p b : List K) → Trimmed F b → ¬ (b ≡ []) → length (trim F ((divide-lists F p b) .1)) < length b
   unfolding divide-lists Below
   divide-short p [] t h = absurd (h refl)
-  divide-short p (a ∷ b) t h = suc-le-suc (length-le F (trim F r) (trim-trimmed F r) (length b) (λ j l. at-trim F r j ∙ below j l))
+  divide-short p (a ∷ b) t h = suc-le-suc (length-le F (trim F r) (trim-trimmed F r) (length b) (λ j l. at-trim F r j ∙ by-test (discrete leading 𝟘) j l))
     where
       r : List K
       r = (divide-lists F p (a ∷ b)) .1
 
-      below : Below r (length b)
-      below =
-          steps-below
-          (a ∷ b)
-          (length b)
-          (invert F (at F (a ∷ b) (length b)))
-          (λ j l. List·getD-eq-default (a ∷ b) 𝟘 l)
-          (invert-law (at F (a ∷ b) (length b)) (at-end F a b t))
-          p
+      leading : K
+      leading = at F (a ∷ b) (length b)
+
+      by-test : (s : Dec (leading ≡ 𝟘)) → Below ((elim s as (λ _. List K × List K) [ yes _ ↦ ([], p) | no shown ↦ divide-steps F (a ∷ b) (length b) (invert F leading shown) p ]) .1) (length b)
+      by-test (yes e) = absurd (at-end F a b t e)
+      by-test (no shown) =
+          steps-below (a ∷ b) (length b) (invert F leading shown) (λ j l. List·getD-eq-default (a ∷ b) 𝟘 l) (invert-law leading shown) p
 
   -- a = q b + r
   pub division : (a b : Polynomial F) → a ≡ add F (mul F (quot F a b) b) (rem F a b)

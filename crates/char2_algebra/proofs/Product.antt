@@ -2,9 +2,9 @@
 use Prim.Native.Nat.{ℕ, zero, suc, _+_ as _+ℕ_, _≤_, _<_}
 use mathlib.Core.Path.{_≡_, refl, sym, _∙_, ap, ap₂}
 use native.Mathlib.Omega.{arith}
-use Rattle.field_laws.specs.{Ring.Ring2, Field.Field2}
+use Rattle.field_laws.specs.{Ring.Ring2, Field.Field2, Division.inverse-of}
 use Rattle.char2_algebra.specs.{Polynomials.Polynomials, Square.tail}
-use Rattle.char2_algebra.proofs.Ring.{+-𝟘, 𝟘-+, +-self, +-·, ·-+, ·-comm, ·-assoc, 𝟙-·, ·-𝟘, 𝟘-·, eq-of-sum, sum-of-eq}
+use Rattle.char2_algebra.proofs.Ring.{+-𝟘, 𝟘-+, +-self, +-·, ·-+, ·-comm, ·-assoc, ·-𝟙, 𝟙-·, ·-𝟘, 𝟘-·, eq-of-sum, sum-of-eq}
 use Rattle.char2_algebra.proofs.Degree.{len-bound, len-zero, len-is, len-nonzero, len-nought, nonzero-of-len, con-of-len, split, len-tail, coeff-tail, is-nought, con-nonzero, len-con}
 
 -- the field alone
@@ -19,6 +19,14 @@ module _ {K : Type 0} (F : Field2 K) where
       ∙ ·-assoc (F .ring) (F .inverse a) a b
       ∙ ap (λ z. F .inverse a ⊙ z) e
       ∙ ·-𝟘 (F .ring) (F .inverse a)
+
+  pub inverse-only : (a b : K) (h : ¬ (a ≡ 𝟎)) → a ⊙ b ≡ 𝟏 → b ≡ inverse-of F a h
+  inverse-only a b h e =
+      sym (·-𝟙 (F .ring) b)
+      ∙ ap (λ z. b ⊙ z) (sym (F .mul-inverse a h))
+      ∙ sym (·-assoc (F .ring) b a (F .inverse a))
+      ∙ ap (λ z. z ⊙ F .inverse a) (·-comm (F .ring) b a ∙ e)
+      ∙ 𝟙-· (F .ring) (F .inverse a)
 
 module _ {K P : Type 0} {F : Field2 K} (A : Polynomials F P) where
   open Polynomials A using (ring as R, coeff, con, x, len)

@@ -1,7 +1,7 @@
 -- Euclid's rule with coefficients: the greatest common divisor of two polynomials, and of three, as a combination of them.
 use Prim.Native.Nat.{ℕ, zero, suc}
 use mathlib.Core.Path.{_≡_}
-use Rattle.field_laws.specs.{Ring.Ring2, Field.Field2}
+use Rattle.field_laws.specs.{Ring.Ring2, Field.Field2, Division.inverse-of}
 use Rattle.char2_algebra.specs.{Polynomials.Polynomials, Divides.Divides, Lead.lead, Lead.Monic}
 
 -- g = s a + t b
@@ -38,13 +38,22 @@ module _ {K P : Type 0} {F : Field2 K} (A : Polynomials F P) where
     pub divides-third : Divides ring (B .e) c
     pub monic : ¬ ((a ≡ 𝟘) × (b ≡ 𝟘) × (c ≡ 𝟘)) → Monic A (B .e)
 
+  -- where b is 0: a, divided by its leading coefficient; 0 where a is 0 too
+  unfoldable pub bezout-nought : P → Bezout P
+  bezout-nought a =
+      elim (F .discrete (lead A a) (F .ring .nought)) [
+        | yes _ ↦ record { g = 𝟘; s = 𝟘; t = 𝟘 }
+        | no shown ↦ (let c = con (inverse-of F (lead A a) shown) in record { g = c · a; s = c; t = 𝟘 })
+      ]
+
   -- The rule calls itself on the remainder: from g = s b + t r and a = q b + r follows g = t a + (s + t q) b.
-  -- At b = 0 the divisor is a, made monic. The recursion is on a count of calls to go.
+  -- The recursion is on a count of calls to go.
   unfoldable pub bezout-to : ℕ → P → P → Bezout P
+  unfolding bezout-nought
   bezout-to zero a b = record { g = a; s = 𝟙; t = 𝟘 }
   bezout-to (suc n) a b =
       elim (len b) [
-        | zero ↦ (let c = con (F .inverse (lead A a)) in record { g = c · a; s = c; t = 𝟘 })
+        | zero ↦ bezout-nought a
         | suc m ↦
             (let r = bezout-to n b (rem a b) in
             record { g = r .g; s = r .t; t = r .s + r .t · quot a b })

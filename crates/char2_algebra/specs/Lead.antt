@@ -1,7 +1,7 @@
 -- The leading coefficient, and polynomials made monic (docs/SPECIFICATION.md, 2).
 use Prim.Native.Nat.{_-_}
 use mathlib.Core.Path.{_≡_}
-use Rattle.field_laws.specs.Field.{Field2}
+use Rattle.field_laws.specs.{Field.Field2, Division.inverse-of}
 use Rattle.char2_algebra.specs.Polynomials.{Polynomials}
 
 module _ {K P : Type 0} {F : Field2 K} (A : Polynomials F P) where
@@ -13,6 +13,6 @@ module _ {K P : Type 0} {F : Field2 K} (A : Polynomials F P) where
   abbrev pub Monic : P → Type 0
   Monic p = lead p ≡ F .ring .one
 
-  -- p divided by its leading coefficient
+  -- p divided by its leading coefficient; 0 stays
   unfoldable pub monic-of : P → P
-  monic-of p = A .ring .mul (A .con (F .inverse (lead p))) p
+  monic-of p = elim (F .discrete (lead p) (F .ring .nought)) [ yes _ ↦ p | no shown ↦ A .ring .mul (A .con (inverse-of F (lead p) shown)) p ]

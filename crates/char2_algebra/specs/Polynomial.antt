@@ -3,7 +3,7 @@
 use Prim.Native.Nat.{ℕ}
 use mathlib.Core.{Path._≡_, List.List, List.[], List._∷_}
 use lib.ListN.{length, getD}
-use Rattle.field_laws.specs.{Ring.Ring2, Field.Field2}
+use Rattle.field_laws.specs.{Ring.Ring2, Field.Field2, Division.inverse-of}
 
 -- a test has answered no
 abbrev pub IsNo : {A : Type 0} → Dec A → Type 0
@@ -30,7 +30,7 @@ pub record Polynomial {K : Type 0} (F : Field2 K) : Type 0 where
   pub trimmed : Trimmed F coefficients
 
 module _ {K : Type 0} (F : Field2 K) where
-  open Field2 F using (ring, discrete, inverse)
+  open Field2 F using (ring, discrete)
   open Ring2 ring using (add as _+_, mul as _·_, nought as 𝟘, one as 𝟙)
 
   infixl 60 _+_
@@ -88,9 +88,9 @@ module _ {K : Type 0} (F : Field2 K) where
   mul-lists [] q = []
   mul-lists (a ∷ p) q = add-lists (scale-list a q) (𝟘 ∷ mul-lists p q)
 
-  -- the inverse, which is not computed where it is one
-  unfoldable pub invert : K → K
-  invert a = elim (discrete a 𝟙) [ yes _ ↦ 𝟙 | no _ ↦ inverse a ]
+  -- the inverse of an element other than nought, which is not computed where it is one
+  unfoldable pub invert : (a : K) → ¬ (a ≡ 𝟘) → K
+  invert a shown = elim (discrete a 𝟙) [ yes _ ↦ 𝟙 | no _ ↦ inverse-of F a shown ]
 
   -- One step of the division by b of degree d, where i is the inverse of b's leading coefficient:
   -- from quotient and remainder of p those of a + x p.
@@ -105,11 +105,13 @@ module _ {K : Type 0} (F : Field2 K) where
   divide-steps b d i [] = ([], [])
   divide-steps b d i (a ∷ p) = divide-step b d i a (divide-steps b d i p)
 
-  -- quotient and remainder; a divisor 0 leaves all
+  -- quotient and remainder; a divisor that is 0, or whose last element is nought, leaves all
   unfoldable pub divide-lists : List K → List K → List K × List K
   unfolding divide-steps invert
   divide-lists p [] = ([], p)
-  divide-lists p (a ∷ b) = divide-steps (a ∷ b) (length b) (invert (getD (a ∷ b) (length b) 𝟘)) p
+  divide-lists p (a ∷ b) =
+      let leading = getD (a ∷ b) (length b) 𝟘 in
+      elim (discrete leading 𝟘) [ yes _ ↦ ([], p) | no shown ↦ divide-steps (a ∷ b) (length b) (invert leading shown) p ]
 
   -- the coefficient of the i-th power, and the degree plus one
   unfoldable pub coeff : Polynomial F → ℕ → K

@@ -96,13 +96,13 @@ module _ {K P : Type 0} {F : Field2 K} {A : Polynomials F P} (C : Curve A) where
         u-top : coeff (D .u) 2 ≡ F .ring .one
         u-top = monic-top A (D .u) 2 (r .u-monic) e
 
-        lifts : ¬ (coeff (D .u) 1 ≡ F .ring .nought) → HalfChain (lifted-half-of-degree-2 A (triple C D))
+        lifts : (n : ¬ (coeff (D .u) 1 ≡ F .ring .nought)) → HalfChain (lifted-half-of-degree-2 A (triple C D) n)
         lifts n =
             let row : Even A _ 3 _ = row-2 A (D .u) w e u-top (omega (arith, w-len)) (monic-top A w 5 w-monic (omega (arith, w-len))) _ (F .mul-inverse _ n) in
             from-even _ 3 _ (omega arith) (stepped (even-nonzero A row) (lifted _ start)) row
 
         go : (d : Dec (coeff (D .u) 1 ≡ F .ring .nought))
-            → HalfChain (elim d as (λ _. Pair P) [ yes _ ↦ halved A (F .ring .one) (triple C D) | no _ ↦ lifted-half-of-degree-2 A (triple C D) ])
+            → HalfChain (elim d as (λ _. Pair P) [ yes _ ↦ halved A (F .ring .one) (triple C D) | no n ↦ lifted-half-of-degree-2 A (triple C D) n ])
         go (yes z) = from-even _ 1 _ (omega arith) start (row-2-square A (D .u) e u-top z)
         go (no n) = lifts n
 
@@ -119,13 +119,13 @@ module _ {K P : Type 0} {F : Field2 K} {A : Polynomials F P} (C : Curve A) where
         first≢ : ¬ (first-lift A (D .u) w ≡ 𝟘)
         first≢ = first-lift-nonzero A (D .u) w e u-top (omega (arith, w-len)) w-top
 
-        lifts : ¬ (F .root (coeff (first-lift A (D .u) w) 1) ≡ F .ring .nought) → HalfChain (lifted-half-of-degree-3 A (triple C D))
+        lifts : (n : ¬ (F .root (coeff (first-lift A (D .u) w) 1) ≡ F .ring .nought)) → HalfChain (lifted-half-of-degree-3 A (triple C D) n)
         lifts n =
             let row : Even A _ 3 _ = row-3 A (D .u) w e u-top (omega (arith, w-len)) w-top _ (F .mul-inverse _ n) in
             from-even _ 3 _ (omega arith) (stepped (even-nonzero A row) (lifted _ (stepped first≢ (lifted _ start)))) row
 
         go : (d : Dec (F .root (coeff (first-lift A (D .u) w) 1) ≡ F .ring .nought))
-            → HalfChain (elim d as (λ _. Pair P) [ yes _ ↦ halved A (F .ring .one) (stepped-of-degree-3 A (triple C D)) | no _ ↦ lifted-half-of-degree-3 A (triple C D) ])
+            → HalfChain (elim d as (λ _. Pair P) [ yes _ ↦ halved A (F .ring .one) (stepped-of-degree-3 A (triple C D)) | no n ↦ lifted-half-of-degree-3 A (triple C D) n ])
         go (yes z) = from-even _ 2 _ (omega arith) (stepped first≢ (lifted _ start)) (row-3-square A (D .u) w e u-top (omega (arith, w-len)) w-top z)
         go (no n) = lifts n
 

@@ -1,10 +1,11 @@
 -- The half of a class, by rules on its coefficients, by degree (docs/SPECIFICATION.md, 2).
 -- The rules need not be believed: proofs/Halving.antt shows that the half is the one reduced class whose double is the class given.
 -- A triple u, v, w with u w = v² + v + f is changed by lifts and steps, which keep its class, until the first polynomial is
--- a constant times a square a²; the half is then [a, v modulo a].
+-- a constant times a square a²; the half is then [a, v modulo a]. Two rules divide, each by a coefficient that a test has shown not to be nought.
 use Prim.Native.Nat.{ℕ, zero, suc}
+use mathlib.Core.Path.{_≡_}
 use Rattle.field_laws.specs.Ring.{Ring2}
-use Rattle.field_laws.specs.Field.{Field2}
+use Rattle.field_laws.specs.{Field.Field2, Division.inverse-of}
 use Rattle.char2_algebra.specs.Polynomials.{Polynomials}
 use Rattle.char2_algebra.specs.Square.{sqrt}
 use Rattle.class_group.specs.Curve.{Curve}
@@ -19,7 +20,7 @@ module _ {K P : Type 0} {F : Field2 K} (A : Polynomials F P) where
   open Polynomials A using (ring, coeff, con, x, rem)
   open Ring2 ring using (add as _+_, mul as _·_, one as 𝟙)
   open Ring2 (F .ring) using (add as _+ₖ_, mul as _·ₖ_, nought as 𝟘ₖ, one as 𝟙ₖ)
-  open Field2 F using (root, inverse, discrete)
+  open Field2 F using (root, discrete)
 
   infixl 60 _+_
   infixl 70 _·_
@@ -49,17 +50,17 @@ module _ {K P : Type 0} {F : Field2 K} (A : Polynomials F P) where
       halved 𝟙ₖ (step (lift k T))
 
   -- degree 2, u1 not nought: k2 = 1/√u1, k1 = √(w3/u1), k0 = √((w1 + k1)/u1)
-  unfoldable pub lifted-half-of-degree-2 : Triple P → Pair P
-  lifted-half-of-degree-2 T =
+  unfoldable pub lifted-half-of-degree-2 : (T : Triple P) → ¬ (coeff (T .u) 1 ≡ 𝟘ₖ) → Pair P
+  lifted-half-of-degree-2 T shown =
       let u1 = coeff (T .u) 1 in
-      let i = inverse u1 in
+      let i = inverse-of F u1 shown in
       let k1 = root (coeff (T .w) 3 ·ₖ i) in
       let k = quadratic (root i) k1 (root ((coeff (T .w) 1 +ₖ k1) ·ₖ i)) in
       halved u1 (step (lift k T))
 
   -- degree 2: where u1 is nought, u is a square
   unfoldable pub half-of-degree-2 : Triple P → Pair P
-  half-of-degree-2 T = elim (discrete (coeff (T .u) 1) 𝟘ₖ) [ yes _ ↦ halved 𝟙ₖ T | no _ ↦ lifted-half-of-degree-2 T ]
+  half-of-degree-2 T = elim (discrete (coeff (T .u) 1) 𝟘ₖ) [ yes _ ↦ halved 𝟙ₖ T | no shown ↦ lifted-half-of-degree-2 T shown ]
 
   -- degree 3: w after the lift by √w3
   unfoldable pub first-lift : P → P → P
@@ -70,11 +71,11 @@ module _ {K P : Type 0} {F : Field2 K} (A : Polynomials F P) where
   stepped-of-degree-3 T = step (lift (quadratic 𝟘ₖ 𝟘ₖ (root (coeff (T .w) 3))) T)
 
   -- where t is not nought: a lift by (x + q)/t with q = √(u1 + 1/t), u1 that of the class, and a step
-  unfoldable pub lifted-half-of-degree-3 : Triple P → Pair P
-  lifted-half-of-degree-3 T =
+  unfoldable pub lifted-half-of-degree-3 : (T : Triple P) → ¬ (root (coeff (stepped-of-degree-3 T .u) 1) ≡ 𝟘ₖ) → Pair P
+  lifted-half-of-degree-3 T shown =
       let S = stepped-of-degree-3 T in
       let t = root (coeff (S .u) 1) in
-      let i = inverse t in
+      let i = inverse-of F t shown in
       let q = root (coeff (T .u) 1 +ₖ i) in
       halved (t ·ₖ t) (step (lift (quadratic 𝟘ₖ i (q ·ₖ i)) S))
 
@@ -82,7 +83,7 @@ module _ {K P : Type 0} {F : Field2 K} (A : Polynomials F P) where
   unfoldable pub half-of-degree-3 : Triple P → Pair P
   half-of-degree-3 T =
       let S = stepped-of-degree-3 T in
-      elim (discrete (root (coeff (S .u) 1)) 𝟘ₖ) [ yes _ ↦ halved 𝟙ₖ S | no _ ↦ lifted-half-of-degree-3 T ]
+      elim (discrete (root (coeff (S .u) 1)) 𝟘ₖ) [ yes _ ↦ halved 𝟙ₖ S | no shown ↦ lifted-half-of-degree-3 T shown ]
 
 module _ {K P : Type 0} {F : Field2 K} {A : Polynomials F P} (C : Curve A) where
   -- u, v and w = (v² + v + f) / u

@@ -3,7 +3,7 @@ ghost use Prim.Native.Nat.{ℕ, _<_, _^_};
 ghost use mathlib.Core.Path.{_≡_};
 ghost use Rattle.binary_field_theory.specs.Element.{Accepted};
 ghost use Rattle.binary_field.specs.Answer.{element, reply};
-ghost use Rattle.row_theory.specs.{Field.degree-of, Field.F, Field.el, internal.Elements.Is};
+ghost use Rattle.row_theory.specs.{Field.degree-of, Field.F, Field.el, internal.Elements.Is, internal.Elements.Inverts};
 use binary_field::Answer;
 
 // The number of an answer that is no refusal.
@@ -60,10 +60,10 @@ pub(crate) fn root_of(d: u8, a: u64) -> u64
     number(binary_field::square_root(d, a))
 }
 
-// The inverse of an element that is not 0: every division goes through this function. 1 is its own inverse.
+// The inverse of an element that is shown not to be 0: every division goes through this function. 1 is its own inverse.
 pub(crate) fn inverted(d: u8, a: u64) -> u64
     requires { ⌜ Accepted d × (a < 2 ^ degree-of d) × ¬ (a ≡ 0) ⌝ }
-    ensures { λ r. ⌜ Is d r (F d .inverse (el d a)) ⌝ }
+    ensures { λ r. ⌜ Inverts d r (el d a) ⌝ }
 {
     if a == 1 {
         return 1;

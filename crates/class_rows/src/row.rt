@@ -3,7 +3,7 @@ ghost use Prim.Native.Nat.{ℕ, suc, _+_, _≤_, _<_, _^_};
 ghost use mathlib.Core.Path.{_≡_};
 ghost use Rattle.binary_field_theory.specs.Element.{Accepted};
 ghost use Rattle.char2_algebra.specs.{Lead.lead, Lead.monic-of, Square.sqrt};
-ghost use Rattle.row_theory.specs.{Field.degree-of, Field.F, Field.𝔸, Field.el, Field.poly, internal.Elements.Is, Row.InRange, Row.Stands, Row.places, Row.row-len, internal.Elements.x-power};
+ghost use Rattle.row_theory.specs.{Field.degree-of, Field.𝔸, Field.el, Field.poly, internal.Elements.Inverts, Row.InRange, Row.Stands, Row.places, Row.row-len, internal.Elements.x-power};
 use crate::element::inverted;
 use crate::element::plus;
 use crate::element::root_of;
@@ -65,7 +65,7 @@ pub(crate) fn one() -> Row
 // The leading coefficient's place and inverse. 1 is not inverted.
 pub(crate) fn leading(d: u8, a: Row) -> Lead
     requires { ⌜ Accepted d × InRange d a × ¬ (poly d a ≡ 𝔸 d .ring .nought) ⌝ }
-    ensures { λ r. ⌜ (row-len d a ≡ suc (r .top)) × Is d (r .inverse) (F d .inverse (lead (𝔸 d) (poly d a))) ⌝ }
+    ensures { λ r. ⌜ (row-len d a ≡ suc (r .top)) × Inverts d (r .inverse) (lead (𝔸 d) (poly d a)) ⌝ }
 {
     let top = length(a) - 1;
     let inverse = inverted(d, a[top]);

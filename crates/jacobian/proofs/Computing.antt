@@ -3,7 +3,7 @@ use Rattle.binary_field.specs.Field.{field, element}
 use Rattle.binary_field.proofs.Field.{computing as numbers-computing}
 use Rattle.char2_algebra.specs.Polynomial.{of-list}
 use Rattle.char2_algebra.specs.Lead.{lead, monic-of}
-use Rattle.char2_algebra.specs.Euclid.{bezout-to, bezout, bezout3}
+use Rattle.char2_algebra.specs.Euclid.{bezout-nought, bezout-to, bezout, bezout3}
 use Rattle.char2_algebra.specs.Square.{tail, sqrt-to, sqrt}
 use Rattle.polynomial_lists.specs.Polynomials.{polynomials}
 use Rattle.class_group.specs.Mumford.{value, neutral, opposite}
@@ -24,7 +24,7 @@ unfolding degree-of accepted field element numbers-computing F el
 elements = tt
 
 unfoldable pub polynomials-computing : Unit {0}
-unfolding elements polynomials of-list 𝔸 poly lead monic-of bezout-to bezout bezout3 tail sqrt-to sqrt
+unfolding elements polynomials of-list 𝔸 poly lead monic-of bezout-nought bezout-to bezout bezout3 tail sqrt-to sqrt
 polynomials-computing = tt
 
 unfoldable pub operations : Unit {0}

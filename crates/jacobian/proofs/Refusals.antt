@@ -1,5 +1,6 @@
 -- What the checks say is 0 or the number of a refusal: of one check (`told-unless`), of one after the other (`told-or-else`), and so of a verdict
--- (`refused-told`). Every refusal's number is above 100 (`above-100`), so no length up to that is taken for one.
+-- (`refused-told`). Every refusal's number is above 100 (`above-100`), so no length up to that is taken for one. None is 117 (`never-117`): no call whose answers are
+-- told apart by these numbers hands on that an element inverted was 0.
 use Prim.Native.Nat.{ℕ, zero, suc, _<_}
 use mathlib.Core.{Path._≡_, Path.refl, Path.sym, Path.ap, Path.subst, Bool.Bool, Bool.true, Bool.false, Bool.true≢false, Bool.false≢true, Bool._||_, Bool._&&_, List.List, List.[], List._∷_, Logic._⊎_, Logic.inl, Logic.inr}
 use native.Mathlib.Omega.{arith}
@@ -30,6 +31,16 @@ listed-above k n (m ∷ ms) a e = from (eqb n m) refl (λ is. listed-above k n m
 pub above-100 : (n : ℕ) → IsRefusal n → 100 < n
 unfolding IsRefusal refusals all-above
 above-100 n e = listed-above 100 n refusals refl e
+
+-- ---- 117 is none of them
+not-listed : ¬ IsRefusal 117
+unfolding IsRefusal refusals listed
+not-listed e = false≢true e
+
+pub never-117 : (n : ℕ) → Told n → ¬ (n ≡ 117)
+unfolding Told
+never-117 n (inl z) e = omega arith
+never-117 n (inr r) e = not-listed (subst IsRefusal e r)
 
 -- ---- checks
 pub told-none : Told 0

@@ -1,12 +1,9 @@
 -- Demand 1 of the calls by value: each answers an acceptance or a refusal with one of the numbers, and with a refusal the neutral class and no step
 -- (`curve-told`, `membership-told`, `unary-told` of opposite, double and half, `binary-told` of sum and of the two rules that move a seal). What the
--- checks say is 0 or one of the numbers: `curve-refusal-told`, `class-refusal-told`, `refusal-told`, `refusal-of-two-told`, and of elements
--- `element-refusal-told`.
-use Prim.Native.Nat.{ℕ, zero, suc, _^_}
-use mathlib.Core.{Path.refl, Bool.Bool, Bool.true, Bool.false, Bool.cond, Bool._||_, Logic.inl, Logic.inr, List.List}
+-- checks say is 0 or one of the numbers: `curve-refusal-told`, `class-refusal-told`, `refusal-told`, `refusal-of-two-told`.
+use Prim.Native.Nat.{ℕ, zero, suc}
+use mathlib.Core.{Path.refl, Logic.inl, Logic.inr}
 use native.Mathlib.Omega.{arith}
-use lib.Dec.{eqb}
-use Rattle.binary_field.specs.Answer.{below, element-refusal}
 use Rattle.class_group.specs.Reduction.{Counted}
 use Rattle.row_theory.specs.Field.{Poly}
 use Rattle.class_rows.specs.{declared.Unary.Unary, declared.Binary.Binary}
@@ -33,16 +30,6 @@ refusal-told c a = told-or-else _ _ (curve-refusal-told c) (class-refusal-told c
 pub refusal-of-two-told : (c : Curve) (a b : Class) → Told (refusal-of-two c a b)
 unfolding refusal-of-two
 refusal-of-two-told c a b = told-or-else _ _ (refusal-told c a) (class-refusal-told c b)
-
-either-told : (x y : Bool) → Told (cond x (cond y 0 110) 106)
-unfolding Told IsRefusal refusals listed
-either-told true true = inl refl
-either-told true false = inr refl
-either-told false y = inr refl
-
-pub element-refusal-told : (d : ℕ) (ns : List ℕ) → Told (element-refusal d ns)
-unfolding element-refusal
-element-refusal-told d ns = either-told (eqb d 5 || eqb d 61) (below (2 ^ d) ns)
 
 -- ---- the calls
 pub verdict-told : (n : ℕ) → Told n → VerdictTold (verdict-of n)

@@ -1,17 +1,9 @@
 -- How a call's checks are said (docs/SPECIFICATION.md, 6): one after the other, and the first that fails gives the refusal's number.
-use Prim.Native.Nat.{ℕ, zero, suc}
-use mathlib.Core.{Bool.Bool, Bool.true, Bool.cond, Bool._&&_, List.List, List.[], List._∷_}
+-- The words are those of the calls on elements.
+use Prim.Native.Nat.{ℕ}
+use mathlib.Core.{Bool.Bool, Bool.true, Bool._&&_, List.List, List.[], List._∷_}
 use lib.Dec.{eqb}
-
-infixr 20 _or-else_
--- the refusal with number n, unless the test holds; 0 is no refusal
-unfoldable pub unless : Bool → ℕ → ℕ
-unless holds n = cond holds 0 n
-
--- the refusal that is due first
-unfoldable pub _or-else_ : ℕ → ℕ → ℕ
-_or-else_ zero m = m
-_or-else_ (suc n) m = suc n
+unfoldable pub use Rattle.binary_field.specs.Checks.{unless, _or-else_}
 
 -- every number is 0
 unfoldable pub blank : List ℕ → Bool

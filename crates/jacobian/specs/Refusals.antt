@@ -1,15 +1,11 @@
 -- The numbers of the refusals (docs/SPECIFICATION.md, 6).
 use Prim.Native.Nat.{ℕ}
-use mathlib.Core.{Path._≡_, Bool.Bool, Bool.true, Bool.false, Bool._||_, List.List, List.[], List._∷_, Logic._⊎_}
-use lib.Dec.{eqb}
+use mathlib.Core.{Path._≡_, Bool.true, List.List, List.[], List._∷_, Logic._⊎_}
+unfoldable pub use Rattle.binary_field.specs.Checks.{listed}
 
--- one for each check
+-- one for each check of classes, curves, stamps, registers, records, archives and their areas; 117 is of elements alone, whose numbers are `element-refusals` of binary_field
 unfoldable pub refusals : List ℕ
 refusals = 101 ∷ 102 ∷ 103 ∷ 104 ∷ 105 ∷ 106 ∷ 107 ∷ 108 ∷ 109 ∷ 110 ∷ 111 ∷ 112 ∷ 113 ∷ 114 ∷ 115 ∷ 116 ∷ []
-
-unfoldable pub listed : ℕ → List ℕ → Bool
-listed n [] = false
-listed n (m ∷ ms) = eqb n m || listed n ms
 
 unfoldable pub IsRefusal : ℕ → Type 0
 IsRefusal n = listed n refusals ≡ true

@@ -3,10 +3,10 @@
 use Prim.Native.Nat.{ℕ, max, _≤_, _<_}
 use mathlib.Core.{Path._≡_, Path.sym, Path.ap, Path.subst, List.List}
 use native.Mathlib.Omega.{arith}
-use Rattle.char2_algebra.specs.{Lead.lead, Lead.monic-of, Euclid.IsBezout}
+use Rattle.char2_algebra.specs.{Lead.lead, Euclid.IsBezout}
 use Rattle.char2_algebra.proofs.{Degree.len-nought, Degree.len-zero, Degree.len-con-le, Division.len-quot-le}
-use Rattle.char2_algebra.proofs.Euclid.{bezout-nought-is, bezout-noughts-is, bezout-constant-is, bezout-step-is, len-substituted}
-use Rattle.row_theory.specs.{Field.F, Field.Poly, Field.𝔸, Field.el, Field.poly, internal.Elements.Is, Row.Stands, Row.row-len, internal.Bezout.BezoutRows}
+use Rattle.char2_algebra.proofs.Euclid.{bezout-scaled-is, bezout-noughts-is, bezout-constant-is, bezout-step-is, len-substituted}
+use Rattle.row_theory.specs.{Field.Poly, Field.𝔸, Field.el, Field.poly, internal.Elements.Inverts, Row.Stands, Row.row-len, internal.Bezout.BezoutRows}
 use Rattle.row_theory.proofs.Rows.{Coefficients.self-stands, Coefficients.stands-eq, Coefficients.stands-len, Constants.zero-stands}
 
 module _ (d : ℕ) where
@@ -24,18 +24,13 @@ module _ (d : ℕ) where
   }
 
   -- where b is 0: a made monic, or 0
-  pub nought-rows : (a : List ℕ) {c : ℕ} {g s t : List ℕ} → Is d c (F d .inverse (lead (𝔸 d) (poly d a))) → Stands d g (𝔸 d .ring .mul (𝔸 d .con (el d c)) (poly d a))
+  pub nought-rows : (a : List ℕ) {c : ℕ} {g s t : List ℕ} → Inverts d c (lead (𝔸 d) (poly d a)) → Stands d g (𝔸 d .ring .mul (𝔸 d .con (el d c)) (poly d a))
       → Stands d s (𝔸 d .con (el d c)) → Stands d t (𝔸 d .con (el d 0)) → (b : List ℕ) → row-len d b ≡ 0 → BezoutRows d a b g s t
-  unfolding monic-of
   nought-rows a {c} C G S T b e =
-      let T′ = zero-stands d T in
-      let k = ap (𝔸 d .con) (C .stands) in
-      let l : 𝔸 d .len (𝔸 d .con (F d .inverse (lead (𝔸 d) (poly d a)))) ≤ 1 = len-con-le (𝔸 d) _ in
+      let l : 𝔸 d .len (𝔸 d .con (el d c)) ≤ 1 = len-con-le (𝔸 d) _ in
       let m : 𝔸 d .len (𝔸 d .ring .nought) ≡ 0 = len-nought (𝔸 d) in
-      bezout-rows a b _ _ _
-      (stands-eq d (ap (λ z. 𝔸 d .ring .mul z (poly d a)) k) G)
-      (stands-eq d k S)
-      T′ (bezout-nought-is (𝔸 d) (poly d a) (poly d b) (len-zero (𝔸 d) (poly d b) e)) (omega arith) (omega arith)
+      bezout-rows a b _ _ _ G S (zero-stands d T)
+      (bezout-scaled-is (𝔸 d) (poly d a) (poly d b) (el d c) (C .unit) (len-zero (𝔸 d) (poly d b) e)) (omega arith) (omega arith)
 
   pub blank-rows : (a : List ℕ) {z : List ℕ} → Stands d z (𝔸 d .con (el d 0)) → row-len d a ≡ 0 → (b : List ℕ) → row-len d b ≡ 0
       → BezoutRows d a b z z z
@@ -45,14 +40,12 @@ module _ (d : ℕ) where
       bezout-rows a b _ _ _ Z′ Z′ Z′ (bezout-noughts-is (𝔸 d) (poly d a) (poly d b) (len-zero (𝔸 d) (poly d a) h) (len-zero (𝔸 d) (poly d b) e)) (omega arith) (omega arith)
 
   -- where b is another constant: 1
-  pub constant-rows : (b : List ℕ) {c : ℕ} {g s t : List ℕ} → row-len d b ≡ 1 → Is d c (F d .inverse (lead (𝔸 d) (poly d b)))
+  pub constant-rows : (b : List ℕ) {c : ℕ} {g s t : List ℕ} → row-len d b ≡ 1 → Inverts d c (lead (𝔸 d) (poly d b))
       → Stands d g (𝔸 d .ring .one) → Stands d s (𝔸 d .con (el d 0)) → Stands d t (𝔸 d .con (el d c)) → (a : List ℕ) → BezoutRows d a b g s t
-  constant-rows b e C G S T a =
-      let l : 𝔸 d .len (𝔸 d .con (F d .inverse (lead (𝔸 d) (poly d b)))) ≤ 1 = len-con-le (𝔸 d) _ in
+  constant-rows b {c} e C G S T a =
+      let l : 𝔸 d .len (𝔸 d .con (el d c)) ≤ 1 = len-con-le (𝔸 d) _ in
       let m : 𝔸 d .len (𝔸 d .ring .nought) ≡ 0 = len-nought (𝔸 d) in
-      bezout-rows a b _ _ _ G (zero-stands d S)
-      (stands-eq d (ap (𝔸 d .con) (C .stands)) T)
-      (bezout-constant-is (𝔸 d) (poly d a) (poly d b) e) (omega arith) (omega arith)
+      bezout-rows a b _ _ _ G (zero-stands d S) T (bezout-constant-is (𝔸 d) (poly d a) (poly d b) (el d c) e (C .unit)) (omega arith) (omega arith)
 
   -- one step back
   module _ (a b : List ℕ) {q r : List ℕ} (h : ¬ (poly d b ≡ 𝔸 d .ring .nought)) (Q : Stands d q (𝔸 d .quot (poly d a) (poly d b))) (R : Stands d r (𝔸 d .rem (poly d a) (poly d b))) where

@@ -2,9 +2,9 @@
 use mathlib.Core.Path.{_≡_, ap, ap₂, sym, _∙_}
 use Prim.Native.Nat.{ℕ, _+_, _-_, _*_, _^_, _<_, _≤_}
 use native.Mathlib.{Numerals.add-one, Omega.arith}
-use Rattle.binary_field_theory.specs.Element.{Accepted, product, square, squarings, power, inverse}
+use Rattle.binary_field_theory.specs.Element.{Accepted, product, square, squarings, power}
 use Rattle.binary_field_theory.proofs.Products.{low-lt, product-lt, square-lt}
-use Rattle.binary_field_theory.proofs.Power.{squarings-zero, squarings-suc, squarings-add, squarings-lt, power-ones-add, power-one, inverse-ones}
+use Rattle.binary_field_theory.proofs.Power.{squarings-zero, squarings-suc, squarings-add, squarings-lt, power-ones-add, power-one, ones-squared}
 
 pub none-squared : (d a : ℕ) → a < 2 ^ d → (a ≡ squarings d 0 a) × (a < 2 ^ d)
 none-squared d a h = (sym (squarings-zero d a), h)
@@ -36,6 +36,6 @@ joins d a j k hd ex ey er =
 pub first : (d a : ℕ) → Accepted d → a < 2 ^ d → a ≡ power d a (2 ^ 1 - 1)
 first d a hd h = sym (power-one d (low-lt d hd) a h)
 
--- the square of the last is the inverse
-pub last : (d a : ℕ) {x r : ℕ} → Accepted d → x ≡ power d a (2 ^ (d - 1) - 1) → r ≡ square d x → r ≡ inverse d a
-last d a hd ex er = er ∙ ap (square d) ex ∙ sym (inverse-ones d (low-lt d hd) a)
+-- the square of the last is the power 2^d - 2
+pub last : (d a : ℕ) {x r : ℕ} → Accepted d → x ≡ power d a (2 ^ (d - 1) - 1) → r ≡ square d x → r ≡ power d a (2 ^ d - 2)
+last d a hd ex er = er ∙ ap (square d) ex ∙ sym (ones-squared d (low-lt d hd) a)

@@ -8,31 +8,12 @@ use borrow.Author.Tests.{ltb-true, leb-true, eqb-true}
 use Rattle.binary_field_theory.specs.Element.{Accepted}
 use Rattle.class_group.specs.Mumford.{value}
 use Rattle.row_theory.specs.Field.{𝔸}
-use Rattle.jacobian.specs.{Checks.unless, Checks._or-else_, Checks.blank, Curves.coefficients, Curves.degree-refusal, Curves.coefficient-refusal, Curves.curve-refusal, Curves.f-row, Curves.curve, Classes.pair, Classes.padded, Classes.shape-refusal, Classes.range-refusal, Classes.class-refusal, declared.Curve.Curve, declared.Class.Class}
+use Rattle.jacobian.specs.{Checks.blank, Curves.coefficients, Curves.degree-refusal, Curves.coefficient-refusal, Curves.curve-refusal, Curves.f-row, Curves.curve, Classes.pair, Classes.padded, Classes.shape-refusal, Classes.range-refusal, Classes.class-refusal, declared.Curve.Curve, declared.Class.Class}
 use Rattle.binary_field.specs.Answer.{below}
+pub use Rattle.binary_field.proofs.Checks.{then-zero, first-due, next-due, unless-zero}
 use Rattle.jacobian.proofs.ByValue.Degrees.{by-degree}
 
--- ---- one check, and one after the other
-pub then-zero : (m n : ℕ) → m or-else n ≡ 0 → (m ≡ 0) × (n ≡ 0)
-unfolding _or-else_
-then-zero zero n e = (refl, e)
-then-zero (suc m) n e = absurd (omega arith)
-
-pub first-due : {m n : ℕ} (k : ℕ) → n ≡ m → ¬ (n ≡ 0) → n ≡ m or-else k
-unfolding _or-else_
-first-due {m = zero} k e h = absurd (h e)
-first-due {m = suc m} k e h = e
-
-pub next-due : {m n k l : ℕ} → n ≡ m → n ≡ 0 → k ≡ l → k ≡ m or-else l
-unfolding _or-else_
-next-due {m = zero} e z h = h
-next-due {m = suc m} e z h = absurd (omega arith)
-
-pub unless-zero : (b : Bool) (n : ℕ) → 0 < n → unless b n ≡ 0 → b ≡ true
-unfolding unless
-unless-zero true n p e = refl
-unless-zero false n p e = absurd (omega arith)
-
+-- ---- one check
 pub both : (x y : Bool) → (x && y) ≡ true → (x ≡ true) × (y ≡ true)
 both true y e = (refl, e)
 both false true e = (e, refl)

@@ -3,12 +3,12 @@ use Prim.Native.Nat.{ℕ}
 use mathlib.Core.{Path._≡_, Path.sym, Path._∙_, Path.ap, Path.ap₂, List.List}
 use native.Mathlib.Omega.{arith}
 use lib.ListN.{getD}
-use Rattle.field_laws.specs.Ring.{Ring2}
+use Rattle.field_laws.specs.{Ring.Ring2, Division.inverse-of}
 use Rattle.char2_algebra.specs.Square.{sqrt}
 use Rattle.class_group.specs.Half.{Triple, quadratic, half-of-degree-2}
-use Rattle.row_theory.specs.{Field.K, Field.F, Field.Poly, Field.𝔸, Field.el, Field.poly, internal.Elements.Is, Row.Stands, internal.Halving.HalvingRows}
+use Rattle.row_theory.specs.{Field.K, Field.F, Field.Poly, Field.𝔸, Field.el, Field.poly, internal.Elements.Is, internal.Elements.Inverts, Row.Stands, internal.Halving.HalvingRows}
 use Rattle.row_theory.specs.internal.Halving.{even-quartic, root-pair, rows-triple}
-use Rattle.row_theory.proofs.{Rows.Elements.el-zero, Rows.Elements.el-one, Rows.Elements.el-nonzero, Rows.Coefficients.coeff-poly}
+use Rattle.row_theory.proofs.{Rows.Elements.el-zero, Rows.Elements.el-one, Rows.Elements.el-nonzero, Rows.Answers.inverts-is, Rows.Answers.inverts-eq, Rows.Coefficients.coeff-poly}
 use Rattle.row_theory.proofs.HalfRows.Degrees12.{pair-2-square, nonzero-2-square, pair-2, nonzero-2, k-2, m-2}
 
 module _ (d : ℕ) (u v w : List ℕ) where
@@ -17,7 +17,7 @@ module _ (d : ℕ) (u v w : List ℕ) where
   infixl 60 _⊞_
   infixl 70 _·_
   pub record Computed2 (i k2 y k1 s z k0 : ℕ) (k m cw ck p q : List ℕ) : Type 0 where
-    pub i-is : Is d i (F d .inverse (el d (getD u 1 0)))
+    pub i-is : Inverts d i (el d (getD u 1 0))
     pub k2-is : Is d k2 (F d .root (el d i))
     pub y-is : Is d y (F d .ring .mul (el d (getD w 3 0)) (el d i))
     pub k1-is : Is d k1 (F d .root (el d y))
@@ -58,10 +58,10 @@ module _ (d : ℕ) (u v w : List ℕ) where
     u1≢ e = el-nonzero d (getD u 1 0) (h .u-range 1) n (u-at 1 ∙ e)
 
     abbrev I : K d
-    I = F d .inverse (𝔸 d .coeff (poly d u) 1)
+    I = inverse-of (F d) (𝔸 d .coeff (poly d u) 1) u1≢
 
     i-path : el d i ≡ I
-    i-path = c .i-is .stands ∙ ap (F d .inverse) (u-at 1)
+    i-path = inverts-is d u1≢ (inverts-eq d (u-at 1) (c .i-is))
 
     k1-path : el d k1 ≡ F d .root (F d .ring .mul (𝔸 d .coeff (poly d w) 3) I)
     k1-path = c .k1-is .stands ∙ ap (F d .root) (c .y-is .stands ∙ ap₂ (F d .ring .mul) (w-at 3) i-path)

@@ -3,7 +3,7 @@
 use Prim.Native.Nat.{ℕ, suc, _≤_, _<_}
 use mathlib.Core.Path.{_≡_, refl, sym, _∙_, ap, ap₂, subst}
 use native.Mathlib.{Omega.arith, Decide.decLe}
-use Rattle.field_laws.specs.{Ring.Ring2, Field.Field2}
+use Rattle.field_laws.specs.{Ring.Ring2, Field.Field2, Division.inverse-of}
 use Rattle.char2_algebra.specs.{Polynomials.Polynomials, Lead.Monic, Square.sqrt}
 use Rattle.char2_algebra.proofs.{Ring.ring2, Ring.by, Ring.both, Ring.combine, Ring.+-𝟘, Ring.·-𝟘, Ring.·-𝟙, Degree.len-add, Degree.len-bound}
 use Rattle.char2_algebra.proofs.{Degree.len-con-le, Product.len-mul-le, Division.rem-is, Lead.monic-top, Lead.monic-nonzero}
@@ -42,7 +42,7 @@ module _ {K P : Type 0} {F : Field2 K} (A : Polynomials F P) where
   open Polynomials A using (ring, coeff, con, x, len, rem, quot)
   open Ring2 ring using (add as _⊞_, mul as _·_, nought as 𝟘, one as 𝟙)
   open Ring2 (F .ring) using (add as _+ₖ_, mul as _·ₖ_, nought as 𝟘ₖ, one as 𝟙ₖ)
-  open Field2 F using (root, inverse)
+  open Field2 F using (root)
 
   infixl 60 _⊞_
   infixl 70 _·_
@@ -94,7 +94,7 @@ module _ {K P : Type 0} {F : Field2 K} (A : Polynomials F P) where
     unfolding half-of-degree-3 stepped-of-degree-3 lift step first-lift
     pair-3-square z = go (F .discrete t 𝟘ₖ)
       where
-        go : (d : Dec (t ≡ 𝟘ₖ)) → elim d as (λ _. Pair P) [ yes _ ↦ halved A 𝟙ₖ (stepped-of-degree-3 A T) | no _ ↦ lifted-half-of-degree-3 A T ] ≡ root-pair A L (T .v ⊞ quadratic A 𝟘ₖ 𝟘ₖ r · T .u ⊞ 𝟙)
+        go : (d : Dec (t ≡ 𝟘ₖ)) → elim d as (λ _. Pair P) [ yes _ ↦ halved A 𝟙ₖ (stepped-of-degree-3 A T) | no shown ↦ lifted-half-of-degree-3 A T shown ] ≡ root-pair A L (T .v ⊞ quadratic A 𝟘ₖ 𝟘ₖ r · T .u ⊞ 𝟙)
         go (yes _) = halved-pair A 𝟙ₖ (stepped-of-degree-3 A T) _ _ (one-times A L) refl
         go (no n) = absurd (n z)
 
@@ -104,18 +104,18 @@ module _ {K P : Type 0} {F : Field2 K} (A : Polynomials F P) where
         (row-3-square A (T .u) (T .w) u-len (monic-top A (T .u) 3 u-monic u-len) w-len (monic-top A (T .w) 4 w-monic w-len) z)
         (one-times A L)
 
-    half-3-lifted : ¬ (t ≡ 𝟘ₖ) → half-of-degree-3 A T ≡ lifted-half-of-degree-3 A T
-    unfolding half-of-degree-3 stepped-of-degree-3 lift step first-lift
+    half-3-lifted : (n : ¬ (root (coeff (stepped-of-degree-3 A T .u) 1) ≡ 𝟘ₖ)) → half-of-degree-3 A T ≡ lifted-half-of-degree-3 A T n
+    unfolding half-of-degree-3 lifted-half-of-degree-3 stepped-of-degree-3 lift step first-lift
     half-3-lifted n = go (F .discrete t 𝟘ₖ)
       where
-        go : (d : Dec (t ≡ 𝟘ₖ)) → elim d as (λ _. Pair P) [ yes _ ↦ halved A 𝟙ₖ (stepped-of-degree-3 A T) | no _ ↦ lifted-half-of-degree-3 A T ] ≡ lifted-half-of-degree-3 A T
+        go : (d : Dec (t ≡ 𝟘ₖ)) → elim d as (λ _. Pair P) [ yes _ ↦ halved A 𝟙ₖ (stepped-of-degree-3 A T) | no shown ↦ lifted-half-of-degree-3 A T shown ] ≡ lifted-half-of-degree-3 A T n
         go (yes z) = absurd (n z)
         go (no _) = refl
 
     -- where it is not
     module _ (n : ¬ (t ≡ 𝟘ₖ)) where
       abbrev i : K
-      i = inverse t
+      i = inverse-of F t n
 
       abbrev q : K
       q = root (coeff (T .u) 1 +ₖ i)

@@ -1,7 +1,7 @@
 -- The half of a class of degree 1 or 2: the pair of the rule as the square root of a polynomial that takes no division by a constant,
 -- and that this root can be divided by.
 use mathlib.Core.Path.{_≡_, refl, _∙_, ap}
-use Rattle.field_laws.specs.{Ring.Ring2, Field.Field2}
+use Rattle.field_laws.specs.{Ring.Ring2, Field.Field2, Division.inverse-of}
 use Rattle.char2_algebra.specs.{Polynomials.Polynomials, Lead.Monic, Square.sqrt}
 use Rattle.char2_algebra.proofs.{Ring.ring2, Ring.by, Ring.both, Ring.combine, Lead.monic-top}
 use Rattle.class_group.specs.{Mumford.Pair, Half.Triple, Half.lift, Half.step, Half.halved, Half.quadratic, Half.half-of-degree-1}
@@ -22,7 +22,7 @@ module _ {K P : Type 0} {F : Field2 K} (A : Polynomials F P) where
   open Polynomials A using (ring, coeff, con, len)
   open Ring2 ring using (add as _⊞_, mul as _·_, nought as 𝟘, one as 𝟙)
   open Ring2 (F .ring) using (add as _+ₖ_, mul as _·ₖ_, nought as 𝟘ₖ, one as 𝟙ₖ)
-  open Field2 F using (root, inverse)
+  open Field2 F using (root)
 
   infixl 60 _⊞_
   infixl 70 _·_
@@ -59,7 +59,7 @@ module _ {K P : Type 0} {F : Field2 K} (A : Polynomials F P) where
   unfolding half-of-degree-2
   pair-2-square T z = go (F .discrete (coeff (T .u) 1) 𝟘ₖ)
     where
-      go : (d : Dec (coeff (T .u) 1 ≡ 𝟘ₖ)) → elim d as (λ _. Pair P) [ yes _ ↦ halved A 𝟙ₖ T | no _ ↦ lifted-half-of-degree-2 A T ] ≡ root-pair A (T .u) (T .v)
+      go : (d : Dec (coeff (T .u) 1 ≡ 𝟘ₖ)) → elim d as (λ _. Pair P) [ yes _ ↦ halved A 𝟙ₖ T | no shown ↦ lifted-half-of-degree-2 A T shown ] ≡ root-pair A (T .u) (T .v)
       go (yes _) = halved-pair A 𝟙ₖ T _ _ (one-times A (T .u)) refl
       go (no n) = absurd (n z)
 
@@ -68,11 +68,11 @@ module _ {K P : Type 0} {F : Field2 K} (A : Polynomials F P) where
       root-nonzero A 𝟙ₖ 1 _ _ (row-2-square A (T .u) u-len (monic-top A (T .u) 2 u-monic u-len) z) (one-times A (T .u))
 
   -- degree 2, u1 ≠ 0
-  pub half-2-lifted : (T : Triple P) → ¬ (coeff (T .u) 1 ≡ 𝟘ₖ) → half-of-degree-2 A T ≡ lifted-half-of-degree-2 A T
-  unfolding half-of-degree-2
+  pub half-2-lifted : (T : Triple P) (n : ¬ (coeff (T .u) 1 ≡ 𝟘ₖ)) → half-of-degree-2 A T ≡ lifted-half-of-degree-2 A T n
+  unfolding half-of-degree-2 lifted-half-of-degree-2
   half-2-lifted T n = go (F .discrete (coeff (T .u) 1) 𝟘ₖ)
     where
-      go : (d : Dec (coeff (T .u) 1 ≡ 𝟘ₖ)) → elim d as (λ _. Pair P) [ yes _ ↦ halved A 𝟙ₖ T | no _ ↦ lifted-half-of-degree-2 A T ] ≡ lifted-half-of-degree-2 A T
+      go : (d : Dec (coeff (T .u) 1 ≡ 𝟘ₖ)) → elim d as (λ _. Pair P) [ yes _ ↦ halved A 𝟙ₖ T | no shown ↦ lifted-half-of-degree-2 A T shown ] ≡ lifted-half-of-degree-2 A T n
       go (yes z) = absurd (n z)
       go (no _) = refl
 
@@ -81,7 +81,7 @@ module _ {K P : Type 0} {F : Field2 K} (A : Polynomials F P) where
     u1 = coeff (T .u) 1
 
     abbrev i : K
-    i = inverse u1
+    i = inverse-of F u1 n
 
     abbrev k1 : K
     k1 = root (coeff (T .w) 3 ·ₖ i)

@@ -2,18 +2,19 @@
 use Prim.Native.Nat.{ℕ}
 use mathlib.Core.{Path._≡_, Path.sym, Path._∙_, Path.ap, Path.ap₂, List.List}
 use lib.ListN.{getD}
+use Rattle.field_laws.specs.Division.{inverse-of}
 use Rattle.char2_algebra.specs.Square.{sqrt}
 use Rattle.class_group.specs.{Mumford.Pair, Half.Triple, Half.half-of-degree-3, Half.first-lift}
-use Rattle.row_theory.specs.{Field.K, Field.F, Field.Poly, Field.𝔸, Field.el, Field.poly, internal.Elements.Is, Row.Stands, Row.row-len, internal.Halving.second-square}
+use Rattle.row_theory.specs.{Field.K, Field.F, Field.Poly, Field.𝔸, Field.el, Field.poly, internal.Elements.Is, internal.Elements.Inverts, Row.Stands, Row.row-len, internal.Halving.second-square}
 use Rattle.row_theory.specs.internal.Halving.{second-remainder, rows-triple}
-use Rattle.row_theory.proofs.{Rows.Elements.el-nonzero, Rows.Coefficients.coeff-poly, HalfRows.Degree3.pair-3, HalfRows.Degree3.a-len}
+use Rattle.row_theory.proofs.{Rows.Elements.el-nonzero, Rows.Answers.inverts-is, Rows.Answers.inverts-eq, Rows.Coefficients.coeff-poly, HalfRows.Degree3.pair-3, HalfRows.Degree3.a-len}
 use Rattle.row_theory.proofs.HalfRows.Computed3.{Computed3, w-five, r-path, t-path}
 
 module _ (d : ℕ) (u v w : List ℕ) where
   pub record Lifted3 (r : ℕ) (s : List ℕ) (t i g q : ℕ) (p a : List ℕ) : Type 0 where
     pub first : Computed3 d u v w r s t
     pub t-nonzero : ¬ (t ≡ 0)
-    pub i-is : Is d i (F d .inverse (el d t))
+    pub i-is : Inverts d i (el d t)
     pub g-is : Is d g (F d .ring .add (el d (getD u 1 0)) (el d i))
     pub q-is : Is d q (F d .root (el d g))
     pub p-is : Stands d p (second-square (𝔸 d) (poly d u) (poly d s) (el d t) (el d q) (el d g))
@@ -29,20 +30,20 @@ module _ (d : ℕ) (u v w : List ℕ) where
     abbrev t-el : K d
     t-el = F d .root (𝔸 d .coeff L 1)
 
-    abbrev i-el : K d
-    i-el = F d .inverse t-el
-
-    abbrev g-el : K d
-    g-el = F d .ring .add (𝔸 d .coeff (poly d u) 1) i-el
-
     t-is : el d t ≡ t-el
     t-is = t-path d u v w (c .first)
 
     t≢ : ¬ (t-el ≡ F d .ring .nought)
     t≢ e = el-nonzero d t (c .first .t-is .in-range) (c .t-nonzero) (t-is ∙ e)
 
+    abbrev i-el : K d
+    i-el = inverse-of (F d) t-el t≢
+
+    abbrev g-el : K d
+    g-el = F d .ring .add (𝔸 d .coeff (poly d u) 1) i-el
+
     i-path : el d i ≡ i-el
-    i-path = c .i-is .stands ∙ ap (F d .inverse) t-is
+    i-path = inverts-is d t≢ (inverts-eq d t-is (c .i-is))
 
     g-path : el d g ≡ g-el
     g-path = c .g-is .stands ∙ ap₂ (F d .ring .add) (sym (coeff-poly d u 1)) i-path

@@ -7,8 +7,8 @@ use Rattle.field_laws.specs.Ring.{Ring2}
 use Rattle.char2_algebra.specs.Lead.{lead}
 use Rattle.char2_algebra.proofs.{Ring.ring2, Ring.𝟘-+, Ring.𝟘-·, Ring.+-𝟘, Ring.·-𝟘, Ring.·-𝟙, Ring.·-assoc, Ring.·-comm, Degree.con-mul}
 use Rattle.char2_algebra.proofs.Division.{rem-is, quot-is}
-use Rattle.row_theory.specs.{Field.K, Field.F, Field.Poly, Field.𝔸, Field.el, Field.poly, internal.Elements.Is, Row.InRange, Row.Stands, Row.row-len, internal.Elements.x-power}
-use Rattle.row_theory.proofs.{Rows.Elements.zero-lt, Rows.Elements.el-zero, Rows.Elements.zero-of-nought, Rows.Coefficients.coeff-poly, Rows.Lead.lead-nonzero}
+use Rattle.row_theory.specs.{Field.K, Field.F, Field.Poly, Field.𝔸, Field.el, Field.poly, internal.Elements.Is, internal.Elements.Inverts, Row.InRange, Row.Stands, Row.row-len, internal.Elements.x-power}
+use Rattle.row_theory.proofs.{Rows.Elements.zero-lt, Rows.Elements.el-zero, Rows.Elements.zero-of-nought, Rows.Answers.inverts-eq, Rows.Coefficients.coeff-poly}
 use Rattle.row_theory.proofs.Rows.Coefficients.{row-len-le, zero-past, self-stands, stands-eq}
 use Rattle.row_theory.proofs.{Rows.Length.Blank, Rows.Fill.range-set, Rows.Fill.zeros-at, Rows.Fill.zeros-range, Rows.Fill.zeros-poly, Rows.Shift.x-power-add}
 use Rattle.row_theory.proofs.{Rows.Shift.poly-set-zero, Rows.Shift.poly-strike, Rows.Shift.coeff-shift-past, Rows.Lead.Leads, Rows.Lead.lead-row, Rows.Lead.row-split}
@@ -26,11 +26,11 @@ pub record IsDivisor (d : ℕ) (low : List ℕ) (top inverse : ℕ) (g : Poly d)
   pub unit : F d .ring .mul lead (el d inverse) ≡ F d .ring .one
   pub split : g ≡ 𝔸 d .ring .add (poly d low) (𝔸 d .ring .mul (𝔸 d .con lead) (x-power d top))
 
-pub divisor : {d : ℕ} {b : List ℕ} {top inverse : ℕ} → Leads d b top → Is d inverse (F d .inverse (lead (𝔸 d) (poly d b))) → IsDivisor d (set b top 0) top inverse (poly d b)
+pub divisor : {d : ℕ} {b : List ℕ} {top inverse : ℕ} → Leads d b top → Inverts d inverse (lead (𝔸 d) (poly d b)) → IsDivisor d (set b top 0) top inverse (poly d b)
 divisor {d} {b} {top} s e =
     record {
       lead = el d (getD b top 0);
-      unit = ap (F d .ring .mul (el d (getD b top 0))) (e .stands ∙ ap (F d .inverse) (lead-row s)) ∙ F d .mul-inverse (el d (getD b top 0)) (lead-nonzero s);
+      unit = inverts-eq d (lead-row s) e .unit;
       split = row-split s;
     }
 

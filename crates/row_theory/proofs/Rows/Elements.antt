@@ -70,9 +70,6 @@ module _ (d : ℕ) where
   pub zero-is : Is d 0 (F d .ring .nought)
   zero-is = record { in-range = zero-lt; stands = el-zero }
 
-  pub one-is : Is d 1 (F d .ring .one)
-  one-is = record { in-range = one-lt; stands = el-one }
-
   pub self-is : (n : ℕ) → n < 2 ^ degree-of d → Is d n (el d n)
   self-is n h = record { in-range = h; stands = refl }
 

@@ -6,8 +6,8 @@ use lib.{ListN.length, ListN.getD, ListN.set, Seq.getD-set-same, Seq.getD-set-ot
 use Rattle.field_laws.specs.Ring.{Ring2}
 use Rattle.char2_algebra.specs.Lead.{lead}
 use Rattle.char2_algebra.proofs.{Ring.ring2, Degree.len-nonzero, Lead.lead-is}
-use Rattle.row_theory.specs.{Field.F, Field.Poly, Field.𝔸, Field.el, Field.poly, Row.InRange, Row.row-len, internal.Elements.x-power}
-use Rattle.row_theory.proofs.{Rows.Elements.zero-lt, Rows.Elements.el-nonzero, Rows.Coefficients.coeff-poly, Rows.Coefficients.row-len-le, Rows.Shift.poly-strike}
+use Rattle.row_theory.specs.{Field.Poly, Field.𝔸, Field.el, Field.poly, Row.InRange, Row.row-len, internal.Elements.x-power}
+use Rattle.row_theory.proofs.{Rows.Elements.zero-lt, Rows.Coefficients.coeff-poly, Rows.Coefficients.row-len-le, Rows.Shift.poly-strike}
 use Rattle.row_theory.proofs.{Rows.Coefficients.row-len-length, Rows.Coefficients.zero-past, Rows.Coefficients.top-nonzero, Rows.Fill.range-set}
 
 -- the leading number stands at top
@@ -34,9 +34,6 @@ leads d r {n} s g e h =
 module _ {d : ℕ} {r : List ℕ} {top : ℕ} (s : Leads d r top) where
   pub lead-row : lead (𝔸 d) (poly d r) ≡ el d (getD r top 0)
   lead-row = lead-is (𝔸 d) (poly d r) top (s .len) ∙ coeff-poly d r top
-
-  pub lead-nonzero : ¬ (el d (getD r top 0) ≡ F d .ring .nought)
-  lead-nonzero = el-nonzero d (getD r top 0) (s .range top) (s .nonzero)
 
   -- the row without its leading number
   pub low-range : InRange d (set r top 0)

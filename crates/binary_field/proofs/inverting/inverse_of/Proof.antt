@@ -8,13 +8,13 @@ inverse-61-requires : tie.Need-inverse-61-requires
 inverse-61-requires c κs =
     let s = c .before .before in
     let p = s .before .pre in
-    (rw (other-degree _ (p .0) (s .if1 .left)) at (p .1), p .2, c .before .multisquares .ensures)
+    (rw (other-degree _ (p .0) (s .if1 .left)) at (p .1), p .3, c .before .multisquares .ensures)
 
 pub inverse-of-spec : {M : Type 1} → statement M
 inverse-of-spec =
     tie.close
     (tie.spec
-    (λ c κs. (rw (c .if1 .taken) at (c .before .pre .1), c .before .pre .2))
+    (λ c κs. (rw (c .if1 .taken) at (c .before .pre .1), c .before .pre .3))
     (λ c. rw (c .before .if1 .taken) (c .inverse-5 .ensures))
     (λ c κs. search needs)
     inverse-61-requires

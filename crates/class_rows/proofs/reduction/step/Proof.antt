@@ -17,7 +17,9 @@ divide-requires c κs =
     let s = c .before .before in
     let p = s .before .before .pre in
     let m = s .monic .ensures in
-    (p .0, c .add-rows .ensures .in-range, m .in-range, λ e. monic-of-nonzero (𝔸 _) _ (cofactor-row-nonzero _ (p .1) (p .2)) (sym (m .stands) ∙ e))
+    let v-range = p .1 .v-range in
+    let m-range = m .in-range in
+    (p .0, c .add-rows .ensures .in-range, search, λ e. monic-of-nonzero (𝔸 _) _ (cofactor-row-nonzero _ (p .1) (p .2)) (sym (m .stands) ∙ e))
 
 returns : tie.Need-returns
 returns c =

@@ -1,9 +1,8 @@
 -- `row::leading` meets its contract: the leading number stands one below the length.
 use Prim.Native.Nat.{_-_}
-use mathlib.Core.Path.{sym, ap}
+use mathlib.Core.Path.{sym}
 use native.Mathlib.Omega.{arith}
-use Rattle.row_theory.specs.Field.{F}
-use Rattle.row_theory.proofs.Rows.{Length.places-len, Lead.length-pos, Lead.Leads, Lead.leads, Lead.lead-row, Elements.is-eq}
+use Rattle.row_theory.proofs.Rows.{Length.places-len, Lead.length-pos, Lead.Leads, Lead.leads, Lead.lead-row, Answers.inverts-eq}
 use Rattle.class_rows.proofs.row.leading.Statement.{statement}
 use Rattle.class_rows.proofs.row.leading.Tie as tie
 
@@ -17,7 +16,7 @@ inverted-requires : tie.Need-inverted-requires
 inverted-requires c κs = let s = at-top c in (c .before .pre .0, s .range _, s .nonzero)
 
 returns : tie.Need-returns
-returns c = let s = at-top (c .before) in (s .len, is-eq _ (ap (F _ .inverse) (sym (lead-row s))) (c .inverted .ensures))
+returns c = let s = at-top (c .before) in (s .len, inverts-eq _ (sym (lead-row s)) (c .inverted .ensures))
 
 pub leading-spec : {M : Type 1} → statement M
 leading-spec = tie.close (tie.spec (λ c κs. tt) sub-top (λ c. omega (arith, at-top c .top-lt)) (λ c. omega (arith, at-top c .top-lt)) inverted-requires returns)
