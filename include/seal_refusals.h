@@ -12,7 +12,8 @@
  * (bench/stack.txt, which `bash bench/stack` makes); tests/run fails where a call takes more than half of this. */
 #define SEAL_STACK 65536
 
-/* The refusals, in checking order (docs/SPECIFICATION.md, section 6). */
+/* The refusals, in checking order (docs/SPECIFICATION.md, section 6). 117 is not among them: it is of calls on elements
+ * alone, and no call for C answers it. */
 #define SEAL_OUTPUT_TOO_SHORT 101    /* the output has fewer than 51 bytes, or 56 for commit and undo */
 #define SEAL_HEAD_CUT 102            /* the input ends before the three bytes of a field's head */
 #define SEAL_WRONG_TAG 103           /* the tag is not the one due there */
