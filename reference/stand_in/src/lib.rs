@@ -22,7 +22,10 @@ use std::sync::OnceLock;
 /// - `lowest-bit`: the root with lowest bit 1 is taken.
 /// - `stamp-bound`: the stamp 2^(d-3) is accepted.
 /// - `stamp-order`: a stamp that is too large is refused before bytes that remain.
-const FAULTS: [&str; 13] = [
+/// - `half-by-zero`: the half of a class of degree 2 divides by u1 also where that is 0, and hands on 117.
+/// - `sum-by-zero`: the sum of two classes with the same u, of degree 1, divides by the difference of their roots, and
+///   hands on 117.
+const FAULTS: [&str; 15] = [
     "bound",
     "scratch",
     "beyond",
@@ -36,6 +39,8 @@ const FAULTS: [&str; 13] = [
     "lowest-bit",
     "stamp-bound",
     "stamp-order",
+    "half-by-zero",
+    "sum-by-zero",
 ];
 
 /// The fault that is asked for.
@@ -97,6 +102,14 @@ fn faulty(call: Call, input: &[u8], length: usize) -> (u32, Vec<u8>) {
         }
         "half" if call == Call::Half && right.0 <= 100 && input[33] == 16 => {
             return (19, input[31..].to_vec());
+        }
+        "half-by-zero" if call == Call::Half && right.0 <= 100 && input[33] == 32 && input[34..42] == [0; 8] => {
+            return (117, vec![]);
+        }
+        "sum-by-zero" if call == Call::Sum && right.0 <= 100 && input[33] == 16 && input[52] == 16 => {
+            if input[34..42] == input[53..61] {
+                return (117, vec![]);
+            }
         }
         "candidate" | "six" | "lowest-bit" | "stamp-bound" | "stamp-order" => {
             if let Call::Stamp(stamp) = call {
