@@ -1,9 +1,9 @@
 -- The numbers that the field's operations give, and the element that a number stands for. Under `unfolding field element computing`
 -- closed operations compute.
-use Prim.Native.Nat.{ℕ, _-_, _^_, _<_}
+use Prim.Native.Nat.{ℕ, _^_, _<_}
 use mathlib.Core.Path.{_≡_, refl}
 use native.Mathlib.Decide.{ℕ-discrete, Fin-discrete}
-use Rattle.binary_field_theory.specs.{Carryless._⊕_, Carryless.digits-to, Carryless.digits, Carryless.clmul, Carryless.spread, Carryless.reduce, Carryless.remainder, Element.Accepted, Element.Element, Element.low, Element.product, Element.power, Element.root, Chain.spreadings, Chain.chain-turn, Chain.chain, Chain.chain-inverse}
+use Rattle.binary_field_theory.specs.{Carryless._⊕_, Carryless.digits-to, Carryless.digits, Carryless.clmul, Carryless.spread, Carryless.reduce, Carryless.remainder, Element.Accepted, Element.Element, Element.low, Element.product, Element.root, Element.inverse, Chain.spreadings, Chain.chain-turn, Chain.chain, Chain.chain-inverse}
 use Rattle.binary_field_theory.proofs.{Remainder.remainder-small, Products.low-lt, Elements.element-path, Elements.chain-number, Elements.spreadings-root}
 use Rattle.binary_field.specs.Field.{field, element}
 
@@ -24,9 +24,10 @@ module _ (d : ℕ) (ok : Accepted d) where
   unfolding field
   one-number = refl
 
-  pub inverse-number : (x : Element d) → (field d ok .inverse x) .0 ≡ power d (x .0) (2 ^ d - 2)
+  -- nothing is said of an inverse of 0
+  pub inverse-number : (x : Element d) (ne : ¬ (x .0 ≡ 0)) → (field d ok .inverse x) .0 ≡ inverse d (x .0) ne
   unfolding field
-  inverse-number x = chain-number d ok (x .0) (x .1)
+  inverse-number x ne = chain-number d ok (x .0) (x .1)
 
   pub root-number : (x : Element d) → (field d ok .root x) .0 ≡ root d (x .0)
   unfolding field

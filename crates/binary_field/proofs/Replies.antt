@@ -1,5 +1,6 @@
 -- What the answers of the calls on elements come to: the refusal where there is one, and else what the field's operation gives, or the root of
--- y² + y = a with lowest bit 0 where there is one. The inverse of an element other than 0 is the only one whose product with it is 1, and 0 is refused with 117 (`inverse-means`, `inverse-zero-refused`).
+-- y² + y = a with lowest bit 0 where there is one (`quadratic-means`). The inverse of an element other than 0 is the only one whose product with it is 1
+-- (`inverse-means`), and 0 is refused with 117 (`inverse-zero-refused`).
 use mathlib.Core.{Path._≡_, Path.refl, Path.ap, Path.sym, Path._∙_, Bool.Bool, Bool.true, Bool.false, Bool._||_, Bool._&&_, List.[], List._∷_, Option.Option, Option.none, Option.some}
 use Prim.Native.Nat.{ℕ, zero, suc, _-_, _%_, _^_, _<_}
 use native.Mathlib.Omega.{arith}
@@ -159,8 +160,10 @@ module _ (d : ℕ) (ok : Accepted d) (a : ℕ) (ha : a < 2 ^ d) where
 
   pub inverse-in-field : (ne : ¬ (at d ok a ≡ field d ok .ring .nought)) → inverse-reply d a ≡ element ((inverse-of (field d ok) (at d ok a) ne) .0)
   inverse-in-field ne =
-      rw (inverse-number d ok, element-small d ok a ha)
-      (inverse-replies d a ok ha (λ e. ne (element-path d (element-small d ok a ha ∙ e ∙ sym (nought-number d ok)))))
+      let small = element-small d ok a ha in
+      let not-zero : ¬ (a ≡ 0) = λ e. ne (element-path d (small ∙ e ∙ sym (nought-number d ok))) in
+      inverse-replies d a ok ha not-zero
+      ∙ ap element (sym (inverse-number d ok (at d ok a) (λ e. not-zero (sym small ∙ e)) ∙ ap (λ n. power d n (2 ^ d - 2)) small))
 
 -- for a caller that takes the answer apart: its element is the one that the reply says, and it is no refusal
 pub element-is : {x : Answer} {n v : ℕ} → x ≡ Element n → reply x ≡ element v → n ≡ v
