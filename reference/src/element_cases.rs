@@ -160,18 +160,15 @@ mod tests {
     fn every_outcome_of_every_call() {
         let cases = all_cases();
         for call in 1..=6 {
-            let lines = |degree| -> Vec<String> {
-                let wanted = |case: &&Case| case.call == call && case.degree == degree;
-                cases.iter().filter(wanted).map(Case::line).collect()
-            };
+            let wanted = |degree| cases.iter().filter(move |case| case.call == call && case.degree == degree);
+            let lines = |degree| -> Vec<String> { wanted(degree).map(Case::line).collect() };
             for degree in [5, 61] {
                 assert!(lines(degree).contains(&"refused 110\n".to_string()));
                 let element = if call == QUADRATIC_ROOT { "0\n" } else { "1\n" };
                 assert!(lines(degree).contains(&element.to_string()));
                 assert_eq!(lines(degree).contains(&"no root\n".to_string()), call == QUADRATIC_ROOT);
                 assert!(!lines(degree).contains(&"refused 106\n".to_string()));
-                let inverted = |case: &&Case| case.call == call && case.degree == degree;
-                for case in cases.iter().filter(inverted) {
+                for case in wanted(degree) {
                     assert_eq!(case.line() == "refused 117\n", call == INVERSE && case.a == 0);
                 }
                 assert_eq!(lines(degree).contains(&"refused 117\n".to_string()), call == INVERSE);

@@ -1,11 +1,10 @@
 -- Every element but 0 times its inverse is 1, for a certified degree: the power 2^d - 1 of a is its own square, hence 0 or 1,
--- and times a it is a. So a product is 0 only if a factor is, and no other element times a is 1. No product with 0 is 1, and nothing is said
--- of an inverse of 0.
+-- and times a it is a. So a product is 0 only if a factor is, and no other element times a is 1. Nothing is said of an inverse of 0.
 use Prim.Native.Nat.{ℕ, suc, _+_, _-_, _^_, _<_}
-use mathlib.Core.Path.{_≡_, refl, sym, ap, _∙_}
+use mathlib.Core.Path.{_≡_, refl, sym, ap, ap₂, _∙_}
 use native.Mathlib.Omega.{arith}
-use Rattle.binary_field_theory.specs.Element.{product, square, power, inverse, OneInverse}
-use Rattle.binary_field_theory.proofs.{Sums.bit-cases, Certificate.Certified, Certificate.idempotent-lt}
+use Rattle.binary_field_theory.specs.{Carryless._⊕_, Element.product, Element.square, Element.power, Element.inverse, Element.OneInverse}
+use Rattle.binary_field_theory.proofs.{Sums.bit-cases, Sums.sum-cancel, Sums.sum-lt, Sums.sum-self, Certificate.Certified, Certificate.idempotent-lt}
 use Rattle.binary_field_theory.proofs.Products
 use Rattle.binary_field_theory.proofs.Power
 use Rattle.binary_field_theory.proofs.Frobenius
@@ -43,17 +42,6 @@ module _ (d : ℕ) (c : Certified d) (a : ℕ) (ha : a < 2 ^ d) where
       ∙ ones-one ne (power d a (2 ^ d - 1))
       (idempotent-lt d c (power d a (2 ^ d - 1)) (Power.power-lt d (c .fits) a (2 ^ d - 1)) ones-idempotent) refl
 
-  -- c = c (a b) = (a c) b = b for b the inverse
-  inverse-only : (ne : ¬ (a ≡ 0)) (x : ℕ) → x < 2 ^ d → product d a x ≡ 1 → x ≡ inverse d a ne
-  inverse-only ne x hx e =
-      let b = inverse d a ne in
-      sym (Products.product-one d (c .fits) x hx) ∙ ap (product d x) (sym (product-inverse ne))
-      ∙ sym (Products.product-assoc d (c .fits) x a b) ∙ ap (λ y. product d y b) (Products.product-comm d x a ∙ e)
-      ∙ Products.one-product d (c .fits) b (Power.power-lt d (c .fits) a (2 ^ d - 2))
-
-  pub one-inverse : (ne : ¬ (a ≡ 0)) → OneInverse d a (inverse d a ne)
-  one-inverse ne = record { below = Power.power-lt d (c .fits) a (2 ^ d - 2); inverts = product-inverse ne; only = inverse-only ne }
-
 module _ (d : ℕ) (c : Certified d) where
   -- a product of elements is 0 only if a factor is
   pub product-cancel : (a b : ℕ) → a < 2 ^ d → b < 2 ^ d → product d a b ≡ 0 → ¬ (a ≡ 0) → b ≡ 0
@@ -62,6 +50,14 @@ module _ (d : ℕ) (c : Certified d) where
       ∙ ap (λ x. product d x b) (Products.product-comm d a (inverse d a ne))
       ∙ Products.product-assoc d (c .fits) (inverse d a ne) a b ∙ ap (product d (inverse d a ne)) e ∙ Products.product-zero d (inverse d a ne)
 
--- no product with 0 is 1
-pub zero-times : (d b : ℕ) → ¬ (product d 0 b ≡ 1)
-zero-times d b e = let z : _≡_ {A = ℕ} 0 1 = sym (Products.zero-product d b) ∙ e in omega arith
+  -- where a x and a b are 1, a (x + b) is 0
+  pub one-inverse : (a : ℕ) → a < 2 ^ d → (ne : ¬ (a ≡ 0)) → OneInverse d a (inverse d a ne)
+  one-inverse a ha ne =
+      let b = inverse d a ne in
+      let b-lt : b < 2 ^ d = Power.power-lt d (c .fits) a (2 ^ d - 2) in
+      let b-inverts : product d a b ≡ 1 = product-inverse d c a ha ne in
+      record {
+        below = b-lt;
+        inverts = b-inverts;
+        only = λ x hx e. sum-cancel x b (product-cancel a (x ⊕ b) ha (sum-lt d x b hx b-lt) (Products.product-sum d (c .fits) a x b ∙ ap₂ _⊕_ e b-inverts ∙ sum-self 1) ne);
+      }

@@ -4,9 +4,10 @@
 use Prim.Native.Nat.{ℕ, _%_, _^_, _<_}
 use mathlib.Core.Path.{_≡_, sym, ap, _∙_}
 use mathlib.Core.{Logic._↔_, Logic._⊎_, Option.Option, Option.none, Option.some}
+use native.Mathlib.Omega.{arith}
 use Rattle.binary_field_theory.specs.{Carryless._⊕_, Element.Accepted, Element.product, Element.root, Element.inverse, Element.OneRoot, Element.OneInverse}
 use Rattle.binary_field_theory.specs.Quadratic.{Root, EvenRoot, even-root, trace, half-trace}
-use Rattle.binary_field_theory.proofs.{Products.low-lt, Frobenius.square-root, Frobenius.root-square, Frobenius.root-lt, Certificate.certified}
+use Rattle.binary_field_theory.proofs.{Products.low-lt, Products.zero-product, Frobenius.square-root, Frobenius.root-square, Frobenius.root-lt, Certificate.certified}
 use Rattle.binary_field_theory.proofs.Inverses
 use Rattle.binary_field_theory.proofs.Quadratic
 use Rattle.binary_field_theory.proofs.TraceBits.{odd}
@@ -24,7 +25,7 @@ module _ (d : ℕ) (ok : Accepted d) where
   one-inverse = Inverses.one-inverse d (certified d ok)
 
   pub zero-no-inverse : (b : ℕ) → ¬ (product d 0 b ≡ 1)
-  zero-no-inverse = Inverses.zero-times d
+  zero-no-inverse b e = let z : _≡_ {A = ℕ} 0 1 = sym (zero-product d b) ∙ e in omega arith
 
   -- ---- y² + y = a
   pub root-iff-trace : (a : ℕ) → a < 2 ^ d → ((y : ℕ) × Root d a y) ↔ (trace d a ≡ 0)

@@ -1,12 +1,14 @@
--- Demand 1 of the register by value: a commit or an undo answers an acceptance, or a refusal with one of the numbers and the register given (`step-told`).
+-- Demand 1 of the register by value: a commit or an undo answers an acceptance, or a refusal with one of the numbers and the register given (`step-told`), and never 117
+-- (`step-never-117`).
 -- What the checks of a register and of a step say is 0 or one of the numbers: `register-refusal-told`, `step-refusal-told`.
 use Prim.Native.Nat.{ℕ, zero, suc}
-use mathlib.Core.{Path.refl, Bool.Bool, Bool.true, Bool.false, Bool.cond, Logic.inl, Logic.inr}
+use mathlib.Core.{Path._≡_, Path.refl, Bool.Bool, Bool.true, Bool.false, Bool.cond, Logic.inl, Logic.inr}
 use native.Mathlib.Omega.{arith}
 use lib.Dec.{eqb}
-use Rattle.jacobian.specs.{Refusals.refusals, Refusals.listed, Refusals.IsRefusal, Refusals.Told, declared.Class.Class}
-use Rattle.jacobian.proofs.{Refusals.told-unless, Refusals.told-or-else, Told.curve-refusal-told, Told.class-refusal-told}
-use Rattle.history.specs.Register.{register-refusal, edge, edge-refusal, step-refusal, stepped, follows, step-answer, StepTold}
+use Rattle.jacobian.specs.{Refusals.refusals, Refusals.listed, Refusals.IsRefusal, Refusals.Told, Answer.refused, declared.Class.Class}
+use Rattle.jacobian.specs.Told as told
+use Rattle.jacobian.proofs.{Refusals.told-unless, Refusals.told-or-else, Refusals.verdict-never-117, Told.curve-refusal-told, Told.class-refusal-told}
+use Rattle.history.specs.Register.{register-refusal, edge, edge-refusal, step-refusal, stepped, follows, step-answer, RegisterReply, StepTold}
 use Rattle.history.specs.Register as register
 use Rattle.history.specs.declared.{Register.Register, Step.Step, Step.the-variants.Commit, Step.the-variants.Undo}
 
@@ -37,3 +39,7 @@ follows-told (suc n) given next (inr r) = register.StepTold.refusal (suc n) r
 pub step-told : (k : Step) (r : Register) (a : Class) → StepTold r (step-answer k r a)
 unfolding step-answer
 step-told k r a = follows-told _ r (stepped k r a) (step-refusal-told k r a)
+
+pub step-never-117 : {given : Register} {r : RegisterReply} → StepTold given r → ¬ (r .outcome ≡ refused 117)
+step-never-117 (register.StepTold.acceptance next) = verdict-never-117 told.VerdictTold.acceptance
+step-never-117 (register.StepTold.refusal n i) = verdict-never-117 (told.VerdictTold.refusal n i)

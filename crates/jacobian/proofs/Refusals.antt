@@ -1,13 +1,16 @@
 -- What the checks say is 0 or the number of a refusal: of one check (`told-unless`), of one after the other (`told-or-else`), and so of a verdict
--- (`refused-told`). Every refusal's number is above 100 (`above-100`), so no length up to that is taken for one. None is 117 (`never-117`): no call whose answers are
--- told apart by these numbers hands on that an element inverted was 0.
+-- (`refused-told`). Every refusal's number is above 100 (`above-100`), so no length up to that is taken for one. None is 117, of a number that a check
+-- says (`never-117`), of a verdict and of an answer by value (`verdict-never-117`, `reply-never-117`): no call that is told apart by them hands on that an element
+-- inverted was 0.
 use Prim.Native.Nat.{ℕ, zero, suc, _<_}
 use mathlib.Core.{Path._≡_, Path.refl, Path.sym, Path.ap, Path.subst, Bool.Bool, Bool.true, Bool.false, Bool.true≢false, Bool.false≢true, Bool._||_, Bool._&&_, List.List, List.[], List._∷_, Logic._⊎_, Logic.inl, Logic.inr}
 use native.Mathlib.Omega.{arith}
 use lib.Dec.{eqb, ltb}
 use borrow.Author.Tests.{ltb-true, eqb-true}
 use Rattle.jacobian.specs.{Checks.unless, Checks._or-else_, Refusals.refusals, Refusals.listed, Refusals.IsRefusal, Refusals.Told}
-use Rattle.jacobian.specs.Answer.{Verdict, accepted, refused, verdict-of}
+use Rattle.jacobian.specs.Answer.{Verdict, accepted, refused, verdict-of, Reply}
+use Rattle.jacobian.specs.Told.{VerdictTold, ReplyTold}
+use Rattle.jacobian.specs.Told as told
 use Rattle.jacobian.proofs.ByValue.Checks.{both}
 
 -- ---- every number of the list is above 100
@@ -63,6 +66,16 @@ accepted-not-refused h = let z : _≡_ {A = ℕ} 0 1 = cc in omega arith
 number : Verdict → ℕ
 number accepted = 0
 number (refused n) = n
+
+-- a verdict and an answer by value do not refuse with 117
+pub verdict-never-117 : {v : Verdict} → VerdictTold v → ¬ (v ≡ refused 117)
+unfolding Told number
+verdict-never-117 told.VerdictTold.acceptance e = accepted-not-refused e
+verdict-never-117 (told.VerdictTold.refusal n i) e = never-117 n (inr i) (ap number e)
+
+pub reply-never-117 : {r : Reply} → ReplyTold r → ¬ (r .outcome ≡ refused 117)
+reply-never-117 (told.ReplyTold.acceptance a n) = verdict-never-117 told.VerdictTold.acceptance
+reply-never-117 (told.ReplyTold.refusal n i) = verdict-never-117 (told.VerdictTold.refusal n i)
 
 -- a verdict refuses with the number of a refusal
 pub refused-told : (m n : ℕ) → Told m → verdict-of m ≡ refused n → IsRefusal n

@@ -1,14 +1,14 @@
 -- Answers and refusals of a call on byte areas are told apart (docs/SPECIFICATION.md, 6 and 7). A call whose answers are told apart tells them apart on
 -- every input and output (`call-told-apart`), and then the answer alone says which of the two it was (`answer-tells`): no length written is the
--- number of a refusal (`never-both`).
+-- number of a refusal (`never-both`). It is never 117 (`answer-never-117`).
 use Prim.Native.Nat.{ℕ, _≤_, _<_}
 use mathlib.Core.Path.{_≡_, refl, sym, ap, subst, _∙_}
-use mathlib.Core.{Bool.Bool, Bool.true, Bool.false, List.List}
+use mathlib.Core.{Bool.Bool, Bool.true, Bool.false, List.List, Logic.inr}
 use native.Mathlib.Omega.{arith}
 use lib.{Dec.ltb, ListN.length}
 use borrow.Author.Tests.{ltb-true, ltb-false}
-use Rattle.jacobian.specs.{Refusals.refusals, Refusals.listed, Refusals.IsRefusal, Answer.Verdict, Answer.accepted, Answer.refused as said-no}
-use Rattle.jacobian.proofs.{Refusals.above-100}
+use Rattle.jacobian.specs.{Refusals.refusals, Refusals.listed, Refusals.IsRefusal, Refusals.Told, Answer.Verdict, Answer.accepted, Answer.refused as said-no}
+use Rattle.jacobian.proofs.Refusals.{above-100, never-117}
 use Rattle.stored_form.specs.{Reading.Reading, Reading.found, Reading.refused, Reading.refuse}
 use Rattle.stored_form.specs.Held.{read-record}
 use Rattle.written_form.specs.Effect.{Effect, Handed, write, on, put, byte-call, HandedApart, bytes, number, ToldApart, wrote, kept, AnswerTells, longest-answer}
@@ -55,6 +55,11 @@ answer-tells low (kept n i is) =
     let l : longest-answer < n = above-100 n i in
     let k = ap (λ (o : Effect). o .answer) is in
     record { wrote = λ h. absurd (omega arith); kept = λ h. (subst IsRefusal (sym k) i, ap (λ (o : Effect). o .after) is) }
+
+-- and it is not 117
+pub answer-never-117 : {most : ℕ} {out : List ℕ} {e : Effect} → AnswerTells most out e → ¬ (e .answer ≡ 117)
+unfolding Told
+answer-never-117 t is = never-117 _ (inr (t .kept (omega arith) .0)) is
 
 -- no length that a call may write is the number of a refusal
 pub never-both : {n : ℕ} → n ≤ longest-answer → IsRefusal n → ⊥
