@@ -1,5 +1,5 @@
--- n-fold sums, doublings and halvings, and the sums that double and add over binary digits makes.
-use Prim.Native.Nat.{ℕ, zero, suc, _/_, _%_}
+-- n-fold sums, doublings and halvings.
+use Prim.Native.Nat.{ℕ, zero, suc}
 use mathlib.Core.List.{List, [], _∷_}
 use lib.ListN.{length}
 
@@ -15,26 +15,9 @@ module _ {X : Type 0} (_+_ : X → X → X) (neutral : X) where
   multiple zero a = neutral
   multiple (suc n) a = a + multiple n a
 
-module _ {X : Type 0} (_+_ : X → X → X) where
-  infixl 60 _+_
-  -- once a where the binary digit is 1
-  unfoldable pub add-digit : ℕ → X → X → X
-  add-digit zero r a = r
-  add-digit (suc digit) r a = r + a
-
 module _ {X : Type 0} (_+_ : X → X → X) (neutral : X) (double : X → X) where
   infixl 60 _+_
   -- 2^(n-1) D1 + 2^(n-2) D2 + .. + Dn
   unfoldable pub weighted-sum : List X → X
   weighted-sum [] = neutral
   weighted-sum (d ∷ l) = repeat double (length l) d + weighted-sum l
-
-  -- double and add over the k lowest digits of n, the highest of them first
-  unfoldable pub highest-first : ℕ → ℕ → X → X
-  highest-first zero n a = neutral
-  highest-first (suc k) n a = add-digit _+_ (n % 2) (double (highest-first k (n / 2) a)) a
-
-  -- the same with the lowest first: r is the sum so far, a is doubled
-  unfoldable pub lowest-first : ℕ → ℕ → X → X → X
-  lowest-first zero n r a = r
-  lowest-first (suc k) n r a = lowest-first k (n / 2) (add-digit _+_ (n % 2) r a) (double a)
