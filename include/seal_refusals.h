@@ -1,9 +1,9 @@
-/* What seal.h and seal_register.h share: the version, the refusals by name and the limit of counts. */
+/* What seal.h, seal_register.h and seal_licence.h share: the version, the refusals by name and the limit of counts. */
 #ifndef SEAL_REFUSALS_H
 #define SEAL_REFUSALS_H
 
 /* Grows by 1 with every change that a caller can see: an answer, a number, a struct, a length. */
-#define SEAL_VERSION 2
+#define SEAL_VERSION 3
 
 /* The most operations that a register counts, and the most classes of a row. */
 #define SEAL_COUNT_LIMIT 1024
@@ -31,6 +31,8 @@
 #define SEAL_COMMIT_AT_LIMIT 114     /* a commit is called at count 1,024 */
 #define SEAL_STAMP_TOO_LARGE 115     /* the stamp is 2^(d-3) or more */
 #define SEAL_STAMP_WITHOUT_CLASS 116 /* none of the stamp's eight candidates has a root: take another stamp */
+#define SEAL_MULTIPLE_TOO_LARGE 118  /* n is 2^61 or more */
+#define SEAL_TOO_MANY_HALVINGS 119   /* k exceeds 64 */
 
 /* Is an answer a refusal? An accepted call answers at most 56, so that no answer is both. */
 #define SEAL_IS_REFUSAL(answer) ((answer) >= SEAL_OUTPUT_TOO_SHORT)

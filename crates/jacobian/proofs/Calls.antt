@@ -115,7 +115,7 @@ module _ (c : Curve) where
   class-from n =
       record { degree = n - 1; u = numbers d (n - 1) (neutral C .u); v = numbers d (n - 1) (neutral C .v) }
 
-  neutral-value : class-of d (neutral C) ≡ neutral-class
+  pub neutral-value : class-of d (neutral C) ≡ neutral-class
   unfolding class-of numbers neutral neutral-class class-from
   neutral-value =
       ap class-from (len-one (𝔸 d))

@@ -3,10 +3,10 @@ use Prim.Native.Nat.{ℕ}
 use mathlib.Core.{Path._≡_, Bool.true, List.List, List.[], List._∷_, Logic._⊎_}
 unfoldable pub use Rattle.binary_field.specs.Checks.{listed}
 
--- one for each check of curves, classes, stamps, registers, stored form and areas; 117 is of calls on elements alone, whose numbers are
+-- one for each check of curves, classes, stamps, multiples, registers, stored form and areas; 117 is of calls on elements alone, whose numbers are
 -- `element-refusals` of binary_field
 unfoldable pub refusals : List ℕ
-refusals = 101 ∷ 102 ∷ 103 ∷ 104 ∷ 105 ∷ 106 ∷ 107 ∷ 108 ∷ 109 ∷ 110 ∷ 111 ∷ 112 ∷ 113 ∷ 114 ∷ 115 ∷ 116 ∷ []
+refusals = 101 ∷ 102 ∷ 103 ∷ 104 ∷ 105 ∷ 106 ∷ 107 ∷ 108 ∷ 109 ∷ 110 ∷ 111 ∷ 112 ∷ 113 ∷ 114 ∷ 115 ∷ 116 ∷ 118 ∷ 119 ∷ []
 
 unfoldable pub IsRefusal : ℕ → Type 0
 IsRefusal n = listed n refusals ≡ true
