@@ -1,6 +1,7 @@
 -- Laws of the records and of the byte calls.
 pub mod Written
 pub mod Passing
+pub mod ClassCalls
 pub mod ByteRegister
 pub mod ByteHalving
 pub mod ByteStamps

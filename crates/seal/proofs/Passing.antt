@@ -6,7 +6,7 @@ use mathlib.Core.List.{List, [], _∷_}
 use lib.Dec.{lit<}
 use borrow.Author.Tests.{leb-true}
 use Rattle.jacobian.specs.Curves.{curve-refusal}
-use Rattle.jacobian.specs.Answer.{Reply, Result, result, gives, opposite-answer, double-answer, half-answer, sum-answer}
+use Rattle.jacobian.specs.Answer.{Result, result, gives, opposite-answer, double-answer, half-answer, sum-answer}
 use Rattle.jacobian.specs.declared.{Curve.Curve, Class.Class}
 use Rattle.jacobian.proofs.Calls.{opposite-gives, double-gives, half-gives, sum-gives, opposite-accepts, double-accepts, half-accepts, sum-accepts}
 use Rattle.stored_form.specs.{Reading.found, Head.body-at, Fields.count-refusal, Passing.CountPasses, Passing.ClassPasses}
@@ -60,22 +60,22 @@ module _ (s : List ℕ) {h : Held} {end : ℕ} where
 -- ---- what the calls by value give
 
 -- an answer that gives a class, which passes
-pub record Given (c : Curve) (r : Reply) : Type 0 where
-  pub gives-class : result r ≡ gives (r .class)
+pub record Given (c : Curve) (r : Result) : Type 0 where
+  pub gives-class : r ≡ gives (r .class)
   pub passes : ClassPasses c (r .class)
 
-given : {c : Curve} (r : Reply) {x : Class} → result r ≡ gives x → ClassPasses c (r .class) → Given c r
-given r e h = record { gives-class = e ∙ sym (ap (λ (y : Result). gives (y .class)) e); passes = h }
+pub given : {c : Curve} {r : Result} {x : Class} → r ≡ gives x → ClassPasses c (r .class) → Given c r
+given e h = record { gives-class = e ∙ sym (ap (λ (y : Result). gives (y .class)) e); passes = h }
 
 module _ {c : Curve} {a : Class} (p : ClassPasses c a) where
-  pub opposite-given : Given c (opposite-answer c a)
-  opposite-given = given _ (opposite-gives c p) (opposite-accepts c p)
+  pub opposite-given : Given c (result (opposite-answer c a))
+  opposite-given = given (opposite-gives c p) (opposite-accepts c p)
 
-  pub double-given : Given c (double-answer c a)
-  double-given = given _ (double-gives c p) (double-accepts c p)
+  pub double-given : Given c (result (double-answer c a))
+  double-given = given (double-gives c p) (double-accepts c p)
 
-  pub half-given : Given c (half-answer c a)
-  half-given = given _ (half-gives c p) (half-accepts c p)
+  pub half-given : Given c (result (half-answer c a))
+  half-given = given (half-gives c p) (half-accepts c p)
 
-  pub sum-given : {b : Class} → ClassPasses c b → Given c (sum-answer c a b)
-  sum-given q = given _ (sum-gives c p q) (sum-accepts c p q)
+  pub sum-given : {b : Class} → ClassPasses c b → Given c (result (sum-answer c a b))
+  sum-given q = given (sum-gives c p q) (sum-accepts c p q)

@@ -6,7 +6,7 @@ use Prim.Native.Nat.{ℕ, zero, suc, _≤_}
 use mathlib.Core.Path.{_≡_, refl, sym, ap, _∙_, subst}
 use mathlib.Core.{List.List}
 use lib.{Dec.lit≤, ListN.length}
-use Rattle.jacobian.specs.{Refusals.IsRefusal, Refusals.Told, Answer.Reply, Answer.Verdict, Answer.accepted, Answer.refused, Answer.result, Answer.verdict-of, declared.Curve.Curve, declared.Class.Class}
+use Rattle.jacobian.specs.{Refusals.IsRefusal, Refusals.Told, Answer.Result, Answer.Verdict, Answer.accepted, Answer.refused, Answer.result, Answer.verdict-of, declared.Curve.Curve, declared.Class.Class}
 use Rattle.jacobian.proofs.Refusals.{refused-told}
 use Rattle.stamps.specs.Stamps.{stamp-answer}
 use Rattle.stamps.proofs.Theorems.{stamp-accepts, stamp-refuses}
@@ -44,7 +44,7 @@ module _ (s : List ℕ) where
 -- ---- what is handed over
 
 -- a class that passes
-class-apart : {c : Curve} {r : Reply} → Given c r → HandedApart class-room (class-handed (result r))
+pub class-apart : {c : Curve} {r : Result} → Given c r → HandedApart class-room (class-handed r)
 unfolding class-handed on
 class-apart {c} {r} g = bytes (class-field 0x43 (r .class)) (class-short 0x43 c (r .class) (g .passes .none)) (ap class-handed (g .gives-class))
 

@@ -1,0 +1,90 @@
+-- Calls on the record of one class that answer a class. Where the record is read and the output has room for a class field, such a call writes the field of what its answer by value
+-- gives (`call-writes`); the record rebuilt from that is the record of that class (`rebuilt-bytes`), and a further call on it writes what its answer gives for that class
+-- (`follow-writes`), where one takes the other back the field of the record given (`taken-back`).
+use Prim.Native.Nat.{ℕ, _≤_}
+use mathlib.Core.Path.{_≡_, refl, sym, ap, _∙_}
+use mathlib.Core.List.{List, _++_}
+use native.Mathlib.Omega.{arith}
+use lib.ListN.{length, take, drop}
+use lib.Seq.{take-append-seam, take-at, drop-at}
+use Rattle.jacobian.specs.{Curves.coefficients, Answer.Result, Answer.gives, declared.Curve.Curve, declared.Class.Class}
+use Rattle.stored_form.specs.{Number.Bytes, Number.bytes-of, Reading.found, Head.class-room, Head.first-fields-length, Head.stored, Head.head-bytes, Elements.element-bytes, Fields.degree-field}
+use Rattle.stored_form.specs.{Classes.curve-field, Classes.curve-first-fields, Classes.class-field, Passing.ClassPasses, Held.read-record, Held.class-record}
+use Rattle.stored_form.specs.declared.Held.{Held}
+use Rattle.written_form.specs.Effect.{Effect, write, on, class-handed, put, byte-call}
+use Rattle.stored_form_theorems.proofs.ClassRoundTrips.{class-short}
+use Rattle.written_form.proofs.{Effects.call-found, Effects.put-written}
+use Rattle.seal.specs.Records.{class-held, class-record-bytes, ClassStored}
+use Rattle.seal.specs.Rebuilt.{first-fields, last-field, wrote, class-rebuilt}
+use Rattle.seal.proofs.Written.{class-record-written, class-record-back}
+use Rattle.seal.proofs.Passing.{Given}
+
+-- a call that answers for the curve and the class of its record
+abbrev pub class-call : (Curve → Class → Result) → List ℕ → List ℕ → Effect
+class-call f s out = byte-call class-room class-record (λ h. class-handed (f (h .curve) (h .class))) s out
+
+pub call-writes : (s out : List ℕ) → class-room ≤ length out → {h : Held} {end : ℕ} → read-record class-record s ≡ found h end → (f : Curve → Class → Result)
+    → Given (h .curve) (f (h .curve) (h .class)) → class-call f s out ≡ write (class-field 0x43 (f (h .curve) (h .class) .class)) out
+unfolding class-handed on
+call-writes s out room {h} read f given =
+    let x = f (h .curve) (h .class) .class in
+    let short : length (class-field 0x43 x) ≤ class-room = class-short 0x43 (h .curve) x (given .passes .none) in
+    call-found class-room class-record _ s out room read
+    ∙ ap (λ (r : Result). put (class-handed r) out) (given .gives-class)
+    ∙ put-written (class-field 0x43 x) out (omega arith)
+
+-- ---- the record rebuilt from what was written
+
+pub wrote-write : (bytes out : List ℕ) → wrote (write bytes out) ≡ bytes
+unfolding write
+wrote-write bytes out = take-append-seam bytes _
+
+pub rebuilt-write : (s bytes out : List ℕ) → class-rebuilt s (write bytes out) ≡ first-fields s ++ bytes
+unfolding class-rebuilt
+rebuilt-write s bytes out = ap (λ (l : List ℕ). first-fields s ++ l) (wrote-write bytes out)
+
+first-length : (c : Curve) → length (curve-first-fields c) ≡ first-fields-length
+unfolding curve-first-fields degree-field curve-field stored head-bytes coefficients element-bytes bytes-of
+first-length c = refl
+
+module _ {s : List ℕ} (c : Curve) (a : Class) (bytes : s ≡ class-record-bytes c a) where
+  pub first-is : first-fields s ≡ curve-first-fields c
+  unfolding class-record-bytes
+  first-is = ap (take first-fields-length) bytes ∙ take-at (curve-first-fields c) _ first-fields-length (first-length c)
+
+  pub last-is : last-field s ≡ class-field 0x43 a
+  unfolding class-record-bytes
+  last-is = ap (drop first-fields-length) bytes ∙ drop-at (curve-first-fields c) _ first-fields-length (first-length c)
+
+  pub rebuilt-bytes : (x : Class) (out : List ℕ) → class-rebuilt s (write (class-field 0x43 x) out) ≡ class-record-bytes c x
+  unfolding class-record-bytes
+  rebuilt-bytes x out = rebuilt-write s (class-field 0x43 x) out ∙ ap (λ (l : List ℕ). l ++ class-field 0x43 x) first-is
+
+-- ---- the record of a class that passes
+module _ {s : List ℕ} {c : Curve} {a : Class} (bytes : s ≡ class-record-bytes c a) (p : ClassPasses c a) where
+  -- it is read
+  pub stored-read : read-record class-record s ≡ found (class-held c a) (length s)
+  stored-read = class-record-back (record { curve = c; class = a; held = refl; bytes = bytes; passes = p })
+
+  pub stored-writes : (f : Curve → Class → Result) → Given c (f c a) → (out : List ℕ) → class-room ≤ length out → class-call f s out ≡ write (class-field 0x43 (f c a .class)) out
+  stored-writes f given out room = call-writes s out room stored-read f given
+
+  pub stored-rebuilt : (f : Curve → Class → Result) → Given c (f c a) → (out : List ℕ) → class-room ≤ length out → class-rebuilt s (class-call f s out) ≡ class-record-bytes c (f c a .class)
+  stored-rebuilt f given out room = ap (class-rebuilt s) (stored-writes f given out room) ∙ rebuilt-bytes c a bytes (f c a .class) out
+
+-- ---- a record that is read is one
+pub is-stored : (s : List ℕ) → Bytes s → {h : Held} {end : ℕ} → read-record class-record s ≡ found h end → ClassStored s h
+is-stored s bytes read = class-record-written bytes read .0
+
+module _ {s : List ℕ} {h : Held} (w : ClassStored s h) (out : List ℕ) (room : class-room ≤ length out) (last : List ℕ) (room' : class-room ≤ length last) where
+  pub follow-writes : (f g : Curve → Class → Result) → let c = w .curve in let x = f c (w .class) .class in
+      Given c (f c (w .class)) → Given c (g c x) → class-call g (class-rebuilt s (class-call f s out)) last ≡ write (class-field 0x43 (g c x .class)) last
+  follow-writes f g given again =
+      stored-writes (stored-rebuilt (w .bytes) (w .passes) f given out room) (given .passes) g again last room'
+
+  -- where one answer takes the other back, so does its call
+  pub taken-back : (f g : Curve → Class → Result) → let c = w .curve in let x = f c (w .class) .class in
+      Given c (f c (w .class)) → Given c (g c x) → g c x ≡ gives (w .class) → class-call g (class-rebuilt s (class-call f s out)) last ≡ write (last-field s) last
+  taken-back f g given again back =
+      follow-writes f g given again
+      ∙ ap (λ (l : List ℕ). write l last) (ap (λ (r : Result). class-field 0x43 (r .class)) back ∙ sym (last-is (w .curve) (w .class) (w .bytes)))
