@@ -1,0 +1,178 @@
+-- The laws of multiples and repeated halves by bytes (docs/SPECIFICATION.md, 7 and 11). For every record of one class that is read, where the outputs have room for a class field and the
+-- numbers are in range: each call writes the field of what its call by value gives (`multiple-writes`, `halvings-write`), so none is refused. (m + n) times writes what the byte sum of the two
+-- writes (`sum-bytes`), m n times what m times writes on the record rebuilt from n times (`product-bytes`), 0 times the neutral class's field and once the record's own (`zero-bytes`, `once-bytes`).
+-- The record rebuilt from 2^k times is that after k byte doublings (`doublings-bytes`), the one rebuilt from k halvings that after k byte halves (`halvings-bytes`). k halvings of the record after k
+-- byte doublings write the record's own class field (`halvings-of-doublings-bytes`), and k byte doublings of the record rebuilt from k halvings give the record back, to the byte
+-- (`doublings-of-halvings-bytes`).
+use Prim.Native.Nat.{ℕ, zero, suc, _+_, _*_, _^_, _≤_, _<_}
+use mathlib.Core.Path.{_≡_, refl, sym, ap, ap₂, _∙_}
+use mathlib.Core.List.{List, _++_}
+use native.Mathlib.Omega.{arith}
+use lib.{Dec.lit<, ListN.length, Pow.pow-lt}
+use Rattle.class_group.specs.Multiples.{repeat}
+use Rattle.jacobian.specs.{Answer.Result, Answer.result, Answer.gives, Answer.Accepts, Answer.neutral-class, Answer.double-answer, Answer.half-answer, Answer.sum-answer, declared.Curve.Curve, declared.Class.Class}
+use Rattle.stored_form.specs.{Number.Bytes, Reading.found, Head.class-room, Classes.curve-first-fields, Classes.class-field, Passing.ClassPasses, Held.read-record, Held.class-record, Held.sum-record, declared.Held.Held}
+use Rattle.stored_form_theorems.proofs.ClassRoundTrips.{class-short}
+use Rattle.written_form.specs.Effect.{Effect, write, on, class-handed, put}
+use Rattle.written_form.proofs.Effects.{call-found, put-written}
+use Rattle.seal.specs.Records.{class-record-bytes, sum-held, sum-record-bytes, SumStored}
+use Rattle.seal.specs.Rebuilt.{first-fields, last-field, wrote, class-rebuilt}
+use Rattle.seal.specs.Calls.{double-call, half-call, sum-call}
+use Rattle.seal.specs.Calls as seal
+use Rattle.seal.proofs.{Written.sum-record-back, Passing.class-holds, Passing.Given, Passing.double-given, Passing.half-given, Passing.sum-given}
+use Rattle.seal.proofs.ClassCalls.{class-call, call-writes, wrote-write, first-is, last-is, stored-writes, stored-rebuilt, is-stored, follow-writes}
+use Rattle.seal_licence.specs.Multiples.{multiple-limit, halvings-limit, multiple-answer, halvings-answer, doublings, halves}
+use Rattle.seal_licence.specs.Calls.{answered, multiple-call, halvings-call}
+use Rattle.seal_licence.proofs.Theorems.{multiple-of-sum, multiple-of-product, multiple-of-zero, multiple-of-one, doublings-accept, doublings-are-multiple, halvings-are-halves, halvings-of-doublings, doublings-of-halvings}
+use Rattle.licence_theorems.specs.Rebuilt.{sum-rebuilt, doubled-record, halved-record}
+use Rattle.licence_theorems.proofs.Passing.{multiple-given, halvings-given}
+
+times : ℕ → Curve → Class → Result
+times n c a = multiple-answer c a n
+
+halved : ℕ → Curve → Class → Result
+halved k c a = halvings-answer c a k
+
+-- ---- what is written
+
+module _ (s out : List ℕ) (room : class-room ≤ length out) {h : Held} {end : ℕ} (read : read-record class-record s ≡ found h end) where
+  pub multiple-writes : (n : ℕ) → n < multiple-limit → multiple-call n s out ≡ write (class-field 0x43 (multiple-answer (h .curve) (h .class) n .class)) out
+  unfolding answered times
+  multiple-writes n l = call-writes s out room read (times n) (multiple-given (class-holds s read) n l)
+
+  pub halvings-write : (k : ℕ) → k ≤ halvings-limit → halvings-call k s out ≡ write (class-field 0x43 (halvings-answer (h .curve) (h .class) k .class)) out
+  unfolding answered halved
+  halvings-write k l = call-writes s out room read (halved k) (halvings-given (class-holds s read) k l)
+
+-- ---- the record of a class that passes
+
+-- a call on such a record, k times over
+module _ {c : Curve} (f : Curve → Class → Result) (given : (b : Class) → ClassPasses c b → Given c (f c b)) (out : List ℕ) (room : class-room ≤ length out) where
+  kept : (k : ℕ) {a : Class} → ClassPasses c a → ClassPasses c (repeat (λ b. f c b .class) k a)
+  unfolding repeat
+  kept zero p = p
+  kept (suc k) p = given _ (kept k p) .passes
+
+  repeated : (k : ℕ) {a : Class} → ClassPasses c a
+      → repeat (λ t. class-rebuilt t (class-call f t out)) k (class-record-bytes c a) ≡ class-record-bytes c (repeat (λ b. f c b .class) k a)
+  unfolding repeat
+  repeated zero p = refl
+  repeated (suc k) p =
+      ap (λ t. class-rebuilt t (class-call f t out)) (repeated k p) ∙ stored-rebuilt refl (kept k p) f (given _ (kept k p)) out room
+
+module _ {c : Curve} {a : Class} (p : ClassPasses c a) (out : List ℕ) (room : class-room ≤ length out) (k : ℕ) where
+  -- after k byte doublings, and after k byte halves
+  doubled-is : doubled-record out k (class-record-bytes c a) ≡ class-record-bytes c (doublings c k a)
+  unfolding seal.answered
+  doubled-is = repeated (λ x b. result (double-answer x b)) (λ b q. double-given q) out room k p
+
+  halved-is : halved-record out k (class-record-bytes c a) ≡ class-record-bytes c (halves c k a)
+  unfolding seal.answered
+  halved-is = repeated (λ x b. result (half-answer x b)) (λ b q. half-given q) out room k p
+
+-- the byte sum of two classes that pass
+sum-writes : {c : Curve} {a b : Class} → ClassPasses c a → ClassPasses c b → {s : List ℕ} → s ≡ sum-record-bytes c a b → (out : List ℕ) → class-room ≤ length out
+    → sum-call s out ≡ write (class-field 0x43 (sum-answer c a b .class)) out
+unfolding seal.answered class-handed on
+sum-writes {c} {a} {b} p q {s} bytes out room =
+    let x = sum-answer c a b .class in
+    let g = sum-given p q in
+    let stored : SumStored s (sum-held c a b) = record { curve = c; first = a; second = b; held = refl; bytes = bytes; first-passes = p; second-passes = q } in
+    let short : length (class-field 0x43 x) ≤ class-room = class-short 0x43 c x (g .passes .none) in
+    call-found class-room sum-record _ s out room (sum-record-back stored)
+    ∙ ap (λ (r : Result). put (class-handed r) out) (g .gives-class)
+    ∙ put-written (class-field 0x43 x) out (omega arith)
+
+-- ---- the laws, for every record that is read
+
+module _ (s : List ℕ) (bytes : Bytes s) {h : Held} {end : ℕ} (read : read-record class-record s ≡ found h end) where
+  abbrev c : Curve
+  c = is-stored s bytes read .curve
+
+  abbrev a : Class
+  a = is-stored s bytes read .class
+
+  stored-bytes : s ≡ class-record-bytes c a
+  stored-bytes = is-stored s bytes read .bytes
+
+  passes : ClassPasses c a
+  passes = is-stored s bytes read .passes
+
+  -- what the calls write, of the record's own curve and class
+  multiple-field : (n : ℕ) → n < multiple-limit → (out : List ℕ) → class-room ≤ length out → multiple-call n s out ≡ write (class-field 0x43 (multiple-answer c a n .class)) out
+  unfolding answered times
+  multiple-field n l out room = stored-writes stored-bytes passes (times n) (multiple-given passes n l) out room
+
+  multiple-record : (n : ℕ) → n < multiple-limit → (out : List ℕ) → class-room ≤ length out → class-rebuilt s (multiple-call n s out) ≡ class-record-bytes c (multiple-answer c a n .class)
+  unfolding answered times
+  multiple-record n l out room = stored-rebuilt stored-bytes passes (times n) (multiple-given passes n l) out room
+
+  halvings-record : (k : ℕ) → k ≤ halvings-limit → (out : List ℕ) → class-room ≤ length out → class-rebuilt s (halvings-call k s out) ≡ class-record-bytes c (halvings-answer c a k .class)
+  unfolding answered halved
+  halvings-record k l out room = stored-rebuilt stored-bytes passes (halved k) (halvings-given passes k l) out room
+
+  own-field : (x : Class) → x ≡ a → class-field 0x43 x ≡ last-field s
+  own-field x e = ap (class-field 0x43) e ∙ sym (last-is c a stored-bytes)
+
+  module _ (out : List ℕ) (room : class-room ≤ length out) where
+    pub zero-bytes : multiple-call 0 s out ≡ write (class-field 0x43 neutral-class) out
+    zero-bytes = multiple-field 0 (lit< tt) out room ∙ ap (λ (r : Result). write (class-field 0x43 (r .class)) out) (multiple-of-zero passes)
+
+    pub once-bytes : multiple-call 1 s out ≡ write (last-field s) out
+    once-bytes =
+        multiple-field 1 (lit< tt) out room
+        ∙ ap (λ (l : List ℕ). write l out) (own-field _ (ap (λ (r : Result). r .class) (multiple-of-one passes)))
+
+    module _ (mid : List ℕ) (room' : class-room ≤ length mid) where
+      pub product-bytes : (m n : ℕ) → m < multiple-limit → n < multiple-limit → m * n < multiple-limit
+          → multiple-call (m * n) s out ≡ multiple-call m (class-rebuilt s (multiple-call n s mid)) out
+      unfolding answered times
+      product-bytes m n lm ln l =
+          let g = multiple-given passes n ln in
+          multiple-field (m * n) l out room
+          ∙ ap (λ (r : Result). write (class-field 0x43 (r .class)) out) (multiple-of-product passes m n lm ln l)
+          ∙ sym (follow-writes (is-stored s bytes read) mid room' out room (times n) (times m) g (multiple-given (g .passes) m lm))
+
+      pub sum-bytes : (last : List ℕ) → class-room ≤ length last → (m n : ℕ) → m + n < multiple-limit
+          → multiple-call (m + n) s out ≡ sum-call (sum-rebuilt s (multiple-call m s mid) (multiple-call n s last)) out
+      unfolding sum-rebuilt sum-record-bytes
+      sum-bytes last room'' m n l =
+          let lm : m < multiple-limit = omega (arith, l) in
+          let ln : n < multiple-limit = omega (arith, l) in
+          let x = multiple-answer c a m .class in
+          let y = multiple-answer c a n .class in
+          let there : sum-rebuilt s (multiple-call m s mid) (multiple-call n s last) ≡ sum-record-bytes c x y =
+          ap₂ (λ (e f : List ℕ). first-fields s ++ e ++ f)
+          (ap wrote (multiple-field m lm mid room') ∙ wrote-write (class-field 0x43 x) mid)
+          (ap wrote (multiple-field n ln last room'') ∙ wrote-write (class-field 0x43 y) last)
+          ∙ ap (λ (f : List ℕ). f ++ class-field 0x43 x ++ class-field 0x43 y) (first-is c a stored-bytes) in
+          multiple-field (m + n) l out room
+          ∙ ap (λ (r : Result). write (class-field 0x43 (r .class)) out) (multiple-of-sum passes m n l)
+          ∙ sym (sum-writes (multiple-given passes m lm .passes) (multiple-given passes n ln .passes) there out room)
+
+      pub doublings-bytes : (k : ℕ) → k < 61 → class-rebuilt s (multiple-call (2 ^ k) s out) ≡ doubled-record mid k s
+      doublings-bytes k l =
+          multiple-record (2 ^ k) (pow-lt l) out room
+          ∙ ap (λ (r : Result). class-record-bytes c (r .class)) (doublings-are-multiple passes k l)
+          ∙ sym (ap (doubled-record mid k) stored-bytes ∙ doubled-is passes mid room' k)
+
+      pub halvings-bytes : (k : ℕ) → k ≤ halvings-limit → class-rebuilt s (halvings-call k s out) ≡ halved-record mid k s
+      halvings-bytes k l =
+          halvings-record k l out room
+          ∙ ap (λ (r : Result). class-record-bytes c (r .class)) (halvings-are-halves passes k l)
+          ∙ sym (ap (halved-record mid k) stored-bytes ∙ halved-is passes mid room' k)
+
+      pub halvings-of-doublings-bytes : (k : ℕ) → k ≤ halvings-limit → halvings-call k (doubled-record mid k s) out ≡ write (last-field s) out
+      unfolding answered halved
+      halvings-of-doublings-bytes k l =
+          let there : doubled-record mid k s ≡ class-record-bytes c (doublings c k a) = ap (doubled-record mid k) stored-bytes ∙ doubled-is passes mid room' k in
+          let p = doublings-accept passes k in
+          stored-writes there p (halved k) (halvings-given p k l) out room
+          ∙ ap (λ (b : List ℕ). write b out) (own-field _ (ap (λ (r : Result). r .class) (halvings-of-doublings passes k l)))
+
+      pub doublings-of-halvings-bytes : (k : ℕ) → k ≤ halvings-limit → doubled-record mid k (class-rebuilt s (halvings-call k s out)) ≡ s
+      doublings-of-halvings-bytes k l =
+          ap (doubled-record mid k) (halvings-record k l out room)
+          ∙ doubled-is (halvings-given passes k l .passes) mid room' k
+          ∙ ap (class-record-bytes c) (doublings-of-halvings passes k l)
+          ∙ sym stored-bytes

@@ -1,0 +1,81 @@
+-- Answers and refusals of the calls on multiples and repeated halves are told apart (docs/SPECIFICATION.md, 6 and 7). Each call, on every input and output, writes at most 51 bytes and
+-- answers that length, or answers the number of a refusal and leaves the output as it was (`multiple-told-apart`, `halvings-told-apart`); the answer alone says which (`multiple-tells`,
+-- `halvings-tells`). A record that is not read is refused with its own number, whatever n or k is (`multiple-unread`, `halvings-unread`), and one that is read with 118 for n of 2^61 or more and
+-- with 119 for k above 64 (`too-large-bytes`, `too-many-bytes`).
+use Prim.Native.Nat.{ℕ, _≤_, _<_}
+use mathlib.Core.{Path._≡_, Path.refl, Path.ap, Path._∙_, Bool.Bool, Bool.true, Bool.false, List.List}
+use lib.{Dec.ltb, Dec.leb, Dec.lit≤, ListN.length}
+use borrow.Author.Tests.{ltb-true, ltb-false, leb-true, leb-false}
+use Rattle.jacobian.specs.{Refusals.refusals, Refusals.listed, Refusals.IsRefusal, Answer.Result, declared.Curve.Curve, declared.Class.Class}
+use Rattle.stored_form.specs.{Reading.found, Reading.refused as unread, Head.class-room, Held.read-record, Held.class-record, declared.Held.Held}
+use Rattle.written_form.specs.Effect.{refuse, on, class-handed, put, HandedApart, number, ToldApart, AnswerTells}
+use Rattle.written_form.proofs.{Effects.call-refused, Effects.call-found, Effects.put-refusal, ToldApart.call-told-apart, ToldApart.answer-tells}
+use Rattle.seal.proofs.{Passing.class-holds, ClassCalls.class-call, ToldApart.class-apart}
+use Rattle.seal_licence.specs.Multiples.{multiple-limit, halvings-limit, refuses, multiple-answer, halvings-answer}
+use Rattle.seal_licence.specs.Calls.{answered, multiple-call, halvings-call}
+use Rattle.seal_licence.proofs.Theorems.{multiple-too-large, halvings-too-many}
+use Rattle.licence_theorems.proofs.Passing.{multiple-given, halvings-given}
+
+-- ---- what is handed over
+
+-- the number of a refusal
+refused-apart : (n : ℕ) → IsRefusal n → {r : Result} → r ≡ refuses n → HandedApart class-room (class-handed r)
+unfolding class-handed on
+refused-apart n i e = number n i (ap class-handed e)
+
+module _ (s : List ℕ) {h : Held} {end : ℕ} (read : read-record class-record s ≡ found h end) where
+  multiple-apart : (n : ℕ) → HandedApart class-room (class-handed (multiple-answer (h .curve) (h .class) n))
+  unfolding IsRefusal refusals listed
+  multiple-apart n = by (ltb n multiple-limit) refl
+    where
+      by : (b : Bool) → ltb n multiple-limit ≡ b → HandedApart class-room (class-handed (multiple-answer (h .curve) (h .class) n))
+      by true e = class-apart (multiple-given (class-holds s read) n (ltb-true n multiple-limit e))
+      by false e = refused-apart 118 refl (multiple-too-large (h .curve) (h .class) n (class-holds s read) (ltb-false n multiple-limit e))
+
+  halvings-apart : (k : ℕ) → HandedApart class-room (class-handed (halvings-answer (h .curve) (h .class) k))
+  unfolding IsRefusal refusals listed
+  halvings-apart k = by (leb k halvings-limit) refl
+    where
+      by : (b : Bool) → leb k halvings-limit ≡ b → HandedApart class-room (class-handed (halvings-answer (h .curve) (h .class) k))
+      by true e = class-apart (halvings-given (class-holds s read) k (leb-true k halvings-limit e))
+      by false e = refused-apart 119 refl (halvings-too-many (h .curve) (h .class) k (class-holds s read) (leb-false k halvings-limit e))
+
+-- ---- the calls
+
+pub multiple-told-apart : (n : ℕ) (s out : List ℕ) → ToldApart class-room out (multiple-call n s out)
+unfolding answered
+multiple-told-apart n s out = call-told-apart class-room class-record _ s out (λ h end e. multiple-apart s e n)
+
+pub halvings-told-apart : (k : ℕ) (s out : List ℕ) → ToldApart class-room out (halvings-call k s out)
+unfolding answered
+halvings-told-apart k s out = call-told-apart class-room class-record _ s out (λ h end e. halvings-apart s e k)
+
+-- by the answer alone
+pub multiple-tells : (n : ℕ) (s out : List ℕ) → AnswerTells class-room out (multiple-call n s out)
+multiple-tells n s out = answer-tells (lit≤ tt) (multiple-told-apart n s out)
+
+pub halvings-tells : (k : ℕ) (s out : List ℕ) → AnswerTells class-room out (halvings-call k s out)
+halvings-tells k s out = answer-tells (lit≤ tt) (halvings-told-apart k s out)
+
+-- ---- refusals, where the output has room
+module _ (s out : List ℕ) (room : class-room ≤ length out) where
+  -- a reading's comes first
+  pub multiple-unread : (n : ℕ) {m : ℕ} → read-record class-record s ≡ unread m → multiple-call n s out ≡ refuse m out
+  multiple-unread n e = call-refused class-room class-record _ s out room e
+
+  pub halvings-unread : (k : ℕ) {m : ℕ} → read-record class-record s ≡ unread m → halvings-call k s out ≡ refuse m out
+  halvings-unread k e = call-refused class-room class-record _ s out room e
+
+  module _ {h : Held} {end : ℕ} (read : read-record class-record s ≡ found h end) where
+    refused-call : {m : ℕ} (f : Curve → Class → Result) → f (h .curve) (h .class) ≡ refuses m → class-call f s out ≡ refuse m out
+    unfolding class-handed on
+    refused-call {m} f e =
+        call-found class-room class-record _ s out room read ∙ ap (λ (r : Result). put (class-handed r) out) e ∙ put-refusal m out
+
+    pub too-large-bytes : (n : ℕ) → multiple-limit ≤ n → multiple-call n s out ≡ refuse 118 out
+    unfolding answered
+    too-large-bytes n l = refused-call (λ c a. multiple-answer c a n) (multiple-too-large (h .curve) (h .class) n (class-holds s read) l)
+
+    pub too-many-bytes : (k : ℕ) → halvings-limit < k → halvings-call k s out ≡ refuse 119 out
+    unfolding answered
+    too-many-bytes k l = refused-call (λ c a. halvings-answer c a k) (halvings-too-many (h .curve) (h .class) k (class-holds s read) l)

@@ -1,0 +1,2 @@
+-- Records rebuilt from what calls wrote for them.
+pub mod Rebuilt

@@ -1,0 +1,187 @@
+-- What n times a class and k halvings answer (docs/SPECIFICATION.md, 2.11 and 6). For an accepted class and a number in range each gives a class (`multiple-gives`, `halvings-give`), which is
+-- accepted in turn (`multiple-accepts`, `halved-accepts` of Values). (m + n) times is the sum of the two (`multiple-of-sum`), m times n times is m n times (`multiple-of-product`), 0 times is
+-- neutral and once is the class (`multiple-of-zero`, `multiple-of-one`). k doublings are 2^k times (`doublings-are-multiple`), k halvings are k halves one after the other
+-- (`halvings-are-halves`), the two undo each other (`halvings-of-doublings`, `doublings-of-halvings`), and no other class leads to the class by k doublings (`only-halvings`).
+-- Refusals: that of curve and class comes first, whatever n or k is (`multiple-refused-first`, `halvings-refused-first`), then 118 and 119 (`multiple-too-large`, `halvings-too-many`). Every
+-- answer is a class or a refusal with one of the numbers (`multiple-told`, `halvings-told`), and none is 117 (`result-never-117`).
+use Prim.Native.Nat.{ℕ, zero, suc, _+_, _*_, _^_, _≤_, _<_}
+use mathlib.Core.{Path._≡_, Path.refl, Path.sym, Path._∙_, Path.ap, Path.ap₂, Logic.inl, Logic.inr}
+use native.Mathlib.Omega.{arith}
+use lib.{Dec.lit<, Dec.lit≤, Pow.pow-lt}
+use borrow.Author.Tests.{lt-ltb, le-ltb, le-leb, lt-leb}
+use Rattle.class_group.specs.{Mumford.neutral, Operations.sum, Operations.double, Half.half, Multiples.multiple, Multiples.repeat}
+use Rattle.class_group.proofs.{Closed.sum-reduced, Closed.double-reduced, Group.classes, Group.class-doubling, Halving.class-halving, Halving.half-reduced}
+use Rattle.class_group.proofs.{Multiples.multiple-one, Multiples.multiple-add, Multiples.multiple-mul, Doublings.doublings-multiple, Doublings.halvings-doublings, Doublings.doublings-halvings}
+use Rattle.jacobian.specs.{Checks.unless, Checks._or-else_, Refusals.refusals, Refusals.listed, Refusals.IsRefusal, Refusals.Told, Curves.curve, Classes.pair, Told.VerdictTold}
+use Rattle.jacobian.specs.Answer.{Result, result, gives, refused, refusal, Accepts, neutral-class, double-answer, half-answer, sum-answer}
+use Rattle.jacobian.specs.declared.{Curve.Curve, Class.Class}
+use Rattle.jacobian.specs.Told as verdict-told
+use Rattle.jacobian.proofs.{Calls.reduced, Calls.class-pair, Calls.sum-gives, Calls.sum-accepts, Calls.double-gives, Calls.double-accepts, Calls.half-gives, Calls.half-accepts}
+use Rattle.jacobian.proofs.{Representation.pair-injective, Refusals.told-unless, Refusals.told-or-else, Refusals.verdict-never-117, Told.refusal-told}
+use Rattle.seal_licence.specs.Multiples.{multiple-limit, halvings-limit, refuses, given, multiple-class, halved-class, multiple-refusal, halvings-refusal, multiple-answer, halvings-answer, doublings, halves}
+use Rattle.seal_licence.specs.Told.{ResultTold}
+use Rattle.seal_licence.specs.Told as told
+use Rattle.seal_licence.proofs.Values.{multiple-accepts, multiple-pair, multiple-none, halved-accepts, halved-pair, halved-none, halved-next}
+
+-- the class of an answer that gives one
+class-is : {r : Result} {x : Class} → r ≡ gives x → r .class ≡ x
+class-is e = ap (λ (r : Result). r .class) e
+
+-- ---- an accepted class
+module _ {c : Curve} {a : Class} (h : Accepts c a) where
+  abbrev d : ℕ
+  d = c .degree
+
+  pub multiple-gives : (n : ℕ) → n < multiple-limit → multiple-answer c a n ≡ gives (multiple-class c a n)
+  unfolding multiple-answer multiple-refusal given unless _or-else_
+  multiple-gives n l = rw (h .none, lt-ltb n multiple-limit l) refl
+
+  pub halvings-give : (k : ℕ) → k ≤ halvings-limit → halvings-answer c a k ≡ gives (halved-class c a k)
+  unfolding halvings-answer halvings-refusal given unless _or-else_
+  halvings-give k l = rw (h .none, le-leb k halvings-limit l) refl
+
+  -- ---- n times
+  summed : (m n : ℕ) → result (sum-answer c (multiple-class c a m) (multiple-class c a n)) ≡ gives (multiple-class c a (m + n))
+  summed m n =
+      let x = multiple-accepts h m in
+      let y = multiple-accepts h n in
+      let g = sum-gives c x y in
+      let same : sum-answer c (multiple-class c a m) (multiple-class c a n) .class ≡ multiple-class c a (m + n) =
+      pair-injective c _ _ (sum-accepts c x y) (multiple-accepts h (m + n))
+      (class-pair c _ (sum-reduced (curve c) (reduced c x) (reduced c y)) g
+      ∙ ap₂ (sum (curve c)) (multiple-pair h m) (multiple-pair h n)
+      ∙ sym (multiple-pair h (m + n) ∙ multiple-add (classes (curve c)) m n (reduced c h))) in
+      g ∙ sym (ap gives (class-is g)) ∙ ap gives same
+
+  pub multiple-of-sum : (m n : ℕ) → m + n < multiple-limit
+      → multiple-answer c a (m + n) ≡ result (sum-answer c (multiple-answer c a m .class) (multiple-answer c a n .class))
+  multiple-of-sum m n l =
+      multiple-gives (m + n) l
+      ∙ sym
+      (ap₂ (λ x y. result (sum-answer c x y)) (class-is (multiple-gives m (omega (arith, l)))) (class-is (multiple-gives n (omega (arith, l))))
+      ∙ summed m n)
+
+  pub multiple-of-zero : multiple-answer c a 0 ≡ gives neutral-class
+  multiple-of-zero = multiple-gives 0 (lit< tt) ∙ ap gives (sym (multiple-none h))
+
+  pub multiple-of-one : multiple-answer c a 1 ≡ gives a
+  multiple-of-one =
+      multiple-gives 1 (lit< tt)
+      ∙ ap gives (pair-injective c _ _ (multiple-accepts h 1) h (multiple-pair h 1 ∙ multiple-one (classes (curve c)) (reduced c h)))
+
+  -- ---- k doublings
+  pub doublings-accept : (k : ℕ) → Accepts c (doublings c k a)
+  unfolding repeat
+  doublings-accept zero = h
+  doublings-accept (suc k) = double-accepts c (doublings-accept k)
+
+  pub doublings-pair : (k : ℕ) → pair d (doublings c k a) ≡ repeat (double (curve c)) k (pair d a)
+  unfolding repeat
+  doublings-pair zero = refl
+  doublings-pair (suc k) =
+      let x = doublings-accept k in
+      class-pair c _ (double-reduced (curve c) (reduced c x)) (double-gives c x) ∙ ap (double (curve c)) (doublings-pair k)
+
+  pub doublings-are-multiple : (k : ℕ) → k < 61 → multiple-answer c a (2 ^ k) ≡ gives (doublings c k a)
+  doublings-are-multiple k l =
+      multiple-gives (2 ^ k) (pow-lt l)
+      ∙ ap gives
+      (pair-injective c _ _ (multiple-accepts h (2 ^ k)) (doublings-accept k)
+      (multiple-pair h (2 ^ k) ∙ sym (doublings-pair k ∙ doublings-multiple (class-doubling (curve c)) k (reduced c h))))
+
+  -- ---- k halvings
+  halves-are : (k : ℕ) → halves c k a ≡ halved-class c a k
+  unfolding repeat
+  halves-are zero = sym (halved-none h)
+  halves-are (suc k) = ap (λ x. half-answer c x .class) (halves-are k) ∙ halved-next h k
+
+  pub halvings-are-halves : (k : ℕ) → k ≤ halvings-limit → halvings-answer c a k ≡ gives (halves c k a)
+  halvings-are-halves k l = halvings-give k l ∙ ap gives (sym (halves-are k))
+
+-- ---- m times n times, halvings of doublings and doublings of halvings
+module _ {c : Curve} {a : Class} (h : Accepts c a) where
+  pub multiple-of-product : (m n : ℕ) → m < multiple-limit → n < multiple-limit → m * n < multiple-limit
+      → multiple-answer c a (m * n) ≡ multiple-answer c (multiple-answer c a n .class) m
+  multiple-of-product m n lm ln l =
+      let x = multiple-accepts h n in
+      multiple-gives h (m * n) l
+      ∙ ap gives
+      (pair-injective c _ _ (multiple-accepts h (m * n)) (multiple-accepts x m)
+      (multiple-pair h (m * n)
+      ∙ multiple-mul (classes (curve c)) m n (reduced c h)
+      ∙ sym (multiple-pair x m ∙ ap (multiple (sum (curve c)) (neutral (curve c)) m) (multiple-pair h n))))
+      ∙ sym (ap (λ b. multiple-answer c b m) (class-is (multiple-gives h n ln)) ∙ multiple-gives x m lm)
+
+  pub halvings-of-doublings : (k : ℕ) → k ≤ halvings-limit → halvings-answer c (doublings c k a) k ≡ gives a
+  halvings-of-doublings k l =
+      let x = doublings-accept h k in
+      halvings-give x k l
+      ∙ ap gives
+      (pair-injective c _ _ (halved-accepts x k) h
+      (halved-pair x k ∙ ap (repeat (half (curve c)) k) (doublings-pair h k) ∙ halvings-doublings (class-halving (curve c)) k (reduced c h)))
+
+  pub doublings-of-halvings : (k : ℕ) → k ≤ halvings-limit → doublings c k (halvings-answer c a k .class) ≡ a
+  doublings-of-halvings k l =
+      let x = halved-accepts h k in
+      ap (doublings c k) (class-is (halvings-give h k l))
+      ∙ pair-injective c _ _ (doublings-accept x k) h
+      (doublings-pair x k ∙ ap (repeat (double (curve c)) k) (halved-pair h k) ∙ doublings-halvings (class-halving (curve c)) k (reduced c h))
+
+-- the only accepted class that k doublings take to a
+pub only-halvings : {c : Curve} {a b : Class} → Accepts c b → (k : ℕ) → k ≤ halvings-limit → doublings c k b ≡ a → b ≡ halvings-answer c a k .class
+only-halvings {c} h k l e = sym (class-is (halvings-of-doublings h k l)) ∙ ap (λ x. halvings-answer c x k .class) e
+
+-- ---- refusals
+given-refused : (m : ℕ) (x : Class) → ¬ (m ≡ 0) → given m x ≡ refuses m
+unfolding given
+given-refused zero x h = absurd (h refl)
+given-refused (suc m) x h = refl
+
+first-refused : (m n : ℕ) → ¬ (m ≡ 0) → m or-else n ≡ m
+unfolding _or-else_
+first-refused zero n h = absurd (h refl)
+first-refused (suc m) n h = refl
+
+module _ (c : Curve) (a : Class) (n : ℕ) where
+  pub multiple-refused-first : ¬ (refusal c a ≡ 0) → multiple-answer c a n ≡ refuses (refusal c a)
+  unfolding multiple-answer multiple-refusal
+  multiple-refused-first h = rw (first-refused (refusal c a) (unless _ 118) h) (given-refused (refusal c a) _ h)
+
+  pub halvings-refused-first : ¬ (refusal c a ≡ 0) → halvings-answer c a n ≡ refuses (refusal c a)
+  unfolding halvings-answer halvings-refusal
+  halvings-refused-first h = rw (first-refused (refusal c a) (unless _ 119) h) (given-refused (refusal c a) _ h)
+
+  pub multiple-too-large : Accepts c a → multiple-limit ≤ n → multiple-answer c a n ≡ refuses 118
+  unfolding multiple-answer multiple-refusal given unless _or-else_
+  multiple-too-large h l = rw (h .none, le-ltb n multiple-limit l) refl
+
+  pub halvings-too-many : Accepts c a → halvings-limit < n → halvings-answer c a n ≡ refuses 119
+  unfolding halvings-answer halvings-refusal given unless _or-else_
+  halvings-too-many h l = rw (h .none, lt-leb n halvings-limit l) refl
+
+  -- ---- told apart
+  multiple-refusal-told : Told (multiple-refusal c a n)
+  unfolding multiple-refusal IsRefusal refusals listed
+  multiple-refusal-told = told-or-else _ _ (refusal-told c a) (told-unless _ 118 refl)
+
+  halvings-refusal-told : Told (halvings-refusal c a n)
+  unfolding halvings-refusal IsRefusal refusals listed
+  halvings-refusal-told = told-or-else _ _ (refusal-told c a) (told-unless _ 119 refl)
+
+given-told : (m : ℕ) (x : Class) → Told m → ResultTold (given m x)
+unfolding given Told
+given-told zero x t = told.ResultTold.acceptance x
+given-told (suc m) x (inl e) = absurd (omega arith)
+given-told (suc m) x (inr r) = told.ResultTold.refusal (suc m) r
+
+pub multiple-told : (c : Curve) (a : Class) (n : ℕ) → ResultTold (multiple-answer c a n)
+unfolding multiple-answer
+multiple-told c a n = given-told _ _ (multiple-refusal-told c a n)
+
+pub halvings-told : (c : Curve) (a : Class) (k : ℕ) → ResultTold (halvings-answer c a k)
+unfolding halvings-answer
+halvings-told c a k = given-told _ _ (halvings-refusal-told c a k)
+
+pub result-never-117 : {r : Result} → ResultTold r → ¬ (r .outcome ≡ refused 117)
+result-never-117 (told.ResultTold.acceptance a) = verdict-never-117 verdict-told.VerdictTold.acceptance
+result-never-117 (told.ResultTold.refusal n i) = verdict-never-117 (verdict-told.VerdictTold.refusal n i)

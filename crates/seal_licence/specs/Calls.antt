@@ -1,0 +1,24 @@
+-- What each byte call answers and leaves in the lent output (docs/SPECIFICATION.md, 5, 6 and 7).
+use Prim.Native.Nat.{ℕ}
+use mathlib.Core.List.{List}
+use Rattle.stored_form.specs.{Head.class-room, Held.class-record, declared.Held.Held}
+use Rattle.written_form.specs.Effect.{Effect, Handed, class-handed, byte-call}
+use Rattle.seal_licence.specs.Multiples.{multiple-answer, halvings-answer}
+use Rattle.seal_licence.specs.declared.calls.Call.{Call}
+use Rattle.seal_licence.specs.declared.calls.Call.the-variants.{Multiple, Halvings}
+
+-- what the call by value answers for the values of a record
+unfoldable pub answered : Call → Held → Handed
+answered (Multiple n) h = class-handed (multiple-answer (h .curve) (h .class) n)
+answered (Halvings k) h = class-handed (halvings-answer (h .curve) (h .class) k)
+
+-- a call: the record of one class, and its answer into an output that has room for a class field
+abbrev pub called : Call → List ℕ → List ℕ → Effect
+called call s out = byte-call class-room class-record (answered call) s out
+
+-- the number is handed over beside the record
+abbrev pub multiple-call : ℕ → List ℕ → List ℕ → Effect
+multiple-call n = called (Multiple n)
+
+abbrev pub halvings-call : ℕ → List ℕ → List ℕ → Effect
+halvings-call k = called (Halvings k)

@@ -1,0 +1,78 @@
+// The calls for C: a record of one class in, a number beside it, and the field of a class at the start of the lent output.
+// Each answers the length written, or the number of a refusal, and then no lent byte has changed.
+ghost use mathlib.Core.Path.{_≡_};
+ghost use Rattle.written_form.specs.{Effect.effect, Effect.handed, Effect.class-handed};
+ghost use Rattle.seal_licence.specs.Multiples.{class-result};
+ghost use Rattle.seal_licence.specs.Calls.{answered, called, multiple-call, halvings-call};
+use crate::multiples;
+use crate::multiples::ClassResult;
+use jacobian::ClassAnswer;
+use stored_form::Held;
+use stored_form::Place;
+use written_form::effect;
+use written_form::effect::Output;
+use written_form::writing;
+
+// What is asked of the class of a record.
+enum Call {
+    Multiple(u64),
+    Halvings(u64),
+}
+
+// The field of the class, unless the call refused.
+fn class_output(r: ClassResult) -> Output
+    ensures { λ o. ⌜ handed o ≡ class-handed (class-result r) ⌝ }
+{
+    let outcome = r.outcome;
+    let class = r.class;
+    writing::class_output(ClassAnswer {
+        outcome,
+        class,
+        steps: 0,
+    })
+}
+
+// What the call by value answers for the values of a record, as it is written.
+fn answered(call: Call, h: Held) -> Output
+    ensures { λ r. ⌜ handed r ≡ answered call h ⌝ }
+{
+    let curve = h.curve;
+    let class = h.class;
+    match call {
+        Call::Multiple(n) => class_output(multiples::multiple(curve, class, n)),
+        Call::Halvings(k) => class_output(multiples::halvings(curve, class, k)),
+    }
+}
+
+// The body of both calls: 101, then the record, then the answer for its values.
+fn class_call(call: Call, input: &[u8], output: &mut [u8]) -> u32
+    ensures { λ r. ⌜ effect r (now (output .exit)) ≡ called call (now (input .entry)) (now (output .entry)) ⌝ }
+{
+    if output.len() < stored_form::CLASS_ROOM {
+        return 101;
+    }
+    let tags = stored_form::CLASS_RECORD;
+    let r = stored_form::read_record(&tags, input);
+    let place = r.place;
+    let held = r.held;
+    let Place::Next(_) = place else {
+        return stored_form::place_refusal(place);
+    };
+    effect::put(answered(call, held), output)
+}
+
+// n times the class.
+#[no_mangle]
+pub extern "C" fn seal_multiple(input: &[u8], n: u64, output: &mut [u8]) -> u32
+    ensures { λ r. ⌜ effect r (now (output .exit)) ≡ multiple-call n (now (input .entry)) (now (output .entry)) ⌝ }
+{
+    class_call(Call::Multiple(n), input, output)
+}
+
+// The class halved k times.
+#[no_mangle]
+pub extern "C" fn seal_halvings(input: &[u8], k: u64, output: &mut [u8]) -> u32
+    ensures { λ r. ⌜ effect r (now (output .exit)) ≡ halvings-call k (now (input .entry)) (now (output .entry)) ⌝ }
+{
+    class_call(Call::Halvings(k), input, output)
+}
