@@ -1,4 +1,4 @@
-//! Records of the eight byte calls and archives, most of them mutated, with what the calls and the walk report owe for
+//! Records of the ten byte calls and archives, most of them mutated, with what the calls and the walk report owe for
 //! them. They are made by a generator with a fixed seed, so that the first n are the same in every run.
 //!
 //! - `pool`: curves over both fields with classes of every degree, from which the records are made.
@@ -10,6 +10,7 @@ pub mod pool;
 use crate::archive::{report, Archive};
 use crate::calls::{answer, seal_after_commit, Call, CALLS};
 use crate::jacobian::Class;
+use crate::multiples::{HALVINGS_LIMIT, MULTIPLE_LIMIT};
 use crate::random::Random;
 use crate::stamp::stamp_limit;
 use crate::stored::{class_field, count_field, curve_fields, operation_field, DRAWING_LIMIT};
@@ -32,13 +33,13 @@ impl ByteCase {
         ByteCase { call, input, output_length, answer, written }
     }
 
-    /// The case in a file: the call's number in one byte; the stamp, 0 where the call takes none, in eight, high byte first;
-    /// the lengths of output and input, and the answer, in four each; the input; the bytes written, which are as many as the
-    /// answer says where it is no refusal.
+    /// The case in a file: the call's number in one byte; the number beside the input, 0 where the call takes none, in eight,
+    /// high byte first; the lengths of output and input, and the answer, in four each; the input; the bytes written, which
+    /// are as many as the answer says where it is no refusal.
     pub fn bytes(&self) -> Vec<u8> {
         let numbers = [self.output_length as u32, self.input.len() as u32, self.answer].map(u32::to_be_bytes);
-        let stamp = self.call.stamp().to_be_bytes();
-        [&[self.call.number()], &stamp[..], &numbers.concat(), &self.input, &self.written].concat()
+        let beside = self.call.beside().to_be_bytes();
+        [&[self.call.number()], &beside[..], &numbers.concat(), &self.input, &self.written].concat()
     }
 }
 
@@ -59,6 +60,36 @@ fn stamp(random: &mut Random, pool: &Pool) -> u64 {
         1 => *random.pick(&[limit, limit + 1, 31, 32, 1 << 58, 1 << 61, 1 << 63, u64::MAX]),
         2..=4 if !pool.stamps_without_class.is_empty() => *random.pick(&pool.stamps_without_class),
         _ => random.number() % limit,
+    }
+}
+
+/// Factors, those at the edges often, and numbers that are too large.
+fn factor(random: &mut Random) -> u64 {
+    match random.below(6) {
+        0 => *random.pick(&[0, 1, 2, 3]),
+        1 => *random.pick(&[MULTIPLE_LIMIT, MULTIPLE_LIMIT + 1, 1 << 63, u64::MAX]),
+        2 => MULTIPLE_LIMIT - 1,
+        3 => random.below(100) as u64,
+        _ => random.number() % MULTIPLE_LIMIT,
+    }
+}
+
+/// Numbers of halvings, likewise.
+fn times_halved(random: &mut Random) -> u64 {
+    match random.below(4) {
+        0 => *random.pick(&[0, 1, 2, 63, HALVINGS_LIMIT]),
+        1 => *random.pick(&[HALVINGS_LIMIT + 1, 1 << 32, u64::MAX]),
+        _ => random.below(HALVINGS_LIMIT as usize + 1) as u64,
+    }
+}
+
+/// The number beside the input, 0 where the call takes none.
+fn number_beside(random: &mut Random, pool: &Pool, call: Call) -> u64 {
+    match call {
+        Call::Stamp(_) => stamp(random, pool),
+        Call::Multiple(_) => factor(random),
+        Call::Halvings(_) => times_halved(random),
+        _ => 0,
     }
 }
 
@@ -125,10 +156,8 @@ impl Iterator for Mutated {
     fn next(&mut self) -> Option<ByteCase> {
         let random = &mut self.random;
         let pool = random.pick(&self.pools);
-        let call = match *random.pick(&CALLS) {
-            Call::Stamp(_) => Call::Stamp(stamp(random, pool)),
-            other => other,
-        };
+        let call = *random.pick(&CALLS);
+        let call = call.with_beside(number_beside(random, pool, call));
         let fields = record(random, pool, call);
         let input = mutated(random, fields, pool);
         let length = output_length(random, call);
@@ -188,7 +217,7 @@ mod tests {
     fn every_outcome_of_every_call() {
         let cases: Vec<ByteCase> = Mutated::new().take(10_000).collect();
         for call in CALLS {
-            let made = || cases.iter().filter(|case| case.call.without_stamp() == call);
+            let made = || cases.iter().filter(|case| case.call.with_beside(0) == call);
             let met: HashSet<u32> = made().map(|case| case.answer).collect();
             let mut owed = HashSet::from([102, 103, 104, 105, 106, 107, 112]);
             owed.extend(match call {
@@ -196,6 +225,8 @@ mod tests {
                 Call::Commit => vec![101, 109, 110, 111, 114, 8, 24, 40, 56],
                 Call::Undo => vec![101, 109, 110, 111, 113, 8, 24, 40, 56],
                 Call::Stamp(_) => vec![101, 115, 116, 19],
+                Call::Multiple(_) => vec![101, 110, 111, 118, 3, 19, 35, 51],
+                Call::Halvings(_) => vec![101, 110, 111, 119, 3, 19, 35, 51],
                 _ => vec![101, 110, 111, 3, 19, 35, 51],
             });
             assert_eq!(met, owed, "{call:?}");
@@ -225,8 +256,31 @@ mod tests {
             stamps(116, 5).len() + stamps(116, 61).len() >= 20,
             "stamps without a class are not met by chance alone"
         );
-        let too_large = |case: &&ByteCase| case.call.stamp() >= 1 << 58;
+        let too_large = |case: &&ByteCase| case.call.beside() >= 1 << 58;
         assert!(stamps(112, 5).into_iter().chain(stamps(112, 61)).any(|case| too_large(&case)));
+    }
+
+    /// Among the first ten thousand multiples and halvings are refused with 118 and 119 over both fields, and some whose
+    /// number is too large with 112; both edges of the numbers are met.
+    #[test]
+    fn refused_numbers() {
+        let cases: Vec<ByteCase> = Mutated::new().take(10_000).collect();
+        let met = |wanted: &dyn Fn(&ByteCase) -> bool| cases.iter().any(wanted);
+        for (call, refusal, last) in [(8, 118, MULTIPLE_LIMIT - 1), (9, 119, HALVINGS_LIMIT)] {
+            for degree in [5, 61] {
+                let answered = |case: &ByteCase, beside, answer| {
+                    case.call.number() == call
+                        && case.call.beside() == beside
+                        && case.answer == answer
+                        && case.input[3] == degree
+                };
+                assert!(met(&|case| answered(case, last + 1, refusal)), "{call} {degree}");
+                assert!(met(&|case| answered(case, u64::MAX, refusal)), "{call} {degree}");
+                assert!(met(&|case| answered(case, last, 51)), "{call} {degree}");
+            }
+            let too_large = |case: &ByteCase| case.call.number() == call && case.call.beside() > last;
+            assert!(met(&|case| too_large(case) && case.answer == 112), "{call}");
+        }
     }
 
     /// Among the first three hundred archives the report meets every refusal that it can give, and every letter.

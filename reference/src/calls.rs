@@ -1,8 +1,9 @@
-//! The eight calls on byte areas (document 01, 'Stored form', 'The register' and 'In checking order'; document 02,
-//! request 2).
+//! The ten calls on byte areas (document 01, 'Stored form', 'The register' and 'In checking order'; document 02,
+//! requests 2 and 4).
 
 use crate::halving::half;
 use crate::jacobian::{Class, Curve};
+use crate::multiples::{halvings, multiple};
 use crate::stamp::class_of_stamp;
 use crate::stored::{class_field, count_field, Reader, Refusal, COUNT_LIMIT};
 
@@ -17,10 +18,14 @@ pub enum Call {
     Undo,
     /// With the stamp, which is handed over beside the input.
     Stamp(u64),
+    /// With the factor, likewise.
+    Multiple(u64),
+    /// With the number of halvings, likewise.
+    Halvings(u64),
 }
 
-/// All of them, the last with a stamp of 0.
-pub const CALLS: [Call; 8] = [
+/// All of them, the last three with the number 0.
+pub const CALLS: [Call; 10] = [
     Call::Membership,
     Call::Opposite,
     Call::Sum,
@@ -29,36 +34,41 @@ pub const CALLS: [Call; 8] = [
     Call::Commit,
     Call::Undo,
     Call::Stamp(0),
+    Call::Multiple(0),
+    Call::Halvings(0),
 ];
 
 impl Call {
-    /// The call with a stamp of 0, which is what the calls that take none have.
-    pub fn without_stamp(self) -> Call {
+    /// The call with this number beside the input, where it takes one.
+    pub fn with_beside(self, number: u64) -> Call {
         match self {
-            Call::Stamp(_) => Call::Stamp(0),
+            Call::Stamp(_) => Call::Stamp(number),
+            Call::Multiple(_) => Call::Multiple(number),
+            Call::Halvings(_) => Call::Halvings(number),
             other => other,
+        }
+    }
+
+    /// The number that is handed over beside the input, 0 where the call takes none.
+    pub fn beside(self) -> u64 {
+        match self {
+            Call::Stamp(number) | Call::Multiple(number) | Call::Halvings(number) => number,
+            _ => 0,
         }
     }
 
     /// The call's number in a file of cases: its place in `CALLS`.
     pub fn number(self) -> u8 {
-        let same = |&call: &Call| call == self.without_stamp();
+        let same = |&call: &Call| call == self.with_beside(0);
         CALLS.iter().position(same).expect("the row has every call") as u8
-    }
-
-    pub fn stamp(self) -> u64 {
-        match self {
-            Call::Stamp(stamp) => stamp,
-            _ => 0,
-        }
     }
 
     /// How many bytes the output must have, else 101.
     pub fn output_bound(self) -> usize {
         match self {
             Call::Membership => 0,
-            Call::Opposite | Call::Sum | Call::Double | Call::Half | Call::Stamp(_) => 51,
             Call::Commit | Call::Undo => 56,
+            _ => 51,
         }
     }
 
@@ -102,13 +112,16 @@ fn written(call: Call, input: &[u8]) -> Result<Vec<u8>, Refusal> {
     let class = reader.class(&curve)?;
     let second = if call == Call::Sum { Some(reader.class(&curve)?) } else { None };
     reader.end()?;
-    Ok(match (call, second) {
-        (Call::Opposite, _) => class_field(&curve.opposite(&class)),
-        (Call::Sum, Some(second)) => class_field(&curve.sum(&class, &second)),
-        (Call::Double, _) => class_field(&curve.double(&class)),
-        (Call::Half, _) => class_field(&half(&curve, &class)),
-        _ => vec![],
-    })
+    let owed = match (call, second) {
+        (Call::Opposite, _) => curve.opposite(&class),
+        (Call::Sum, Some(second)) => curve.sum(&class, &second),
+        (Call::Double, _) => curve.double(&class),
+        (Call::Half, _) => half(&curve, &class),
+        (Call::Multiple(n), _) => multiple(&curve, n, &class)?,
+        (Call::Halvings(k), _) => halvings(&curve, k, &class)?,
+        _ => return Ok(vec![]),
+    };
+    Ok(class_field(&owed))
 }
 
 /// The answer, and what the call writes at the start of an output of this length; on a refusal nothing.

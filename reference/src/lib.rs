@@ -6,6 +6,7 @@
 //! - `polynomial`: polynomials in x over such a field.
 //! - `jacobian`: curves y^2 + y = f(x), reduced classes, Cantor's rule.
 //! - `halving`: halves found without halving rules.
+//! - `multiples`: multiples of a class by sums alone, and repeated halves.
 //! - `bench_classes`: every reduced class of a curve over the bench field.
 //! - `class_number`: how many they are, from points alone.
 //! - `element_cases`: the cases that the program `element_trial` is run on, and the lines that it owes.
@@ -13,7 +14,7 @@
 //! - `history_cases`: the same for the program `history_trial`: commits and undos on a register, and taking them back.
 //! - `stamp`: the class of an operation's stamp.
 //! - `stored`: the stored form's writer and checking reader.
-//! - `calls`: the eight calls on byte areas.
+//! - `calls`: the ten calls on byte areas.
 //! - `archive`: the archive, its walk and the walk report.
 //! - `byte_cases`: records and archives, mutated or not, and what the byte calls and the walk report owe for them.
 //! - `samples`: the archives that are kept in examples/.
@@ -30,6 +31,7 @@ pub mod field;
 pub mod halving;
 pub mod history_cases;
 pub mod jacobian;
+pub mod multiples;
 pub mod polynomial;
 pub mod random;
 pub mod samples;

@@ -1,10 +1,12 @@
-//! The byte calls: document 01's examples, every refusal at its edges, the order of the checks; stamps.
+//! The byte calls: document 01's examples, every refusal at its edges, the order of the checks; stamps; multiples and
+//! halvings.
 
 use super::*;
 use crate::field::{Field, BENCH, WIDE};
 use crate::stored::{curve_field, curve_fields, degree_field, field, operation_field, CLASS, OPERATION};
 
-const CLASS_CALLS: [Call; 5] = [Call::Opposite, Call::Sum, Call::Double, Call::Half, Call::Stamp(0)];
+const CLASS_CALLS: [Call; 7] =
+    [Call::Opposite, Call::Sum, Call::Double, Call::Half, Call::Stamp(0), Call::Multiple(0), Call::Halvings(0)];
 
 fn curve_a(field: Field) -> Curve {
     Curve::new(field, 0, 0, 0)
@@ -256,6 +258,33 @@ fn stamps() {
             assert_eq!(answer(Call::Stamp(stamp), &input(&a), 50), (101, vec![]));
         }
         assert_eq!(answered(Call::Stamp(0), &[input(&without), vec![0]].concat()), 112);
+    }
+}
+
+/// A multiple and a halving at their limits, on f = x^7, where three doublings bring [x, 0] back. 118 and 119 come after
+/// all that is wrong with the input.
+#[test]
+fn multiples_and_halvings() {
+    let written = |class: &Class| (class_field(class).len() as u32, class_field(class));
+    let (xx, xxx_one) = (Class::new(vec![0, 0, 1], vec![]), Class::new(vec![0, 0, 0, 1], vec![1]));
+    for field in [BENCH, WIDE] {
+        let input = record(Call::Double, field);
+        let owed = [(0, Class::neutral()), (1, x()), (2, xx.clone()), (4, xxx_one.clone()), ((1 << 61) - 1, x())];
+        for (n, class) in owed {
+            assert_eq!(answer(Call::Multiple(n), &input, 51), written(&class), "{n}");
+        }
+        for (k, class) in [(0, &x()), (1, &xxx_one), (2, &xx), (3, &x()), (64, &xxx_one)] {
+            assert_eq!(answer(Call::Halvings(k), &input, 51), written(class), "{k}");
+        }
+        let too_large = [1 << 61, (1 << 61) + 1, 1 << 63, u64::MAX].map(|n| (Call::Multiple(n), 118));
+        let too_often = [65, 1 << 32, 1 << 61, u64::MAX].map(|k| (Call::Halvings(k), 119));
+        for (call, refusal) in too_large.into_iter().chain(too_often) {
+            assert_eq!(answered(call, &input), refusal);
+            assert_eq!(answered(call, &[&input[..], &[0]].concat()), 112);
+            let off_curve = class_field(&Class::new(vec![1, 1], vec![]));
+            assert_eq!(answered(call, &[curve_fields(&curve_a(field)).concat(), off_curve].concat()), 111);
+            assert_eq!(answer(call, &input, 50), (101, vec![]));
+        }
     }
 }
 
