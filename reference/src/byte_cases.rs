@@ -198,6 +198,13 @@ mod tests {
     use crate::field::BENCH;
     use crate::jacobian::Curve;
     use std::collections::HashSet;
+    use std::sync::OnceLock;
+
+    /// The first ten thousand, which are made once.
+    fn ten_thousand() -> &'static [ByteCase] {
+        static CASES: OnceLock<Vec<ByteCase>> = OnceLock::new();
+        CASES.get_or_init(|| Mutated::new().take(10_000).collect())
+    }
 
     #[test]
     fn bytes_of_a_case() {
@@ -215,7 +222,7 @@ mod tests {
     /// over both fields.
     #[test]
     fn every_outcome_of_every_call() {
-        let cases: Vec<ByteCase> = Mutated::new().take(10_000).collect();
+        let cases = ten_thousand();
         for call in CALLS {
             let made = || cases.iter().filter(|case| case.call.with_beside(0) == call);
             let met: HashSet<u32> = made().map(|case| case.answer).collect();
@@ -241,7 +248,7 @@ mod tests {
     /// that is too large with 112.
     #[test]
     fn refused_stamps() {
-        let cases: Vec<ByteCase> = Mutated::new().take(10_000).collect();
+        let cases = ten_thousand();
         let stamps = |answer, degree| {
             let wanted =
                 |case: &&ByteCase| case.call.number() == 7 && case.answer == answer && case.input[3] == degree;
@@ -264,7 +271,7 @@ mod tests {
     /// number is too large with 112; both edges of the numbers are met.
     #[test]
     fn refused_numbers() {
-        let cases: Vec<ByteCase> = Mutated::new().take(10_000).collect();
+        let cases = ten_thousand();
         let met = |wanted: &dyn Fn(&ByteCase) -> bool| cases.iter().any(wanted);
         for (call, refusal, last) in [(8, 118, MULTIPLE_LIMIT - 1), (9, 119, HALVINGS_LIMIT)] {
             for degree in [5, 61] {

@@ -3,23 +3,27 @@
 //!
 //! A case is 138 bytes: the call, the degree d, f3, f1 and f0, and two classes; the calls on one class leave the second
 //! aside. A class is its degree, u0, u1, u2, v0, v1 and v2. All numbers but d take eight bytes, high byte first. The call
-//! on a stamp finds it in the place of the first class's degree, and leaves all else of the classes aside.
+//! on a stamp finds it in the place of the first class's degree, and leaves all else of the classes aside. Those that take
+//! a class with a number find the number in the place of the second class's degree, and leave all else of that one aside.
 //!
 //! - `examples`: document 01's twelve, over both fields.
 //! - `edges`: every refusal at its edges and in its order.
 //! - `drawn`: classes of every degree over GF(2^61), on curves drawn at random.
 //! - `sweep`: every class of a curve over the bench field.
 //! - `stamps`: classes of stamps over both fields.
+//! - `multiples`: multiples of classes and repeated halves over both fields.
 
 pub mod drawn;
 pub mod edges;
 pub mod examples;
+pub mod multiples;
 pub mod stamps;
 pub mod sweep;
 
 use crate::field::Field;
 use crate::halving::is_half;
 use crate::jacobian::{Class, Curve, Reduced};
+use crate::multiples::{doublings, halvings, multiple};
 use crate::stamp::class_of_stamp;
 
 pub const MEMBERSHIP: u8 = 1;
@@ -35,9 +39,12 @@ pub const DOUBLE_AND_ADD: u8 = 10;
 pub const SUBTRACT_AND_HALVE: u8 = 11;
 pub const CURVE: u8 = 12;
 pub const STAMP: u8 = 13;
-/// The calls on classes, all but that on the curve alone and that on a stamp; and of these the calls on two.
+pub const MULTIPLE: u8 = 14;
+pub const HALVINGS: u8 = 15;
+/// The calls on classes alone; of these the calls on two; and those on a class with a number.
 pub const CALLS: std::ops::RangeInclusive<u8> = 1..=11;
 pub const CALLS_ON_TWO: [u8; 4] = [SUM, SUM_IN_STEPS, DOUBLE_AND_ADD, SUBTRACT_AND_HALVE];
+pub const CALLS_WITH_NUMBER: [u8; 2] = [MULTIPLE, HALVINGS];
 
 /// The calls that every class of a curve is taken through, in this order. tests/run looks into the lines by it: the fourth of
 /// seven is the half, and the sixth the class itself.
@@ -165,7 +172,7 @@ fn answer(call: u8, curve: CurveValues, a: ClassValues, b: ClassValues) -> Resul
     if call == STAMP {
         return class_of_stamp(&curve, a.degree).map(|class| printed(&class));
     }
-    let a = a.class(&curve)?;
+    let (a, number) = (a.class(&curve)?, b.degree);
     let b = if CALLS_ON_TWO.contains(&call) { b.class(&curve)? } else { Class::neutral() };
     match call {
         MEMBERSHIP => Ok("accepted".to_string()),
@@ -176,6 +183,8 @@ fn answer(call: u8, curve: CurveValues, a: ClassValues, b: ClassValues) -> Resul
         DOUBLE_IN_STEPS => Ok(printed_with_steps(&curve.double_in_steps(&a))),
         SUM_IN_STEPS => Ok(printed_with_steps(&curve.sum_in_steps(&a, &b))),
         DOUBLE_AND_ADD => Ok(printed(&curve.sum(&curve.double(&a), &b))),
+        MULTIPLE => multiple(&curve, number, &a).map(|class| printed(&class)),
+        HALVINGS => halvings(&curve, number, &a).map(|class| printed(&class)),
         HALF | SUBTRACT_AND_HALVE if a == b && b == Class::neutral() => Ok(printed(&a)),
         _ => panic!("no answer to call {call} on {a:?} and {b:?}"),
     }
@@ -203,6 +212,33 @@ impl Case {
     /// The class of a stamp; what is left aside is taken from the values given.
     pub fn stamp(curve: CurveValues, stamp: u64, aside: ClassValues) -> Case {
         Case::new(STAMP, curve, ClassValues { degree: stamp, ..aside }, aside)
+    }
+
+    /// n times a class.
+    pub fn multiple(curve: CurveValues, class: &Class, n: u64) -> Case {
+        Case::with_number(MULTIPLE, curve, class.into(), n, NEUTRAL)
+    }
+
+    /// A class halved k times.
+    pub fn halvings(curve: CurveValues, class: &Class, k: u64) -> Case {
+        Case::with_number(HALVINGS, curve, class.into(), k, NEUTRAL)
+    }
+
+    /// A call on a class with a number; what is left aside is taken from the values given.
+    pub fn with_number(call: u8, curve: CurveValues, a: ClassValues, number: u64, aside: ClassValues) -> Case {
+        Case::new(call, curve, a, ClassValues { degree: number, ..aside })
+    }
+
+    /// The same with an answer that is known already.
+    pub fn known(call: u8, curve: CurveValues, class: &Class, number: u64, owed: &Class) -> Case {
+        let line = format!("{}\n", printed(owed));
+        Case { call, curve, a: class.into(), b: ClassValues { degree: number, ..NEUTRAL }, line }
+    }
+
+    /// The class that halved k times is the one given, made from that answer.
+    pub fn halved_doublings(curve: CurveValues, class: &Class, k: u64) -> Case {
+        let doubled = doublings(&curve.curve().expect("the curve is accepted"), k, class);
+        Case::known(HALVINGS, curve, &doubled, k, class)
     }
 
     /// The half of a class, with the answer given, which is held to the definition.
@@ -239,7 +275,7 @@ impl Case {
 fn no_calls() -> Vec<Case> {
     let curve = CurveValues { degree: 5, f3: 0, f1: 0, f0: 0 };
     let line = "no such call\n".to_string();
-    [0, 14, 255].map(|call| Case { call, curve, a: NEUTRAL, b: NEUTRAL, line: line.clone() }).to_vec()
+    [0, 16, 255].map(|call| Case { call, curve, a: NEUTRAL, b: NEUTRAL, line: line.clone() }).to_vec()
 }
 
 /// The stored cases, in their order.
@@ -289,19 +325,21 @@ mod tests {
         assert_eq!(ClassValues::from(&Class::neutral()), NEUTRAL);
     }
 
-    /// Every call on classes meets every refusal and an answer, over both fields; that on the curve those of the curve, and
-    /// that on a stamp those and its own two.
+    /// Every call on classes meets every refusal and an answer, over both fields, and those with a number its own besides;
+    /// that on the curve those of the curve, and that on a stamp those and its own two.
     #[test]
     fn every_outcome_of_every_call() {
         let cases = stored_cases();
-        for call in CALLS.chain([CURVE, STAMP]) {
+        for call in CALLS.chain([CURVE, STAMP]).chain(CALLS_WITH_NUMBER) {
             for degree in [5, 61] {
                 let wanted = |case: &&Case| case.call == call && case.curve.degree == degree;
                 let lines: Vec<&str> = cases.iter().filter(wanted).map(|case| case.line.as_str()).collect();
-                for number in [104, 106, 107, 110, 111, 115, 116] {
+                for number in [104, 106, 107, 110, 111, 115, 116, 118, 119] {
                     let due = match call {
                         CURVE => number == 107,
                         STAMP => [107, 115, 116].contains(&number),
+                        MULTIPLE => [104, 107, 110, 111, 118].contains(&number),
+                        HALVINGS => [104, 107, 110, 111, 119].contains(&number),
                         _ => [104, 107, 110, 111].contains(&number),
                     };
                     assert_eq!(

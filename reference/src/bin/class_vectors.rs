@@ -6,11 +6,26 @@
 //! - `common`, six calls in the common case over GF(2^61), for bench/run;
 //! - `bench-stamps` and `wide-stamps`, classes of stamps on many curves of the bench field and over GF(2^61);
 //! - `every-stamp`, those of a curve of the bench field, with the curve's coefficients;
+//! - `bench-multiples` and `order-multiples`, multiples and repeated halves of classes of a curve of the bench field,
+//!   likewise, and `wide-multiples`, those over GF(2^61);
 //! - those of the sweep over every class of a curve of the bench field, which take the curve's coefficients.
 
-use reference::class_cases::{drawn, stamps, stored, sweep, Case, CurveValues};
+use reference::class_cases::{drawn, multiples, stamps, stored, sweep, Case, CurveValues};
 use reference::field::BENCH;
 use reference::write_case;
+
+/// The kinds that take a curve's coefficients, beside those of the sweep.
+const ON_CURVE: [&str; 3] = ["every-stamp", "bench-multiples", "order-multiples"];
+
+/// The cases of a kind on a curve of the bench field.
+fn on_curve(kind: &str, curve: CurveValues) -> Vec<Case> {
+    match kind {
+        "every-stamp" => stamps::every_stamp(curve),
+        "bench-multiples" => multiples::bench(curve),
+        "order-multiples" => multiples::order(curve),
+        _ => sweep::cases(kind, curve),
+    }
+}
 
 /// What the program is given, and what it owes for that.
 fn made(kind: &str, coefficients: &[u64]) -> Option<(Vec<u8>, String)> {
@@ -20,9 +35,9 @@ fn made(kind: &str, coefficients: &[u64]) -> Option<(Vec<u8>, String)> {
         ("common", []) => drawn::common(),
         ("bench-stamps", []) => stamps::bench(),
         ("wide-stamps", []) => stamps::wide(),
-        ("every-stamp", &[f3, f1, f0]) => stamps::every_stamp(CurveValues::new(BENCH, f3, f1, f0)),
-        (_, &[f3, f1, f0]) if sweep::KINDS.contains(&kind) => {
-            sweep::cases(kind, CurveValues::new(BENCH, f3, f1, f0))
+        ("wide-multiples", []) => multiples::wide(),
+        (_, &[f3, f1, f0]) if ON_CURVE.contains(&kind) || sweep::KINDS.contains(&kind) => {
+            on_curve(kind, CurveValues::new(BENCH, f3, f1, f0))
         }
         _ => return None,
     };
@@ -40,10 +55,10 @@ fn run(words: &[String]) -> Option<()> {
 fn main() {
     let words: Vec<String> = std::env::args().skip(1).collect();
     if run(&words).is_none() {
-        eprintln!(
-            "usage: class_vectors KIND FOLDER with KIND one of stored thousand common bench-stamps wide-stamps,"
-        );
-        eprintln!("or class_vectors KIND FOLDER F3 F1 F0 with KIND one of every-stamp {}", sweep::KINDS.join(" "));
+        eprintln!("usage: class_vectors KIND FOLDER with KIND one of");
+        eprintln!("stored thousand common bench-stamps wide-stamps wide-multiples,");
+        eprintln!("or class_vectors KIND FOLDER F3 F1 F0 with KIND one of");
+        eprintln!("{}", [&ON_CURVE[..], &sweep::KINDS].concat().join(" "));
         std::process::exit(2);
     }
 }

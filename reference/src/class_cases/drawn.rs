@@ -13,13 +13,13 @@ use crate::jacobian::{Class, Curve};
 use crate::random::Random;
 
 /// The kinds of classes: how often each of some points is taken.
-const KINDS: [&[usize]; 8] = [&[], &[1], &[1, 1], &[2], &[1, 1, 1], &[2, 1], &[3], &[1, 1, 1, 1, 1]];
+pub(super) const KINDS: [&[usize]; 8] = [&[], &[1], &[1, 1], &[2], &[1, 1, 1], &[2, 1], &[3], &[1, 1, 1, 1, 1]];
 
 /// How many curves are drawn; on each there is one class of every kind.
 const CURVES: usize = 25;
 
 /// The sum of points, each taken as often as the kind says, and the first of the points.
-fn class_of_kind(random: &mut Random, curve: &Curve, kind: &[usize]) -> (Class, Class) {
+pub(super) fn class_of_kind(random: &mut Random, curve: &Curve, kind: &[usize]) -> (Class, Class) {
     let points: Vec<Class> = kind.iter().map(|_| curve.drawn_point(random)).collect();
     let mut class = Class::neutral();
     for (point, &times) in points.iter().zip(kind) {
@@ -72,7 +72,7 @@ fn known_halves() -> Vec<Case> {
     cases
 }
 
-fn drawn_curve(random: &mut Random) -> (CurveValues, Curve) {
+pub(super) fn drawn_curve(random: &mut Random) -> (CurveValues, Curve) {
     let values = CurveValues::new(WIDE, random.element(WIDE), random.element(WIDE), random.element(WIDE));
     (values, values.curve().expect("the curve is accepted"))
 }

@@ -1,8 +1,13 @@
 //! Every refusal of the calls by value at its edges, and the order of the checks: 106 and 107 for the curve, then 104,
-//! 110 and 111 for each class, the first class before the second is begun; for a stamp 115 and 116 after the curve.
+//! 110 and 111 for each class, the first class before the second is begun; for a stamp 115 and 116 after the curve; for a
+//! number beside a class 118 or 119 after the class.
 
-use super::{Case, ClassValues, CurveValues, CALLS, CALLS_ON_TWO, CURVE, HALF, NEUTRAL, SUBTRACT_AND_HALVE};
+use super::{
+    Case, ClassValues, CurveValues, CALLS, CALLS_ON_TWO, CALLS_WITH_NUMBER, CURVE, HALF, MEMBERSHIP, NEUTRAL,
+    SUBTRACT_AND_HALVE,
+};
 use crate::field::{Field, BENCH, WIDE};
+use crate::multiples::{HALVINGS_LIMIT, MULTIPLE_LIMIT};
 use crate::stamp::stamp_limit;
 
 /// No class by its degree, by what stands beyond it, and by the size of its numbers.
@@ -171,6 +176,86 @@ fn stamps_of_no_field() -> Vec<Case> {
     cases
 }
 
+/// Both calls on the class with numbers that pass and that do not, with nothing and with nonsense in the places that they
+/// leave aside.
+fn with_every_number(curve: CurveValues, a: ClassValues, factors: &[u64], times: &[u64]) -> Vec<Case> {
+    let mut cases = vec![];
+    for (call, numbers) in CALLS_WITH_NUMBER.into_iter().zip([factors, times]) {
+        for &number in numbers {
+            cases.extend([NEUTRAL, NONSENSE].map(|aside| Case::with_number(call, curve, a, number, aside)));
+        }
+    }
+    cases
+}
+
+/// The edges of both numbers, and numbers of which a part of the bits would pass: on f = x^7 and on f = x^7 + 1, on the
+/// neutral class and on classes of degrees 1 and 3.
+fn numbers_beside(field: Field) -> Vec<Case> {
+    let factors = [0, 1, 2, 3, MULTIPLE_LIMIT - 1, MULTIPLE_LIMIT, MULTIPLE_LIMIT + 1, 1 << 62, 1 << 63, u64::MAX];
+    let times =
+        [0, 1, 2, 63, HALVINGS_LIMIT, HALVINGS_LIMIT + 1, 128, 256, 1 << 32, (1 << 32) + 1, 1 << 61, u64::MAX];
+    let class = |u: &[u64]| {
+        let mut row = [0; 3];
+        row[..u.len()].copy_from_slice(u);
+        ClassValues { degree: u.len() as u64, u: row, ..NEUTRAL }
+    };
+    // [x, 0] and [x^3, 0] on f = x^7; [x + 1, 0] and [x^3 + x^2 + 1, 0] on f = x^7 + 1
+    let classes = [(0, NEUTRAL), (0, class(&[0])), (0, class(&[0; 3])), (1, class(&[1])), (1, class(&[1, 0, 1]))];
+    let on = |(f0, a)| with_every_number(CurveValues::new(field, 0, 0, f0), a, &factors, &times);
+    classes.into_iter().flat_map(on).collect()
+}
+
+/// Numbers that pass and that do not, with a degree that is none, whatever else is wrong.
+fn numbers_of_no_field() -> Vec<Case> {
+    let mut cases = vec![];
+    for degree in [0, 4, 6, 60, 62, 255] {
+        for f3 in [0, u64::MAX] {
+            for a in [NEUTRAL, NONSENSE] {
+                let curve = CurveValues { degree, f3, f1: 0, f0: 0 };
+                cases.extend(with_every_number(curve, a, &[0, MULTIPLE_LIMIT], &[0, HALVINGS_LIMIT + 1]));
+            }
+        }
+    }
+    cases
+}
+
+/// Numbers that pass and that do not beside what is wrong with the curve's coefficients and with the class.
+fn numbers_refused_before(field: Field) -> Vec<Case> {
+    let curve = CurveValues::new(field, 0, 0, 0);
+    let accepted = ClassValues { degree: 1, ..NEUTRAL };
+    let refused = [
+        (CurveValues { f3: u64::MAX, ..curve }, accepted),
+        (curve, ClassValues { degree: 4, ..NEUTRAL }),
+        (curve, ClassValues { u: [0, 0, 1], ..accepted }),
+        (curve, ClassValues { v: [u64::MAX, 0, 0], ..accepted }),
+        (curve, ClassValues { u: [1, 0, 0], ..accepted }),
+        (curve, NONSENSE),
+    ];
+    let (factors, times) = ([0, MULTIPLE_LIMIT, u64::MAX], [0, HALVINGS_LIMIT + 1, u64::MAX]);
+    refused.into_iter().flat_map(|(curve, a)| with_every_number(curve, a, &factors, &times)).collect()
+}
+
+/// Every refusal of the class, at its edges, with a number that is too large beside it.
+fn numbers_after_class(field: Field) -> Vec<Case> {
+    let wrong = [coefficients, shapes, numbers].into_iter().flat_map(|part| part(field));
+    let once = wrong.filter(|case| case.call == MEMBERSHIP);
+    once.flat_map(|case| {
+        CALLS_WITH_NUMBER.map(|call| Case::with_number(call, case.curve, case.a, u64::MAX, NONSENSE))
+    })
+    .collect()
+}
+
+/// The cases of the calls on a class with a number.
+fn cases_with_number() -> Vec<Case> {
+    let mut cases = numbers_of_no_field();
+    for field in [BENCH, WIDE] {
+        for part in [numbers_beside, numbers_refused_before, numbers_after_class] {
+            cases.extend(part(field));
+        }
+    }
+    cases
+}
+
 pub fn cases() -> Vec<Case> {
     let mut cases = degrees();
     cases.extend(stamps_of_no_field());
@@ -179,12 +264,13 @@ pub fn cases() -> Vec<Case> {
             cases.extend(part(field));
         }
     }
+    cases.extend(cases_with_number());
     cases
 }
 
 #[cfg(test)]
 mod tests {
-    use super::super::SUM;
+    use super::super::{HALVINGS, MULTIPLE, SUM};
     use super::*;
 
     fn line(curve: CurveValues, a: ClassValues, b: ClassValues) -> String {
@@ -229,6 +315,36 @@ mod tests {
         assert_eq!(line(5, 12, 0, 1), "refused 116\n");
         assert_eq!(line(61, 0, 0, 785), "refused 116\n");
         assert_eq!(line(5, 0, 0, 3), "1:18:16\n");
+    }
+
+    /// Multiples and halvings written out by hand: 106, 107, 104, 110, 111, and 118 or 119 after them. On f = x^7 three
+    /// doublings bring [x, 0] back, so that it has order 7, and 2^61 - 1 is 1 modulo 7.
+    #[test]
+    fn numbers_by_hand() {
+        let class = |degree, u0, v0| ClassValues { degree, u: [u0, 0, 0], v: [v0, 0, 0] };
+        let line = |call, degree, f0, a, number| {
+            let curve = CurveValues { degree, f3: 0, f1: 0, f0 };
+            Case::with_number(call, curve, a, number, NONSENSE).line
+        };
+        for degree in [5, 61] {
+            for (n, owed) in [(0, "0::"), (1, "1:0:0"), (2, "2:0,0:0,0"), (7, "0::"), ((1 << 61) - 1, "1:0:0")] {
+                assert_eq!(line(MULTIPLE, degree, 0, class(1, 0, 0), n), format!("{owed}\n"));
+            }
+            for (k, owed) in [(0, "1:0:0"), (1, "3:0,0,0:0,0,1"), (3, "1:0:0"), (64, "3:0,0,0:0,0,1")] {
+                assert_eq!(line(HALVINGS, degree, 0, class(1, 0, 0), k), format!("{owed}\n"));
+            }
+            for (call, least, refusal) in [(MULTIPLE, 1 << 61, 118), (HALVINGS, 65, 119)] {
+                for number in [least, u64::MAX] {
+                    let refused = |degree, f0, a| line(call, degree, f0, a, number);
+                    assert_eq!(refused(degree, 0, class(1, 0, 0)), format!("refused {refusal}\n"));
+                    assert_eq!(refused(degree, 0, class(1, 1, 0)), "refused 111\n");
+                    assert_eq!(refused(degree, 0, class(1, 1, 1 << degree)), "refused 110\n");
+                    assert_eq!(refused(degree, 0, class(0, 1, 1 << degree)), "refused 104\n");
+                    assert_eq!(refused(degree, 1 << degree, class(0, 1, 0)), "refused 107\n");
+                    assert_eq!(refused(degree + 1, 1 << degree, class(0, 1, 0)), "refused 106\n");
+                }
+            }
+        }
     }
 
     /// The sums of two classes meet each refusal at each of the two places, and both orders of any two.
