@@ -1,8 +1,9 @@
-//! The eight byte calls of the reference under the C names of include/seal.h, as a static library. It stands in for
-//! the proved library where tests/seal_calls is tested itself: the variable SEAL_FAULT, one of `FAULTS`, makes the calls
-//! wrong in one way, and that test has to fail.
+//! The ten byte calls of the reference under the C names of include/seal.h and include/seal_licence.h, as a static library.
+//! It stands in for the two proved libraries where tests/seal_calls is tested itself: the variable SEAL_FAULT, one of
+//! `FAULTS`, makes the calls wrong in one way, and that test has to fail.
 
 use reference::calls::{answer, Call};
+use reference::multiples::{doublings, HALVINGS_LIMIT, MULTIPLE_LIMIT};
 use reference::stamp::{first_class, stamp_limit};
 use reference::stored::{class_field, Reader, Refusal};
 use std::sync::OnceLock;
@@ -25,7 +26,14 @@ use std::sync::OnceLock;
 /// - `half-by-zero`: the half of a class of degree 2 divides by u1 also where that is 0, and hands on 117.
 /// - `sum-by-zero`: the sum of two classes with the same u, of degree 1, divides by the difference of their roots, and
 ///   hands on 117.
-const FAULTS: [&str; 15] = [
+/// - `multiple-bit`: only the lowest 60 binary digits of n count, one too few.
+/// - `multiple-doubling`: the class is doubled n times, for n up to 64.
+/// - `multiple-bound`: n = 2^61 is accepted, as 0.
+/// - `multiple-order`: an n that is too large is refused before bytes that remain.
+/// - `halvings-count`: one halving too few is made.
+/// - `halvings-bound`: 65 halvings are accepted.
+/// - `halvings-order`: a k that is too large is refused before bytes that remain.
+const FAULTS: [&str; 22] = [
     "bound",
     "scratch",
     "beyond",
@@ -41,7 +49,17 @@ const FAULTS: [&str; 15] = [
     "stamp-order",
     "half-by-zero",
     "sum-by-zero",
+    "multiple-bit",
+    "multiple-doubling",
+    "multiple-bound",
+    "multiple-order",
+    "halvings-count",
+    "halvings-bound",
+    "halvings-order",
 ];
+
+/// The least number of halvings that is too large.
+const TOO_OFTEN: u64 = HALVINGS_LIMIT + 1;
 
 /// The fault that is asked for.
 fn fault() -> &'static str {
@@ -78,6 +96,37 @@ fn faulty_stamp(stamp: u64, input: &[u8]) -> Result<Vec<u8>, Refusal> {
         bytes[18] ^= 1;
     }
     Ok(bytes)
+}
+
+/// The answer of n doublings of the class in an accepted record.
+fn doubled(n: u64, input: &[u8]) -> Result<(u32, Vec<u8>), Refusal> {
+    let mut reader = Reader::new(input);
+    let curve = reader.curve()?;
+    let bytes = class_field(&doublings(&curve, n, &reader.class(&curve)?));
+    Ok((bytes.len() as u32, bytes))
+}
+
+/// The answer of a call on a class with a number, with one of its faults; none where the fault does not show. `right` is
+/// what should be answered.
+fn faulty_number(call: Call, right: u32, input: &[u8], length: usize) -> Option<(u32, Vec<u8>)> {
+    let accepted = right <= 100;
+    match (fault(), call) {
+        ("multiple-bit", Call::Multiple(n)) if accepted => {
+            Some(answer(Call::Multiple(n % (1 << 60)), input, length))
+        }
+        ("multiple-doubling", Call::Multiple(n)) if accepted && n <= 64 => doubled(n, input).ok(),
+        ("multiple-bound", Call::Multiple(MULTIPLE_LIMIT)) => Some(answer(Call::Multiple(0), input, length)),
+        ("multiple-order", Call::Multiple(MULTIPLE_LIMIT..)) if right == 112 => Some((118, vec![])),
+        ("halvings-count", Call::Halvings(k @ 1..)) if accepted => {
+            Some(answer(Call::Halvings(k - 1), input, length))
+        }
+        ("halvings-bound", Call::Halvings(TOO_OFTEN)) if right == 119 => {
+            let halved = answer(Call::Halvings(HALVINGS_LIMIT), input, length).1;
+            Some(answer(Call::Half, &[&input[..31], &halved].concat(), length))
+        }
+        ("halvings-order", Call::Halvings(TOO_OFTEN..)) if right == 112 => Some((119, vec![])),
+        _ => None,
+    }
 }
 
 /// An answer that is wrong in the way asked for.
@@ -120,7 +169,7 @@ fn faulty(call: Call, input: &[u8], length: usize) -> (u32, Vec<u8>) {
         }
         _ => {}
     }
-    right
+    faulty_number(call, right.0, input, length).unwrap_or(right)
 }
 
 /// # Safety
@@ -174,15 +223,21 @@ exported!(
     seal_opposite Opposite, seal_sum Sum, seal_double Double, seal_half Half, seal_commit Commit, seal_undo Undo
 );
 
-/// # Safety
-/// The areas are as long as said and do not overlap.
-#[no_mangle]
-pub unsafe extern "C" fn seal_stamp(
-    input: *const u8,
-    input_length: usize,
-    stamp: u64,
-    output: *mut u8,
-    output_length: usize,
-) -> u32 {
-    run(Call::Stamp(stamp), input, input_length, output, output_length)
+macro_rules! exported_with_number {
+    ($($name:ident $call:ident),*) => {$(
+        /// # Safety
+        /// The areas are as long as said and do not overlap.
+        #[no_mangle]
+        pub unsafe extern "C" fn $name(
+            input: *const u8,
+            input_length: usize,
+            number: u64,
+            output: *mut u8,
+            output_length: usize,
+        ) -> u32 {
+            run(Call::$call(number), input, input_length, output, output_length)
+        }
+    )*};
 }
+
+exported_with_number!(seal_stamp Stamp, seal_multiple Multiple, seal_halvings Halvings);
