@@ -16,17 +16,16 @@ pub fn multiples<'a>(curve: &'a Curve, class: &'a Class) -> impl Iterator<Item =
     std::iter::successors(Some(Class::neutral()), move |sum| Some(curve.sum(sum, class)))
 }
 
-/// The sum of n terms that are the class, one after the other, for a small n.
-pub fn repeated_sum(curve: &Curve, n: usize, class: &Class) -> Class {
-    multiples(curve, class).nth(n).expect("the multiples do not end")
+fn ten_times(curve: &Curve, class: &Class) -> Class {
+    multiples(curve, class).nth(10).expect("the multiples do not end")
 }
 
 /// n times the class by n's decimal digits, the highest first: ten times what there is so far, plus the digit times the
 /// class.
 fn by_decimal_digits(curve: &Curve, n: u64, class: &Class) -> Class {
+    let times_digit: Vec<Class> = multiples(curve, class).take(10).collect();
     n.to_string().bytes().fold(Class::neutral(), |so_far, digit| {
-        let ten_times = repeated_sum(curve, 10, &so_far);
-        curve.sum(&ten_times, &repeated_sum(curve, (digit - b'0') as usize, class))
+        curve.sum(&ten_times(curve, &so_far), &times_digit[(digit - b'0') as usize])
     })
 }
 

@@ -117,7 +117,7 @@ mod tests {
             for cases in [&small, &by_order] {
                 assert_eq!(degrees(cases), HashSet::from([0, 1, 2, 3]));
             }
-            for case in small.iter().step_by(61).chain(&by_order) {
+            for case in small.iter().step_by(401).chain(&by_order) {
                 assert_eq!(*case, Case::new(case.call, values, case.a, case.b));
             }
         }
