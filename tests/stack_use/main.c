@@ -1,11 +1,12 @@
 /* How much stack each call takes: it is run on a stack of its own that was filled with one byte, and the deepest byte
  * that changed is looked up. The calls are made on classes of every degree over both fields, every two of them where a
- * call takes two, on stamps, and on refused records.
+ * call takes two, on stamps, on numbers, and on refused records.
  *
  * Prints a line for each call with the most bytes that it took, the caller's copy of its arguments included, and ends
  * with 1 where one took more than half of SEAL_STACK. */
 #define _XOPEN_SOURCE 700
 #include "seal.h"
+#include "seal_licence.h"
 #include "seal_register.h"
 
 #include <stdio.h>
@@ -23,7 +24,7 @@ static ucontext_t here, there;
 /* What the call under measure gets. */
 static uint8_t in[256], out[SEAL_REGISTER_OUTPUT];
 static size_t in_len;
-static uint64_t operation_stamp;
+static uint64_t number; /* a stamp, n or k */
 static uint32_t answer;
 static struct seal_register lent;
 static struct seal_class operation, row[CLASSES];
@@ -38,7 +39,9 @@ static void twice(void) { answer = seal_double(in, in_len, out, sizeof out); }
 static void half(void) { answer = seal_half(in, in_len, out, sizeof out); }
 static void commit(void) { answer = seal_commit(in, in_len, out, sizeof out); }
 static void undo(void) { answer = seal_undo(in, in_len, out, sizeof out); }
-static void stamp(void) { answer = seal_stamp(in, in_len, operation_stamp, out, sizeof out); }
+static void stamp(void) { answer = seal_stamp(in, in_len, number, out, sizeof out); }
+static void multiple(void) { answer = seal_multiple(in, in_len, number, out, sizeof out); }
+static void halvings(void) { answer = seal_halvings(in, in_len, number, out, sizeof out); }
 static void commit_in_place(void) { answer = seal_register_commit(&lent, operation); }
 static void undo_in_place(void) { answer = seal_register_undo(&lent, operation); }
 static void walk_row(void) {
@@ -62,12 +65,17 @@ static struct measure calls[] = {
     {"seal_commit", commit, 0, 0, 0},
     {"seal_undo", undo, 0, 0, 0},
     {"seal_stamp", stamp, 0, 0, 0},
+    {"seal_multiple", multiple, 0, 0, 0},
+    {"seal_halvings", halvings, 0, 0, 0},
     {"seal_register_commit", commit_in_place, 0, 0, 0},
     {"seal_register_undo", undo_in_place, 0, 0, 0},
     {"seal_walk_row", walk_row, 0, 0, 0},
 };
 
-enum { MEMBERSHIP, OPPOSITE, SUM, TWICE, HALF, COMMIT, UNDO, STAMP, COMMIT_IN_PLACE, UNDO_IN_PLACE, WALK_ROW, CALLS };
+enum {
+    MEMBERSHIP, OPPOSITE, SUM, TWICE, HALF, COMMIT, UNDO, STAMP, MULTIPLE, HALVINGS, COMMIT_IN_PLACE, UNDO_IN_PLACE,
+    WALK_ROW, CALLS
+};
 
 /* How many bytes of the stack a function used, from its top down. */
 static size_t depth(void (*call)(void)) {
@@ -173,15 +181,27 @@ static void on_two(struct seal_curve c, struct seal_class a, struct seal_class b
     }
 }
 
+/* The largest numbers, and one more. */
+static void with_numbers(void) {
+    for (uint64_t more = 0; more < 2; more++) {
+        number = SEAL_MULTIPLE_LIMIT - 1 + more;
+        measure(MULTIPLE);
+        number = SEAL_HALVINGS_LIMIT + more;
+        measure(HALVINGS);
+    }
+}
+
 static void on_one(struct seal_curve c, struct seal_class a) {
     put_curve(c);
     put_class(SEAL_TAG_CLASS, a);
+    with_numbers();
     for (int which = MEMBERSHIP; which <= HALF; which++)
         if (which != SUM)
             measure(which);
     in_len--;
     for (int which = MEMBERSHIP; which <= UNDO; which++)
         measure(which);
+    with_numbers();
 }
 
 /* Stamps, one of which has no class over GF(2^61) and is too large over the bench field; and a record that is cut. */
@@ -189,7 +209,7 @@ static void on_stamps(struct seal_curve c) {
     static const uint64_t stamps[] = {0, 1, 2, 3, 784, UINT64_MAX};
     put_curve(c);
     for (size_t i = 0; i < sizeof stamps / sizeof stamps[0]; i++) {
-        operation_stamp = stamps[i];
+        number = stamps[i];
         measure(STAMP);
     }
     in_len--;
