@@ -72,7 +72,7 @@ static void class_coefficients(void) {
         for (int d = 0; d < 2; d++) {
             uint64_t least = (uint64_t)1 << degrees[d];
             struct record r = accepted(call, degrees[d]);
-            for (int f = call >= COMMIT ? 3 : 2; f < r.fields; f++)
+            for (int f = first_class(call); f < r.fields; f++)
                 for (int degree = 1; degree <= 3; degree++)
                     for (int place = 0; place < 2 * degree; place++) {
                         uint64_t numbers[4] = {least, least + 1, (uint64_t)1 << 63, UINT64_MAX};
@@ -92,7 +92,7 @@ static void no_classes(void) {
     for (int call = 0; call < CALLS; call++)
         for (int d = 0; d < 2; d++) {
             struct record r = accepted(call, degrees[d]);
-            for (int f = call >= COMMIT ? 3 : 2; f < r.fields; f++) {
+            for (int f = first_class(call); f < r.fields; f++) {
                 uint64_t rows[6][7] = {
                     {2, 1, 0},                                             /* [x + 1, 0] */
                     {2, 0, 2},                                             /* [x, 2] */

@@ -6,6 +6,7 @@
  */
 #include "check.h"
 #include "seal.h"
+#include "seal_licence.h"
 
 #include <inttypes.h>
 #include <stdio.h>
@@ -20,10 +21,14 @@ void make_areas(void) {
     output_area = make_area(AREA, PROT_READ | PROT_WRITE);
 }
 
-static const char *const call_names[CALLS] = {"membership", "opposite", "sum",  "double",
-                                              "half",       "commit",   "undo", "stamp"};
+static const char *const call_names[CALLS] = {"membership", "opposite", "sum",   "double",   "half",
+                                              "commit",     "undo",     "stamp", "multiple", "halvings"};
 
-uint32_t call_library(enum call call, const uint8_t *in, size_t in_len, uint64_t stamp, uint8_t *out, size_t out_len) {
+int takes_number(enum call call) {
+    return call == STAMP || call == MULTIPLE || call == HALVINGS;
+}
+
+uint32_t call_library(enum call call, const uint8_t *in, size_t in_len, uint64_t number, uint8_t *out, size_t out_len) {
     switch (call) {
     case MEMBERSHIP: return seal_membership(in, in_len);
     case OPPOSITE: return seal_opposite(in, in_len, out, out_len);
@@ -32,7 +37,9 @@ uint32_t call_library(enum call call, const uint8_t *in, size_t in_len, uint64_t
     case HALF: return seal_half(in, in_len, out, out_len);
     case COMMIT: return seal_commit(in, in_len, out, out_len);
     case UNDO: return seal_undo(in, in_len, out, out_len);
-    case STAMP: return seal_stamp(in, in_len, stamp, out, out_len);
+    case STAMP: return seal_stamp(in, in_len, number, out, out_len);
+    case MULTIPLE: return seal_multiple(in, in_len, number, out, out_len);
+    case HALVINGS: return seal_halvings(in, in_len, number, out, out_len);
     default: abort();
     }
 }
@@ -41,22 +48,22 @@ size_t output_bound(enum call call) {
     return call == MEMBERSHIP ? 0 : call == COMMIT || call == UNDO ? 56 : 51;
 }
 
-#define LAST_REFUSAL SEAL_STAMP_WITHOUT_CLASS
+#define LAST_REFUSAL SEAL_TOO_MANY_HALVINGS
 
 /* how often each call gave 101 to the last refusal; place 0: an accepted call */
 static unsigned long met[CALLS][LAST_REFUSAL - 99];
 
-void complain(enum call call, const uint8_t *in, size_t in_len, uint64_t stamp, size_t out_len, const char *what,
+void complain(enum call call, const uint8_t *in, size_t in_len, uint64_t number, size_t out_len, const char *what,
               uint32_t owed, uint32_t got) {
-    if (!fault("%s, stamp %" PRIu64 ", output of %zu bytes: %s: owed %u, got %u; input of %zu bytes:", call_names[call],
-               stamp, out_len, what, owed, got, in_len))
+    if (!fault("%s, number %" PRIu64 ", output of %zu bytes: %s: owed %u, got %u; input of %zu bytes:",
+               call_names[call], number, out_len, what, owed, got, in_len))
         return;
     for (size_t i = 0; i < in_len && i < 200; i++)
         fprintf(stderr, " %02x", in[i]);
     fputc('\n', stderr);
 }
 
-void expect_at(enum call call, const uint8_t *in, size_t in_len, uint64_t stamp, size_t out_len, uint32_t owed,
+void expect_at(enum call call, const uint8_t *in, size_t in_len, uint64_t number, size_t out_len, uint32_t owed,
                const uint8_t *written, int at_end) {
     static uint8_t before[AREA];
     size_t in_at = at_end ? AREA - in_len : 0, out_at = at_end ? AREA - out_len : 0;
@@ -69,7 +76,7 @@ void expect_at(enum call call, const uint8_t *in, size_t in_len, uint64_t stamp,
     /* an empty area is NULL every second time */
     const uint8_t *in_seen = in_len == 0 && at_end ? NULL : input_area.seen + in_at;
     uint8_t *out_seen = out_len == 0 && at_end ? NULL : output_area.seen + out_at;
-    uint32_t got = call_library(call, in_seen, in_len, stamp, out_seen, out_len);
+    uint32_t got = call_library(call, in_seen, in_len, number, out_seen, out_len);
     count_call();
 
     if (got >= 101 && got <= LAST_REFUSAL)
@@ -77,7 +84,7 @@ void expect_at(enum call call, const uint8_t *in, size_t in_len, uint64_t stamp,
     else
         met[call][0]++;
     if (got != owed) {
-        complain(call, in, in_len, stamp, out_len, "answer", owed, got);
+        complain(call, in, in_len, number, out_len, "answer", owed, got);
         return;
     }
     if (owed <= 100 && owed > 0)
@@ -89,18 +96,17 @@ void expect_at(enum call call, const uint8_t *in, size_t in_len, uint64_t stamp,
         i++;
     char what[60];
     snprintf(what, sizeof what, "byte %ld of the output", (long)i - (long)out_at);
-    complain(call, in, in_len, stamp, out_len, what, before[i], output_area.write[i]);
+    complain(call, in, in_len, number, out_len, what, before[i], output_area.write[i]);
 }
 
 void expect(enum call call, const uint8_t *in, size_t in_len, size_t out_len, uint32_t owed, const uint8_t *written) {
-    expect_at(call, in, in_len, 0, out_len, owed, written, 1);
-    expect_at(call, in, in_len, 0, out_len, owed, written, 0);
+    expect_number(call, in, in_len, 0, out_len, owed, written);
 }
 
-void expect_stamp(const uint8_t *in, size_t in_len, uint64_t stamp, size_t out_len, uint32_t owed,
-                  const uint8_t *written) {
-    expect_at(STAMP, in, in_len, stamp, out_len, owed, written, 1);
-    expect_at(STAMP, in, in_len, stamp, out_len, owed, written, 0);
+void expect_number(enum call call, const uint8_t *in, size_t in_len, uint64_t number, size_t out_len, uint32_t owed,
+                   const uint8_t *written) {
+    expect_at(call, in, in_len, number, out_len, owed, written, 1);
+    expect_at(call, in, in_len, number, out_len, owed, written, 0);
 }
 
 void print_met(void) {

@@ -7,5 +7,6 @@ void test_heads(void);
 void test_bodies(void);
 void test_ends(void);
 void test_stamps(void);
+void test_licence(void);
 
 #endif

@@ -33,7 +33,7 @@ static void bytes_remain(void) {
             put(&b, 0x43);
         refused(call, &b, 112);
     }
-    end_test("112: 1 to 60 bytes and a page of them after the last field, before 113, 114 and 115");
+    end_test("112: 1 to 60 bytes and a page of them after the last field, before 113, 114, 115, 118 and 119");
 }
 
 static void first_and_last_count(void) {

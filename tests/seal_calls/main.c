@@ -1,5 +1,6 @@
-/* Tests the eight calls of include/seal.h. It knows nothing of how they are made: the edges are written out here from
- * documents 01 and 02 (edges.h), and further cases come from a second implementation (reference/, `byte_vectors N`).
+/* Tests the ten calls of include/seal.h and include/seal_licence.h. It knows nothing of how they are made: the edges
+ * are written out here from documents 01 and 02 (edges.h), and further cases come from a second implementation
+ * (reference/, `byte_vectors N`).
  *
  *     seal_calls              the edges
  *     seal_calls N < FILE     the edges, then the N cases of the file
@@ -16,21 +17,21 @@ static uint32_t number_of(const uint8_t *b) {
     return (uint32_t)b[0] << 24 | (uint32_t)b[1] << 16 | (uint32_t)b[2] << 8 | b[3];
 }
 
-/* The cases on standard input, which have to be as many as said: the call in one byte; the stamp, 0 where the call
- * takes none, in eight, high byte first; the lengths of output and input, and the answer owed, in four each; the
- * input; the bytes owed where the answer is no refusal. */
+/* The cases on standard input, which have to be as many as said: the call in one byte; the number beside the input, 0
+ * where the call takes none, in eight, high byte first; the lengths of output and input, and the answer owed, in four
+ * each; the input; the bytes owed where the answer is no refusal. */
 static void test_file(unsigned long number) {
     static uint8_t in[AREA];
     uint8_t head[21], owed[100];
     unsigned long read = 0;
     while (fread(head, 1, sizeof head, stdin) == sizeof head) {
-        uint64_t stamp = (uint64_t)number_of(head + 1) << 32 | number_of(head + 5);
+        uint64_t beside = (uint64_t)number_of(head + 1) << 32 | number_of(head + 5);
         uint32_t out_len = number_of(head + 9), in_len = number_of(head + 13), answer = number_of(head + 17);
         size_t written = answer <= 100 ? answer : 0;
         if (head[0] >= CALLS || out_len > AREA || in_len > AREA || written > out_len
             || fread(in, 1, in_len, stdin) != in_len || fread(owed, 1, written, stdin) != written)
             break;
-        expect_at(head[0], in, in_len, stamp, out_len, answer, owed, read % 4 != 0);
+        expect_at(head[0], in, in_len, beside, out_len, answer, owed, read % 4 != 0);
         read++;
     }
     if (read != number || !feof(stdin))
@@ -45,6 +46,7 @@ int main(int words, char **word) {
     test_bodies();
     test_ends();
     test_stamps();
+    test_licence();
     if (words > 1)
         test_file(strtoul(word[1], NULL, 10));
     print_met();

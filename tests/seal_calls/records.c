@@ -67,6 +67,10 @@ struct record accepted(enum call call, int d) {
     return r;
 }
 
+int first_class(enum call call) {
+    return call == COMMIT || call == UNDO ? 3 : 2;
+}
+
 void append(struct bytes *b, const struct bytes *more) {
     for (size_t i = 0; i < more->length; i++)
         put(b, more->at[i]);
@@ -93,15 +97,17 @@ struct bytes owed_of_accepted(enum call call) {
         put_class(&b, SEAL_TAG_CLASS, neutral);
         break;
     case STAMP: put_class(&b, SEAL_TAG_CLASS, x_0); break; /* x^7 is 0 at x = 0, and so is its root */
+    case MULTIPLE: put_class(&b, SEAL_TAG_CLASS, neutral); break;
+    case HALVINGS: put_class(&b, SEAL_TAG_CLASS, x_0); break;
     default: break;
     }
     return b;
 }
 
-void refused(enum call call, const struct bytes *in, uint32_t number) {
-    expect(call, in->at, in->length, output_bound(call), number, NULL);
-    if (call == STAMP)
-        expect_stamp(in->at, in->length, UINT64_MAX, output_bound(call), number, NULL);
+void refused(enum call call, const struct bytes *in, uint32_t refusal) {
+    expect(call, in->at, in->length, output_bound(call), refusal, NULL);
+    if (takes_number(call))
+        expect_number(call, in->at, in->length, UINT64_MAX, output_bound(call), refusal, NULL);
 }
 
 struct bytes with_row(const struct record *r, int f, const uint64_t *row, int numbers) {

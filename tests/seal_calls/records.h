@@ -29,11 +29,14 @@ struct record {
 
 struct record accepted(enum call call, int d);
 
+/* The place of the first class among the fields; for STAMP after the last. */
+int first_class(enum call call);
+
 /* Appends the fields from one to before another. */
 void append_fields(struct bytes *b, const struct record *r, int from, int to);
 
-/* What the call on an accepted record writes, STAMP with stamp 0: examples 1 and 3 of document 01, and the
- * definitions. */
+/* What the call on an accepted record writes, with the number 0 where it takes one: examples 1 and 3 of document 01,
+ * and the definitions. */
 struct bytes owed_of_accepted(enum call call);
 
 /* An accepted record up to a field, and that field with another row of numbers as its body. */
@@ -42,8 +45,8 @@ struct bytes with_row(const struct record *r, int f, const uint64_t *row, int nu
 /* A record of a register on f = x^7. */
 struct bytes register_record(int d, int count, struct seal_class seal, struct seal_class operation);
 
-/* Holds a call to a refusal by its input, with an output that is just long enough; STAMP also with a stamp that is too
- * large, which is looked at later. */
-void refused(enum call call, const struct bytes *in, uint32_t number);
+/* Holds a call to a refusal by its input, with an output that is just long enough; one that takes a number also with a
+ * number that is too large, which is looked at later. */
+void refused(enum call call, const struct bytes *in, uint32_t refusal);
 
 #endif

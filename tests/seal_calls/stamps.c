@@ -74,8 +74,8 @@ static void worked_stamps(void) {
         struct seal_class class = {1, {cases[i].x, 0, 0}, {cases[i].y, 0, 0}};
         put_class(&out, SEAL_TAG_CLASS, class);
         for (size_t more = 0; more < 3; more++)
-            expect_stamp(in.at, in.length, cases[i].stamp, 51 + 40 * more, 19, out.at);
-        expect_stamp(in.at, in.length, cases[i].stamp, 50, 101, NULL);
+            expect_number(STAMP, in.at, in.length, cases[i].stamp, 51 + 40 * more, 19, out.at);
+        expect_number(STAMP, in.at, in.length, cases[i].stamp, 50, 101, NULL);
         class_is_of_use(&in, class);
     }
     end_test("stamps that were worked out: their classes, which are accepted and can be committed");
@@ -88,14 +88,14 @@ static void stamp_refused(int d, uint64_t f3, uint64_t f1, uint64_t f0, uint64_t
     struct bytes coefficient = curve_record(d, f3, f1, (uint64_t)1 << d), degree = curve_record(d + 1, f3, f1, f0);
     put(&longer, SEAL_TAG_CLASS);
     put_degree(&cut, d);
-    expect_stamp(in.at, in.length, stamp, 51, number, NULL);
-    expect_stamp(in.at, in.length, stamp, 200, number, NULL);
-    expect_stamp(in.at, in.length, stamp, 50, 101, NULL);
-    expect_stamp(NULL, 0, stamp, 50, 101, NULL);
-    expect_stamp(longer.at, longer.length, stamp, 51, 112, NULL);
-    expect_stamp(coefficient.at, coefficient.length, stamp, 51, 107, NULL);
-    expect_stamp(degree.at, degree.length, stamp, 51, 106, NULL);
-    expect_stamp(cut.at, cut.length, stamp, 51, 102, NULL);
+    expect_number(STAMP, in.at, in.length, stamp, 51, number, NULL);
+    expect_number(STAMP, in.at, in.length, stamp, 200, number, NULL);
+    expect_number(STAMP, in.at, in.length, stamp, 50, 101, NULL);
+    expect_number(STAMP, NULL, 0, stamp, 50, 101, NULL);
+    expect_number(STAMP, longer.at, longer.length, stamp, 51, 112, NULL);
+    expect_number(STAMP, coefficient.at, coefficient.length, stamp, 51, 107, NULL);
+    expect_number(STAMP, degree.at, degree.length, stamp, 51, 106, NULL);
+    expect_number(STAMP, cut.at, cut.length, stamp, 51, 102, NULL);
 }
 
 /* On the third curve of each degree stamp 0 has no class, and 2^(d-3) has the same candidates but for bits that no

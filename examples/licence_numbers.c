@@ -1,0 +1,82 @@
+/* Prints multiples of a class, and goes from the class to a multiple and back by halvings.
+ *
+ *     rt staticlib seal_licence
+ *     cc -Iinclude -o licence_numbers examples/licence_numbers.c target/staticlib/libseal_licence.a
+ *     ./licence_numbers             # seven numbers, of which the last is too large
+ *     ./licence_numbers 7 1000      # or these
+ *
+ * The curve is y^2 + y = x^7 + 1 over GF(2^61), the class that of the first operation of examples/seal_model.c. What it
+ * prints without numbers of its own is in examples/licence_numbers.txt.
+ */
+#include "seal_licence.h"
+
+#include <inttypes.h>
+#include <stdio.h>
+#include <stdlib.h>
+#include <string.h>
+
+/* How often the class is doubled and halved again. */
+#define TIMES 40
+
+/* The curve takes the first 31 bytes of a record, the class the rest. */
+#define CURVE 31
+
+static const uint8_t record[] = {
+    0x40, 0, 1,  61,                                              /* GF(2^61) */
+    0x41, 0, 24, 0, 0, 0, 0, 0, 0, 0, 0,                          /* f3 = 0 */
+    0,    0, 0,  0, 0, 0, 0, 0,                                   /* f1 = 0 */
+    0,    0, 0,  0, 0, 0, 0, 1,                                   /* f0 = 1 */
+    0x43, 0, 16, 0x16, 0xbb, 0x3a, 0x04, 0x12, 0x5e, 0x49, 0x06,  /* u = x + u0 */
+    0x15, 0x8e, 0x92, 0xd5, 0x9d, 0xfa, 0x96, 0xf6,               /* v = v0 */
+};
+
+/* A class as the walk report writes it: the degree, u below its leading term and v, highest power first. */
+static void print_class(const uint8_t *field) {
+    unsigned degree = field[2] / 16;
+    printf("%u", degree);
+    for (unsigned i = 0; i < 2 * degree; i++) {
+        uint64_t coefficient = 0;
+        for (unsigned j = 0; j < 8; j++)
+            coefficient = coefficient << 8 | field[3 + 8 * i + j];
+        printf("%c%" PRIx64, i % degree == 0 ? ':' : ',', coefficient);
+    }
+    puts(degree == 0 ? "::" : "");
+}
+
+static void print_multiple(uint64_t n) {
+    uint8_t field[SEAL_LICENCE_OUTPUT];
+    uint32_t answer = seal_multiple(record, sizeof record, n, field, sizeof field);
+    printf("%-20" PRIu64 " ", n);
+    if (SEAL_IS_REFUSAL(answer))
+        printf("refused %u\n", (unsigned)answer);
+    else
+        print_class(field);
+}
+
+/* Is the class found again where 2^TIMES times it is halved TIMES times? The field that a call writes is, with the curve
+ * before it, the record of the next call. */
+static int comes_back(void) {
+    uint8_t there[CURVE + SEAL_LICENCE_OUTPUT], back[SEAL_LICENCE_OUTPUT];
+    memcpy(there, record, CURVE);
+    uint32_t answer = seal_multiple(record, sizeof record, (uint64_t)1 << TIMES, there + CURVE, SEAL_LICENCE_OUTPUT);
+    if (SEAL_IS_REFUSAL(answer))
+        return 0;
+    answer = seal_halvings(there, CURVE + answer, TIMES, back, sizeof back);
+    return answer == sizeof record - CURVE && memcmp(back, record + CURVE, answer) == 0;
+}
+
+int main(int words, char **word) {
+    static const uint64_t numbers[] = {0, 1, 2, 3, 5, SEAL_MULTIPLE_LIMIT - 1, SEAL_MULTIPLE_LIMIT};
+    if (words > 1)
+        for (int i = 1; i < words; i++)
+            print_multiple(strtoull(word[i], NULL, 10));
+    else
+        for (size_t i = 0; i < sizeof numbers / sizeof numbers[0]; i++)
+            print_multiple(numbers[i]);
+    if (!comes_back()) {
+        puts("the halvings lead to another class");
+        return 1;
+    }
+    printf("2^%d times the class, halved %d times, is the class\n", TIMES, TIMES);
+    return 0;
+}
