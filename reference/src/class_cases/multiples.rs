@@ -83,16 +83,21 @@ fn on_class(random: &mut Random, values: CurveValues, class: &Class) -> Vec<Case
     cases
 }
 
-/// The twenty cases on each of forty curves, the kinds of classes by turns.
-pub fn wide() -> Vec<Case> {
+/// The twenty cases on each of some drawn curves, the kinds of classes by turns.
+fn on_curves(number: usize) -> Vec<Case> {
     let mut random = Random::new(67);
     let mut cases = vec![];
-    for i in 0..40 {
+    for kind in KINDS.iter().cycle().take(number) {
         let (values, curve) = drawn_curve(&mut random);
-        let class = class_of_kind(&mut random, &curve, KINDS[i % KINDS.len()]).0;
+        let class = class_of_kind(&mut random, &curve, kind).0;
         cases.extend(on_class(&mut random, values, &class));
     }
     cases
+}
+
+/// The cases on forty curves over GF(2^61).
+pub fn wide() -> Vec<Case> {
+    on_curves(40)
 }
 
 #[cfg(test)]
@@ -123,13 +128,13 @@ mod tests {
         }
     }
 
-    /// 800 cases with every degree, and so many of each refusal.
+    /// Twenty cases on a curve, with every degree among the first eight, and so many of each refusal.
     #[test]
     fn multiples_of_wide_curves() {
-        let cases = wide();
-        assert_eq!(cases.len(), 800);
+        let cases = on_curves(8);
+        assert_eq!(cases.len(), 160);
         assert_eq!(degrees(&cases), HashSet::from([0, 1, 2, 3]));
-        for (line, number) in [("refused 118\n", 120), ("refused 119\n", 80)] {
+        for (line, number) in [("refused 118\n", 24), ("refused 119\n", 16)] {
             assert_eq!(cases.iter().filter(|case| case.line == line).count(), number);
         }
     }
