@@ -11,6 +11,8 @@
 //     5 sum                                  11 the second class subtracted from the first, and the half
 //     6 half of the double                   12 is the curve accepted?
 //    13 the class of a stamp, which is the number in the place of the first class's degree
+//    14 the first class times a number, which is the one in the place of the second class's degree
+//    15 the first class halved as often as that number says
 //
 // The line is the class as degree, u and v with a colon between, coefficients from the highest power down in
 // hexadecimal with commas between, then for 8 and 9 a space and the number of steps; for 1 and 12 `accepted`; or
@@ -21,6 +23,8 @@ use jacobian::Class;
 use jacobian::ClassAnswer;
 use jacobian::Curve;
 use jacobian::Outcome;
+use seal_licence::multiples;
+use seal_licence::multiples::ClassResult;
 use text::Line;
 
 // The class whose seven numbers start at a place of the case.
@@ -55,15 +59,27 @@ fn outcome_text(outcome: Outcome) -> Line {
     }
 }
 
-// What a call that gives a class answers.
-fn answer_text(answer: ClassAnswer) -> Line {
+// A class, or the refusal.
+fn class_text(outcome: Outcome, class: Class) -> Line {
     let start = text::empty();
-    let outcome = answer.outcome;
-    let class = answer.class;
     match outcome {
         Outcome::Accepted => with_class(start, class),
         Outcome::Refused(number) => text::with_refusal(start, number),
     }
+}
+
+// What a call that gives a class answers.
+fn answer_text(answer: ClassAnswer) -> Line {
+    let outcome = answer.outcome;
+    let class = answer.class;
+    class_text(outcome, class)
+}
+
+// What a call that counts no reduction steps answers.
+fn result_text(answer: ClassResult) -> Line {
+    let outcome = answer.outcome;
+    let class = answer.class;
+    class_text(outcome, class)
 }
 
 // What a call that counts its reduction steps answers.
@@ -114,6 +130,8 @@ fn call_text(call: u8, curve: Curve, a: Class, b: Class) -> Line {
         11 => answer_text(jacobian::subtract_and_halve(curve, a, b)),
         12 => outcome_text(jacobian::accepts_curve(curve)),
         13 => answer_text(stamps::stamp(curve, a.degree)),
+        14 => result_text(multiples::multiple(curve, a, b.degree)),
+        15 => result_text(multiples::halvings(curve, a, b.degree)),
         _ => text::with_bytes(text::empty(), b"no such call"),
     }
 }
