@@ -22,12 +22,13 @@
 #define CURVE 31
 
 static const uint8_t record[] = {
-    0x40, 0, 1,  61,                                              /* GF(2^61) */
-    0x41, 0, 24, 0, 0, 0, 0, 0, 0, 0, 0,                          /* f3 = 0 */
-    0,    0, 0,  0, 0, 0, 0, 0,                                   /* f1 = 0 */
-    0,    0, 0,  0, 0, 0, 0, 1,                                   /* f0 = 1 */
-    0x43, 0, 16, 0x16, 0xbb, 0x3a, 0x04, 0x12, 0x5e, 0x49, 0x06,  /* u = x + u0 */
-    0x15, 0x8e, 0x92, 0xd5, 0x9d, 0xfa, 0x96, 0xf6,               /* v = v0 */
+    SEAL_TAG_DEGREE, 0, 1, 61,                       /* GF(2^61) */
+    SEAL_TAG_CURVE, 0, 24, 0, 0, 0, 0, 0, 0, 0, 0,   /* f3 = 0 */
+    0, 0, 0, 0, 0, 0, 0, 0,                          /* f1 = 0 */
+    0, 0, 0, 0, 0, 0, 0, 1,                          /* f0 = 1 */
+    SEAL_TAG_CLASS, 0, 16,                           /* of degree 1 */
+    0x16, 0xbb, 0x3a, 0x04, 0x12, 0x5e, 0x49, 0x06,  /* u = x + u0 */
+    0x15, 0x8e, 0x92, 0xd5, 0x9d, 0xfa, 0x96, 0xf6,  /* v = v0 */
 };
 
 /* A class as the walk report writes it: the degree, u below its leading term and v, highest power first. */

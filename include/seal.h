@@ -44,13 +44,6 @@
 extern "C" {
 #endif
 
-/* Tags. */
-#define SEAL_TAG_DEGREE 0x40
-#define SEAL_TAG_CURVE 0x41
-#define SEAL_TAG_COUNT 0x42
-#define SEAL_TAG_CLASS 0x43
-#define SEAL_TAG_OPERATION 0x44
-
 /* How long an output must be, and so how long one is always long enough. */
 #define SEAL_CLASS_OUTPUT 51    /* opposite, sum, double, half, stamp: one 0x43 */
 #define SEAL_REGISTER_OUTPUT 56 /* commit, undo: 0x42, then 0x43 */

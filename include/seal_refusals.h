@@ -1,9 +1,17 @@
-/* What seal.h, seal_register.h and seal_licence.h share: the version, the refusals by name and the limit of counts. */
+/* What seal.h, seal_register.h and seal_licence.h share: the version, the tags, the refusals by name and the limit of
+ * counts. */
 #ifndef SEAL_REFUSALS_H
 #define SEAL_REFUSALS_H
 
 /* Grows by 1 with every change that a caller can see: an answer, a number, a struct, a length. */
 #define SEAL_VERSION 3
+
+/* The tags of the stored form, which seal.h describes. */
+#define SEAL_TAG_DEGREE 0x40
+#define SEAL_TAG_CURVE 0x41
+#define SEAL_TAG_COUNT 0x42
+#define SEAL_TAG_CLASS 0x43
+#define SEAL_TAG_OPERATION 0x44
 
 /* The most operations that a register counts, and the most classes of a row. */
 #define SEAL_COUNT_LIMIT 1024

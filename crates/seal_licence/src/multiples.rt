@@ -2,8 +2,8 @@
 // A refusal is the first that is due: 106 and 107 for the curve, then 104, 110 and 111 for the class, then 118 for n or 119 for k.
 ghost use Prim.Native.Nat.{_≤_, _<_, _/_, _^_};
 ghost use mathlib.Core.Path.{_≡_};
-ghost use Rattle.jacobian.specs.Answer.{gives, Accepts};
-ghost use Rattle.seal_licence.specs.Multiples.{multiple-limit, class-result, refuses, multiple-class, halved-class, multiple-refusal, halvings-refusal, multiple-answer, halvings-answer};
+ghost use Rattle.jacobian.specs.{Checks.unless, Checks._or-else_, Answer.gives, Answer.refusal, Answer.Accepts};
+ghost use Rattle.seal_licence.specs.Multiples.{multiple-limit, class-result, refuses, multiple-class, halved-class, multiple-answer, halvings-answer};
 use jacobian::Class;
 use jacobian::Curve;
 use jacobian::Outcome;
@@ -101,39 +101,25 @@ fn halved_of_accepted(curve: Curve, a: Class, k: u64) -> Class
     r
 }
 
-// The refusal that is due to n times a class, and 0 where none is.
-fn multiple_refusal(curve: Curve, a: Class, n: u64) -> u32
-    ensures { λ r. ⌜ r ≡ multiple-refusal curve a n ⌝ }
+// The refusal that is due: that of the curve or the class, else that of a number which is not in range; 0 where none is.
+fn refusal_of(curve: Curve, a: Class, within: bool, number: u32) -> u32
+    ensures { λ r. ⌜ r ≡ (refusal curve a or-else unless within number) ⌝ }
 {
-    let m = jacobian::class_refusal(curve, a);
-    if m != 0 {
-        return m;
+    let first = jacobian::class_refusal(curve, a);
+    if first != 0 {
+        return first;
     }
-    if n >= MULTIPLE_LIMIT {
-        return 118;
+    if within {
+        return 0;
     }
-    0
-}
-
-// The refusal that is due to a class halved k times, and 0 where none is.
-fn halvings_refusal(curve: Curve, a: Class, k: u64) -> u32
-    ensures { λ r. ⌜ r ≡ halvings-refusal curve a k ⌝ }
-{
-    let m = jacobian::class_refusal(curve, a);
-    if m != 0 {
-        return m;
-    }
-    if k > HALVINGS_LIMIT {
-        return 119;
-    }
-    0
+    number
 }
 
 // n times a class.
 pub fn multiple(curve: Curve, a: Class, n: u64) -> ClassResult
     ensures { λ r. ⌜ class-result r ≡ multiple-answer curve a n ⌝ }
 {
-    let m = multiple_refusal(curve, a, n);
+    let m = refusal_of(curve, a, n < MULTIPLE_LIMIT, 118);
     if m != 0 {
         return refused(m);
     }
@@ -144,7 +130,7 @@ pub fn multiple(curve: Curve, a: Class, n: u64) -> ClassResult
 pub fn halvings(curve: Curve, a: Class, k: u64) -> ClassResult
     ensures { λ r. ⌜ class-result r ≡ halvings-answer curve a k ⌝ }
 {
-    let m = halvings_refusal(curve, a, k);
+    let m = refusal_of(curve, a, k <= HALVINGS_LIMIT, 119);
     if m != 0 {
         return refused(m);
     }
