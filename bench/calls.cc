@@ -5,8 +5,8 @@
 //     calls ARCHIVE WALKREPORT
 //
 // The classes are of degree 3, on a curve and from a point drawn at random. Before anything is measured every double and sum is
-// held to NTL's, every half to NTL's double, every stamp to NTL's traces, and every answer to that in C. The operations take
-// turns, and the least time of all rounds counts. Calls on elements run as a chain, each on what the last one answered.
+// held to NTL's, every half to NTL's double, every stamp to NTL's traces, multiples and repeated halves of a few classes to NTL's
+// sums and doubles, and every answer to that in C. The operations take turns, and the least time of all rounds counts. Calls on elements run as a chain, each on what the last one answered.
 // ARCHIVE has 1,024 operations, and the program WALKREPORT is timed with it on standard input.
 #include <NTL/GF2EX.h>
 
@@ -39,9 +39,14 @@ uint64_t element_square_root(uint8_t d, uint64_t a);
 uint64_t element_inverse(uint8_t d, uint64_t a);
 uint64_t element_quadratic_root(uint8_t d, uint64_t a);
 uint32_t class_stamp(uint8_t d, const uint64_t *f, uint64_t stamp, uint64_t *r);
+uint32_t class_multiple(uint8_t d, const uint64_t *f, const uint64_t *a, uint64_t n, uint64_t *r);
+uint32_t class_halvings(uint8_t d, const uint64_t *f, const uint64_t *a, uint64_t k, uint64_t *r);
 }
 
-enum { DEGREE = 61, CLASSES = 100, ROUNDS = 300, CHAIN = 10, KEPT = 1024, CURVE_FIELDS = 31 };
+enum { DEGREE = 61, CLASSES = 100, ROUNDS = 300, CHAIN = 10, KEPT = 1024, CURVE_FIELDS = 31, MOST_HALVINGS = 64 };
+
+// The largest n of which a multiple is made, all of whose binary digits are 1.
+static const uint64_t MOST = (UINT64_C(1) << 61) - 1;
 
 // Numbers that look random and are the same in every run: splitmix64 from a fixed seed.
 static uint64_t drawn() {
@@ -127,6 +132,13 @@ static Pair sum_by_ntl(const Pair &a, const Pair &b) {
     r.u = a.u * b.u / sqr(e);
     r.v = (t * t1 * a.u * b.v + t * t2 * b.u * a.v + s3 * (a.v * b.v + f)) / e % r.u;
     reduce(r);
+    return r;
+}
+
+// The multiple by MOST, the highest digit first.
+static Pair multiple_by_ntl(const Pair &a) {
+    Pair r = a;
+    for (int i = 1; i < DEGREE; i++) r = sum_by_ntl(double_by_ntl(r), a);
     return r;
 }
 
@@ -239,9 +251,24 @@ static void compare() {
     }
 }
 
+// The largest multiple and the most halvings of a few classes, held to NTL and to the same in C.
+static void compare_multiples() {
+    for (int i = 0; i < 5; i++) {
+        const uint64_t *a = classes[i].numbers;
+        Class r, plain;
+        hold(class_multiple(DEGREE, curve, a, MOST, r.numbers) == 0 && r == class_of(multiple_by_ntl(pairs[i])), "multiple", i);
+        hold(plain_multiple(curve, a, MOST, plain.numbers) == 0 && r == plain, "multiple", i);
+        hold(class_halvings(DEGREE, curve, a, MOST_HALVINGS, r.numbers) == 0, "halvings", i);
+        hold(plain_halvings(curve, a, MOST_HALVINGS, plain.numbers) == 0 && r == plain, "halvings", i);
+        Pair back = pair_of(r);
+        for (int k = 0; k < MOST_HALVINGS; k++) back = double_by_ntl(back);
+        hold(classes[i] == class_of(back), "halvings", i);
+    }
+}
+
 // What is measured: an operation by the proved code, in C, or by NTL.
 enum Operation { PRODUCT, SQUARE, ROOT, INVERSE, QUADRATIC, MEMBERSHIP, DOUBLE, HALF, SUM, COMMIT, UNDO, STAMP, FIRST_STAMP,
-    BYTE_UNDO, BYTE_STAMP, LOOP_PRODUCT, OPERATIONS };
+    MULTIPLE, HALVINGS, BYTE_UNDO, BYTE_STAMP, LOOP_PRODUCT, OPERATIONS };
 enum Maker { PROVED, PLAIN, NTL_LIBRARY, MAKERS };
 
 // An element for which y^2 + y has a root: the trace is the sum of the bits 0 and 59.
@@ -275,7 +302,12 @@ static bool is_made(int operation, int maker) {
     if (maker == PROVED) return operation != LOOP_PRODUCT;
     if (maker == PLAIN) return operation != BYTE_UNDO && operation != BYTE_STAMP;
     return operation == PRODUCT || operation == SQUARE || operation == INVERSE || operation == DOUBLE || operation == SUM ||
-        operation == COMMIT;
+        operation == COMMIT || operation == MULTIPLE;
+}
+
+// How many classes a round is on: one where an operation is made of many.
+static int classes_of(int operation) {
+    return operation == MULTIPLE || operation == HALVINGS ? 1 : CLASSES;
 }
 
 static bool is_of_elements(int operation) {
@@ -286,7 +318,7 @@ static bool is_of_elements(int operation) {
 static uint64_t class_round(int operation, int maker, uint64_t x) {
     Class r;
     uint8_t out[56];
-    for (int i = 0; i < CLASSES; i++) {
+    for (int i = 0; i < classes_of(operation); i++) {
         int j = (i + 1) % CLASSES;
         const uint64_t *a = classes[i].numbers, *b = classes[j].numbers;
         switch (operation * MAKERS + maker) {
@@ -309,6 +341,11 @@ static uint64_t class_round(int operation, int maker, uint64_t x) {
         case STAMP * MAKERS + PLAIN: x += plain_stamp(curve, stamps[i], r.numbers); break;
         case FIRST_STAMP * MAKERS + PROVED: x += class_stamp(DEGREE, curve, first_stamps[i], r.numbers); break;
         case FIRST_STAMP * MAKERS + PLAIN: x += plain_stamp(curve, first_stamps[i], r.numbers); break;
+        case MULTIPLE * MAKERS + PROVED: x += class_multiple(DEGREE, curve, a, MOST, r.numbers); break;
+        case MULTIPLE * MAKERS + PLAIN: x += plain_multiple(curve, a, MOST, r.numbers); break;
+        case MULTIPLE * MAKERS + NTL_LIBRARY: x += deg(multiple_by_ntl(pairs[i]).u); break;
+        case HALVINGS * MAKERS + PROVED: x += class_halvings(DEGREE, curve, a, MOST_HALVINGS, r.numbers); break;
+        case HALVINGS * MAKERS + PLAIN: x += plain_halvings(curve, a, MOST_HALVINGS, r.numbers); break;
         case BYTE_STAMP * MAKERS + PROVED: x += seal_stamp(records[i].data(), CURVE_FIELDS, stamps[i], out, sizeof out); break;
         default: x += seal_undo(records[i].data(), records[i].size(), out, sizeof out); break;
         }
@@ -337,7 +374,7 @@ static double timed(int operation, int maker) {
     static volatile uint64_t kept = 3;
     double began = now();
     kept = kept ^ (is_of_elements(operation) ? element_round(operation, maker, 3) : class_round(operation, maker, 3));
-    return (now() - began) / CLASSES / (is_of_elements(operation) ? CHAIN : 1);
+    return (now() - began) / (is_of_elements(operation) ? CLASSES * CHAIN : classes_of(operation));
 }
 
 static double children() {
@@ -381,6 +418,7 @@ int main(int words, char **word) {
     draw();
     draw_stamps();
     compare();
+    compare_multiples();
     for (int round = 0; round < ROUNDS; round++) {
         for (int operation = 0; operation < OPERATIONS; operation++) {
             for (int maker = 0; maker < MAKERS; maker++) {
@@ -394,7 +432,8 @@ int main(int words, char **word) {
     printf("  %-30s %10s %8s %8s %8s\n", "", "time in", "time in", "C by", "NTL by");
     printf("  %-30s %10s %8s %8s %8s\n", "", "products", "halves", "ours", "ours");
     const char *names[] = {"product", "square", "square root", "inverse", "root of y^2 + y = a", "membership", "double", "half",
-        "sum", "commit", "undo", "stamp", "stamp, first candidate", "undo by bytes", "stamp by bytes"};
+        "sum", "commit", "undo", "stamp", "stamp, first candidate", "multiple, n = 2^61 - 1", "64 halvings", "undo by bytes",
+        "stamp by bytes"};
     for (int operation = 0; operation <= BYTE_STAMP; operation++) print_line(names[operation], operation);
     double program = program_time(word[2], word[1]) / least[HALF][PROVED];
     printf("  the program walkreport on %d operations takes %.0f halves, %.2f for each operation\n", KEPT, program, program / KEPT);

@@ -482,3 +482,31 @@ uint32_t plain_stamp(const uint64_t *f, uint64_t stamp, uint64_t *r) {
     }
     return 116;
 }
+
+uint32_t plain_multiple(const uint64_t *f, const uint64_t *a, uint64_t n, uint64_t *r) {
+    uint64_t so_far[7] = {0};
+    uint32_t refusal = plain_membership(f, a);
+    if (refusal) return refusal;
+    if (n >> 61) return 118;
+    for (int i = n ? 64 - __builtin_clzll(n) : 0; i-- > 0;) {
+        refusal = n >> i & 1 ? plain_double_and_add(f, so_far, a, r) : plain_double(f, so_far, r);
+        if (refusal) return refusal;
+        memcpy(so_far, r, sizeof so_far);
+    }
+    memcpy(r, so_far, sizeof so_far);
+    return 0;
+}
+
+uint32_t plain_halvings(const uint64_t *f, const uint64_t *a, uint64_t k, uint64_t *r) {
+    uint64_t so_far[7];
+    uint32_t refusal = plain_membership(f, a);
+    if (refusal) return refusal;
+    if (k > 64) return 119;
+    memcpy(r, a, sizeof so_far);
+    while (k-- > 0) {
+        memcpy(so_far, r, sizeof so_far);
+        refusal = plain_half(f, so_far, r);
+        if (refusal) return refusal;
+    }
+    return 0;
+}

@@ -25,6 +25,8 @@ uint32_t plain_sum(const uint64_t *f, const uint64_t *a, const uint64_t *b, uint
 uint32_t plain_double_and_add(const uint64_t *f, const uint64_t *a, const uint64_t *b, uint64_t *r);
 uint32_t plain_subtract_and_halve(const uint64_t *f, const uint64_t *a, const uint64_t *b, uint64_t *r);
 uint32_t plain_stamp(const uint64_t *f, uint64_t stamp, uint64_t *r);
+uint32_t plain_multiple(const uint64_t *f, const uint64_t *a, uint64_t n, uint64_t *r);
+uint32_t plain_halvings(const uint64_t *f, const uint64_t *a, uint64_t k, uint64_t *r);
 
 #ifdef __cplusplus
 }

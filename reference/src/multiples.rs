@@ -16,8 +16,11 @@ pub fn multiples<'a>(curve: &'a Curve, class: &'a Class) -> impl Iterator<Item =
     std::iter::successors(Some(Class::neutral()), move |sum| Some(curve.sum(sum, class)))
 }
 
+/// Ten times the class by four sums.
 fn ten_times(curve: &Curve, class: &Class) -> Class {
-    multiples(curve, class).nth(10).expect("the multiples do not end")
+    let twice = curve.sum(class, class);
+    let five_times = curve.sum(&curve.sum(&twice, &twice), class);
+    curve.sum(&five_times, &five_times)
 }
 
 /// n times the class by n's decimal digits, the highest first: ten times what there is so far, plus the digit times the
