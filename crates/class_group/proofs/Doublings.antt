@@ -37,12 +37,9 @@ module _ {X : Type 0} {Member : X → Type 0} {_+_ : X → X → X} {nought : X}
   pub double-member : {a : X} → Member a → Member (double a)
   double-member h = rw (D .double-sum h) (G .sum-closed h h)
 
-  -- the double of an n-fold sum, and the n-fold sum of a double
+  -- the double of an n-fold sum
   pub double-multiple : (n : ℕ) {a : X} → Member a → double (times n a) ≡ times (n +ℕ n) a
   double-multiple n h = D .double-sum (multiple-member G n h) ∙ sym (multiple-add G n n h)
-
-  pub multiple-double : (n : ℕ) {a : X} → Member a → times n (double a) ≡ times (n +ℕ n) a
-  multiple-double n h = ap (times n) (D .double-sum h) ∙ multiple-sum G n h h ∙ sym (multiple-add G n n h)
 
   pub doublings-member : (k : ℕ) {a : X} → Member a → Member (repeat double k a)
   doublings-member = repeat-member double (λ a h. double-member h)

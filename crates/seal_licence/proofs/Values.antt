@@ -5,7 +5,7 @@ use Prim.Native.Nat.{ℕ, zero, suc, _/_, _%_}
 use mathlib.Core.Path.{_≡_, sym, _∙_, ap}
 use Rattle.class_group.specs.{Mumford.Pair, Mumford.Reduced, Mumford.neutral, Operations.sum, Operations.double, Half.half, Moves.double-and-add}
 use Rattle.class_group.specs.Multiples.{multiple, repeat}
-use Rattle.class_group.proofs.{Group.classes, Group.class-doubling, Halving.class-halving, Multiples.multiple-member, Doublings.halvings-member, Digits.even-turn as group-even-turn, Digits.odd-turn as group-odd-turn}
+use Rattle.class_group.proofs.{Group.classes, Group.class-doubling, Halving.class-halving, Multiples.multiple-member, Multiples.multiple-zero, Doublings.halvings-member, Digits.even-turn as group-even-turn, Digits.odd-turn as group-odd-turn}
 use Rattle.jacobian.specs.{Field.Poly, Curves.curve, Classes.pair, Classes.class-of}
 use Rattle.jacobian.specs.Answer.{Accepts, Result, neutral-class, double-answer, half-answer, double-and-add-answer}
 use Rattle.jacobian.specs.declared.{Curve.Curve, Class.Class}
@@ -36,8 +36,8 @@ module _ {c : Curve} {a : Class} (h : Accepts c a) where
   multiple-pair n = pair-class-of d (curve c) (times n) (times-reduced n)
 
   pub multiple-none : neutral-class ≡ multiple-class c a 0
-  unfolding multiple-class multiple
-  multiple-none = sym (neutral-value c)
+  unfolding multiple-class
+  multiple-none = sym (ap (class-of d) (multiple-zero (classes (curve c)) (pair d a)) ∙ neutral-value c)
 
   -- one digit more
   pub odd-turn : (n : ℕ) → n % 2 ≡ 1 → double-and-add-answer c (multiple-class c a (n / 2)) a .class ≡ multiple-class c a n

@@ -8,7 +8,7 @@ use jacobian::Class;
 use jacobian::Curve;
 use jacobian::Outcome;
 
-// One more than the largest n, 2^61, which has 61 binary digits.
+// One more than the largest n: 2^61, so that n has at most 61 binary digits.
 pub const MULTIPLE_LIMIT: u64 = 0x2000_0000_0000_0000;
 
 const DIGITS: u64 = 61;
@@ -43,7 +43,7 @@ fn given(class: Class) -> ClassResult
     }
 }
 
-// How many binary digits n has: none is left of it after so many halvings.
+// How many binary digits n has: nothing is left of it behind so many.
 fn digits(n: u64) -> u64
     requires { ⌜ n < multiple-limit ⌝ }
     ensures { λ r. ⌜ (r ≤ 61) × (n / 2 ^ r ≡ 0) ⌝ }
