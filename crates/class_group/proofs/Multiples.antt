@@ -12,11 +12,6 @@ module _ {X : Type 0} {Member : X → Type 0} {_+_ : X → X → X} {nought : X}
   abbrev times : ℕ → X → X
   times n a = multiple _+_ nought n a
 
-  pub multiple-member : (n : ℕ) {a : X} → Member a → Member (times n a)
-  unfolding multiple
-  multiple-member zero h = G .neutral-closed
-  multiple-member (suc n) h = G .sum-closed h (multiple-member n h)
-
   pub multiple-zero : (a : X) → times 0 a ≡ nought
   unfolding multiple
   multiple-zero a = refl
@@ -24,6 +19,11 @@ module _ {X : Type 0} {Member : X → Type 0} {_+_ : X → X → X} {nought : X}
   pub multiple-one : {a : X} → Member a → times 1 a ≡ a
   unfolding multiple
   multiple-one h = G .sum-neutral h
+
+  pub multiple-member : (n : ℕ) {a : X} → Member a → Member (times n a)
+  unfolding multiple
+  multiple-member zero h = G .neutral-closed
+  multiple-member (suc n) h = G .sum-closed h (multiple-member n h)
 
   pub multiple-add : (m n : ℕ) {a : X} → Member a → times (m +ℕ n) a ≡ times m a + times n a
   unfolding multiple
