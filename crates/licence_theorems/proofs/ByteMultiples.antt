@@ -3,27 +3,28 @@
 -- writes (`sum-bytes`), m n times what m times writes on the record rebuilt from n times (`product-bytes`), 0 times the neutral class's field and once the record's own (`zero-bytes`, `once-bytes`).
 -- The record rebuilt from 2^k times is that after k byte doublings (`doublings-bytes`), the one rebuilt from k halvings that after k byte halves (`halvings-bytes`). k halvings of the record after k
 -- byte doublings write the record's own class field (`halvings-of-doublings-bytes`), and k byte doublings of the record rebuilt from k halvings give the record back, to the byte
--- (`doublings-of-halvings-bytes`).
+-- (`doublings-of-halvings-bytes`). None of these byte doublings and halves is refused (`doublings-write`, `halves-write`), and no other record leads by k of them to the same
+-- (`only-halvings-bytes`).
 use Prim.Native.Nat.{ℕ, zero, suc, _+_, _*_, _^_, _≤_, _<_}
 use mathlib.Core.Path.{_≡_, refl, sym, ap, ap₂, _∙_}
 use mathlib.Core.List.{List, _++_}
 use native.Mathlib.Omega.{arith}
-use lib.{Dec.lit<, ListN.length, Pow.pow-lt}
+use lib.{Dec.lit<, ListN.length, ListN.take-append-drop, Pow.pow-lt}
 use Rattle.class_group.specs.Multiples.{repeat}
-use Rattle.jacobian.specs.{Answer.Result, Answer.result, Answer.gives, Answer.Accepts, Answer.neutral-class, Answer.double-answer, Answer.half-answer, Answer.sum-answer, declared.Curve.Curve, declared.Class.Class}
-use Rattle.stored_form.specs.{Number.Bytes, Reading.found, Head.class-room, Classes.curve-first-fields, Classes.class-field, Passing.ClassPasses, Held.read-record, Held.class-record, Held.sum-record, declared.Held.Held}
+use Rattle.jacobian.specs.{Answer.Result, Answer.result, Answer.neutral-class, Answer.double-answer, Answer.half-answer, Answer.sum-answer, declared.Curve.Curve, declared.Class.Class}
+use Rattle.stored_form.specs.{Number.Bytes, Reading.found, Head.class-room, Head.first-fields-length, Classes.class-field, Passing.ClassPasses, Held.read-record, Held.class-record, Held.sum-record, declared.Held.Held}
 use Rattle.stored_form_theorems.proofs.ClassRoundTrips.{class-short}
-use Rattle.written_form.specs.Effect.{Effect, write, on, class-handed, put}
+use Rattle.written_form.specs.Effect.{write, on, class-handed, put}
 use Rattle.written_form.proofs.Effects.{call-found, put-written}
 use Rattle.seal.specs.Records.{class-record-bytes, sum-held, sum-record-bytes, SumStored}
 use Rattle.seal.specs.Rebuilt.{first-fields, last-field, wrote, class-rebuilt}
 use Rattle.seal.specs.Calls.{double-call, half-call, sum-call}
 use Rattle.seal.specs.Calls as seal
 use Rattle.seal.proofs.{Written.sum-record-back, Passing.class-holds, Passing.Given, Passing.double-given, Passing.half-given, Passing.sum-given}
-use Rattle.seal.proofs.ClassCalls.{class-call, call-writes, wrote-write, first-is, last-is, stored-writes, stored-rebuilt, is-stored, follow-writes}
+use Rattle.seal.proofs.ClassCalls.{class-call, call-writes, wrote-write, rebuilt-write, first-is, last-is, stored-writes, stored-rebuilt, is-stored, follow-writes}
 use Rattle.seal_licence.specs.Multiples.{multiple-limit, halvings-limit, multiple-answer, halvings-answer, doublings, halves}
 use Rattle.seal_licence.specs.Calls.{answered, multiple-call, halvings-call}
-use Rattle.seal_licence.proofs.Theorems.{multiple-of-sum, multiple-of-product, multiple-of-zero, multiple-of-one, doublings-accept, doublings-are-multiple, halvings-are-halves, halvings-of-doublings, doublings-of-halvings}
+use Rattle.seal_licence.proofs.Theorems.{multiple-of-sum, multiple-of-product, multiple-of-zero, multiple-of-one, doublings-accept, halves-accept, doublings-are-multiple, halvings-are-halves, halvings-of-doublings, doublings-of-halvings}
 use Rattle.licence_theorems.specs.Rebuilt.{sum-rebuilt, doubled-record, halved-record}
 use Rattle.licence_theorems.proofs.Passing.{multiple-given, halvings-given}
 
@@ -150,24 +151,45 @@ module _ (s : List ℕ) (bytes : Bytes s) {h : Held} {end : ℕ} (read : read-re
           ∙ ap (λ (r : Result). write (class-field 0x43 (r .class)) out) (multiple-of-sum passes m n l)
           ∙ sym (sum-writes (multiple-given passes m lm .passes) (multiple-given passes n ln .passes) there out room)
 
+      -- the record after k byte doublings, and after k byte halves
+      doubled-at : (k : ℕ) → doubled-record mid k s ≡ class-record-bytes c (doublings c k a)
+      doubled-at k = ap (doubled-record mid k) stored-bytes ∙ doubled-is passes mid room' k
+
+      halved-at : (k : ℕ) → halved-record mid k s ≡ class-record-bytes c (halves c k a)
+      halved-at k = ap (halved-record mid k) stored-bytes ∙ halved-is passes mid room' k
+
+      -- none of these calls is refused: each writes the class field of the next record
+      pub doublings-write : (k : ℕ) → double-call (doubled-record mid k s) mid ≡ write (last-field (doubled-record mid (suc k) s)) mid
+      unfolding seal.answered repeat
+      doublings-write k =
+          let p = doublings-accept passes k in
+          stored-writes (doubled-at k) p (λ x b. result (double-answer x b)) (double-given p) mid room'
+          ∙ ap (λ (b : List ℕ). write b mid) (sym (last-is c (doublings c (suc k) a) (doubled-at (suc k))))
+
+      pub halves-write : (k : ℕ) → half-call (halved-record mid k s) mid ≡ write (last-field (halved-record mid (suc k) s)) mid
+      unfolding seal.answered repeat
+      halves-write k =
+          let p = halves-accept passes k in
+          stored-writes (halved-at k) p (λ x b. result (half-answer x b)) (half-given p) mid room'
+          ∙ ap (λ (b : List ℕ). write b mid) (sym (last-is c (halves c (suc k) a) (halved-at (suc k))))
+
       pub doublings-bytes : (k : ℕ) → k < 61 → class-rebuilt s (multiple-call (2 ^ k) s out) ≡ doubled-record mid k s
       doublings-bytes k l =
           multiple-record (2 ^ k) (pow-lt l) out room
           ∙ ap (λ (r : Result). class-record-bytes c (r .class)) (doublings-are-multiple passes k l)
-          ∙ sym (ap (doubled-record mid k) stored-bytes ∙ doubled-is passes mid room' k)
+          ∙ sym (doubled-at k)
 
       pub halvings-bytes : (k : ℕ) → k ≤ halvings-limit → class-rebuilt s (halvings-call k s out) ≡ halved-record mid k s
       halvings-bytes k l =
           halvings-record k l out room
           ∙ ap (λ (r : Result). class-record-bytes c (r .class)) (halvings-are-halves passes k l)
-          ∙ sym (ap (halved-record mid k) stored-bytes ∙ halved-is passes mid room' k)
+          ∙ sym (halved-at k)
 
       pub halvings-of-doublings-bytes : (k : ℕ) → k ≤ halvings-limit → halvings-call k (doubled-record mid k s) out ≡ write (last-field s) out
       unfolding answered halved
       halvings-of-doublings-bytes k l =
-          let there : doubled-record mid k s ≡ class-record-bytes c (doublings c k a) = ap (doubled-record mid k) stored-bytes ∙ doubled-is passes mid room' k in
           let p = doublings-accept passes k in
-          stored-writes there p (halved k) (halvings-given p k l) out room
+          stored-writes (doubled-at k) p (halved k) (halvings-given p k l) out room
           ∙ ap (λ (b : List ℕ). write b out) (own-field _ (ap (λ (r : Result). r .class) (halvings-of-doublings passes k l)))
 
       pub doublings-of-halvings-bytes : (k : ℕ) → k ≤ halvings-limit → doubled-record mid k (class-rebuilt s (halvings-call k s out)) ≡ s
@@ -176,3 +198,13 @@ module _ (s : List ℕ) (bytes : Bytes s) {h : Held} {end : ℕ} (read : read-re
           ∙ doubled-is (halvings-given passes k l .passes) mid room' k
           ∙ ap (class-record-bytes c) (doublings-of-halvings passes k l)
           ∙ sym stored-bytes
+
+      -- the record is the only one that k byte doublings take where they take it
+      pub only-halvings-bytes : (k : ℕ) → k ≤ halvings-limit → (t : List ℕ) → doubled-record mid k s ≡ t → s ≡ class-rebuilt t (halvings-call k t out)
+      only-halvings-bytes k l t e =
+          sym
+          (ap (λ u. class-rebuilt u (halvings-call k u out)) (sym e)
+          ∙ ap (class-rebuilt (doubled-record mid k s)) (halvings-of-doublings-bytes k l)
+          ∙ rebuilt-write (doubled-record mid k s) (last-field s) out
+          ∙ ap (λ (f : List ℕ). f ++ last-field s) (first-is c (doublings c k a) (doubled-at k) ∙ sym (first-is c a stored-bytes))
+          ∙ take-append-drop first-fields-length s)

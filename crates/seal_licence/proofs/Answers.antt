@@ -1,7 +1,7 @@
 -- What is answered by the checks: the refusal that is due (`refused-answer`), else the class (`given-answer`); and what holds where none is due
 -- (`multiple-passes`, `halvings-passes`).
 use Prim.Native.Nat.{ℕ, zero, suc, _≤_, _<_}
-use mathlib.Core.Path.{_≡_, sym, _∙_, ap}
+use mathlib.Core.Path.{_≡_, _∙_, ap}
 use native.Mathlib.Omega.{arith}
 use lib.Dec.{lit<}
 use borrow.Author.Tests.{ltb-true, leb-true}

@@ -1,22 +1,22 @@
 -- What n times a class and k halvings answer (docs/SPECIFICATION.md, 2.11 and 6). For an accepted class and a number in range each gives a class (`multiple-gives`, `halvings-give`), which is
 -- accepted in turn (`multiple-accepts`, `halved-accepts` of Values). (m + n) times is the sum of the two (`multiple-of-sum`), m times n times is m n times (`multiple-of-product`), 0 times is
 -- neutral and once is the class (`multiple-of-zero`, `multiple-of-one`). k doublings are 2^k times (`doublings-are-multiple`), k halvings are k halves one after the other
--- (`halvings-are-halves`), the two undo each other (`halvings-of-doublings`, `doublings-of-halvings`), and no other class leads to the class by k doublings (`only-halvings`).
+-- (`halvings-are-halves`), of which none is refused (`doublings-give`, `halves-give`); the two undo each other (`halvings-of-doublings`, `doublings-of-halvings`), and no other class leads to the class by k doublings (`only-halvings`).
 -- Refusals: that of curve and class comes first, whatever n or k is (`multiple-refused-first`, `halvings-refused-first`), then 118 and 119 (`multiple-too-large`, `halvings-too-many`). Every
 -- answer is a class or a refusal with one of the numbers (`multiple-told`, `halvings-told`), and none is 117 (`result-never-117`).
 use Prim.Native.Nat.{ℕ, zero, suc, _+_, _*_, _^_, _≤_, _<_}
-use mathlib.Core.{Path._≡_, Path.refl, Path.sym, Path._∙_, Path.ap, Path.ap₂, Logic.inl, Logic.inr}
+use mathlib.Core.{Path._≡_, Path.refl, Path.sym, Path._∙_, Path.ap, Path.ap₂, Path.subst, Logic.inl, Logic.inr}
 use native.Mathlib.Omega.{arith}
-use lib.{Dec.lit<, Dec.lit≤, Pow.pow-lt}
+use lib.{Dec.lit<, Pow.pow-lt}
 use borrow.Author.Tests.{lt-ltb, le-ltb, le-leb, lt-leb}
 use Rattle.class_group.specs.{Mumford.neutral, Operations.sum, Operations.double, Half.half, Multiples.multiple, Multiples.repeat}
-use Rattle.class_group.proofs.{Closed.sum-reduced, Closed.double-reduced, Group.classes, Group.class-doubling, Halving.class-halving, Halving.half-reduced}
+use Rattle.class_group.proofs.{Closed.sum-reduced, Closed.double-reduced, Group.classes, Group.class-doubling, Halving.class-halving}
 use Rattle.class_group.proofs.{Multiples.multiple-one, Multiples.multiple-add, Multiples.multiple-mul, Doublings.doublings-multiple, Doublings.halvings-doublings, Doublings.doublings-halvings}
 use Rattle.jacobian.specs.{Checks.unless, Checks._or-else_, Refusals.refusals, Refusals.listed, Refusals.IsRefusal, Refusals.Told, Curves.curve, Classes.pair, Told.VerdictTold}
 use Rattle.jacobian.specs.Answer.{Result, result, gives, refused, refusal, Accepts, neutral-class, double-answer, half-answer, sum-answer}
 use Rattle.jacobian.specs.declared.{Curve.Curve, Class.Class}
 use Rattle.jacobian.specs.Told as verdict-told
-use Rattle.jacobian.proofs.{Calls.reduced, Calls.class-pair, Calls.sum-gives, Calls.sum-accepts, Calls.double-gives, Calls.double-accepts, Calls.half-gives, Calls.half-accepts}
+use Rattle.jacobian.proofs.{Calls.reduced, Calls.class-pair, Calls.sum-gives, Calls.sum-accepts, Calls.double-gives, Calls.double-accepts, Calls.half-gives}
 use Rattle.jacobian.proofs.{Representation.pair-injective, Refusals.told-unless, Refusals.told-or-else, Refusals.verdict-never-117, Told.refusal-told}
 use Rattle.seal_licence.specs.Multiples.{multiple-limit, halvings-limit, refuses, given, multiple-class, halved-class, multiple-refusal, halvings-refusal, multiple-answer, halvings-answer, doublings, halves}
 use Rattle.seal_licence.specs.Told.{ResultTold}
@@ -82,6 +82,11 @@ module _ {c : Curve} {a : Class} (h : Accepts c a) where
       let x = doublings-accept k in
       class-pair c _ (double-reduced (curve c) (reduced c x)) (double-gives c x) ∙ ap (double (curve c)) (doublings-pair k)
 
+  -- none of them is refused
+  pub doublings-give : (k : ℕ) → result (double-answer c (doublings c k a)) ≡ gives (doublings c (suc k) a)
+  unfolding repeat
+  doublings-give k = let e = double-gives c (doublings-accept k) in e ∙ sym (ap gives (class-is e))
+
   pub doublings-are-multiple : (k : ℕ) → k < 61 → multiple-answer c a (2 ^ k) ≡ gives (doublings c k a)
   doublings-are-multiple k l =
       multiple-gives (2 ^ k) (pow-lt l)
@@ -94,6 +99,14 @@ module _ {c : Curve} {a : Class} (h : Accepts c a) where
   unfolding repeat
   halves-are zero = sym (halved-none h)
   halves-are (suc k) = ap (λ x. half-answer c x .class) (halves-are k) ∙ halved-next h k
+
+  pub halves-accept : (k : ℕ) → Accepts c (halves c k a)
+  halves-accept k = subst (Accepts c) (sym (halves-are k)) (halved-accepts h k)
+
+  -- none of them is refused
+  pub halves-give : (k : ℕ) → result (half-answer c (halves c k a)) ≡ gives (halves c (suc k) a)
+  unfolding repeat
+  halves-give k = let e = half-gives c (halves-accept k) in e ∙ sym (ap gives (class-is e))
 
   pub halvings-are-halves : (k : ℕ) → k ≤ halvings-limit → halvings-answer c a k ≡ gives (halves c k a)
   halvings-are-halves k l = halvings-give k l ∙ ap gives (sym (halves-are k))

@@ -1,7 +1,7 @@
 -- n times an accepted class and an accepted class halved k times: they are accepted (`multiple-accepts`, `halved-accepts`), stand for the group's
 -- (`multiple-pair`, `halved-pair`), and are reached by the calls of the code: none at 0 (`multiple-none`, `halved-none`), one digit more (`odd-turn`, `even-turn`),
 -- one half more (`halved-next`).
-use Prim.Native.Nat.{ℕ, zero, suc, _/_, _%_}
+use Prim.Native.Nat.{ℕ, suc, _/_, _%_}
 use mathlib.Core.Path.{_≡_, sym, _∙_, ap}
 use Rattle.class_group.specs.{Mumford.Pair, Mumford.Reduced, Mumford.neutral, Operations.sum, Operations.double, Half.half, Moves.double-and-add}
 use Rattle.class_group.specs.Multiples.{multiple, repeat}
@@ -24,7 +24,7 @@ module _ {c : Curve} {a : Class} (h : Accepts c a) where
   halved k = repeat (half (curve c)) k (pair d a)
 
   -- ---- n times
-  pub times-reduced : (n : ℕ) → Reduced (curve c) (times n)
+  times-reduced : (n : ℕ) → Reduced (curve c) (times n)
   times-reduced n = multiple-member (classes (curve c)) n (reduced c h)
 
   pub multiple-accepts : (n : ℕ) → Accepts c (multiple-class c a n)
@@ -54,7 +54,7 @@ module _ {c : Curve} {a : Class} (h : Accepts c a) where
       ∙ ap (class-of d) (ap (double (curve c)) (multiple-pair (n / 2)) ∙ group-even-turn (class-doubling (curve c)) n (reduced c h) even)
 
   -- ---- halved k times
-  pub halved-reduced : (k : ℕ) → Reduced (curve c) (halved k)
+  halved-reduced : (k : ℕ) → Reduced (curve c) (halved k)
   halved-reduced k = halvings-member (class-halving (curve c)) k (reduced c h)
 
   pub halved-accepts : (k : ℕ) → Accepts c (halved-class c a k)
