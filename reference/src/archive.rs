@@ -53,18 +53,23 @@ impl Archive {
         seals
     }
 
-    /// The mark of the line after k operations are undone.
+    /// The mark of the line after k operations are undone. An operation is the opposite of the next older one where the two
+    /// sum up to nothing.
     fn letter(&self, undone: usize) -> char {
         let Some(newest) = undone.checked_sub(1) else { return '.' };
         let operation = &self.operations[newest];
-        let reversal = |older: &Class| *operation == self.curve.opposite(older);
-        if self.operations.get(newest + 1).is_some_and(reversal) {
-            'R'
-        } else if *operation == Class::neutral() {
-            'M'
-        } else {
-            '-'
+        if *operation == Class::neutral() {
+            return 'M';
         }
+        match self.operations.get(newest + 1) {
+            Some(older) if self.curve.sum(operation, older) == Class::neutral() => 'R',
+            _ => '-',
+        }
+    }
+
+    /// The marks of all lines.
+    pub fn letters(&self) -> String {
+        (0..=self.operations.len()).map(|undone| self.letter(undone)).collect()
     }
 
     /// The report of a walk by some rule for the seal before an operation.
@@ -78,7 +83,7 @@ impl Archive {
         lines
     }
 
-    fn report(&self) -> String {
+    pub fn report(&self) -> String {
         self.report_by(|seal, operation| seal_after_undo(&self.curve, seal, operation))
     }
 }
@@ -146,14 +151,16 @@ mod tests {
         assert_eq!(longest.lines().count(), 1026);
     }
 
+    /// Of the neutral operations the newest has one that is not neutral behind it, the next a neutral one, and the last none.
     #[test]
     fn letters() {
         let (x, x_one, neutral) = (class(&[0], &[]), class(&[0], &[1]), Class::neutral());
         let operations =
             [&neutral, &x, &x_one, &x, &x, &neutral, &neutral, &x, &neutral].map(Class::clone).to_vec();
         let archive = Archive { operations, ..of_count(0, b"") };
-        let letters: String = (0..10).map(|undone| archive.letter(undone)).collect();
-        assert_eq!(letters, ".MRR--RM-M");
+        assert_eq!(archive.letters(), ".MRR--MM-M");
+        let views = Archive { operations: vec![neutral; 3], ..of_count(0, b"") };
+        assert_eq!(views.letters(), ".MMM");
     }
 
     #[test]

@@ -18,6 +18,7 @@
 //! - `archive`: the archive, its walk and the walk report.
 //! - `byte_cases`: records and archives, mutated or not, and what the byte calls and the walk report owe for them.
 //! - `samples`: the archives that are kept in examples/.
+//! - `view_archives`: archives rich in neutral operations.
 //! - `random`: a small generator with a fixed seed, for cases that are the same in every run.
 
 pub mod archive;
@@ -37,6 +38,7 @@ pub mod random;
 pub mod samples;
 pub mod stamp;
 pub mod stored;
+pub mod view_archives;
 
 /// Writes what a program is given to the file stdin of a folder, and what it owes for that to the file stdout.
 pub fn write_case(folder: &str, input: Vec<u8>, output: String) {

@@ -5,6 +5,8 @@
 //! - `dozen`: twelve operations over GF(2^61), neutral ones and opposites among them; every letter occurs.
 //! - `full`: 1,024 operations over GF(2^61).
 //! - `low-degrees`: seals over GF(2^61) between which the walk halves from and to every degree.
+//! - `views`: view changes, which are stored as neutral operations: one after another, after an operation that is not one,
+//!   as the oldest operation and as the newest; an operation and its opposite among them.
 //!
 //! And those in examples/failures/, which lines of docs/CHECKLIST.md catch:
 //!
@@ -94,14 +96,27 @@ fn low_degrees() -> (Class, Archive) {
     (Class::neutral(), committed(curve, "HINGE 7", &Class::neutral(), &operations))
 }
 
+fn views() -> (Class, Archive) {
+    let mut random = Random::new(85);
+    let curve = Curve::drawn(&mut random, WIDE);
+    let [hole, slot, bend] = [1, 2, 3].map(|number| of_points(&mut random, &curve, number));
+    let (view, unbend) = (Class::neutral(), curve.opposite(&bend));
+    let operations =
+        [&view, &view, &slot, &view, &view, &view, &bend, &unbend, &view, &hole, &view, &view].map(Class::clone);
+    let first = of_points(&mut random, &curve, 3);
+    let archive = committed(curve, "COVER 31 / 4 VIEWS", &first, &operations);
+    (first, archive)
+}
+
 /// The names and the archives.
-pub fn samples() -> [(&'static str, Archive); 5] {
+pub fn samples() -> [(&'static str, Archive); 6] {
     [
         ("document-01", document_01()),
         ("empty", empty()),
         ("dozen", dozen().1),
         ("full", full().1),
         ("low-degrees", low_degrees().1),
+        ("views", views().1),
     ]
 }
 
@@ -146,7 +161,7 @@ mod tests {
     /// The walk of an archive that was committed forward ends in the first seal.
     #[test]
     fn first_seals() {
-        for (first, archive) in [dozen(), full(), low_degrees()] {
+        for (first, archive) in [dozen(), full(), low_degrees(), views()] {
             assert_eq!(archive.walk().last(), Some(&first));
         }
         assert_eq!(full().1.operations.len(), 1024);
@@ -155,14 +170,18 @@ mod tests {
 
     #[test]
     fn letters() {
-        let [_, (_, empty), (_, dozen), _, _] = samples();
+        let [_, (_, empty), (_, dozen), _, _, (_, views)] = samples();
         assert_eq!(report(&empty.bytes()).lines().count(), 2);
         assert!(report(&empty.bytes()).starts_with("walk 0\n0 . 3:"));
-        let report = report(&dozen.bytes());
-        let letters: Vec<&str> = report.lines().skip(1).map(|line| line.split(' ').nth(1).unwrap()).collect();
-        assert_eq!(letters.concat(), ".--R-RMRR--M-");
-        assert!(report.lines().next_back().unwrap().starts_with("12 - 0::"));
+        let dozen = report(&dozen.bytes());
+        let of_lines = |report: &str| {
+            report.lines().skip(1).map(|line| line.split(' ').nth(1).unwrap()).collect::<Vec<_>>().concat()
+        };
+        assert_eq!(of_lines(&dozen), ".--R-MMRR--M-");
+        assert!(dozen.lines().next_back().unwrap().starts_with("12 - 0::"));
+        assert_eq!(of_lines(&report(&views.bytes())), ".MM-MR-MMM-MM");
     }
+
     /// Every case of halving, by the degrees of a class and of its half, newest first.
     #[test]
     fn halving_cases() {

@@ -35,6 +35,13 @@ module _ {K P : Type 0} {F : Field2 K} {A : Polynomials F P} (C : Curve A) where
   unfolding opposite
   opposite-short D h = rw (le-ltb 1 (len (D .u)) h, opposite)
 
+  -- in both u stays
+  pub opposite-u : (D : Pair P) → opposite C D .u ≡ D .u
+  opposite-u D = elim (decLe (len (D .u)) 1) [
+    | yes h ↦ rw (opposite-short D h) refl
+    | no h ↦ rw (opposite-long D (omega arith)) refl
+  ]
+
   -- demand 2: the opposite of a class is one
   pub opposite-reduced : {D : Pair P} → Reduced C D → Reduced C (opposite C D)
   opposite-reduced {D} r = elim (decLe (len (D .u)) 1) [

@@ -8,7 +8,7 @@ use mathlib.Core.Path.{_≡_, sym, _∙_, ap, subst}
 use Rattle.char2_algebra.proofs.Degree.{len-one}
 use Rattle.class_group.specs.Curve as Theory
 use Rattle.class_group.specs.{Mumford.Pair, Mumford.Reduced, Mumford.neutral, Mumford.opposite, Reduction.Counted, Operations.sum, Operations.double, Half.half}
-use Rattle.class_group.proofs.{Closed.neutral-reduced, Closed.opposite-reduced, Closed.sum-reduced, Closed.double-reduced}
+use Rattle.class_group.proofs.{Closed.neutral-reduced, Closed.opposite-u, Closed.opposite-reduced, Closed.sum-reduced, Closed.double-reduced}
 use Rattle.class_group.proofs.{Group.sum-comm, Group.sum-assoc, Group.sum-neutral, Group.sum-opposite, Halving.half-reduced, Halving.double-half, Halving.half-double}
 use Rattle.row_theory.specs.Field.{Poly, 𝔸}
 use Rattle.jacobian.specs.{Curves.curve-refusal, Curves.curve, Classes.pair, Classes.numbers, Classes.class-of}
@@ -74,6 +74,13 @@ module _ (c : Curve) where
   pub opposite-accepts : {a : Class} → Accepts c a → Accepts c (opposite-answer c a .class)
   opposite-accepts h = class-accepts h _ (opposite-reduced C (reduced h)) (opposite-gives h)
 
+  pub opposite-degree : {a : Class} → Accepts c a → opposite-answer c a .class .degree ≡ a .degree
+  unfolding class-of
+  opposite-degree {a} h =
+      ap (λ (r : Result). r .class .degree) (opposite-gives h)
+      ∙ ap (λ (u : Poly d). 𝔸 d .len u - 1) (opposite-u C (pair d a))
+      ∙ ap (λ (b : Class). b .degree) (class-of-pair c a h)
+
   pub double-accepts : {a : Class} → Accepts c a → Accepts c (double-answer c a .class)
   double-accepts h = class-accepts h _ (double-reduced C (reduced h)) (double-gives h)
 
@@ -111,14 +118,21 @@ module _ (c : Curve) where
       }
 
   -- ---- the group, by value
-  class-from : ℕ → Class
-  class-from n =
-      record { degree = n - 1; u = numbers d (n - 1) (neutral C .u); v = numbers d (n - 1) (neutral C .v) }
+  -- the class by value of a pair whose u has degree 0 is the neutral one
+  of-degree-0 : (D : Pair (Poly d)) → 𝔸 d .len (D .u) - 1 ≡ 0 → class-of d D ≡ neutral-class
+  unfolding class-of numbers neutral-class
+  of-degree-0 D e = ap (λ (n : ℕ). record { degree = n; u = numbers d n (D .u); v = numbers d n (D .v) }) e
 
   pub neutral-value : class-of d (neutral C) ≡ neutral-class
-  unfolding class-of numbers neutral neutral-class class-from
-  neutral-value =
-      ap class-from (len-one (𝔸 d))
+  unfolding neutral
+  neutral-value = of-degree-0 (neutral C) (ap (λ (n : ℕ). n - 1) (len-one (𝔸 d)))
+
+  -- no other accepted class has degree 0
+  pub only-neutral : {a : Class} → Accepts c a → a .degree ≡ 0 → a ≡ neutral-class
+  unfolding class-of
+  only-neutral {a} h e =
+      let same = class-of-pair c a h in
+      sym same ∙ of-degree-0 (pair d a) (ap (λ (b : Class). b .degree) same ∙ e)
 
   pub neutral-accepts : curve-refusal c ≡ 0 → Accepts c neutral-class
   neutral-accepts ok = subst (Accepts c) neutral-value (class-of-accepted c ok (neutral C) (neutral-reduced C))

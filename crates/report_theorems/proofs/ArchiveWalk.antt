@@ -1,5 +1,5 @@
 -- The walk of any accepted archive, whatever calls made it (docs/SPECIFICATION.md, 10).
--- `walk-accepted`: no step of the walk over its operations, newest first, from its last seal, is refused. `walk-seals`: its seals are the last one and what
+-- `operations-accepted`: its operations are classes of its curve. `walk-accepted`: no step of the walk over its operations, newest first, from its last seal, is refused. `walk-seals`: its seals are the last one and what
 -- the steps answer. `report-seals`: the report's lines speak of these seals.
 use Prim.Native.Nat.{ℕ, zero, suc}
 use mathlib.Core.Path.{_≡_, ap, _∙_, sym, subst}
@@ -57,11 +57,14 @@ module _ (s : List ℕ) {a : Archive} {end : ℕ} (reads : read-archive s ≡ fo
   pub seal-sound : Accepts (a .curve) (a .seal)
   seal-sound = let f = seal-found s reads in class-sound 0x43 (a .curve) s (f .0) (f .2)
 
-  pub walk-accepted : All (λ x. x .outcome ≡ accepted) (steps-back (a .curve) (a .seal) (a .operations))
-  walk-accepted =
+  pub operations-accepted : All (Accepts (a .curve)) (a .operations)
+  operations-accepted =
       let p = opening-of s reads in
       let ops = operations-sound (p .held .count) (p .held .curve) s (p .first) (p .operations-read) in
-      steps-accepted (a .operations) seal-sound (subst (λ (x : Archive). All (Accepts (x .curve)) (x .operations)) (sym (p .archive)) ops)
+      subst (λ (x : Archive). All (Accepts (x .curve)) (x .operations)) (sym (p .archive)) ops
+
+  pub walk-accepted : All (λ x. x .outcome ≡ accepted) (steps-back (a .curve) (a .seal) (a .operations))
+  walk-accepted = steps-accepted (a .operations) seal-sound operations-accepted
 
   pub walk-seals : seals (a .curve) (a .seal) (a .operations) ≡ a .seal ∷ map (λ x. x .class) (steps-back (a .curve) (a .seal) (a .operations))
   unfolding seals

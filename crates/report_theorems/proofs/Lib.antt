@@ -3,6 +3,7 @@ pub mod Digits
 pub mod LineRoom
 pub mod ArchiveWalk
 pub mod ReportMade
+pub mod Letters
 pub mod Through
 pub mod Kept
 pub mod Demand3

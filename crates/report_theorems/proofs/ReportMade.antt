@@ -16,7 +16,7 @@ use Rattle.archive.specs.declared.Due.the-variants as due
 use Rattle.archive.proofs.ToldApart.{archive-found}
 use Rattle.archive_theorems.proofs.Operations.{newest, no-operations, opening-of}
 use Rattle.class_group.specs.Walk.{walk}
-use Rattle.walk_report.specs.{Lines.line, Lines.first-line, Lines.refusal-line, Walk.seals, Walk.letter, Walk.letters, Report.seal-lines, Report.walk-lines, Report.lines-of, Report.report-lines}
+use Rattle.walk_report.specs.{Lines.line, Lines.first-line, Lines.refusal-line, Walk.seals, Walk.next-older, Walk.letter, Walk.letters, Report.seal-lines, Report.walk-lines, Report.lines-of, Report.report-lines}
 use Rattle.walk_report.specs.Steps.{report-at, with-stage, with-seal, moved, older, held-next, advanced-by, advanced, letter-before, undone, next-of, next-line, refused-report, first-report, opened-by, opened, lines-left, texts}
 use Rattle.walk_report.proofs.LinesLeft.{due-older}
 use Rattle.report_theorems.proofs.ArchiveWalk.{class-sound, step-is, seal-sound}
@@ -31,11 +31,11 @@ operations-counted (suc n) c s at e =
 
 -- ---- the report's lines, behind the one of a seal
 
-unfoldable later-lines : Curve → ℕ → Class → List Class → List (List ℕ)
+unfoldable pub later-lines : Curve → ℕ → Class → List Class → List (List ℕ)
 later-lines c k seal [] = []
 later-lines c k seal (a ∷ older) = seal-lines (k + 1) (letters c (a ∷ older)) (seals c (undo-seal c seal a) older)
 
-lines-from : (c : Curve) (k mark : ℕ) (seal : Class) (ops : List Class) → seal-lines k (mark ∷ letters c ops) (seals c seal ops) ≡ line k mark seal ∷ later-lines c k seal ops
+pub lines-from : (c : Curve) (k mark : ℕ) (seal : Class) (ops : List Class) → seal-lines k (mark ∷ letters c ops) (seals c seal ops) ≡ line k mark seal ∷ later-lines c k seal ops
 unfolding later-lines seal-lines letters seals walk
 lines-from c k mark seal [] = refl
 lines-from c k mark seal (a ∷ older) = refl
@@ -76,7 +76,7 @@ module _ (s : List ℕ) where
   -- the letter of an operation, by those that are still to be read
   letter-is : (n : ℕ) (h : Held) (seal a b : Class) (stage : Stage) (at : ℕ) {ops : List Class} {end : ℕ} → operations-at n (h .curve) s at ≡ found ops end →
       letter-before (h .curve) a (advanced (report-at stage (reader (operations-due n) h) seal b) s at .report) ≡ letter (h .curve) a ops
-  unfolding letter-before letter
+  unfolding letter next-older
   letter-is zero h seal a b stage at e =
       ap (λ (m : Moved). letter-before (h .curve) a (m .report)) (advanced-none stage h seal b at)
       ∙ ap (letter (h .curve) a) (sym (no-operations (h .curve) s at e))

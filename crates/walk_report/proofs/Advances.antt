@@ -8,14 +8,14 @@ use lib.Seq.{take-all}
 use lib.Dec.{leb}
 use borrow.Author.Tests.{leb-true, leb-false}
 use native.Mathlib.Omega.{arith}
-use Rattle.jacobian.specs.{Answer.subtract-and-halve-answer, declared.Curve.Curve, declared.Class.Class}
+use Rattle.jacobian.specs.{Answer.subtract-and-halve-answer, declared.Class.Class}
 use Rattle.stored_form.specs.declared.Held.{Held}
 use Rattle.stored_form.specs.{Reading.Reading, Reading.found, Reading.refused}
 use Rattle.archive.specs.declared.Reader.{Reader}
 use Rattle.archive.specs.Reader.{step}
-use Rattle.walk_report.specs.{Lines.line, Walk.opposed, Walk.mark}
+use Rattle.walk_report.specs.Lines.{line}
 use Rattle.text.specs.Line.{in-line}
-use Rattle.walk_report.specs.Steps.{report-at, with-stage, with-seal, made, undone, moved, older, held-next, advanced-by, advanced, undoing, letter-before, next-of, next-line, first-report, opened-by, refused-report}
+use Rattle.walk_report.specs.Steps.{report-at, with-stage, with-seal, made, undone, moved, older, held-next, advanced-by, advanced, letter-before, next-of, next-line, first-report, opened-by, refused-report}
 use Rattle.walk_report.specs.declared.{Stage.Stage, Report.Report, Moved.Moved, Made.Made}
 use Rattle.text.specs.declared.Line.{Line}
 use Rattle.walk_report.specs.declared.Stage.the-variants.{Undo, Over}
@@ -49,16 +49,6 @@ module _ (r : Report) (s : List ℕ) (at : ℕ) where
 pub line-staged : (r : Report) (s : List ℕ) (at : ℕ) {g : Stage} {m : Made} → r .stage ≡ g → m ≡ made (next-of g r s at) → m ≡ made (next-line r s at)
 unfolding next-line
 line-staged r s at e h = h ∙ ap (λ (g : Stage). made (next-of g r s at)) (sym e)
-
--- the letter, by whether an older operation is held
-module _ (c : Curve) (a : Class) (r : Report) where
-  pub letter-alone : undoing (r .stage) ≡ false → mark false a ≡ letter-before c a r
-  unfolding letter-before
-  letter-alone e = sym (ap (λ (b : Bool). elim b [ true ↦ mark (opposed c a (r .operation)) a | false ↦ mark false a ]) e)
-
-  pub letter-opposed : undoing (r .stage) ≡ true → mark (opposed c a (r .operation)) a ≡ letter-before c a r
-  unfolding letter-before
-  letter-opposed e = sym (ap (λ (b : Bool). elim b [ true ↦ mark (opposed c a (r .operation)) a | false ↦ mark false a ]) e)
 
 -- a line that is made of a seal, of the report after it, of the letter and of how many were undone
 module _ (r : Report) (s : List ℕ) (at : ℕ) where

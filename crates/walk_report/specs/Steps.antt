@@ -1,6 +1,6 @@
 -- The report on its way: a line, and the report after it (docs/SPECIFICATION.md, 10).
 use Prim.Native.Nat.{ℕ, zero, suc, _-_}
-use mathlib.Core.Bool.{Bool, true, false}
+use mathlib.Core.Bool.{Bool, true, false, _&&_}
 use mathlib.Core.List.{List, [], _∷_}
 use Rattle.jacobian.specs.{Answer.neutral-class, Answer.subtract-and-halve-answer, declared.Curve.Curve, declared.Class.Class}
 use Rattle.stored_form.specs.{Reading.Reading, Reading.found, Reading.refused, Held.drawing-name}
@@ -52,8 +52,8 @@ undoing Undo = true
 undoing Over = false
 
 -- the letter of an operation, where the report stands at the next older one, if there is one
-unfoldable pub letter-before : Curve → Class → Report → ℕ
-letter-before c a r = elim (undoing (r .stage)) [ true ↦ mark (opposed c a (r .operation)) a | false ↦ mark false a ]
+abbrev pub letter-before : Curve → Class → Report → ℕ
+letter-before c a r = mark (undoing (r .stage) && opposed c a (r .operation)) a
 
 -- a line, the report after it and the place of the next field
 pub record Next : Type 0 where

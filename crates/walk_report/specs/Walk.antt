@@ -15,14 +15,22 @@ seals c seal ops = walk (undo-seal c) seal ops
 unfoldable pub opposed : Curve → Class → Class → Bool
 opposed c a b = same-class a (opposite-answer c b .class)
 
--- R for a class that is the opposite of the next older one, else M for a neutral one, else -
+-- is a class neutral?
+unfoldable pub neutral : Class → Bool
+neutral a = eqb (a .degree) 0
+
+-- is there a next older operation, and does this hold of it?
+unfoldable pub next-older : (Class → Bool) → List Class → Bool
+next-older holds [] = false
+next-older holds (b ∷ older) = holds b
+
+-- M for a neutral class, else R for one that is the opposite of the next older one, else -
 unfoldable pub mark : Bool → Class → ℕ
-mark opposes a = cond opposes 0x52 (cond (eqb (a .degree) 0) 0x4D 0x2D)
+mark opposes a = cond (neutral a) 0x4D (cond opposes 0x52 0x2D)
 
 -- the letter of an operation, given the older ones, newest first
 unfoldable pub letter : Curve → Class → List Class → ℕ
-letter c a [] = mark false a
-letter c a (b ∷ older) = mark (opposed c a b) a
+letter c a older = mark (next-older (opposed c a) older) a
 
 -- the letters of operations, newest first
 unfoldable pub letters : Curve → List Class → List ℕ

@@ -1,21 +1,9 @@
 // The letters of the report's lines.
 ghost use mathlib.Core.Path.{_≡_};
+ghost use mathlib.Core.Bool.{_&&_};
 ghost use Rattle.walk_report.specs.Walk.{opposed, mark};
 use jacobian::Class;
 use jacobian::Curve;
-
-// R for a class that is the opposite of the next older one, else M for a neutral one, else -.
-pub(crate) fn mark(opposes: bool, a: Class) -> u8
-    ensures { λ r. ⌜ r ≡ mark opposes a ⌝ }
-{
-    if opposes {
-        return b'R';
-    }
-    if a.degree == 0 {
-        return b'M';
-    }
-    b'-'
-}
 
 // Is a class the opposite of another?
 pub(crate) fn opposed(curve: Curve, a: Class, b: Class) -> bool
@@ -24,4 +12,20 @@ pub(crate) fn opposed(curve: Curve, a: Class, b: Class) -> bool
     let o = jacobian::opposite(curve, b);
     let c = o.class;
     jacobian::classes::same_class(a, c)
+}
+
+// M for a neutral class, else R for one that is the opposite of the next older one, where one is kept, else -.
+pub(crate) fn letter(curve: Curve, a: Class, kept: bool, older: Class) -> u8
+    ensures { λ r. ⌜ r ≡ mark (kept && opposed curve a older) a ⌝ }
+{
+    if a.degree == 0 {
+        return b'M';
+    }
+    if !kept {
+        return b'-';
+    }
+    if opposed(curve, a, older) {
+        return b'R';
+    }
+    b'-'
 }

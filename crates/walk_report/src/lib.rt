@@ -8,7 +8,7 @@ ghost use lib.ListN.{take};
 ghost use Rattle.stored_form.specs.{Head.drawing-limit, Held.drawing-name};
 ghost use Rattle.text.specs.Line.{in-line};
 ghost use Rattle.walk_report.specs.Lines.{line, first-line};
-ghost use Rattle.walk_report.specs.Steps.{with-stage, with-seal, moved, older, advanced, undoing, letter-before, made, undone, next-line, refused-report, opened, pending};
+ghost use Rattle.walk_report.specs.Steps.{with-stage, moved, older, advanced, undoing, letter-before, made, undone, next-line, refused-report, opened, pending};
 
 mod letters;
 mod lines;
@@ -138,12 +138,8 @@ fn letter_before(curve: Curve, a: Class, r: Report) -> u8
     ensures { λ b. ⌜ b ≡ letter-before curve a r ⌝ }
 {
     let stage = r.stage;
-    if undoing(stage) {
-        let older = r.operation;
-        let opposes = letters::opposed(curve, a, older);
-        return letters::mark(opposes, a);
-    }
-    letters::mark(false, a)
+    let older = r.operation;
+    letters::letter(curve, a, undoing(stage), older)
 }
 
 // How many operations of so many are undone where some are still to be read.

@@ -1,0 +1,90 @@
+-- The letters of the report's lines (docs/SPECIFICATION.md, 10.3).
+-- `operation-line`: the line with k + 1 operations undone has the letter of the operation at place k, where the newest is at place 0.
+-- `letter-moves`: which letters changed when M came to be tested before R (docs/changes/05.md). It is about accepted classes, as those of an archive are
+-- (`operations-accepted`).
+use Prim.Native.Nat.{ℕ, zero, suc, _+_, _<_}
+use mathlib.Core.Path.{_≡_, refl, sym, ap, ap₂, _∙_}
+use mathlib.Core.Bool.{Bool, true, false, cond, _&&_, true≢false}
+use mathlib.Core.List.{List, [], _∷_}
+use native.Mathlib.Omega.{arith}
+use lib.ListN.{length, getD, drop}
+use borrow.Author.Tests.{eq-eqb, ne-eqb, eqb-true}
+use Rattle.class_group.specs.Walk.{All, more, walk}
+use Rattle.jacobian.specs.{Classes.same-row, Classes.same-class, Answer.Accepts, Answer.neutral-class, Answer.opposite-answer, declared.Curve.Curve, declared.Class.Class}
+use Rattle.jacobian.proofs.Calls.{only-neutral, opposite-accepts, opposite-degree}
+use Rattle.stored_form.specs.Reading.{found}
+use Rattle.history.specs.Register.{undo-seal}
+use Rattle.archive.specs.Archive.{Archive, read-archive}
+use Rattle.walk_report.specs.{Lines.line, Walk.seals, Walk.opposed, Walk.neutral, Walk.next-older, Walk.mark, Walk.letter, Walk.letters}
+use Rattle.walk_report.specs.Report.{seal-lines, walk-lines, lines-of, report-lines}
+use Rattle.report_theorems.proofs.ReportMade.{later-lines, lines-from}
+
+-- ---- where a letter stands
+
+module _ (c : Curve) where
+  first-seal : (seal : Class) (ops : List Class) → getD (seals c seal ops) 0 neutral-class ≡ seal
+  unfolding seals walk
+  first-seal seal [] = refl
+  first-seal seal (a ∷ older) = refl
+
+  lettered : (k i n m : ℕ) (seal : Class) (ops : List Class) → k < length ops → n ≡ i + suc k →
+      getD (seal-lines i (m ∷ letters c ops) (seals c seal ops)) (suc k) []
+      ≡ line n (letter c (getD ops k neutral-class) (drop (suc k) ops)) (getD (seals c seal ops) (suc k) neutral-class)
+  unfolding later-lines letters seals walk
+  lettered k i n m seal [] h e = absurd (omega (arith, h))
+  lettered zero i n m seal (a ∷ older) h e =
+      let before : Class = undo-seal c seal a in
+      ap (λ (l : List (List ℕ)). getD l 1 []) (lines-from c i m seal (a ∷ older))
+      ∙ ap (λ (l : List (List ℕ)). getD l 0 []) (lines-from c (i + 1) (letter c a older) before older)
+      ∙ ap₂ (λ (j : ℕ) (x : Class). line j (letter c a older) x) (sym e) (sym (first-seal before older))
+  lettered (suc k) i n m seal (a ∷ older) h e =
+      ap (λ (l : List (List ℕ)). getD l (suc (suc k)) []) (lines-from c i m seal (a ∷ older))
+      ∙ lettered k (i + 1) n (letter c a older) (undo-seal c seal a) older (omega (arith, h)) (omega (arith, e))
+
+pub operation-line : (s : List ℕ) {x : Archive} {end : ℕ} → read-archive s ≡ found x end → (k : ℕ) → k < length (x .operations) →
+    getD (report-lines s) (suc (suc k)) []
+    ≡ line (suc k) (letter (x .curve) (getD (x .operations) k neutral-class) (drop (suc k) (x .operations)))
+    (getD (seals (x .curve) (x .seal) (x .operations)) (suc k) neutral-class)
+unfolding report-lines lines-of walk-lines
+operation-line s {x} reads k h =
+    ap (λ r. getD (lines-of r) (suc (suc k)) []) reads
+    ∙ lettered (x .curve) k 0 (suc k) 0x2E (x .seal) (x .operations) h (omega arith)
+
+-- ---- M before R
+
+module _ {c : Curve} where
+  -- a neutral class is the opposite of the neutral ones alone
+  opposed-neutral : {a b : Class} → Accepts c a → Accepts c b → neutral a ≡ true → opposed c a b ≡ neutral b
+  unfolding opposed neutral same-class same-row neutral-class
+  opposed-neutral {a} {b} ha hb e =
+      ap (λ (x : Class). same-class x (opposite-answer c b .class)) (only-neutral c ha (eqb-true (a .degree) 0 e))
+      ∙ go (opposite-answer c b .class) (opposite-accepts c hb) (opposite-degree c hb) (b .degree) refl
+    where
+      go : (o : Class) → Accepts c o → o .degree ≡ b .degree → (n : ℕ) → b .degree ≡ n → same-class neutral-class o ≡ neutral b
+      go o ho same zero z = ap (same-class neutral-class) (only-neutral c ho (same ∙ z)) ∙ sym (eq-eqb (b .degree) 0 z)
+      go o ho same (suc n) z = rw (same, z, ne-eqb 0 (suc n) (λ h. omega arith), ne-eqb (suc n) 0 (λ h. omega arith))
+
+  next-opposed : {a : Class} {older : List Class} → Accepts c a → All (Accepts c) older → neutral a ≡ true → next-older (opposed c a) older ≡ next-older neutral older
+  unfolding next-older
+  next-opposed {older = []} ha hs e = refl
+  next-opposed {older = b ∷ older} ha (more hb hs) e = opposed-neutral ha hb e
+
+  -- `was` is the letter as it was, with R before M: where the operation and the next older one are not both neutral it has stayed, where both are it was R
+  -- and is M
+  pub letter-moves : {a : Class} {older : List Class} → Accepts c a → All (Accepts c) older →
+      let was : ℕ = cond (next-older (opposed c a) older) 0x52 (cond (neutral a) 0x4D 0x2D) in
+      let both = neutral a && next-older neutral older in
+      (both ≡ false → letter c a older ≡ was) × (both ≡ true → (was ≡ 0x52) × (letter c a older ≡ 0x4D))
+  unfolding letter mark
+  letter-moves {a} {older} ha hs = go (neutral a) (next-older (opposed c a) older) (next-older neutral older) (next-opposed ha hs)
+    where
+      go : (n t q : Bool) → (n ≡ true → t ≡ q) →
+          let was : ℕ = cond t 0x52 (cond n 0x4D 0x2D) in
+          let is : ℕ = cond n 0x4D (cond t 0x52 0x2D) in
+          ((n && q) ≡ false → is ≡ was) × ((n && q) ≡ true → (was ≡ 0x52) × (is ≡ 0x4D))
+      go true true true h = (λ e. absurd (true≢false e), λ e. (refl, refl))
+      go true true false h = absurd (true≢false (h refl))
+      go true false true h = absurd (true≢false (sym (h refl)))
+      go true false false h = (λ e. refl, λ e. absurd (true≢false (sym e)))
+      go false true q h = (λ e. refl, λ e. absurd (true≢false (sym e)))
+      go false false q h = (λ e. refl, λ e. absurd (true≢false (sym e)))
