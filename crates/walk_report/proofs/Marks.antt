@@ -1,19 +1,27 @@
--- The letters: what the tests of the code say of the definitions.
+-- The letters: what the tests of the code say of the definitions, for a `search` that takes them in any order (`marks`).
 use Prim.Native.Nat.{ℕ}
 use mathlib.Core.Path.{_≡_}
-use mathlib.Core.Bool.{Bool, true, false}
-use borrow.Author.Tests.{eq-eqb, ne-eqb}
+use mathlib.Core.Bool.{Bool, true, false, not, _&&_}
+use borrow.Author.Tests.{eq-eqb, ne-eqb, not-true, not-false}
 use Rattle.jacobian.specs.declared.Class.{Class}
 use Rattle.walk_report.specs.Walk.{neutral, mark}
 
-pub mark-m : (t : Bool) (a : Class) → a .degree ≡ 0 → _≡_ {A = ℕ} 77 (mark t a)
-unfolding mark neutral
-mark-m t a h = rw (eq-eqb (a .degree) 0 h)
+module _ (kept opposes : Bool) (a : Class) where
+  pub mark-m : a .degree ≡ 0 → _≡_ {A = ℕ} 77 (mark (kept && opposes) a)
+  unfolding mark neutral
+  mark-m h = rw (eq-eqb (a .degree) 0 h)
 
-pub mark-r : {t : Bool} (a : Class) → (a .degree ≡ 0 → ⊥) → t ≡ true → _≡_ {A = ℕ} 82 (mark t a)
-unfolding mark neutral
-mark-r a h e = rw (ne-eqb (a .degree) 0 h, e)
+  pub mark-alone : (a .degree ≡ 0 → ⊥) → not kept ≡ true → _≡_ {A = ℕ} 45 (mark (kept && opposes) a)
+  unfolding mark neutral
+  mark-alone h e = rw (ne-eqb (a .degree) 0 h, not-true kept e)
 
-pub mark-other : {t : Bool} (a : Class) → (a .degree ≡ 0 → ⊥) → t ≡ false → _≡_ {A = ℕ} 45 (mark t a)
-unfolding mark neutral
-mark-other a h e = rw (ne-eqb (a .degree) 0 h, e)
+  -- r is what the code found of it
+  pub mark-r : {r : Bool} → (a .degree ≡ 0 → ⊥) → not kept ≡ false → r ≡ opposes → r ≡ true → _≡_ {A = ℕ} 82 (mark (kept && opposes) a)
+  unfolding mark neutral
+  mark-r h e f t = rw (ne-eqb (a .degree) 0 h, not-false kept e, ← f, t)
+
+  pub mark-other : {r : Bool} → (a .degree ≡ 0 → ⊥) → not kept ≡ false → r ≡ opposes → r ≡ false → _≡_ {A = ℕ} 45 (mark (kept && opposes) a)
+  unfolding mark neutral
+  mark-other h e f t = rw (ne-eqb (a .degree) 0 h, not-false kept e, ← f, t)
+
+pub ruleset marks = (mark-m, mark-alone, mark-r, mark-other)
