@@ -6,7 +6,8 @@
 //! - `full`: 1,024 operations over GF(2^61).
 //! - `low-degrees`: seals over GF(2^61) between which the walk halves from and to every degree.
 //! - `views`: view changes, which are stored as neutral operations: one after another, after an operation that is not one,
-//!   as the oldest operation and as the newest; an operation and its opposite among them.
+//!   as the oldest operation and as the newest; operations with their opposites next to them, and one with a view change
+//!   between it and its opposite.
 //!
 //! And those in examples/failures/, which lines of docs/CHECKLIST.md catch:
 //!
@@ -100,9 +101,12 @@ fn views() -> (Class, Archive) {
     let mut random = Random::new(85);
     let curve = Curve::drawn(&mut random, WIDE);
     let [hole, slot, bend] = [1, 2, 3].map(|number| of_points(&mut random, &curve, number));
-    let (view, unbend) = (Class::neutral(), curve.opposite(&bend));
-    let operations =
-        [&view, &view, &slot, &view, &view, &view, &bend, &unbend, &view, &hole, &view, &view].map(Class::clone);
+    let (view, unbend, unhole) = (Class::neutral(), curve.opposite(&bend), curve.opposite(&hole));
+    let operations = [
+        &view, &view, &slot, &view, &view, &view, &bend, &unbend, &bend, &view, &unbend, &hole, &unhole, &view,
+        &view,
+    ]
+    .map(Class::clone);
     let first = of_points(&mut random, &curve, 3);
     let archive = committed(curve, "COVER 31 / 4 VIEWS", &first, &operations);
     (first, archive)
@@ -179,7 +183,7 @@ mod tests {
         };
         assert_eq!(of_lines(&dozen), ".--R-MMRR--M-");
         assert!(dozen.lines().next_back().unwrap().starts_with("12 - 0::"));
-        assert_eq!(of_lines(&report(&views.bytes())), ".MM-MR-MMM-MM");
+        assert_eq!(of_lines(&report(&views.bytes())), ".MMR--MRR-MMM-MM");
     }
 
     /// Every case of halving, by the degrees of a class and of its half, newest first.

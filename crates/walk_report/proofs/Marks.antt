@@ -1,6 +1,6 @@
 -- The letters: what the tests of the code say of the definitions, for a `search` that takes them in any order (`marks`).
 use Prim.Native.Nat.{ℕ}
-use mathlib.Core.Path.{_≡_}
+use mathlib.Core.Path.{_≡_, ap, _∙_}
 use mathlib.Core.Bool.{Bool, true, false, not, _&&_}
 use borrow.Author.Tests.{eq-eqb, ne-eqb, not-true, not-false}
 use Rattle.jacobian.specs.declared.Class.{Class}
@@ -24,4 +24,8 @@ module _ (kept opposes : Bool) (a : Class) where
   unfolding mark neutral
   mark-other h e f t = rw (ne-eqb (a .degree) 0 h, not-false kept e, ← f, t)
 
-pub ruleset marks = (mark-m, mark-alone, mark-r, mark-other)
+  -- the same letter, where the code found out whether an older one is kept
+  pub mark-found : {r : ℕ} {k : Bool} → r ≡ mark (k && opposes) a → k ≡ kept → r ≡ mark (kept && opposes) a
+  mark-found e f = e ∙ ap (λ (b : Bool). mark (b && opposes) a) f
+
+pub ruleset marks = (mark-m, mark-alone, mark-r, mark-other, mark-found)
