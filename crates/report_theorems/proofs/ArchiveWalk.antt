@@ -1,6 +1,6 @@
 -- The walk of any accepted archive, whatever calls made it (docs/SPECIFICATION.md, 10).
--- `operations-accepted`: its operations are classes of its curve. `walk-accepted`: no step of the walk over its operations, newest first, from its last seal, is refused. `walk-seals`: its seals are the last one and what
--- the steps answer. `report-seals`: the report's lines speak of these seals.
+-- `operations-accepted`: its operations are classes of its curve. `walk-accepted`: no step of the walk over them, newest first, from its last seal, is refused.
+-- `walk-seals`: its seals are the last one and what the steps answer. `report-seals`: the report's lines speak of these seals.
 use Prim.Native.Nat.{ℕ, zero, suc}
 use mathlib.Core.Path.{_≡_, ap, _∙_, sym, subst}
 use mathlib.Core.List.{List, [], _∷_, map}

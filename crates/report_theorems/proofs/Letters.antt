@@ -1,25 +1,26 @@
--- The letters of the report's lines (docs/SPECIFICATION.md, 10.3).
--- `operation-line`: the line with k + 1 operations undone has the letter of the operation at place k, where the newest is at place 0.
--- `letter-moves`: which letters changed when M came to be tested before R (docs/changes/05.md). It is about accepted classes, as those of an archive are
--- (`operations-accepted`).
+-- The lines of the report of an accepted archive, one by one, and their letters (docs/SPECIFICATION.md, 10.3).
+-- `line-count`: it has two lines more than the archive has operations. `opening-lines`: the first two, in which no operation has a letter. `operation-line`:
+-- the line with k + 1 operations undone has the letter of the operation at place k, where the newest is at place 0.
+-- `letter-moves`: which of these letters changed when M came to be tested before R (docs/changes/05.md).
 use Prim.Native.Nat.{ℕ, zero, suc, _+_, _<_}
 use mathlib.Core.Path.{_≡_, refl, sym, ap, ap₂, _∙_}
 use mathlib.Core.Bool.{Bool, true, false, cond, _&&_, true≢false}
 use mathlib.Core.List.{List, [], _∷_}
 use native.Mathlib.Omega.{arith}
-use lib.ListN.{length, getD, drop}
+use lib.ListN.{length, getD, take, drop}
 use borrow.Author.Tests.{eq-eqb, ne-eqb, eqb-true}
 use Rattle.class_group.specs.Walk.{All, more, walk}
+use Rattle.class_group.proofs.All.{all-at, all-drop}
 use Rattle.jacobian.specs.{Classes.same-row, Classes.same-class, Answer.Accepts, Answer.neutral-class, Answer.opposite-answer, declared.Curve.Curve, declared.Class.Class}
 use Rattle.jacobian.proofs.Calls.{only-neutral, opposite-accepts, opposite-degree}
 use Rattle.stored_form.specs.Reading.{found}
 use Rattle.history.specs.Register.{undo-seal}
 use Rattle.archive.specs.Archive.{Archive, read-archive}
-use Rattle.walk_report.specs.{Lines.line, Walk.seals, Walk.opposed, Walk.neutral, Walk.next-older, Walk.mark, Walk.letter, Walk.letters}
+use Rattle.walk_report.specs.{Lines.line, Lines.first-line, Walk.seals, Walk.opposed, Walk.neutral, Walk.next-older, Walk.mark, Walk.letter, Walk.letters}
 use Rattle.walk_report.specs.Report.{seal-lines, walk-lines, lines-of, report-lines}
-use Rattle.report_theorems.proofs.ReportMade.{later-lines, lines-from}
+use Rattle.report_theorems.proofs.{ArchiveWalk.operations-accepted, ReportMade.later-lines, ReportMade.lines-from}
 
--- ---- where a letter stands
+-- ---- the lines, one by one
 
 module _ (c : Curve) where
   first-seal : (seal : Class) (ops : List Class) → getD (seals c seal ops) 0 neutral-class ≡ seal
@@ -41,14 +42,35 @@ module _ (c : Curve) where
       ap (λ (l : List (List ℕ)). getD l (suc (suc k)) []) (lines-from c i m seal (a ∷ older))
       ∙ lettered k (i + 1) n (letter c a older) (undo-seal c seal a) older (omega (arith, h)) (omega (arith, e))
 
-pub operation-line : (s : List ℕ) {x : Archive} {end : ℕ} → read-archive s ≡ found x end → (k : ℕ) → k < length (x .operations) →
-    getD (report-lines s) (suc (suc k)) []
-    ≡ line (suc k) (letter (x .curve) (getD (x .operations) k neutral-class) (drop (suc k) (x .operations)))
-    (getD (seals (x .curve) (x .seal) (x .operations)) (suc k) neutral-class)
-unfolding report-lines lines-of walk-lines
-operation-line s {x} reads k h =
-    ap (λ r. getD (lines-of r) (suc (suc k)) []) reads
-    ∙ lettered (x .curve) k 0 (suc k) 0x2E (x .seal) (x .operations) h (omega arith)
+  counted : (i m : ℕ) (seal : Class) (ops : List Class) → length (seal-lines i (m ∷ letters c ops) (seals c seal ops)) ≡ suc (length ops)
+  unfolding later-lines letters seals walk
+  counted i m seal [] = ap length (lines-from c i m seal [])
+  counted i m seal (a ∷ older) =
+      ap length (lines-from c i m seal (a ∷ older)) ∙ ap suc (counted (i + 1) (letter c a older) (undo-seal c seal a) older)
+
+-- all lines of the report
+module _ (s : List ℕ) {x : Archive} {end : ℕ} (reads : read-archive s ≡ found x end) where
+  pub line-count : length (report-lines s) ≡ length (x .operations) + 2
+  unfolding report-lines lines-of walk-lines
+  line-count =
+      ap (λ r. length (lines-of r)) reads
+      ∙ ap suc (counted (x .curve) 0 0x2E (x .seal) (x .operations))
+      ∙ omega arith
+
+  pub opening-lines : take 2 (report-lines s) ≡ first-line (length (x .operations)) (x .drawing) ∷ line 0 0x2E (x .seal) ∷ []
+  unfolding report-lines lines-of walk-lines
+  opening-lines =
+      ap (λ r. take 2 (lines-of r)) reads
+      ∙ ap (λ (l : List (List ℕ)). first-line (length (x .operations)) (x .drawing) ∷ take 1 l) (lines-from (x .curve) 0 0x2E (x .seal) (x .operations))
+
+  pub operation-line : (k : ℕ) → k < length (x .operations) →
+      getD (report-lines s) (suc (suc k)) []
+      ≡ line (suc k) (letter (x .curve) (getD (x .operations) k neutral-class) (drop (suc k) (x .operations)))
+      (getD (seals (x .curve) (x .seal) (x .operations)) (suc k) neutral-class)
+  unfolding report-lines lines-of walk-lines
+  operation-line k h =
+      ap (λ r. getD (lines-of r) (suc (suc k)) []) reads
+      ∙ lettered (x .curve) k 0 (suc k) 0x2E (x .seal) (x .operations) h (omega arith)
 
 -- ---- M before R
 
@@ -69,22 +91,28 @@ module _ {c : Curve} where
   next-opposed {older = []} ha hs e = refl
   next-opposed {older = b ∷ older} ha (more hb hs) e = opposed-neutral ha hb e
 
-  -- `was` is the letter as it was, with R before M: where the operation and the next older one are not both neutral it has stayed, where both are it was R
-  -- and is M
-  pub letter-moves : {a : Class} {older : List Class} → Accepts c a → All (Accepts c) older →
-      let was : ℕ = cond (next-older (opposed c a) older) 0x52 (cond (neutral a) 0x4D 0x2D) in
-      let both = neutral a && next-older neutral older in
-      (both ≡ false → letter c a older ≡ was) × (both ≡ true → (was ≡ 0x52) × (letter c a older ≡ 0x4D))
-  unfolding letter mark
-  letter-moves {a} {older} ha hs = go (neutral a) (next-older (opposed c a) older) (next-older neutral older) (next-opposed ha hs)
-    where
-      go : (n t q : Bool) → (n ≡ true → t ≡ q) →
-          let was : ℕ = cond t 0x52 (cond n 0x4D 0x2D) in
-          let is : ℕ = cond n 0x4D (cond t 0x52 0x2D) in
-          ((n && q) ≡ false → is ≡ was) × ((n && q) ≡ true → (was ≡ 0x52) × (is ≡ 0x4D))
-      go true true true h = (λ e. absurd (true≢false e), λ e. (refl, refl))
-      go true true false h = absurd (true≢false (h refl))
-      go true false true h = absurd (true≢false (sym (h refl)))
-      go true false false h = (λ e. refl, λ e. absurd (true≢false (sym e)))
-      go false true q h = (λ e. refl, λ e. absurd (true≢false (sym e)))
-      go false false q h = (λ e. refl, λ e. absurd (true≢false (sym e)))
+-- the letters of both orders, by what is found: n whether the operation is neutral, t whether it is the opposite of the next older one, q whether that one is
+-- neutral
+swapped : (n t q : Bool) → (n ≡ true → t ≡ q) →
+    let was : ℕ = cond t 0x52 (cond n 0x4D 0x2D) in
+    let is : ℕ = cond n 0x4D (cond t 0x52 0x2D) in
+    ((n && q) ≡ false → is ≡ was) × ((n && q) ≡ true → (was ≡ 0x52) × (is ≡ 0x4D))
+swapped true true true h = (λ e. absurd (true≢false e), λ e. (refl, refl))
+swapped true true false h = absurd (true≢false (h refl))
+swapped true false true h = absurd (true≢false (sym (h refl)))
+swapped true false false h = (λ e. refl, λ e. absurd (true≢false (sym e)))
+swapped false true q h = (λ e. refl, λ e. absurd (true≢false (sym e)))
+swapped false false q h = (λ e. refl, λ e. absurd (true≢false (sym e)))
+
+-- of the operation at place k, `was` is the letter as it was, with R before M: where the operation and the next older one are not both neutral it has stayed,
+-- where both are it was R and is M
+pub letter-moves : (s : List ℕ) {x : Archive} {end : ℕ} → read-archive s ≡ found x end → (k : ℕ) → k < length (x .operations) →
+    let a = getD (x .operations) k neutral-class in
+    let older = drop (suc k) (x .operations) in
+    let was : ℕ = cond (next-older (opposed (x .curve) a) older) 0x52 (cond (neutral a) 0x4D 0x2D) in
+    let both = neutral a && next-older neutral older in
+    (both ≡ false → letter (x .curve) a older ≡ was) × (both ≡ true → (was ≡ 0x52) × (letter (x .curve) a older ≡ 0x4D))
+unfolding letter mark
+letter-moves s {x} reads k h =
+    let all = operations-accepted s reads in
+    swapped _ _ _ (next-opposed (all-at k neutral-class h all) (all-drop (suc k) all))

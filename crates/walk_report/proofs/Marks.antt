@@ -15,7 +15,7 @@ module _ (kept opposes : Bool) (a : Class) where
   unfolding mark neutral
   mark-alone h e = rw (ne-eqb (a .degree) 0 h, not-true kept e)
 
-  -- r is what the code found of it
+  -- r is what the code found, asked whether the class is the opposite of the older one
   pub mark-r : {r : Bool} → (a .degree ≡ 0 → ⊥) → not kept ≡ false → r ≡ opposes → r ≡ true → _≡_ {A = ℕ} 82 (mark (kept && opposes) a)
   unfolding mark neutral
   mark-r h e f t = rw (ne-eqb (a .degree) 0 h, not-false kept e, ← f, t)
