@@ -18,9 +18,16 @@ static uint64_t clmul32(uint64_t a, uint64_t b) {
     return r;
 }
 
+/* the bits of a number, each a factor 0 or 1 of m, eight places apart in one product */
+static uint64_t multiples(uint64_t bits, uint64_t m) {
+    uint64_t sum = 0;
+    for (int i = 0; i < 8; i++) sum ^= (bits & UINT64_C(0x01010101010101) << i) * m;
+    return sum;
+}
+
 static uint64_t fold(uint64_t lo, uint64_t hi) {
-    uint64_t t = hi ^ hi >> 60 ^ hi >> 59 ^ hi >> 56;
-    return (lo ^ t ^ t << 1 ^ t << 2 ^ t << 5) & MASK;
+    uint64_t first = multiples(hi >> 56, 39);
+    return lo ^ (first & 31) << 56 ^ multiples((hi & UINT64_C(0xffffffffffffff)) ^ first >> 5, 39);
 }
 
 uint64_t plain_product(uint64_t a, uint64_t b) {

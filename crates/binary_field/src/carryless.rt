@@ -52,27 +52,53 @@ pub(crate) fn wide_product(a: u64, b: u64) -> Words
     }
 }
 
-// The remainder modulo the modulus of degree d. The digits from d on, and what they carry past d once more, are folded together:
-// times the modulus below its leading term, added to the d lowest.
-pub(crate) fn fold(d: u8, w: Words) -> u64
-    requires { ⌜ Accepted d × (w .lo < 2 ^ 61) × (w .hi * 2 ^ 61 + w .lo < 2 ^ (d + d)) ⌝ }
-    ensures { λ r. ⌜ r ≡ remainder d (low d) (w .hi * 2 ^ 61 + w .lo) ⌝ }
+// The bits of a number of 56 bits, each a factor 0 or 1 of m, which has 8, and its multiple added where it belongs: the carry-less
+// product. Bits that are eight places apart share an integer product, for their multiples do not meet, and nothing is carried.
+fn multiples(bits: u64, m: u64) -> u64
+    requires { ⌜ (bits < 2 ^ 56) × (m < 2 ^ 8) ⌝ }
+    ensures { λ r. ⌜ r ≡ clmul bits m ⌝ }
 {
-    let lo = w.lo;
-    if d == 5 {
-        let h = lo >> 5;
-        let t = h ^ (h >> 3);
-        return (lo ^ (t ^ (t << 2))) & 0x1f;
-    }
-    let hi = w.hi;
-    let t = hi ^ ((hi >> 60) ^ ((hi >> 59) ^ (hi >> 56)));
-    (lo ^ ((t ^ (t << 1)) ^ ((t << 2) ^ (t << 5)))) & 0x1fff_ffff_ffff_ffff
+    let m0 = (bits & 0x01_0101_0101_0101) * m;
+    let m1 = (bits & 0x02_0202_0202_0202) * m;
+    let m2 = (bits & 0x04_0404_0404_0404) * m;
+    let m3 = (bits & 0x08_0808_0808_0808) * m;
+    let m4 = (bits & 0x10_1010_1010_1010) * m;
+    let m5 = (bits & 0x20_2020_2020_2020) * m;
+    let m6 = (bits & 0x40_4040_4040_4040) * m;
+    let m7 = (bits & 0x80_8080_8080_8080) * m;
+    ((m0 ^ m1) ^ (m2 ^ m3)) ^ ((m4 ^ m5) ^ (m6 ^ m7))
 }
 
-// The product of two elements. No branch, loop end or index hangs on an element.
+// The remainder modulo t^5 + t^2 + 1. The multiples of the high bits reach past t^4 in turn, and what does is folded once more.
+pub(crate) fn fold_5(n: u64) -> u64
+    requires { ⌜ n < 2 ^ 10 ⌝ }
+    ensures { λ r. ⌜ r ≡ remainder 5 (low 5) n ⌝ }
+{
+    let first = multiples(n >> 5, 0b101);
+    let second = multiples(first >> 5, 0b101);
+    ((n & 0x1f) ^ (first & 0x1f)) ^ second
+}
+
+// The remainder modulo t^61 + t^5 + t^2 + t + 1. The bits from t^117 on, whose multiples reach past t^60, are folded first, one by
+// one; then all that are left, whose multiples do not.
+pub(crate) fn fold_61(w: Words) -> u64
+    requires { ⌜ (w .lo < 2 ^ 61) × (w .hi * 2 ^ 61 + w .lo < 2 ^ 122) ⌝ }
+    ensures { λ r. ⌜ r ≡ remainder 61 (low 61) (w .hi * 2 ^ 61 + w .lo) ⌝ }
+{
+    let lo = w.lo;
+    let hi = w.hi;
+    let first = multiples(hi >> 56, 0b10_0111);
+    let second = multiples((hi & 0xff_ffff_ffff_ffff) ^ (first >> 5), 0b10_0111);
+    (lo ^ ((first & 0x1f) << 56)) ^ second
+}
+
+// The product of two elements. The degree is asked for first: no branch, loop end or index hangs on an element, and none follows.
 pub(crate) fn product_of(d: u8, a: u64, b: u64) -> u64
     requires { ⌜ Accepted d × (a < 2 ^ d) × (b < 2 ^ d) ⌝ }
     ensures { λ r. ⌜ r ≡ product d a b ⌝ }
 {
-    fold(d, wide_product(a, b))
+    if d == 5 {
+        return fold_5(clmul32(a, b));
+    }
+    fold_61(wide_product(a, b))
 }

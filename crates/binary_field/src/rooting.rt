@@ -46,7 +46,7 @@ fn times_root_of_t(d: u8, n: u64) -> u64
     if d == 5 {
         return carryless::product_of(5, n, 0x1b);
     }
-    carryless::fold(61, wide_times_root(n))
+    carryless::fold_61(wide_times_root(n))
 }
 
 // The square root of an element, from its digits at even and at odd places.

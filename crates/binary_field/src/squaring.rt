@@ -12,13 +12,13 @@ pub(crate) fn square_of(d: u8, a: u64, table: &[u16; 256]) -> u64
     requires { ⌜ Accepted d × (a < 2 ^ d) × Spreads (now table) ⌝ }
     ensures { λ r. ⌜ r ≡ square d a ⌝ }
 {
+    if d == 5 {
+        return carryless::fold_5(spreading::spread_32(a, table));
+    }
     let high = spreading::spread_32(a >> 32, table);
     let low = spreading::spread_32(a & 0xffff_ffff, table);
-    carryless::fold(
-        d,
-        Words {
-            lo: low & 0x1fff_ffff_ffff_ffff,
-            hi: (high << 3) ^ (low >> 61),
-        },
-    )
+    carryless::fold_61(Words {
+        lo: low & 0x1fff_ffff_ffff_ffff,
+        hi: (high << 3) ^ (low >> 61),
+    })
 }

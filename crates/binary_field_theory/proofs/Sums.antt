@@ -4,7 +4,7 @@ use Prim.Native.Nat.{ℕ, zero, suc, _+_, _*_, _/_, _%_, _^_, _<_}
 use mathlib.Core.Path.{_≡_, refl, sym, ap, ap₂, _∙_}
 use native.Mathlib.{Nat.mod-lt, Nat.add-zero, Nat.mul-comm, Nat.zero-mul, Nat.one-mul, Omega.arith}
 use lib.{Arith.bin-ind, Pow.pow-pos, Pow.split}
-use lib.Bits.{bitXor, bitAnd, and-shr, and-mod, xor-comm, xor-self, xor-zero-r, xor-lt, xor-shr, xor-mod, xor-block, xor-shifted}
+use lib.Bits.{bitXor, bitAnd, and-comm, and-shr, and-mod, xor-comm, xor-self, xor-zero-r, xor-lt, xor-shr, xor-mod, xor-block, xor-shifted}
 use Rattle.binary_field_theory.specs.Carryless.{_⊕_}
 
 -- a binary digit is 0 or 1
@@ -134,3 +134,6 @@ and-sum =
     ∙ sym (sum-half (bitAnd n m) (bitAnd b m) ∙ ap₂ _⊕_ (and-shr n m 1) (and-shr b m 1)))
     (and-mod (n ⊕ b) m 1 ∙ ap (λ (x : ℕ). bitAnd x (m % 2)) (sum-odd n b) ∙ and-sum-bits (n % 2) (bit-lt n) (b % 2) (bit-lt b) (m % 2) (bit-lt m)
     ∙ sym (sum-odd (bitAnd n m) (bitAnd b m) ∙ ap₂ _⊕_ (and-mod n m 1) (and-mod b m 1))))
+
+pub sum-mask : (a x y : ℕ) → bitAnd a (x ⊕ y) ≡ bitAnd a x ⊕ bitAnd a y
+sum-mask a x y = and-comm a (x ⊕ y) ∙ and-sum x y a ∙ ap₂ _⊕_ (and-comm x a) (and-comm y a)

@@ -5,6 +5,7 @@ pub mod Parts
 pub mod Columns
 pub mod Sizes
 pub mod Karatsuba
+pub mod Multiples
 pub mod Folding
 pub mod Table
 pub mod Halves

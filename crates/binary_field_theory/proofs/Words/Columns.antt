@@ -3,13 +3,10 @@
 use mathlib.Core.Path.{_≡_, refl, sym, ap₂, _∙_}
 use Prim.Native.Nat.{ℕ, _*_, _^_, _<_}
 use native.Mathlib.Nat.{mod-eq-of-lt}
-use lib.Bits.{bitAnd, and-mask, and-comm}
+use lib.Bits.{bitAnd, and-mask}
 use Rattle.binary_field_theory.specs.Carryless.{_⊕_, clmul}
-use Rattle.binary_field_theory.proofs.{Sums.sums, Sums.and-sum, Clmul.clmul-sum, Clmul.sum-clmul}
+use Rattle.binary_field_theory.proofs.{Sums.sums, Sums.and-sum, Sums.sum-mask, Clmul.clmul-sum, Clmul.sum-clmul}
 use Rattle.binary_field_theory.proofs.Words.Parts.{ones, part, near, far}
-
-sum-mask : (a x y : ℕ) → bitAnd a (x ⊕ y) ≡ bitAnd a x ⊕ bitAnd a y
-sum-mask a x y = and-comm a (x ⊕ y) ∙ and-sum x y a ∙ ap₂ _⊕_ (and-comm x a) (and-comm y a)
 
 -- a number of 32 bits is the sum of its four parts
 parts : (a : ℕ) → a < 2 ^ 32 → a ≡ (part 0 a ⊕ part 1 a) ⊕ (part 2 a ⊕ part 3 a)

@@ -1,99 +1,82 @@
--- Fast reduction in two rounds: the digits from d on, and what they carry past d once more, are folded together.
-use mathlib.Core.Path.{_≡_, refl, sym, ap, ap₂, _∙_}
+-- Folding in two rounds, modulo t^d + low where d = e + k. Of the digits from d on, those from d + k on are taken first, times low:
+-- what of these multiples lies below d is added there, and what reaches past it to the digits that are left, which are taken then.
+use mathlib.Core.Path.{_≡_, sym, ap, ap₂, _∙_}
 use Prim.Native.Nat.{ℕ, _+_, _-_, _*_, _/_, _%_, _^_, _<_}
-use native.Mathlib.{Omega.arith, Nat.mod-eq-of-lt, Nat.div-eq-of-lt, Nat.lt-of-lt-of-le}
-use lib.{Dec.lit<, Dec.lit≤, Pow.mod-mod-pow, Bits.bitAnd, Bits.and-mask}
+use native.Mathlib.{Omega.arith, Nat.add-comm, Nat.add-zero, Nat.lt-of-lt-of-le}
+use lib.{Dec.lit<, Dec.lit≤, Pow.high, Pow.low, Pow.shl-shr, Pow.shr-shr, Pow.mod-pow-add, Pow.pow-pos, Bits.bitAnd, Bits.and-mask, Bits.mask-lt}
 use Rattle.binary_field_theory.specs.Carryless.{_⊕_, clmul, remainder}
-use Rattle.binary_field_theory.proofs.{Sums.sums, Sums.zero-sum, Sums.sum-lt, Sums.sum-mod, Sums.sum-shr, Clmul.clmul-sum, Clmul.sum-clmul, Clmul.clmul-pow, Clmul.clmul-one, Remainder.remainder-fold, Remainder.remainder-small, Words.Sizes.clmul-lt}
+use Rattle.binary_field_theory.proofs.Sums.{sums, zero-sum, sum-lt, sum-split}
+use Rattle.binary_field_theory.proofs.{Clmul.sum-clmul, Clmul.shl-clmul, Remainder.remainder-fold, Remainder.remainder-sum, Remainder.remainder-small, Words.Sizes.clmul-lt}
 
--- the low digits of a sum come from those of its terms
-low-sum : (k x x' y y' : ℕ) → x % 2 ^ k ≡ x' % 2 ^ k → y % 2 ^ k ≡ y' % 2 ^ k → (x ⊕ y) % 2 ^ k ≡ (x' ⊕ y') % 2 ^ k
-low-sum k x x' y y' p q = sum-mod x y k ∙ ap₂ _⊕_ p q ∙ sym (sum-mod x' y' k)
+-- digits moved up by k: those from e + k on, and those below
+moved-high : (e k n : ℕ) → n * 2 ^ k / 2 ^ (e + k) ≡ n / 2 ^ e
+moved-high e k n =
+    ap (λ j. n * 2 ^ k / 2 ^ j) (add-comm e k) ∙ sym (shr-shr (n * 2 ^ k) k e) ∙ ap (λ x. x / 2 ^ e) (shl-shr n k)
 
--- h are the digits of n from d on, u is what they carry past d, and x has the low digits of n
-twice : (d low : ℕ) → low < 2 ^ d → (n h u x : ℕ) → n / 2 ^ d ≡ h → n % 2 ^ d ≡ x % 2 ^ d → clmul h low / 2 ^ d ≡ u
-    → clmul u low < 2 ^ d → (x ⊕ clmul (h ⊕ u) low) % 2 ^ d ≡ remainder d low n
-twice d low l n h u x eh ex eu hu =
-    simp (sum-clmul, sum-mod)
-    (sym
-    (remainder-fold d low l n
-    ∙ ap₂ (λ y z. remainder d low (clmul y low) ⊕ z) eh ex
-    ∙ ap (λ y. y ⊕ x % 2 ^ d)
-    (remainder-fold d low l (clmul h low) ∙ ap (λ y. remainder d low (clmul y low) ⊕ clmul h low % 2 ^ d) eu
-    ∙ ap (λ y. y ⊕ clmul h low % 2 ^ d) (remainder-small d low l (clmul u low) hu ∙ sym (mod-eq-of-lt hu)))
-    ∙ simp sums))
+moved-low : (e k n : ℕ) → n * 2 ^ k % 2 ^ (e + k) ≡ n % 2 ^ e * 2 ^ k
+moved-low e k n =
+    mod-pow-add (n * 2 ^ k) e k
+    ∙ ap₂ (λ x y. x % 2 ^ e * 2 ^ k + y) (shl-shr n k) (ap (λ x. x % 2 ^ k) (sym (add-zero (n * 2 ^ k))) ∙ low n k (pow-pos k))
+    ∙ add-zero _
 
--- the moduli of degree 61 and 5, below their leading terms
-times-39 : (t : ℕ) → clmul t 39 ≡ (t ⊕ t * 2 ^ 1) ⊕ (t * 2 ^ 2 ⊕ t * 2 ^ 5)
-unfolding _⊕_
-times-39 t =
-    clmul-sum t 3 36
-    ∙ ap₂ _⊕_ (clmul-sum t 1 2 ∙ ap₂ _⊕_ (clmul-one t) (clmul-pow t 1)) (clmul-sum t 4 32 ∙ ap₂ _⊕_ (clmul-pow t 2) (clmul-pow t 5))
+module _ (e k m : ℕ) (l : m < 2 ^ (e + k)) where
+  -- the first round: hi by its digits from k on, and those below
+  first-round : (hi : ℕ)
+      → remainder (e + k) m (clmul hi m)
+      ≡ remainder (e + k) m (clmul (hi % 2 ^ k ⊕ clmul (hi / 2 ^ k) m / 2 ^ e) m) ⊕ clmul (hi / 2 ^ k) m % 2 ^ e * 2 ^ k
+  first-round hi =
+      let first : ℕ = clmul (hi / 2 ^ k) m in
+      let split : clmul hi m ≡ first * 2 ^ k ⊕ clmul (hi % 2 ^ k) m =
+      ap (λ x. clmul x m) (sum-split hi k) ∙ sum-clmul (hi / 2 ^ k * 2 ^ k) (hi % 2 ^ k) m
+      ∙ ap (λ x. x ⊕ clmul (hi % 2 ^ k) m) (shl-clmul (hi / 2 ^ k) m k) in
+      let moved : remainder (e + k) m (first * 2 ^ k) ≡ remainder (e + k) m (clmul (first / 2 ^ e) m) ⊕ first % 2 ^ e * 2 ^ k =
+      remainder-fold (e + k) m l (first * 2 ^ k)
+      ∙ ap₂ (λ x y. remainder (e + k) m (clmul x m) ⊕ y) (moved-high e k first) (moved-low e k first) in
+      ap (remainder (e + k) m) split ∙ remainder-sum (e + k) m l (first * 2 ^ k) (clmul (hi % 2 ^ k) m)
+      ∙ ap (λ x. x ⊕ remainder (e + k) m (clmul (hi % 2 ^ k) m)) moved
+      ∙ simp (sum-clmul, remainder-sum (e + k) m l, sums)
 
-times-5 : (t : ℕ) → clmul t 5 ≡ t ⊕ t * 2 ^ 2
-unfolding _⊕_
-times-5 t = clmul-sum t 1 4 ∙ ap₂ _⊕_ (clmul-one t) (clmul-pow t 2)
+  -- both rounds, where the multiples of the second do not reach past d
+  pub two-rounds : (hi lo : ℕ) {first second : ℕ} → lo < 2 ^ (e + k) → first ≡ clmul (hi / 2 ^ k) m
+      → second ≡ clmul (hi % 2 ^ k ⊕ first / 2 ^ e) m → second < 2 ^ (e + k)
+      → (lo ⊕ first % 2 ^ e * 2 ^ k) ⊕ second ≡ remainder (e + k) m (hi * 2 ^ (e + k) + lo)
+  two-rounds hi lo {first} {second} hl ef es hs =
+      let small : remainder (e + k) m second ≡ second = remainder-small (e + k) m l second hs in
+      sym
+      (remainder-fold (e + k) m l (hi * 2 ^ (e + k) + lo)
+      ∙ ap₂ (λ x y. remainder (e + k) m (clmul x m) ⊕ y) (high hi (e + k) hl) (low hi (e + k) hl)
+      ∙ ap (λ x. x ⊕ lo) (first-round hi)
+      ∙ rw (← ef, ← es, small) (simp sums))
 
--- ---- what fold computes for degree 61
--- what the digits from 61 on carry past 61
-abbrev top : ℕ → ℕ
-top hi = hi / 2 ^ 60 ⊕ (hi / 2 ^ 59 ⊕ hi / 2 ^ 56)
+-- ---- what the code computes for degree 61: the bits from t^117 on are taken first
+module _ (hi first : ℕ) (hh : hi < 2 ^ 61) (ef : first ≡ clmul (hi / 2 ^ 56) 39) where
+  -- the bits that are left are 56
+  pub left-61 : bitAnd hi (2 ^ 56 - 1) ⊕ first / 2 ^ 5 < 2 ^ 56
+  left-61 =
+      let l : first < 2 ^ 10 = rw ef (clmul-lt 5 5 (hi / 2 ^ 56) 39 (omega arith) (lit< tt)) in
+      sum-lt 56 _ _ (mask-lt hi 56) (omega arith)
 
-top-carry : (hi : ℕ) → hi < 2 ^ 61 → clmul hi 39 / 2 ^ 61 ≡ top hi
-top-carry hi h =
-    let p : hi * 2 ^ 1 / 2 ^ 61 ≡ hi / 2 ^ 60 = omega arith in
-    let q : hi * 2 ^ 2 / 2 ^ 61 ≡ hi / 2 ^ 59 = omega arith in
-    let r : hi * 2 ^ 5 / 2 ^ 61 ≡ hi / 2 ^ 56 = omega arith in
-    ap (λ x. x / 2 ^ 61) (times-39 hi) ∙ sum-shr (hi ⊕ hi * 2 ^ 1) (hi * 2 ^ 2 ⊕ hi * 2 ^ 5) 61
-    ∙ ap₂ _⊕_ (sum-shr hi (hi * 2 ^ 1) 61 ∙ ap₂ _⊕_ (div-eq-of-lt h) p ∙ zero-sum (hi / 2 ^ 60))
-    (sum-shr (hi * 2 ^ 2) (hi * 2 ^ 5) 61 ∙ ap₂ _⊕_ q r)
+  pub fold-61 : (lo : ℕ) {second : ℕ} → lo < 2 ^ 61 → second ≡ clmul (bitAnd hi (2 ^ 56 - 1) ⊕ first / 2 ^ 5) 39
+      → (lo ⊕ bitAnd first (2 ^ 5 - 1) * 2 ^ 56 % 2 ^ 64) ⊕ second ≡ remainder 61 39 (hi * 2 ^ 61 + lo)
+  fold-61 lo {second} hl es =
+      let p : bitAnd first (2 ^ 5 - 1) * 2 ^ 56 % 2 ^ 64 ≡ first % 2 ^ 5 * 2 ^ 56 = rw (and-mask first 5) (omega arith) in
+      ap (λ x. (lo ⊕ x) ⊕ second) p
+      ∙ two-rounds 5 56 39 (lit< tt) hi lo hl ef (rw (and-mask hi 56) at es) (rw es (clmul-lt 56 5 _ 39 left-61 (lit< tt)))
 
-top-lt : (hi : ℕ) → hi < 2 ^ 61 → clmul (top hi) 39 < 2 ^ 61
-top-lt hi h =
-    lt-of-lt-of-le
-    (clmul-lt 5 5 (top hi) 39 (sum-lt 5 _ _ (omega arith) (sum-lt 5 _ _ (omega arith) (omega arith))) (lit< tt))
-    (lit≤ tt)
+-- ---- and for degree 5: all bits from t^5 on are taken first
+module _ (n first : ℕ) (hn : n < 2 ^ 10) (ef : first ≡ clmul (n / 2 ^ 5) 5) where
+  -- and two are left
+  pub left-5 : first / 2 ^ 5 < 2 ^ 2
+  left-5 = let l : first < 2 ^ 7 = rw ef (clmul-lt 5 2 (n / 2 ^ 5) 5 (omega arith) (lit< tt)) in omega arith
 
--- t times the modulus below its leading term, as shifts of 64-bit words give it
-abbrev shifts-61 : ℕ → ℕ
-shifts-61 t = (t ⊕ t * 2 ^ 1 % 2 ^ 64) ⊕ (t * 2 ^ 2 % 2 ^ 64 ⊕ t * 2 ^ 5 % 2 ^ 64)
-
-masked-61 : (x t : ℕ) → bitAnd (x ⊕ shifts-61 t) (2 ^ 61 - 1) ≡ (x ⊕ clmul t 39) % 2 ^ 61
-masked-61 x t =
-    and-mask (x ⊕ shifts-61 t) 61
-    ∙ low-sum 61 x x _ _ refl
-    (low-sum 61 _ _ _ _ (low-sum 61 t t _ _ refl (mod-mod-pow (t * 2 ^ 1) 3 61))
-    (low-sum 61 _ _ _ _ (mod-mod-pow (t * 2 ^ 2) 3 61) (mod-mod-pow (t * 2 ^ 5) 3 61)))
-    ∙ ap (λ y. (x ⊕ y) % 2 ^ 61) (sym (times-39 t))
-
-pub fold-61 : (hi lo : ℕ) → hi < 2 ^ 61 → lo < 2 ^ 61
-    → bitAnd (lo ⊕ shifts-61 (hi ⊕ top hi)) (2 ^ 61 - 1) ≡ remainder 61 39 (hi * 2 ^ 61 + lo)
-fold-61 hi lo hh hl =
-    let q : (hi * 2 ^ 61 + lo) / 2 ^ 61 ≡ hi = omega arith in
-    let r : (hi * 2 ^ 61 + lo) % 2 ^ 61 ≡ lo % 2 ^ 61 = omega arith in
-    masked-61 lo (hi ⊕ top hi) ∙ twice 61 39 (lit< tt) (hi * 2 ^ 61 + lo) hi (top hi) lo q r (top-carry hi hh) (top-lt hi hh)
-
--- ---- and for degree 5
-carry-5 : (h : ℕ) → h < 2 ^ 5 → clmul h 5 / 2 ^ 5 ≡ h / 2 ^ 3
-carry-5 h l =
-    let p : h * 2 ^ 2 / 2 ^ 5 ≡ h / 2 ^ 3 = omega arith in
-    ap (λ x. x / 2 ^ 5) (times-5 h) ∙ sum-shr h (h * 2 ^ 2) 5 ∙ ap₂ _⊕_ (div-eq-of-lt l) p ∙ zero-sum (h / 2 ^ 3)
-
-abbrev shifts-5 : ℕ → ℕ
-shifts-5 t = t ⊕ t * 2 ^ 2 % 2 ^ 64
-
-masked-5 : (x t : ℕ) → bitAnd (x ⊕ shifts-5 t) (2 ^ 5 - 1) ≡ (x ⊕ clmul t 5) % 2 ^ 5
-masked-5 x t =
-    and-mask (x ⊕ shifts-5 t) 5
-    ∙ low-sum 5 x x _ _ refl (low-sum 5 t t _ _ refl (mod-mod-pow (t * 2 ^ 2) 59 5))
-    ∙ ap (λ y. (x ⊕ y) % 2 ^ 5) (sym (times-5 t))
-
-pub fold-5 : (hi lo : ℕ) → hi * 2 ^ 61 + lo < 2 ^ 10
-    → bitAnd (lo ⊕ shifts-5 (lo / 2 ^ 5 ⊕ lo / 2 ^ 5 / 2 ^ 3)) (2 ^ 5 - 1) ≡ remainder 5 5 (hi * 2 ^ 61 + lo)
-fold-5 hi lo l =
-    let e : lo ≡ hi * 2 ^ 61 + lo = omega arith in
-    let h : lo / 2 ^ 5 < 2 ^ 5 = omega arith in
-    masked-5 lo (lo / 2 ^ 5 ⊕ lo / 2 ^ 5 / 2 ^ 3)
-    ∙ twice 5 5 (lit< tt) lo (lo / 2 ^ 5) (lo / 2 ^ 5 / 2 ^ 3) lo refl refl (carry-5 (lo / 2 ^ 5) h)
-    (clmul-lt 2 3 (lo / 2 ^ 5 / 2 ^ 3) 5 (omega arith) (lit< tt))
-    ∙ ap (remainder 5 5) e
+  pub fold-5 : {second : ℕ} → second ≡ clmul (first / 2 ^ 5) 5
+      → (bitAnd n (2 ^ 5 - 1) ⊕ bitAnd first (2 ^ 5 - 1)) ⊕ second ≡ remainder 5 5 n
+  fold-5 {second} es =
+      let none : n / 2 ^ 5 % 2 ^ 0 ≡ 0 = omega arith in
+      let all : n / 2 ^ 5 / 2 ^ 0 ≡ n / 2 ^ 5 = omega arith in
+      let p : bitAnd first (2 ^ 5 - 1) ≡ first % 2 ^ 5 * 2 ^ 0 = rw (and-mask first 5) (omega arith) in
+      let q : n / 2 ^ 5 * 2 ^ 5 + n % 2 ^ 5 ≡ n = omega arith in
+      ap₂ (λ x y. (x ⊕ y) ⊕ second) (and-mask n 5) p
+      ∙ two-rounds 5 0 5 (lit< tt) (n / 2 ^ 5) (n % 2 ^ 5) (omega arith) (rw all ef) (rw (none, zero-sum) es)
+      (rw es (lt-of-lt-of-le (clmul-lt 2 2 _ 5 left-5 (lit< tt)) (lit≤ tt)))
+      ∙ ap (remainder 5 5) q

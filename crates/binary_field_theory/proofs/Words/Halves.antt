@@ -1,10 +1,10 @@
--- A number spread by its halves, as the code joins them in a word, and an element spread to two words.
+-- A number spread by its halves, as the code joins them in a word, and one of 61 digits spread to two words.
 use mathlib.Core.Path.{_≡_, ap, sym, _∙_}
 use Prim.Native.Nat.{ℕ, _+_, _-_, _*_, _/_, _%_, _^_, _<_, _≤_}
 use native.Mathlib.{Nat.mod-lt, Omega.arith}
 use lib.{Pow.pow-pos, Pow.split, Pow.shl-exact, Pow.shr-lt, Bits.bitXor, Bits.bitAnd, Bits.and-mask, Bits.mask-lt, Bits.xor-shifted}
-use Rattle.binary_field_theory.specs.{Carryless.spread, Element.Accepted}
-use Rattle.binary_field_theory.proofs.{Spread.spread-block, Spread.spread-lt, Degrees.digits-61}
+use Rattle.binary_field_theory.specs.Carryless.{spread}
+use Rattle.binary_field_theory.proofs.Spread.{spread-block, spread-lt}
 
 -- the k lowest digits and the rest are spread apart
 pub spread-parts : (k w : ℕ) → spread (w / 2 ^ k) * 2 ^ (k + k) + spread (bitAnd w (2 ^ k - 1)) ≡ spread w
@@ -21,11 +21,10 @@ spread-joined k w h e =
     )
     (spread-parts k w)
 
--- what the two halves of an element spread to, taken as its digits below 61 and those from 61 on
-pub spread-words : (d a : ℕ) {high low : ℕ} → Accepted d → a < 2 ^ d → high ≡ spread (a / 2 ^ 32) → low ≡ spread (bitAnd a (2 ^ 32 - 1))
+-- what the two halves of a number of 61 digits spread to, taken as the digits below 61 and those from 61 on
+pub spread-words : (a : ℕ) {high low : ℕ} → a < 2 ^ 61 → high ≡ spread (a / 2 ^ 32) → low ≡ spread (bitAnd a (2 ^ 32 - 1))
     → bitXor (high * 8 % 2 ^ 64) (low / 2 ^ 61) * 2 ^ 61 + bitAnd low (2 ^ 61 - 1) ≡ spread a
-spread-words d a {high} {low} hd ha eh el =
-    let short : a < 2 ^ 61 = digits-61 a d hd ha in
+spread-words a {high} {low} ha eh el =
     let h : high < 2 ^ 58 = rw eh (spread-lt 29 (a / 2 ^ 32) (omega arith)) in
     let l : low < 2 ^ 64 = rw el (spread-lt 32 (bitAnd a (2 ^ 32 - 1)) (mask-lt a 32)) in
     let e : high * 2 ^ 64 + low ≡ spread a = rw (eh, el) (spread-parts 32 a) in

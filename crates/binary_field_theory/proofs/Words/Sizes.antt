@@ -1,11 +1,18 @@
--- How many bits there are in a carry-less product, and in that of two elements of either degree.
+-- How many bits there are in an integer product, in a carry-less one, and in that of two elements of either degree.
+use mathlib.Core.Path.{subst⁻¹}
 use Prim.Native.Nat.{ℕ, zero, suc, _+_, _*_, _/_, _%_, _^_, _<_}
-use native.Mathlib.{Omega.arith, Nat.zero-mul, Nat.one-mul, Nat.suc-add, Nat.pow-le-pow-right, Nat.lt-of-lt-of-le}
-use lib.{Dec.lit<, Dec.lit≤, Arith.lt-one, Pow.pow-pos}
+use native.Mathlib.{Omega.arith, Nat.zero-mul, Nat.one-mul, Nat.suc-add, Nat.pow-le-pow-right, Nat.lt-of-lt-of-le, Nat.lt-of-le-of-lt, Nat.le-of-lt, Nat.mul-le-mul-left, Nat.mul-lt-mul-of-pos-right}
+use lib.{Dec.lit<, Dec.lit≤, Arith.lt-one, Pow.pow-pos, Pow.pow-add}
 use Rattle.binary_field_theory.specs.{Carryless.clmul, Element.Accepted}
 use Rattle.binary_field_theory.proofs.{Sums.bit-cases, Sums.bit-lt, Sums.sum-lt, Clmul.clmul-step, Clmul.zero-clmul, Products.degree-cases}
 
--- n bits times m + 1 bits are n + m bits
+-- n bits times m bits are n + m bits
+pub times-lt : (n m : ℕ) {a b : ℕ} → a < 2 ^ n → b < 2 ^ m → a * b < 2 ^ (n + m)
+times-lt n m {a} {b} ha hb =
+    subst⁻¹ (λ (x : ℕ). a * b < x) (pow-add 2 n m)
+    (lt-of-le-of-lt (mul-le-mul-left a (le-of-lt hb)) (mul-lt-mul-of-pos-right ha (pow-pos m)))
+
+-- without carries n bits times m + 1 bits are n + m bits
 pub clmul-lt : (n m a b : ℕ) → a < 2 ^ n → b < 2 ^ suc m → clmul a b < 2 ^ (n + m)
 clmul-lt zero m a b ha hb = rw (lt-one ha, zero-clmul) (pow-pos (0 + m))
 clmul-lt (suc n) m a b ha hb =

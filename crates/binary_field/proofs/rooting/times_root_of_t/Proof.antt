@@ -8,10 +8,10 @@ use Rattle.binary_field_theory.proofs.{Degrees.other-degree, Words.Roots.times-
 use Rattle.binary_field.proofs.rooting.times_root_of_t.Statement.{statement}
 use Rattle.binary_field.proofs.rooting.times_root_of_t.Tie as tie
 
-fold-requires : tie.Need-fold-requires
-fold-requires c κs =
+fold-61-requires : tie.Need-fold-61-requires
+fold-61-requires c κs =
     let (l, e) = c .wide-times-root .ensures in
-    (tt, l, rw e (lt-of-lt-of-le (clmul-lt 30 62 _ 0x7fff_ffff_8000_0072 (c .before .before .pre .2) (lit< tt)) (lit≤ tt)))
+    (l, rw e (lt-of-lt-of-le (clmul-lt 30 62 _ 0x7fff_ffff_8000_0072 (c .before .before .pre .2) (lit< tt)) (lit≤ tt)))
 
 returns-2 : tie.Need-returns-2
 unfolding product
@@ -19,7 +19,7 @@ returns-2 c =
     let s = c .before .before in
     rw (other-degree _ (s .before .pre .0) (s .if1 .left))
     (times-root 61 tt (s .before .args .n) 0x7fff_ffff_8000_0072 root-61
-    (c .fold .ensures ∙ ap (remainder 61 (low 61)) (c .before .wide-times-root .ensures .1)))
+    (c .fold-61 .ensures ∙ ap (remainder 61 (low 61)) (c .before .wide-times-root .ensures .1)))
 
 pub times-root-of-t-spec : {M : Type 1} → statement M
 times-root-of-t-spec =
@@ -28,5 +28,5 @@ times-root-of-t-spec =
     (λ c κs. (tt, rw (c .if1 .taken) at (c .before .pre .1), lit< tt))
     (λ c. rw (c .before .if1 .taken) (times-root 5 tt _ _ root-5 (c .product-of .ensures)))
     (λ c κs. search needs)
-    fold-requires
+    fold-61-requires
     returns-2)
