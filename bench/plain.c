@@ -18,10 +18,10 @@ static uint64_t clmul32(uint64_t a, uint64_t b) {
     return r;
 }
 
-/* the bits of a number, each a factor 0 or 1 of m, eight places apart in one product */
+/* the bits of a number, each a factor 0 or 1 of m, those six places apart in one product */
 static uint64_t multiples(uint64_t bits, uint64_t m) {
     uint64_t sum = 0;
-    for (int i = 0; i < 8; i++) sum ^= (bits & UINT64_C(0x01010101010101) << i) * m;
+    for (int i = 0; i < 6; i++) sum ^= (bits & UINT64_C(0x41041041041041) << i) * m;
     return sum;
 }
 

@@ -16,7 +16,7 @@
 /* The most operations that a register counts, and the most classes of a row. */
 #define SEAL_COUNT_LIMIT 1024
 
-/* So many bytes of stack are enough for any call. The most that a call was measured to take is 17,956
+/* So many bytes of stack are enough for any call. The most that a call was measured to take is 16,260
  * (bench/stack.txt, which `bash bench/stack` makes); tests/run fails where a call takes more than half of this. */
 #define SEAL_STACK 65536
 

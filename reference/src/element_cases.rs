@@ -16,8 +16,12 @@ pub struct Case {
 }
 
 /// The calls on two elements, then those on one.
-const ON_TWO: [u8; 2] = [1, 2];
-const ON_ONE: [u8; 4] = [3, 4, INVERSE, QUADRATIC_ROOT];
+const ON_TWO: [u8; 2] = [SUM, PRODUCT];
+const ON_ONE: [u8; 4] = [SQUARE, SQUARE_ROOT, INVERSE, QUADRATIC_ROOT];
+const SUM: u8 = 1;
+const PRODUCT: u8 = 2;
+const SQUARE: u8 = 3;
+const SQUARE_ROOT: u8 = 4;
 const INVERSE: u8 = 5;
 const QUADRATIC_ROOT: u8 = 6;
 
@@ -30,10 +34,10 @@ impl Case {
     /// The element in hexadecimal, `no root`, `refused` and the number, or `no such call`; with the line's end.
     pub fn line(&self) -> String {
         let answer = match self.call {
-            1 => sum(self.degree, self.a, self.b),
-            2 => product(self.degree, self.a, self.b),
-            3 => square(self.degree, self.a),
-            4 => square_root(self.degree, self.a),
+            SUM => sum(self.degree, self.a, self.b),
+            PRODUCT => product(self.degree, self.a, self.b),
+            SQUARE => square(self.degree, self.a),
+            SQUARE_ROOT => square_root(self.degree, self.a),
             INVERSE => inverse(self.degree, self.a),
             QUADRATIC_ROOT => quadratic_root(self.degree, self.a),
             _ => return "no such call\n".to_string(),
@@ -75,6 +79,14 @@ fn wide_field() -> Vec<Case> {
     cases
 }
 
+/// Calls whose results are folded, over GF(2^61), on single powers of t: the product with t^60, whose high bit is folded by
+/// itself, the square and the square root.
+fn single_bits() -> Vec<Case> {
+    let degree = WIDE.degree as u8;
+    let on = |a| [(PRODUCT, 1 << 60), (SQUARE, 0), (SQUARE_ROOT, 0)].map(|(call, b)| Case { call, degree, a, b });
+    (0..WIDE.degree).flat_map(|i| on(1 << i)).collect()
+}
+
 /// Every call at the edges of the degree and of the numbers: 0, 1, the largest element and the smallest number
 /// that is none, of this degree and of the two fields, and the largest number. A call on one element also with a
 /// second number that is no element, which it leaves aside.
@@ -108,7 +120,7 @@ fn no_calls() -> Vec<Case> {
 
 /// All cases, in their stored order.
 pub fn all_cases() -> Vec<Case> {
-    [bench_field(), wide_field(), edges(), no_calls()].concat()
+    [bench_field(), wide_field(), single_bits(), edges(), no_calls()].concat()
 }
 
 /// What the program is given: all cases, and then one that is cut short.

@@ -25,9 +25,9 @@ static uint64_t clmul32(uint64_t a, uint64_t b) {
     return column(a, b, 0) ^ column(a, b, 1) ^ column(a, b, 2) ^ column(a, b, 3);
 }
 
-/* The bits of a number at every eighth place from i on, times m. */
+/* The bits of a number at every sixth place from i on, times m. */
 static uint64_t multiple(uint64_t bits, unsigned i, uint64_t m) {
-    const uint64_t factor = bits & UINT64_C(0x01010101010101) << i;
+    const uint64_t factor = bits & UINT64_C(0x41041041041041) << i;
 #ifdef SKIPS
     if (factor == 0) {
         __asm__ volatile(""); /* a branch stays a branch */
@@ -39,7 +39,7 @@ static uint64_t multiple(uint64_t bits, unsigned i, uint64_t m) {
 
 static uint64_t multiples(uint64_t bits, uint64_t m) {
     return multiple(bits, 0, m) ^ multiple(bits, 1, m) ^ multiple(bits, 2, m) ^ multiple(bits, 3, m) ^ multiple(bits, 4, m) ^
-        multiple(bits, 5, m) ^ multiple(bits, 6, m) ^ multiple(bits, 7, m);
+        multiple(bits, 5, m);
 }
 
 static uint64_t fold_5(uint64_t n) {

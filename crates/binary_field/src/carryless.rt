@@ -1,4 +1,5 @@
-// The product of two elements without a table or a branch: carry-less products by integer multiplication, and the remainder.
+// The product of two elements without a table or a branch: carry-less products by integer multiplication, and the remainder, in
+// which each high bit is a factor 0 or 1 of the modulus. The modulus's leading term is the bit itself: it goes, and so does the bit.
 ghost use mathlib.Core.Path.{_≡_};
 ghost use Prim.Native.Nat.{_+_, _*_, _^_, _<_};
 ghost use Rattle.binary_field_theory.specs.Carryless.{clmul, remainder};
@@ -52,24 +53,23 @@ pub(crate) fn wide_product(a: u64, b: u64) -> Words
     }
 }
 
-// The bits of a number of 56 bits, each a factor 0 or 1 of m, which has 8, and its multiple added where it belongs: the carry-less
-// product. Bits that are eight places apart share an integer product, for their multiples do not meet, and nothing is carried.
+// The bits of a number, each a factor 0 or 1 of m, and its multiple added where it belongs: the carry-less product. Bits that are
+// six places apart share an integer product: m has six bits, so that their multiples do not meet, and nothing is carried. Two
+// octal digits are six bits.
 fn multiples(bits: u64, m: u64) -> u64
-    requires { ⌜ (bits < 2 ^ 56) × (m < 2 ^ 8) ⌝ }
+    requires { ⌜ (bits < 2 ^ 58) × (m < 2 ^ 6) ⌝ }
     ensures { λ r. ⌜ r ≡ clmul bits m ⌝ }
 {
-    let m0 = (bits & 0x01_0101_0101_0101) * m;
-    let m1 = (bits & 0x02_0202_0202_0202) * m;
-    let m2 = (bits & 0x04_0404_0404_0404) * m;
-    let m3 = (bits & 0x08_0808_0808_0808) * m;
-    let m4 = (bits & 0x10_1010_1010_1010) * m;
-    let m5 = (bits & 0x20_2020_2020_2020) * m;
-    let m6 = (bits & 0x40_4040_4040_4040) * m;
-    let m7 = (bits & 0x80_8080_8080_8080) * m;
-    ((m0 ^ m1) ^ (m2 ^ m3)) ^ ((m4 ^ m5) ^ (m6 ^ m7))
+    let m0 = (bits & 0o01_01_01_01_01_01_01_01_01_01) * m;
+    let m1 = (bits & 0o02_02_02_02_02_02_02_02_02_02) * m;
+    let m2 = (bits & 0o04_04_04_04_04_04_04_04_04_04) * m;
+    let m3 = (bits & 0o10_10_10_10_10_10_10_10_10_10) * m;
+    let m4 = (bits & 0o20_20_20_20_20_20_20_20_20_20) * m;
+    let m5 = (bits & 0o40_40_40_40_40_40_40_40_40_40) * m;
+    ((m0 ^ m1) ^ (m2 ^ m3)) ^ (m4 ^ m5)
 }
 
-// The remainder modulo t^5 + t^2 + 1. The multiples of the high bits reach past t^4 in turn, and what does is folded once more.
+// The remainder modulo t^5 + t^2 + 1. What the multiples of the high bits have past t^4 is folded once more.
 pub(crate) fn fold_5(n: u64) -> u64
     requires { ⌜ n < 2 ^ 10 ⌝ }
     ensures { λ r. ⌜ r ≡ remainder 5 (low 5) n ⌝ }
@@ -79,8 +79,8 @@ pub(crate) fn fold_5(n: u64) -> u64
     ((n & 0x1f) ^ (first & 0x1f)) ^ second
 }
 
-// The remainder modulo t^61 + t^5 + t^2 + t + 1. The bits from t^117 on, whose multiples reach past t^60, are folded first, one by
-// one; then all that are left, whose multiples do not.
+// The remainder modulo t^61 + t^5 + t^2 + t + 1. The bits from t^117 on, whose multiples reach past t^60, are folded first; none
+// share a product. Then those below, whose multiples do not, with what the first have past t^60.
 pub(crate) fn fold_61(w: Words) -> u64
     requires { ⌜ (w .lo < 2 ^ 61) × (w .hi * 2 ^ 61 + w .lo < 2 ^ 122) ⌝ }
     ensures { λ r. ⌜ r ≡ remainder 61 (low 61) (w .hi * 2 ^ 61 + w .lo) ⌝ }
@@ -92,7 +92,7 @@ pub(crate) fn fold_61(w: Words) -> u64
     (lo ^ ((first & 0x1f) << 56)) ^ second
 }
 
-// The product of two elements. The degree is asked for first: no branch, loop end or index hangs on an element, and none follows.
+// The product of two elements. The degree is asked for first, so that no branch follows; no loop end or index hangs on an element.
 pub(crate) fn product_of(d: u8, a: u64, b: u64) -> u64
     requires { ⌜ Accepted d × (a < 2 ^ d) × (b < 2 ^ d) ⌝ }
     ensures { λ r. ⌜ r ≡ product d a b ⌝ }

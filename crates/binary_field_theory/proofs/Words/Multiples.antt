@@ -4,7 +4,7 @@
 use mathlib.Core.{Path._≡_, Path.sym, Path.ap, Path.ap₂, Path._∙_, Bool.Bool, Bool.true, Bool.false, Bool._&&_, Bool._||_, Logic._⊎_, Logic.inl, Logic.inr}
 use Prim.Native.Nat.{ℕ, zero, suc, _+_, _-_, _*_, _/_, _%_, _^_, _<_}
 use native.Mathlib.{Omega.arith, Nat.zero-mul, Nat.mod-eq-of-lt, Nat.pow-suc}
-use lib.{Dec.T, Dec.eqb, Dec.eqb→eq, Pow.split, Bits.bitAnd, Bits.and-mask, Bits.and-comm, Bits.and-zero-r, Bits.and-shr, Bits.and-mod}
+use lib.{Dec.T, Dec.eqb, Dec.eqb→eq, Pow.split, Bits.bitAnd, Bits.and-mask, Bits.and-zero-r, Bits.and-shr, Bits.and-mod}
 use Rattle.binary_field_theory.specs.Carryless.{_⊕_, clmul}
 use Rattle.binary_field_theory.proofs.{Sums.bit-lt, Sums.bit-cases, Sums.sum-comm, Sums.sum-shifted, Sums.zero-sum, Sums.sum-mask, Clmul.clmul-step, Clmul.zero-clmul, Clmul.sum-clmul, Linear.both}
 

@@ -1,5 +1,5 @@
 -- `clmul32` meets its contract.
-use Prim.Native.Nat.{ℕ, _+_, _*_, _^_, _<_}
+use Prim.Native.Nat.{ℕ, _*_, _^_, _<_}
 use native.Mathlib.Nat.{lt-of-le-of-lt}
 use lib.{Bits.bitAnd, Bits.and-le-r, Dec.T, Dec.ltb, Dec.lit<}
 use mir.Syntax.{w64}
