@@ -1,5 +1,5 @@
 // The product of two elements without a table or a branch: carry-less products by integer multiplication, and the remainder, in
-// which each high bit is a factor 0 or 1 of the modulus. The modulus's leading term is the bit itself: it goes, and so does the bit.
+// which each high bit is a factor 0 or 1 of the modulus. The multiple's leading term takes away the bit; what is added is the rest.
 ghost use mathlib.Core.Path.{_≡_};
 ghost use Prim.Native.Nat.{_+_, _*_, _^_, _<_};
 ghost use Rattle.binary_field_theory.specs.Carryless.{clmul, remainder};
@@ -79,8 +79,8 @@ pub(crate) fn fold_5(n: u64) -> u64
     ((n & 0x1f) ^ (first & 0x1f)) ^ second
 }
 
-// The remainder modulo t^61 + t^5 + t^2 + t + 1. The bits from t^117 on, whose multiples reach past t^60, are folded first; none
-// share a product. Then those below, whose multiples do not, with what the first have past t^60.
+// The remainder modulo t^61 + t^5 + t^2 + t + 1. The bits from t^117 on, whose multiples reach past t^60, are folded first, one by
+// one: no two of them share a product. Then those below, with what the first multiples have past t^60.
 pub(crate) fn fold_61(w: Words) -> u64
     requires { ⌜ (w .lo < 2 ^ 61) × (w .hi * 2 ^ 61 + w .lo < 2 ^ 122) ⌝ }
     ensures { λ r. ⌜ r ≡ remainder 61 (low 61) (w .hi * 2 ^ 61 + w .lo) ⌝ }
