@@ -1,6 +1,7 @@
 /* A product of elements in C that stands in for the proved one, so that tests/timing can be tested: without a fault its timing
  * hangs on no element, and with one of the faults below the test has to fail, while every product stays the same number.
  *
+ *   NOUGHTS    a product with 0 is not made
  *   SKIPS      a multiple of the modulus is left out where its bits are all 0
  *   ENDS       a loop over the highest bits ends at the last that is 1
  *   TABLE      the highest bits are folded by a table
@@ -10,6 +11,7 @@
 #define ELEMENTS (UINT64_C(1) << 61)
 
 uint64_t element_product(uint8_t d, uint64_t a, uint64_t b);
+uint64_t product_of(uint8_t d, uint64_t a, uint64_t b);
 
 /* The bits of a at every fourth place from i on, times those of b from j on. */
 static uint64_t part(uint64_t a, unsigned i, uint64_t b, unsigned j) {
@@ -74,14 +76,17 @@ static uint64_t product_61(uint64_t a, uint64_t b) {
     return fold_61((low ^ middle << 31) & (ELEMENTS - 1), middle >> 30 ^ high << 1);
 }
 
-uint64_t element_product(uint8_t d, uint64_t a, uint64_t b) {
+/* Of two elements; not inlined, so that tests/straight finds it. */
+__attribute__((noinline)) uint64_t product_of(uint8_t d, uint64_t a, uint64_t b) {
     uint64_t product;
-    if (d == 5 && a < 32 && b < 32)
+#ifdef NOUGHTS
+    if (a == 0 || b == 0)
+        return 0;
+#endif
+    if (d == 5)
         product = fold_5(clmul32(a, b));
-    else if (d == 61 && a < ELEMENTS && b < ELEMENTS)
-        product = product_61(a, b);
     else
-        return UINT64_MAX;
+        product = product_61(a, b);
 #ifdef CHECKS
     if (product >= ELEMENTS) {
         __asm__ volatile("");
@@ -89,4 +94,12 @@ uint64_t element_product(uint8_t d, uint64_t a, uint64_t b) {
     }
 #endif
     return product;
+}
+
+uint64_t element_product(uint8_t d, uint64_t a, uint64_t b) {
+    if (d == 5 && a < 32 && b < 32)
+        return product_of(5, a, b);
+    if (d == 61 && a < ELEMENTS && b < ELEMENTS)
+        return product_of(61, a, b);
+    return UINT64_MAX;
 }

@@ -1,21 +1,18 @@
 -- Multiples that do not meet. Where the ones of a number stand more than b places apart, its integer product with a number of b + 1
 -- bits carries nothing, and is their carry-less product. What masks of such ones pick from a number, each part times the other,
 -- adds up to the carry-less product of the two where the masks make up all its bits.
-use mathlib.Core.{Path._≡_, Path.sym, Path.ap, Path.ap₂, Path._∙_, Bool.Bool, Bool.true, Bool.false, Bool._&&_, Bool._||_, Logic._⊎_, Logic.inl, Logic.inr}
+use mathlib.Core.{Path._≡_, Path.sym, Path.ap, Path.ap₂, Path._∙_, Bool.Bool, Bool._&&_, Bool._||_, Logic._⊎_, Logic.inl, Logic.inr}
 use Prim.Native.Nat.{ℕ, zero, suc, _+_, _-_, _*_, _/_, _%_, _^_, _<_}
 use native.Mathlib.{Omega.arith, Nat.zero-mul, Nat.mod-eq-of-lt, Nat.pow-suc}
 use lib.{Dec.T, Dec.eqb, Dec.eqb→eq, Pow.split, Bits.bitAnd, Bits.and-mask, Bits.and-zero-r, Bits.and-shr, Bits.and-mod}
+use mir.Facts.{and-yes, or-yes}
 use Rattle.binary_field_theory.specs.Carryless.{_⊕_, clmul}
-use Rattle.binary_field_theory.proofs.{Sums.bit-lt, Sums.bit-cases, Sums.sum-comm, Sums.sum-shifted, Sums.zero-sum, Sums.sum-mask, Clmul.clmul-step, Clmul.zero-clmul, Clmul.sum-clmul, Linear.both}
+use Rattle.binary_field_theory.proofs.{Sums.bit-lt, Sums.bit-cases, Sums.sum-comm, Sums.sum-shifted, Sums.zero-sum, Sums.sum-mask, Clmul.clmul-step, Clmul.zero-clmul, Clmul.sum-clmul}
 
 -- n has k bits, and after each one at least b zeros
 unfoldable pub apart : ℕ → ℕ → ℕ → Bool
 apart b zero n = eqb n 0
 apart b (suc k) n = (eqb (n % 2) 0 || eqb (n / 2 % 2 ^ b) 0) && apart b k (n / 2)
-
-either : (x y : Bool) → T (x || y) → T x ⊎ T y
-either true y t = inl tt
-either false y t = inr t
 
 module _ (b m : ℕ) (hm : m < 2 ^ suc b) where
   bit-multiple : (x : ℕ) → x < 2 → x * m < 2 ^ suc b
@@ -40,14 +37,14 @@ module _ (b m : ℕ) (hm : m < 2 ^ suc b) where
       let e : bitAnd n mask ≡ 0 = rw (eqb→eq mask 0 t) (and-zero-r n) in
       rw e (zero-mul m ∙ sym (zero-clmul m))
   no-carry (suc k) n mask t =
-      let (here, further) = both (eqb (mask % 2) 0 || eqb (mask / 2 % 2 ^ b) 0) (apart b k (mask / 2)) t in
+      let (here, further) = and-yes (eqb (mask % 2) 0 || eqb (mask / 2 % 2 ^ b) 0) (apart b k (mask / 2)) t in
       let x : ℕ = bitAnd n mask in
       let half : x / 2 ≡ bitAnd (n / 2) (mask / 2) = and-shr n mask 1 in
       let digits : 2 * (x / 2) + x % 2 ≡ x = omega arith in
       let rest : clmul (x / 2) m ≡ x / 2 * m = rw half (sym (no-carry k (n / 2) (mask / 2) further)) in
       sym
       (clmul-step x m ∙ ap (λ y. x % 2 * m ⊕ 2 * y) rest
-      ∙ meets-none (x % 2) (x / 2) (bit-lt x) (cases half (either (eqb (mask % 2) 0) (eqb (mask / 2 % 2 ^ b) 0) here))
+      ∙ meets-none (x % 2) (x / 2) (bit-lt x) (cases half (or-yes (eqb (mask % 2) 0) (eqb (mask / 2 % 2 ^ b) 0) here))
       ∙ ap (λ y. y * m) digits)
     where
       cases : bitAnd n mask / 2 ≡ bitAnd (n / 2) (mask / 2) → T (eqb (mask % 2) 0) ⊎ T (eqb (mask / 2 % 2 ^ b) 0)
