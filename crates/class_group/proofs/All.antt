@@ -1,6 +1,6 @@
--- Lists whose elements are all members: reversed, a part of one, and the element at a place.
+-- Lists whose elements are all members: reversed, a part of one, two one after the other, and the element at a place.
 use Prim.Native.Nat.{ℕ, zero, suc, _<_}
-use mathlib.Core.List.{List, [], reverse, reverseAux}
+use mathlib.Core.List.{List, [], _∷_, _++_, reverse, reverseAux}
 use lib.ListN.{length, take, drop, getD}
 use native.Mathlib.Omega.{arith}
 use Rattle.class_group.specs.Walk.{All, none, more}
@@ -22,6 +22,10 @@ module _ {X : Type 0} {Member : X → Type 0} where
   all-drop zero h = h
   all-drop (suc k) none = none
   all-drop (suc k) (more h r) = all-drop k r
+
+  pub all-split : (l : List X) {m : List X} → All Member (l ++ m) → All Member l × All Member m
+  all-split [] h = (none, h)
+  all-split (a ∷ l) (more h r) = let p = all-split l r in (more h (p .0), p .1)
 
   pub all-at : (k : ℕ) {l : List X} (x : X) → k < length l → All Member l → Member (getD l k x)
   all-at k x l none = absurd (omega arith)

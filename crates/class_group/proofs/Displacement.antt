@@ -1,17 +1,20 @@
 -- Walks in a commutative group by double and add, s ↦ 2 s + d, and back by subtract and halve, s ↦ half of (s - d).
--- `forward-end`: over d1, .., dn from s it ends in 2^n s + 2^(n-1) d1 + .. + dn. `displacement`, `displacement-at`: where two lists differ at one place alone, the
--- ends are as many doublings of the difference apart as there are places after it; `suppression`: with the neutral element there; `changed-end`: the ends differ where
--- the elements do. `forward-injective`: different starts have different ends. `reversible`: the two rules take each other back, so that all of proofs/Walk.antt holds of them.
+-- `forward-end`: over d1, .., dn from s it ends in 2^n s + 2^(n-1) d1 + .. + dn.
+-- Where of n elements only the k-th changes, from d to e, the end moves by n - k doublings of e - d (`displacement`), and it moves where d and e differ (`changed-end`). Then
+-- it is not where one doubling more would lead (`one-doubling-more`), nor the difference the other way round (`turned-difference`). `displacement-at`: the same of a list
+-- whose k-th element is set; `suppression`: to the neutral one.
+-- `forward-injective`: different starts have different ends. `reversible`: the two rules take each other back, so that all of proofs/Walk.antt holds of them.
 use Prim.Native.Nat.{ℕ, suc, _-_, _<_}
-use mathlib.Core.Path.{_≡_, refl, sym, _∙_, ap, ap₂}
+use mathlib.Core.Path.{_≡_, refl, sym, _∙_, ap, ap₂, subst}
 use mathlib.Core.List.{List, [], _∷_, _++_}
-use lib.{ListN.length, ListN.getD, ListN.set, ListN.length-drop, Seq.set-split, Seq.split-at}
+use native.Mathlib.Omega.{arith}
+use lib.{ListN.length, ListN.getD, ListN.set, ListN.length-append, ListN.length-drop, Seq.set-split, Seq.split-at}
 use Rattle.class_group.specs.Group.{CommutativeGroup, Doubling, Halving}
 use Rattle.class_group.specs.{Multiples.repeat, Multiples.weighted-sum}
-use Rattle.class_group.specs.Walk.{All, none, more, after, Reversible}
-use Rattle.class_group.proofs.GroupLaws.{sums, add-subtract, subtract-add, neutral-sum, cancel-left, cancel-right, interchange}
-use Rattle.class_group.proofs.Doublings.{double-member, half-double, repeat-inner, doublings-member, doublings-sum, doublings-opposite}
-use Rattle.class_group.proofs.All.{all-take, all-drop, all-at}
+use Rattle.class_group.specs.Walk.{All, none, more, ChangedAt, after, Reversible}
+use Rattle.class_group.proofs.GroupLaws.{sums, add-subtract, subtract-add, neutral-sum, cancel-left, cancel-right, eq-of-difference, interchange}
+use Rattle.class_group.proofs.Doublings.{double-member, half-double, repeat-inner, doublings-member, doublings-sum, doublings-opposite, doublings-neutral, doublings-injective}
+use Rattle.class_group.proofs.All.{all-take, all-drop, all-split, all-at}
 use Rattle.class_group.proofs.Walk.{after-append, after-member, after-injective}
 
 module _ {X : Type 0} {Member : X → Type 0} {_+_ : X → X → X} {nought : X} {minus double : X → X} (D : Doubling Member _+_ nought minus double) where
@@ -62,6 +65,9 @@ module _ {X : Type 0} {Member : X → Type 0} {_+_ : X → X → X} {nought : X}
       ∙ ap (λ z. z + w) (doublings-sum D n (double-member D h) k ∙ ap (λ z. z + repeat double n d) (repeat-inner double n s))
       ∙ G .assoc (double-member D (doublings-member D n h)) (doublings-member D n k) (weighted-member r)
 
+  difference : {d e : X} → Member d → Member e → Member (e + minus d)
+  difference hd he = G .sum-closed he (G .opposite-closed hd)
+
   -- d at one place of the list, or e
   module _ {s d e : X} {l m : List X} (hs : Member s) (hl : All Member l) (hd : Member d) (he : Member e) (hm : All Member m) where
     before : Member (double (forward s l))
@@ -79,20 +85,90 @@ module _ {X : Type 0} {Member : X → Type 0} {_+_ : X → X → X} {nought : X}
         ∙ ap (λ z. double (forward s l) + e + z) (G .sum-opposite hd)
         ∙ G .sum-neutral (G .sum-closed before he))
 
-    pub displacement : forward s (l ++ (e ∷ m)) ≡ forward s (l ++ (d ∷ m)) + repeat double (length m) (e + minus d)
-    displacement =
+    displaced : forward s (l ++ (e ∷ m)) ≡ forward s (l ++ (d ∷ m)) + repeat double (length m) (e + minus d)
+    displaced =
         split e
         ∙ ap (λ z. forward z m) replaced
-        ∙ start-displacement (G .sum-closed before hd) (G .sum-closed he (G .opposite-closed hd)) hm
+        ∙ start-displacement (G .sum-closed before hd) (difference hd he) hm
         ∙ ap (λ z. z + repeat double (length m) (e + minus d)) (sym (split d))
 
-    pub same-end : forward s (l ++ (d ∷ m)) ≡ forward s (l ++ (e ∷ m)) → d ≡ e
+    same-end : forward s (l ++ (d ∷ m)) ≡ forward s (l ++ (e ∷ m)) → d ≡ e
     same-end h =
         cancel-left G hd he before
         (forward-injective (G .sum-closed before hd) (G .sum-closed before he) hm (sym (split d) ∙ h ∙ split e))
 
-    pub changed-end : ¬ (d ≡ e) → ¬ (forward s (l ++ (d ∷ m)) ≡ forward s (l ++ (e ∷ m)))
-    changed-end n h = n (same-end h)
+  -- n doublings of a difference: one more gives another element, and so does the difference the other way round
+  module _ {d e : X} (hd : Member d) (he : Member e) (n : ℕ) where
+    doubled-again : repeat double n (e + minus d) ≡ repeat double (suc n) (e + minus d) → d ≡ e
+    unfolding repeat
+    doubled-again h =
+        let x = doublings-member D n (difference hd he) in
+        let none : nought ≡ repeat double n (e + minus d) = cancel-left G (G .neutral-closed) x x (G .sum-neutral x ∙ h ∙ D .double-sum x) in
+        sym (eq-of-difference G he hd (doublings-injective D n (difference hd he) (G .neutral-closed) (sym none ∙ sym (doublings-neutral D n))))
+
+    turned : repeat double n (e + minus d) ≡ repeat double n (d + minus e) → d ≡ e
+    turned h =
+        let back = difference he hd in
+        let same : e + minus d ≡ d + minus e = doublings-injective D n (difference hd he) back h in
+        let twice : e + e ≡ d + d =
+        ap (λ z. z + e) (sym (subtract-add G he hd) ∙ ap (λ z. z + d) same)
+        ∙ swapped back hd he
+        ∙ ap (λ z. z + d) (subtract-add G hd he) in
+        D .double-injective hd he (D .double-sum hd ∙ sym twice ∙ sym (D .double-sum he))
+      where
+        swapped : {a b c : X} → Member a → Member b → Member c → a + b + c ≡ a + c + b
+        swapped h k m = simp (sums, G)
+
+  -- one of n elements changes, the k-th from d to e
+  module _ {k : ℕ} {d e s : X} {l m : List X} (at : ChangedAt k d e l m) (hs : Member s) (hl : All Member l) (hm : All Member m) where
+    was-members : All Member (at .before) × All Member (d ∷ at .behind)
+    was-members = all-split (at .before) (subst (All Member) (at .was) hl)
+
+    is-members : All Member (at .before) × All Member (e ∷ at .behind)
+    is-members = all-split (at .before) (subst (All Member) (at .is) hm)
+
+    first : {a : X} {r : List X} → All Member (a ∷ r) → Member a
+    first (more h r) = h
+
+    rest : {a : X} {r : List X} → All Member (a ∷ r) → All Member r
+    rest (more h r) = r
+
+    pub member-d : Member d
+    member-d = first (was-members .1)
+
+    pub member-e : Member e
+    member-e = first (is-members .1)
+
+    behind-is : length (at .behind) ≡ length l - k
+    behind-is =
+        let n : length l ≡ length (at .before ++ (d ∷ at .behind)) = ap length (at .was) in
+        omega (arith, n, length-append (at .before) (d ∷ at .behind), at .place)
+
+    pub displacement : forward s m ≡ forward s l + repeat double (length l - k) (e + minus d)
+    displacement =
+        ap (forward s) (at .is)
+        ∙ displaced hs (was-members .0) member-d member-e (rest (was-members .1))
+        ∙ ap₂ (λ x n. forward s x + repeat double n (e + minus d)) (sym (at .was)) behind-is
+
+    -- the end moves
+    pub changed-end : ¬ (d ≡ e) → ¬ (forward s l ≡ forward s m)
+    changed-end n h =
+        n (same-end hs (was-members .0) member-d member-e (rest (was-members .1)) (sym (ap (forward s) (at .was)) ∙ h ∙ ap (forward s) (at .is)))
+
+    -- what it moves by is nothing else
+    moved-by : (x : X) → Member x → forward s m ≡ forward s l + x → repeat double (length l - k) (e + minus d) ≡ x
+    moved-by x h same =
+        cancel-left G (doublings-member D (length l - k) (difference member-d member-e)) h (forward-member hs hl) (sym displacement ∙ same)
+
+    pub one-doubling-more : ¬ (d ≡ e) → ¬ (forward s m ≡ forward s l + repeat double (suc (length l - k)) (e + minus d))
+    one-doubling-more n h =
+        n (doubled-again member-d member-e (length l - k)
+        (moved-by _ (doublings-member D (suc (length l - k)) (difference member-d member-e)) h))
+
+    pub turned-difference : ¬ (d ≡ e) → ¬ (forward s m ≡ forward s l + repeat double (length l - k) (d + minus e))
+    turned-difference n h =
+        n (turned member-d member-e (length l - k)
+        (moved-by _ (doublings-member D (length l - k) (difference member-e member-d)) h))
 
   -- e at place k, counted from 0: as many doublings as there are places after it
   pub displacement-at : {s e : X} {l : List X} (k : ℕ) → k < length l → Member s → Member e → All Member l
@@ -100,7 +176,7 @@ module _ {X : Type 0} {Member : X → Type 0} {_+_ : X → X → X} {nought : X}
   displacement-at {s} {e} {l} k b hs he hl =
       let d = getD l k nought in
       ap (forward s) (set-split l k e b)
-      ∙ displacement hs (all-take k hl) (all-at k nought b hl) he (all-drop (suc k) hl)
+      ∙ displaced hs (all-take k hl) (all-at k nought b hl) he (all-drop (suc k) hl)
       ∙ ap₂ (λ m n. forward s m + repeat double n (e + minus d)) (sym (split-at l k nought b)) (length-drop (suc k) l)
 
   -- the neutral element there

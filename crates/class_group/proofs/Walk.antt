@@ -1,7 +1,7 @@
 -- Walks by a rule over a list, and back by a rule that takes it back (`Reversible`).
 -- `after-reverse`: the way back over the reversed list ends at the start. `walk-reverse`: it meets the same states in reverse order. `only-start`: where it
 -- ends is the only start from which the rule leads there, and `after-back`: it is one. `after-injective`: different starts have different ends. `after-state`,
--- `walk-states`: all that is met are states.
+-- `walk-states`: all that is met are states. `after-agrees`: rules that agree on states lead to the same.
 use mathlib.Core.Path.{_≡_, refl, sym, _∙_, ap}
 use mathlib.Core.List.{List, [], _∷_, _++_, reverse, reverse-cons, reverse-reverse}
 use Rattle.class_group.proofs.All.{all-reverse}
@@ -28,6 +28,13 @@ module _ {X Y : Type 0} (rule : X → Y → X) where
     unfolding after
     after-member h none = h
     after-member {s} h (more {a = c} k r) = after-member (closed s c h k) r
+
+    pub after-agrees : (other : X → Y → X) → ((s : X) (c : Y) → State s → Step c → rule s c ≡ other s c)
+        → {s : X} {l : List Y} → State s → All Step l → after rule s l ≡ after other s l
+    unfolding after
+    after-agrees other same h none = refl
+    after-agrees other same {s} h (more {a = c} {l = l} k r) =
+        after-agrees other same (closed s c h k) r ∙ ap (λ z. after other z l) (same s c h k)
 
     -- one to one from step to step, so from end to end
     pub after-injective : ((s t : X) (c : Y) → State s → State t → Step c → rule s c ≡ rule t c → s ≡ t)
