@@ -5,5 +5,6 @@ pub mod Computing
 pub mod Examples
 pub mod Calls
 pub mod Moves
+pub mod Group
 pub mod Refusals
 pub mod Told

@@ -6,5 +6,6 @@ pub mod Curves
 pub mod Classes
 pub mod Examples
 pub mod Answer
+pub mod Group
 pub mod Told
 pub mod internal

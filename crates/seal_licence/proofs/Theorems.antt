@@ -1,7 +1,7 @@
 -- What n times a class and k halvings answer (docs/SPECIFICATION.md, 2.11 and 6). For an accepted class and a number in range each gives a class (`multiple-gives`, `halvings-give`), which is
 -- accepted in turn (`multiple-accepts`, `halved-accepts` of Values). (m + n) times is the sum of the two (`multiple-of-sum`), m times n times is m n times (`multiple-of-product`), 0 times is
 -- neutral and once is the class (`multiple-of-zero`, `multiple-of-one`). k doublings are 2^k times (`doublings-are-multiple`), k halvings are k halves one after the other
--- (`halvings-are-halves`), of which none is refused (`doublings-give`, `halves-give`); the two undo each other (`halvings-of-doublings`, `doublings-of-halvings`), and no other class leads to the class by k doublings (`only-halvings`).
+-- (`halvings-are-halves`), of which none is refused (`halves-give`, and of the doublings `doublings-give` of jacobian); the two undo each other (`halvings-of-doublings`, `doublings-of-halvings`), and no other class leads to the class by k doublings (`only-halvings`).
 -- Refusals: that of curve and class comes first, whatever n or k is (`multiple-refused-first`, `halvings-refused-first`), then 118 and 119 (`multiple-too-large`, `halvings-too-many`). Every
 -- answer is a class or a refusal with one of the numbers (`multiple-told`, `halvings-told`), and none is 117 (`result-never-117`).
 use Prim.Native.Nat.{ℕ, zero, suc, _+_, _*_, _^_, _≤_, _<_}
@@ -13,19 +13,16 @@ use Rattle.class_group.specs.{Mumford.neutral, Operations.sum, Operations.doubl
 use Rattle.class_group.proofs.{Closed.sum-reduced, Closed.double-reduced, Group.classes, Group.class-doubling, Halving.class-halving}
 use Rattle.class_group.proofs.{Multiples.multiple-one, Multiples.multiple-add, Multiples.multiple-mul, Doublings.doublings-multiple, Doublings.halvings-doublings, Doublings.doublings-halvings}
 use Rattle.jacobian.specs.{Checks.unless, Checks._or-else_, Refusals.refusals, Refusals.listed, Refusals.IsRefusal, Refusals.Told, Curves.curve, Classes.pair, Told.VerdictTold}
-use Rattle.jacobian.specs.Answer.{Result, result, gives, refused, refusal, Accepts, neutral-class, double-answer, half-answer, sum-answer}
+use Rattle.jacobian.specs.Answer.{Result, result, gives, refused, refusal, Accepts, neutral-class, half-answer, sum-answer}
+use Rattle.jacobian.specs.Group.{doublings}
 use Rattle.jacobian.specs.declared.{Curve.Curve, Class.Class}
 use Rattle.jacobian.specs.Told as verdict-told
-use Rattle.jacobian.proofs.{Calls.reduced, Calls.class-pair, Calls.sum-gives, Calls.sum-accepts, Calls.double-gives, Calls.double-accepts, Calls.half-gives}
+use Rattle.jacobian.proofs.{Calls.reduced, Calls.class-pair, Calls.sum-gives, Calls.sum-accepts, Calls.double-gives, Calls.half-gives, Group.class-is, Group.gives-own, Group.doublings-accept}
 use Rattle.jacobian.proofs.{Representation.pair-injective, Refusals.told-unless, Refusals.told-or-else, Refusals.verdict-never-117, Told.refusal-told}
-use Rattle.seal_licence.specs.Multiples.{multiple-limit, halvings-limit, refuses, given, multiple-class, halved-class, multiple-refusal, halvings-refusal, multiple-answer, halvings-answer, doublings, halves}
+use Rattle.seal_licence.specs.Multiples.{multiple-limit, halvings-limit, refuses, given, multiple-class, halved-class, multiple-refusal, halvings-refusal, multiple-answer, halvings-answer, halves}
 use Rattle.seal_licence.specs.Told.{ResultTold}
 use Rattle.seal_licence.specs.Told as told
 use Rattle.seal_licence.proofs.Values.{multiple-accepts, multiple-pair, multiple-none, halved-accepts, halved-pair, halved-none, halved-next}
-
--- the class of an answer that gives one
-class-is : {r : Result} {x : Class} → r ≡ gives x → r .class ≡ x
-class-is e = ap (λ (r : Result). r .class) e
 
 -- ---- an accepted class
 module _ {c : Curve} {a : Class} (h : Accepts c a) where
@@ -51,7 +48,7 @@ module _ {c : Curve} {a : Class} (h : Accepts c a) where
       (class-pair c _ (sum-reduced (curve c) (reduced c x) (reduced c y)) g
       ∙ ap₂ (sum (curve c)) (multiple-pair h m) (multiple-pair h n)
       ∙ sym (multiple-pair h (m + n) ∙ multiple-add (classes (curve c)) m n (reduced c h))) in
-      g ∙ sym (ap gives (class-is g)) ∙ ap gives same
+      gives-own g ∙ ap gives same
 
   pub multiple-of-sum : (m n : ℕ) → m + n < multiple-limit
       → multiple-answer c a (m + n) ≡ result (sum-answer c (multiple-answer c a m .class) (multiple-answer c a n .class))
@@ -70,28 +67,18 @@ module _ {c : Curve} {a : Class} (h : Accepts c a) where
       ∙ ap gives (pair-injective c _ _ (multiple-accepts h 1) h (multiple-pair h 1 ∙ multiple-one (classes (curve c)) (reduced c h)))
 
   -- ---- k doublings
-  pub doublings-accept : (k : ℕ) → Accepts c (doublings c k a)
-  unfolding repeat
-  doublings-accept zero = h
-  doublings-accept (suc k) = double-accepts c (doublings-accept k)
-
   pub doublings-pair : (k : ℕ) → pair d (doublings c k a) ≡ repeat (double (curve c)) k (pair d a)
   unfolding repeat
   doublings-pair zero = refl
   doublings-pair (suc k) =
-      let x = doublings-accept k in
+      let x = doublings-accept c h k in
       class-pair c _ (double-reduced (curve c) (reduced c x)) (double-gives c x) ∙ ap (double (curve c)) (doublings-pair k)
-
-  -- none of them is refused
-  pub doublings-give : (k : ℕ) → result (double-answer c (doublings c k a)) ≡ gives (doublings c (suc k) a)
-  unfolding repeat
-  doublings-give k = let e = double-gives c (doublings-accept k) in e ∙ sym (ap gives (class-is e))
 
   pub doublings-are-multiple : (k : ℕ) → k < 61 → multiple-answer c a (2 ^ k) ≡ gives (doublings c k a)
   doublings-are-multiple k l =
       multiple-gives (2 ^ k) (pow-lt l)
       ∙ ap gives
-      (pair-injective c _ _ (multiple-accepts h (2 ^ k)) (doublings-accept k)
+      (pair-injective c _ _ (multiple-accepts h (2 ^ k)) (doublings-accept c h k)
       (multiple-pair h (2 ^ k) ∙ sym (doublings-pair k ∙ doublings-multiple (class-doubling (curve c)) k (reduced c h))))
 
   -- ---- k halvings
@@ -106,7 +93,7 @@ module _ {c : Curve} {a : Class} (h : Accepts c a) where
   -- none of them is refused
   pub halves-give : (k : ℕ) → result (half-answer c (halves c k a)) ≡ gives (halves c (suc k) a)
   unfolding repeat
-  halves-give k = let e = half-gives c (halves-accept k) in e ∙ sym (ap gives (class-is e))
+  halves-give k = gives-own (half-gives c (halves-accept k))
 
   pub halvings-are-halves : (k : ℕ) → k ≤ halvings-limit → halvings-answer c a k ≡ gives (halves c k a)
   halvings-are-halves k l = halvings-give k l ∙ ap gives (sym (halves-are k))
@@ -127,7 +114,7 @@ module _ {c : Curve} {a : Class} (h : Accepts c a) where
 
   pub halvings-of-doublings : (k : ℕ) → k ≤ halvings-limit → halvings-answer c (doublings c k a) k ≡ gives a
   halvings-of-doublings k l =
-      let x = doublings-accept h k in
+      let x = doublings-accept c h k in
       halvings-give x k l
       ∙ ap gives
       (pair-injective c _ _ (halved-accepts x k) h
@@ -137,7 +124,7 @@ module _ {c : Curve} {a : Class} (h : Accepts c a) where
   doublings-of-halvings k l =
       let x = halved-accepts h k in
       ap (doublings c k) (class-is (halvings-give h k l))
-      ∙ pair-injective c _ _ (doublings-accept x k) h
+      ∙ pair-injective c _ _ (doublings-accept c x k) h
       (doublings-pair x k ∙ ap (repeat (double (curve c)) k) (halved-pair h k) ∙ doublings-halvings (class-halving (curve c)) k (reduced c h))
 
 -- the only accepted class that k doublings take to a

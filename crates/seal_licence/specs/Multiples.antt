@@ -3,7 +3,7 @@ use Prim.Native.Nat.{ℕ, zero, suc, _^_}
 use lib.Dec.{ltb, leb}
 use Rattle.class_group.specs.{Mumford.neutral, Operations.sum, Half.half, Multiples.multiple, Multiples.repeat}
 use Rattle.jacobian.specs.{Checks.unless, Checks._or-else_, Curves.curve, Classes.pair, Classes.class-of}
-use Rattle.jacobian.specs.Answer.{Result, verdict, result, gives, refusing, refusal, double-answer, half-answer}
+use Rattle.jacobian.specs.Answer.{Result, verdict, result, gives, refusing, refusal, half-answer}
 use Rattle.jacobian.specs.declared.{Curve.Curve, Class.Class}
 use Rattle.seal_licence.specs.declared.multiples.ClassResult.{ClassResult}
 
@@ -51,9 +51,6 @@ halvings-answer c a k = given (halvings-refusal c a k) (halved-class c a k)
 
 -- ---- what is proved of them
 
--- k doublings and k halvings, one call after the other
-abbrev pub doublings : Curve → ℕ → Class → Class
-doublings c k a = repeat (λ b. double-answer c b .class) k a
-
+-- k halvings, one call after the other
 abbrev pub halves : Curve → ℕ → Class → Class
 halves c k a = repeat (λ b. half-answer c b .class) k a
