@@ -10,6 +10,7 @@ pub mod Failing
 pub mod Preserved
 pub mod Steps
 pub mod WalkingBack
+pub mod Displacement
 pub mod Edges
 pub mod Numbers
 pub mod Answers

@@ -29,6 +29,11 @@ moved-to-itself : (n : ℕ) (s : Class) (r : Register) → n ≡ r .count → s 
 unfolding moved
 moved-to-itself n s r e f = ap₂ (λ m t. moved m t r) e f
 
+-- what an accepted step answers
+pub step-taken : (k : Step) (r : Register) (a : Class) → step-answer k r a .outcome ≡ accepted → step-answer k r a ≡ taken (stepped k r a)
+unfolding step-answer
+step-taken k r a e = follows-zero _ r (stepped k r a) (follows-accepted _ r (stepped k r a) e)
+
 -- ---- a step that passes, and the other one after it
 module _ (r : Register) (a : Class) where
   seal-sound : {k : Step} → Passing k r a → Accepts (r .curve) (r .seal)

@@ -1,16 +1,20 @@
 -- What holds of registers and classes along a list of calls (docs/SPECIFICATION.md, 11).
 -- `last-passes`: a register that passes its own checks goes on passing them. `accepted-class`, `accepted-class-reduced`: an accepted call has
 -- an accepted class, a reduced one. `accepted-step`: an accepted step leaves a register that passes its checks, and the other step gives back the one given.
--- `accepted-classes`: no check refuses a class of the accepted calls of a list.
+-- `accepted-classes`: no check refuses a class of the accepted calls of a list; on an accepted curve they are accepted classes (`classes-accept`). `first-passes`: where
+-- a call of the list is accepted, the register passes its own checks.
+use Prim.Native.Nat.{_<_}
 use mathlib.Core.Path.{_≡_, refl, _∙_, subst}
-use mathlib.Core.List.{List}
-use Rattle.class_group.specs.Walk.{All}
+use mathlib.Core.List.{List, [], _∷_}
+use native.Mathlib.Omega.{arith}
+use lib.ListN.{length}
+use Rattle.class_group.specs.Walk.{All, none, more}
 use Rattle.class_group.specs.Mumford.{Reduced}
-use Rattle.jacobian.specs.{Curves.curve, Classes.pair, Classes.class-refusal, Answer.Verdict, Answer.accepted, Answer.refused, Answer.Accepts, declared.Class.Class}
+use Rattle.jacobian.specs.{Curves.curve-refusal, Curves.curve, Classes.pair, Classes.class-refusal, Answer.Verdict, Answer.accepted, Answer.refused, Answer.Accepts, declared.Curve.Curve, declared.Class.Class}
 use Rattle.jacobian.proofs.Representation.{accepts-both, accepted-reduced}
 use Rattle.history.specs.Register.{register-refusal, other, step-answer}
 use Rattle.history.specs.Machine as definition
-use Rattle.history.specs.Calls.{Call, answer, registers, last, newest}
+use Rattle.history.specs.Calls.{Call, answer, registers, Event, run, last, newest, classes}
 use Rattle.history.specs.declared.{Register.Register, Step.Step}
 use Rattle.class_group.proofs.All.{all-reverse}
 use Rattle.history.proofs.Machine.Run.{run-all, last-holds, all-accepted}
@@ -53,3 +57,22 @@ accepted-classes r cs =
     (all-accepted
     (run-all registers (λ t. t .curve ≡ r .curve) (λ t c h. call.answer-curve t c ∙ h)
     (λ t c h e. subst (λ d. class-refusal d (c .class) ≡ 0) h (call.accepted-class t c e .1)) cs refl))
+
+pub classes-accept : (c : Curve) → curve-refusal c ≡ 0 → (es : List Event) → All (λ e. class-refusal c (e .call .class) ≡ 0) es → All (Accepts c) (classes es)
+unfolding classes
+classes-accept c ok [] none = none
+classes-accept c ok (e ∷ es) (more p ps) = more (accepts-both c (e .call .class) ok p) (classes-accept c ok es ps)
+
+-- where a call is accepted, the register passes its checks: the refused calls before it left it as it was
+pub first-passes : (r : Register) (cs : List Call) → 0 < length (definition.accepted-of (run r cs)) → Passes r
+unfolding definition.run definition.event definition.accepted-of
+first-passes r [] h = absurd (omega (arith, h))
+first-passes r (c ∷ cs) h = go (answer r c .outcome) refl h (first-passes (answer r c .register) cs)
+  where
+    rest : List Event
+    rest = definition.accepted-of (run (answer r c .register) cs)
+
+    go : (v : Verdict) → answer r c .outcome ≡ v → 0 < length {A = Event} (elim v [ accepted ↦ definition.event registers r c ∷ rest | refused n ↦ rest ])
+        → (0 < length rest → Passes (answer r c .register)) → Passes r
+    go accepted e h on = call.accepted-class r c e .0
+    go (refused n) e h on = subst Passes (call.refused-stays r c n e) (on h)

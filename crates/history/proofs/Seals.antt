@@ -1,9 +1,12 @@
 -- The two rules on seals by value: from an accepted seal and an accepted class each gives an accepted class (`commit-sound`, `undo-sound`), and they
--- take each other back (`undo-of-commit`, `commit-of-undo`). The rules are those of jacobian's calls.
+-- take each other back (`undo-of-commit`, `commit-of-undo`; together `reversible`). The rules are those of jacobian's calls; the first is twice the seal plus the class (`commit-sum`).
 use mathlib.Core.Path.{_≡_, sym, _∙_, ap, subst}
+use Rattle.class_group.specs.Walk.{Reversible}
 use Rattle.jacobian.specs.Answer.{Accepts, Result, double-and-add-answer, subtract-and-halve-answer}
+use Rattle.jacobian.specs.Group.{sum-of, double-of}
 use Rattle.jacobian.specs.declared.{Curve.Curve, Class.Class}
 use Rattle.jacobian.proofs.Moves as moves
+use Rattle.jacobian.proofs.Group.{double-and-add-is}
 use Rattle.history.specs.Register.{commit-seal, undo-seal}
 
 module _ {c : Curve} {s a : Class} (hs : Accepts c s) (ha : Accepts c a) where
@@ -14,6 +17,9 @@ module _ {c : Curve} {s a : Class} (hs : Accepts c s) (ha : Accepts c a) where
   undo-is : subtract-and-halve-answer c s a .class ≡ undo-seal c s a
   unfolding undo-seal
   undo-is = ap (λ (r : Result). r .class) (moves.subtract-and-halve-gives hs ha)
+
+  pub commit-sum : commit-seal c s a ≡ sum-of c (double-of c s) a
+  commit-sum = sym commit-is ∙ double-and-add-is c hs ha
 
   pub commit-sound : Accepts c (commit-seal c s a)
   commit-sound = subst (Accepts c) commit-is (moves.double-and-add-accepts hs ha)
@@ -35,3 +41,11 @@ module _ {c : Curve} {s a : Class} (hs : Accepts c s) (ha : Accepts c a) where
       sym (commit-is (undo-sound hs ha) ha)
       ∙ ap (λ x. double-and-add-answer c x a .class) (sym (undo-is hs ha))
       ∙ ap (λ (r : Result). r .class) (moves.double-of-subtract-and-halve hs ha)
+
+pub reversible : (c : Curve) → Reversible (Accepts c) (Accepts c) (commit-seal c) (undo-seal c)
+reversible c = record {
+  rule-closed = λ h k. commit-sound h k;
+  back-closed = λ h k. undo-sound h k;
+  back-rule = λ h k. undo-of-commit h k;
+  rule-back = λ h k. commit-of-undo h k;
+}

@@ -13,7 +13,8 @@ use Rattle.history.specs.Register.{limit, RegisterReply, undo-seal, seal
 use Rattle.history.specs.Machine as definition
 use Rattle.history.specs.Calls.{undo, answer, run, steps-back}
 use Rattle.history.specs.declared.{Register.Register, Step.the-variants.Undo}
-use Rattle.history.proofs.Registers.{Passing, step-passes, follows-accepted, follows-zero}
+use Rattle.history.proofs.Registers.{Passing, step-passes, follows-accepted}
+use Rattle.history.proofs.OneStep.{step-taken}
 use Rattle.history.proofs.Answers.{subtract-and-halve-sealed}
 
 -- a step back, as a walk makes it
@@ -27,8 +28,7 @@ module _ (r : Register) (a : Class) (e : undo-answer r a .outcome ≡ accepted) 
   passing = step-passes Undo r a (follows-accepted _ r (stepped Undo r a) e)
 
   undo-hands : undo-answer r a .register ≡ stepped Undo r a
-  unfolding step-answer
-  undo-hands = ap (λ (x : RegisterReply). x .register) (follows-zero _ r (stepped Undo r a) (follows-accepted _ r (stepped Undo r a) e))
+  undo-hands = ap (λ (x : RegisterReply). x .register) (step-taken Undo r a e)
 
   step-of-undo : step-back (r .curve) (r .seal) a ≡ record { outcome = accepted; class = undo-seal (r .curve) (r .seal) a }
   unfolding refusal refusal-of-two sealed

@@ -1,8 +1,9 @@
--- A list of calls on a register, taking them back, and walking back (docs/SPECIFICATION.md, 11).
+-- A list of calls on a register, taking them back, walking back, and one changed operation (docs/SPECIFICATION.md, 11).
+use Prim.Native.Nat.{ℕ}
 use mathlib.Core.Path.{_≡_}
-use mathlib.Core.List.{List, [], _∷_, map}
-use Rattle.class_group.specs.Walk.{All, after}
-use Rattle.jacobian.specs.{Answer.accepted, Answer.Result, Answer.result, Answer.subtract-and-halve-answer}
+use mathlib.Core.List.{List, [], _∷_, map, reverse}
+use Rattle.class_group.specs.Walk.{All, ChangedAt, after}
+use Rattle.jacobian.specs.{Answer.accepted, Answer.Result, Answer.result, Answer.sum-answer, Answer.subtract-and-halve-answer, Group.difference, Group.doublings}
 use Rattle.jacobian.specs.declared.{Curve.Curve, Class.Class}
 use Rattle.history.specs.Register.{RegisterReply, step-answer, other, undo-seal}
 use Rattle.history.specs.Machine as machine
@@ -79,3 +80,21 @@ steps-back c seal (a ∷ ops) = let s = result (subtract-and-halve-answer c seal
 -- the answer that the step back over a commit is to give: accepted, with the seal just before the commit
 unfoldable pub met : Event → Result
 met e = record { outcome = accepted; class = e .before .seal }
+
+-- ---- one changed operation
+-- the classes of these calls, which are given newest first, oldest first: operation k is at place k, counted from 1
+abbrev pub operations : List Event → List Class
+operations es = classes (reverse es)
+
+-- two lists of calls, of which es and fs are the accepted ones, newest first: from one first seal on one curve, all of them commits, of which only operation k
+-- changes, from d to e
+pub record Variants (k : ℕ) (d e : Class) (r t : Register) (es fs : List Event) : Type 0 where
+  pub same-curve : t .curve ≡ r .curve
+  pub same-seal : t .seal ≡ r .seal
+  pub commits : OnlyCommits es
+  pub changed-commits : OnlyCommits fs
+  pub changed : ChangedAt k d e (operations es) (operations fs)
+
+-- a seal moved by n doublings of e - d, by the calls on classes
+abbrev pub displaced : Curve → ℕ → Class → Class → Class → Result
+displaced c n d e seal = result (sum-answer c seal (doublings c n (difference c e d)))

@@ -1,0 +1,183 @@
+-- How far one changed operation moves a seal (docs/SPECIFICATION.md, 11), from the laws of groups in class_group, of which the accepted classes are one.
+-- Of the commit's rule over two lists of accepted classes of which only the k-th of n changes, from d to e: the seal moves by n - k doublings of e - d (`seals-displaced`), by
+-- calls of which none is refused; it moves where d and e differ (`seals-move`), and then neither one doubling more (`not-one-more`) nor d - e (`not-turned`) leads there.
+-- Of two lists of calls on registers, refused calls among them, from one first seal, all of whose accepted calls are commits: `displacement`, for k = n `newest-displacement`, and
+-- `moves`. Of walks back that end in one earliest seal: `walk-displacement`, `walk-moves`.
+use Prim.Native.Nat.{ℕ, suc, _-_, _<_}
+use mathlib.Core.Path.{_≡_, refl, sym, _∙_, ap, ap₂, subst}
+use mathlib.Core.List.{List, [], _∷_, _++_, reverse, reverse-reverse}
+use native.Mathlib.Omega.{arith}
+use lib.ListN.{length, length-append, length-map, length-reverse}
+use Rattle.class_group.specs.Walk.{All, none, more, ChangedAt, after}
+use Rattle.class_group.specs.{Group.Doubling, Multiples.repeat}
+use Rattle.class_group.proofs.{All.all-reverse, Walk.after-agrees, Walk.after-state, Walk.after-back, Walk.turned}
+use Rattle.class_group.proofs.Displacement as group
+use Rattle.jacobian.specs.{Curves.curve-refusal, Answer.Verdict, Answer.accepted, Answer.refused, Answer.Accepts, Answer.Result, Answer.result, Answer.gives, Answer.neutral-class, Answer.sum-answer}
+use Rattle.jacobian.specs.Group.{sum-of, opposite-of, double-of, difference, doublings}
+use Rattle.jacobian.specs.declared.{Curve.Curve, Class.Class}
+use Rattle.jacobian.proofs.{Representation.accepts-curve, Representation.accepts-both, Group.class-is, Group.doubling, Group.sum-given, Group.difference-accepts, Group.doublings-accept}
+use Rattle.history.specs.Register.{RegisterReply, commit-seal, undo-seal, moved, stepped}
+use Rattle.history.specs.Machine as definition
+use Rattle.history.specs.Calls.{Call, answer, registers, Event, run, last, newest, classes, OnlyCommits, walk-back, operations, Variants, displaced}
+use Rattle.history.specs.declared.{Register.Register, Step.Step, Step.the-variants.Commit}
+use Rattle.history.proofs.{Seals.commit-sound, Seals.commit-sum, Seals.reversible, OneStep.step-taken, OneCall.refused-stays, Preserved.accepted-classes, Preserved.classes-accept, Preserved.first-passes}
+
+-- ---- the commit's rule over lists of classes
+module _ {c : Curve} {k : ℕ} {d e s : Class} {l m : List Class} (at : ChangedAt k d e l m) (hs : Accepts c s) (hl : All (Accepts c) l) (hm : All (Accepts c) m) where
+  abbrev end : List Class → Class
+  end x = after (commit-seal c) s x
+
+  G : Doubling (Accepts c) (sum-of c) neutral-class (opposite-of c) (double-of c)
+  G = doubling c (accepts-curve hs)
+
+  -- the rule is double and add in the group
+  in-group : {x : List Class} → All (Accepts c) x → end x ≡ after (λ a b. sum-of c (double-of c a) b) s x
+  in-group h = after-agrees (commit-seal c) (λ a b ha hb. commit-sound ha hb) (λ a b. sum-of c (double-of c a) b) (λ a b ha hb. commit-sum ha hb) hs h
+
+  end-accepts : Accepts c (end l)
+  end-accepts = after-state (reversible c) hs hl
+
+  difference-accepted : Accepts c (difference c e d)
+  difference-accepted = difference-accepts c (group.member-e G at hs hl hm) (group.member-d G at hs hl hm)
+
+  -- where it ends, by the group's sum
+  reached : sum-of c (end l) (doublings c (length l - k) (difference c e d)) ≡ end m
+  reached = ap (λ z. sum-of c z (doublings c (length l - k) (difference c e d))) (in-group hl) ∙ sym (in-group hm ∙ group.displacement G at hs hl hm)
+
+  pub seals-displaced : displaced c (length l - k) d e (end l) ≡ gives (end m)
+  seals-displaced = sum-given c end-accepts (doublings-accept c difference-accepted (length l - k)) ∙ ap gives reached
+
+  pub seals-move : ¬ (d ≡ e) → ¬ (end l ≡ end m)
+  seals-move n h = group.changed-end G at hs hl hm n (sym (in-group hl) ∙ h ∙ in-group hm)
+
+  -- what the calls answer for another class in the place of those doublings
+  other-sum : {x : Class} → Accepts c x → result (sum-answer c (end l) x) ≡ gives (end m)
+      → after (λ a b. sum-of c (double-of c a) b) s m ≡ sum-of c (after (λ a b. sum-of c (double-of c a) b) s l) x
+  other-sum {x} h same =
+      sym (in-group hm)
+      ∙ sym (class-is (sym (sum-given c end-accepts h) ∙ same))
+      ∙ ap (λ z. sum-of c z x) (in-group hl)
+
+  -- it is not where one doubling more would lead, nor the difference the other way round
+  pub not-one-more : ¬ (d ≡ e) → ¬ (displaced c (suc (length l - k)) d e (end l) ≡ gives (end m))
+  not-one-more n h = group.one-doubling-more G at hs hl hm n (other-sum (doublings-accept c difference-accepted (suc (length l - k))) h)
+
+  pub not-turned : ¬ (d ≡ e) → ¬ (displaced c (length l - k) e d (end l) ≡ gives (end m))
+  not-turned n h =
+      group.turned-difference G at hs hl hm n
+      (other-sum (doublings-accept c (difference-accepts c (group.member-d G at hs hl hm) (group.member-e G at hs hl hm)) (length l - k)) h)
+
+-- ---- a list of calls on a register
+-- where all accepted ones are commits, the last seal is where the commit's rule leads over their classes, oldest first
+commits-end : (r : Register) (cs : List Call) → OnlyCommits (definition.accepted-of (run r cs))
+    → last r cs .seal ≡ after (commit-seal (r .curve)) (r .seal) (classes (definition.accepted-of (run r cs)))
+unfolding definition.run definition.last definition.event definition.accepted-of after classes answer stepped moved
+commits-end r [] none = refl
+commits-end r (c ∷ cs) only = go (answer r c .outcome) refl only (commits-end (answer r c .register) cs)
+  where
+    rest : List Event
+    rest = definition.accepted-of (run (answer r c .register) cs)
+
+    taken : answer r c .outcome ≡ accepted → c .step ≡ Commit → answer r c .register ≡ stepped Commit r (c .class)
+    taken e k = ap (λ (x : RegisterReply). x .register) (step-taken (c .step) r (c .class) e) ∙ ap (λ (x : Step). stepped x r (c .class)) k
+
+    go : (v : Verdict) → answer r c .outcome ≡ v → OnlyCommits (elim v [ accepted ↦ definition.event registers r c ∷ rest | refused n ↦ rest ])
+        → (OnlyCommits rest → last (answer r c .register) cs .seal ≡ after (commit-seal (answer r c .register .curve)) (answer r c .register .seal) (classes rest))
+        → last (answer r c .register) cs .seal
+        ≡ after (commit-seal (r .curve)) (r .seal) (classes (elim v [ accepted ↦ definition.event registers r c ∷ rest | refused n ↦ rest ]))
+    go accepted e (more h hs) on = on hs ∙ ap (λ (t : Register). after (commit-seal (t .curve)) (t .seal) (classes rest)) (taken e h)
+    go (refused n) e hs on = on hs ∙ ap (λ (t : Register). after (commit-seal (t .curve)) (t .seal) (classes rest)) (refused-stays r c n e)
+
+module _ (r : Register) (cs : List Call) where
+  oldest-first : operations (newest r cs) ≡ classes (definition.accepted-of (run r cs))
+  unfolding definition.newest
+  oldest-first = ap classes (reverse-reverse (definition.accepted-of (run r cs)))
+
+  commits-lead : OnlyCommits (newest r cs) → last r cs .seal ≡ after (commit-seal (r .curve)) (r .seal) (operations (newest r cs))
+  unfolding definition.newest
+  commits-lead only =
+      commits-end r cs (subst OnlyCommits (reverse-reverse (definition.accepted-of (run r cs))) (all-reverse only))
+      ∙ ap (after (commit-seal (r .curve)) (r .seal)) (sym oldest-first)
+
+  operation-count : length (operations (newest r cs)) ≡ length (newest r cs)
+  unfolding classes
+  operation-count = length-map (reverse (newest r cs)) (λ e. e .call .class) ∙ length-reverse (newest r cs)
+
+  -- where there is one, the first seal and the classes are accepted
+  module _ (some : 0 < length (newest r cs)) where
+    first-accepts : Accepts (r .curve) (r .seal)
+    unfolding definition.newest
+    first-accepts =
+        let p = first-passes r cs (subst (λ n. 0 < n) (length-reverse (definition.accepted-of (run r cs))) some) in
+        accepts-both (r .curve) (r .seal) (p .curve-passes) (p .seal-passes)
+
+    operations-accept : All (Accepts (r .curve)) (operations (newest r cs))
+    operations-accept = classes-accept (r .curve) (accepts-curve first-accepts) (reverse (newest r cs)) (all-reverse (accepted-classes r cs))
+
+-- a list that is changed somewhere has an element, and so has the changed one
+changed-some : {X : Type 0} {k : ℕ} {d e : X} {l m : List X} → ChangedAt k d e l m → (0 < length l) × (0 < length m)
+changed-some {d = d} {e = e} {l = l} {m = m} at =
+    let was : length l ≡ length (at .before ++ (d ∷ at .behind)) = ap length (at .was) in
+    let is : length m ≡ length (at .before ++ (e ∷ at .behind)) = ap length (at .is) in
+    (omega (arith, was, length-append (at .before) (d ∷ at .behind)), omega (arith, is, length-append (at .before) (e ∷ at .behind)))
+
+module _ (r t : Register) (cs ds : List Call) {k : ℕ} {d e : Class} (v : Variants k d e r t (newest r cs) (newest t ds)) where
+  abbrev c : Curve
+  c = r .curve
+
+  some : (0 < length (newest r cs)) × (0 < length (newest t ds))
+  some = let p = changed-some (v .changed) in (rw (operation-count r cs) at (p .0), rw (operation-count t ds) at (p .1))
+
+  changed-accept : All (Accepts c) (operations (newest t ds))
+  changed-accept = subst (λ x. All (Accepts x) (operations (newest t ds))) (v .same-curve) (operations-accept t ds (some .1))
+
+  changed-lead : last t ds .seal ≡ after (commit-seal c) (r .seal) (operations (newest t ds))
+  changed-lead =
+      commits-lead t ds (v .changed-commits)
+      ∙ ap₂ (λ x s. after (commit-seal x) s (operations (newest t ds))) (v .same-curve) (v .same-seal)
+
+  -- the last seal moves by n - k doublings of e - d
+  pub displacement : displaced c (length (newest r cs) - k) d e (last r cs .seal) ≡ gives (last t ds .seal)
+  displacement =
+      ap₂ (λ n s. displaced c (n - k) d e s) (sym (operation-count r cs)) (commits-lead r cs (v .commits))
+      ∙ seals-displaced (v .changed) (first-accepts r cs (some .0)) (operations-accept r cs (some .0)) changed-accept
+      ∙ ap gives (sym changed-lead)
+
+  -- the newest operation moves it by e - d itself
+  pub newest-displacement : k ≡ length (newest r cs) → result (sum-answer c (last r cs .seal) (difference c e d)) ≡ gives (last t ds .seal)
+  unfolding repeat
+  newest-displacement newest-one =
+      let no-more : 0 ≡ length (newest r cs) - k = omega (arith, newest-one) in
+      ap (λ n. displaced c n d e (last r cs .seal)) no-more ∙ displacement
+
+  -- and it moves wherever d and e differ
+  pub moves : ¬ (d ≡ e) → ¬ (last r cs .seal ≡ last t ds .seal)
+  moves n h =
+      seals-move (v .changed) (first-accepts r cs (some .0)) (operations-accept r cs (some .0)) changed-accept n
+      (sym (commits-lead r cs (v .commits)) ∙ h ∙ changed-lead)
+
+-- ---- walks back, newest first, that end in one earliest seal
+module _ {c : Curve} {s t : Class} {xs ys : List Class} (hs : Accepts c s) (hx : All (Accepts c) xs) (ht : Accepts c t) (hy : All (Accepts c) ys)
+    (same : walk-back c s xs ≡ walk-back c t ys) {k : ℕ} {d e : Class} (at : ChangedAt k d e (reverse xs) (reverse ys)) where
+  earliest : Accepts c (walk-back c s xs)
+  unfolding walk-back
+  earliest = after-state (turned (reversible c)) hs hx
+
+  -- the commits of the same classes, oldest first, lead from there to the seal again
+  leads : {a : Class} {l : List Class} → Accepts c a → All (Accepts c) l → after (commit-seal c) (walk-back c a l) (reverse l) ≡ a
+  unfolding walk-back
+  leads {a} {l} h k =
+      ap (λ x. after (commit-seal c) (after (undo-seal c) a x) (reverse l)) (sym (reverse-reverse l))
+      ∙ after-back (reversible c) h (all-reverse k)
+
+  leads-changed : after (commit-seal c) (walk-back c s xs) (reverse ys) ≡ t
+  leads-changed = ap (λ z. after (commit-seal c) z (reverse ys)) same ∙ leads ht hy
+
+  pub walk-displacement : displaced c (length xs - k) d e s ≡ gives t
+  walk-displacement =
+      ap₂ (λ n a. displaced c (n - k) d e a) (sym (length-reverse xs)) (sym (leads hs hx))
+      ∙ seals-displaced at earliest (all-reverse hx) (all-reverse hy)
+      ∙ ap gives leads-changed
+
+  pub walk-moves : ¬ (d ≡ e) → ¬ (s ≡ t)
+  walk-moves n h = seals-move at earliest (all-reverse hx) (all-reverse hy) n (leads hs hx ∙ h ∙ sym leads-changed)
