@@ -6,26 +6,26 @@
 -- (`doublings-of-halvings-bytes`). None of these byte doublings and halves is refused (`doublings-write`, `halves-write`), and no other record leads by k of them to the same
 -- (`only-halvings-bytes`).
 use Prim.Native.Nat.{ℕ, zero, suc, _+_, _*_, _^_, _≤_, _<_}
-use mathlib.Core.Path.{_≡_, refl, sym, ap, ap₂, _∙_}
+use mathlib.Core.Path.{_≡_, refl, sym, ap, _∙_}
 use mathlib.Core.List.{List, _++_}
 use native.Mathlib.Omega.{arith}
 use lib.{Dec.lit<, ListN.length, ListN.take-append-drop, Pow.pow-lt}
 use Rattle.class_group.specs.Multiples.{repeat}
-use Rattle.jacobian.specs.{Answer.Result, Answer.result, Answer.neutral-class, Answer.double-answer, Answer.half-answer, Answer.sum-answer, declared.Curve.Curve, declared.Class.Class}
-use Rattle.stored_form.specs.{Number.Bytes, Reading.found, Head.class-room, Head.first-fields-length, Classes.class-field, Passing.ClassPasses, Held.read-record, Held.class-record, Held.sum-record, declared.Held.Held}
-use Rattle.stored_form_theorems.proofs.ClassRoundTrips.{class-short}
-use Rattle.written_form.specs.Effect.{write, on, class-handed, put}
-use Rattle.written_form.proofs.Effects.{call-found, put-written}
-use Rattle.seal.specs.Records.{class-record-bytes, sum-held, sum-record-bytes, SumStored}
-use Rattle.seal.specs.Rebuilt.{first-fields, last-field, wrote, class-rebuilt}
+use Rattle.jacobian.specs.{Answer.Result, Answer.result, Answer.neutral-class, Answer.double-answer, Answer.half-answer, Group.doublings, declared.Curve.Curve, declared.Class.Class}
+use Rattle.stored_form.specs.{Number.Bytes, Reading.found, Head.class-room, Head.first-fields-length, Classes.class-field, Passing.ClassPasses, Held.read-record, Held.class-record, declared.Held.Held}
+use Rattle.written_form.specs.Effect.{write}
+use Rattle.seal.specs.Records.{class-record-bytes}
+use Rattle.seal.specs.Rebuilt.{last-field, class-rebuilt}
 use Rattle.seal.specs.Calls.{double-call, half-call, sum-call}
 use Rattle.seal.specs.Calls as seal
-use Rattle.seal.proofs.{Written.sum-record-back, Passing.class-holds, Passing.Given, Passing.double-given, Passing.half-given, Passing.sum-given}
-use Rattle.seal.proofs.ClassCalls.{class-call, call-writes, wrote-write, rebuilt-write, first-is, last-is, stored-writes, stored-rebuilt, is-stored, follow-writes}
-use Rattle.seal_licence.specs.Multiples.{multiple-limit, halvings-limit, multiple-answer, halvings-answer, doublings, halves}
+use Rattle.seal.specs.Group.{sum-record-of}
+use Rattle.seal.proofs.{Passing.class-holds, Passing.Given, Passing.double-given, Passing.half-given, ByteGroup.sum-record-writes, ByteGroup.sum-record-is}
+use Rattle.seal.proofs.ClassCalls.{class-call, call-writes, rebuilt-write, first-is, last-is, stored-writes, stored-rebuilt, is-stored, follow-writes}
+use Rattle.jacobian.proofs.Group.{doublings-accept}
+use Rattle.seal_licence.specs.Multiples.{multiple-limit, halvings-limit, multiple-answer, halvings-answer, halves}
 use Rattle.seal_licence.specs.Calls.{answered, multiple-call, halvings-call}
-use Rattle.seal_licence.proofs.Theorems.{multiple-of-sum, multiple-of-product, multiple-of-zero, multiple-of-one, doublings-accept, halves-accept, doublings-are-multiple, halvings-are-halves, halvings-of-doublings, doublings-of-halvings}
-use Rattle.licence_theorems.specs.Rebuilt.{sum-rebuilt, doubled-record, halved-record}
+use Rattle.seal_licence.proofs.Theorems.{multiple-of-sum, multiple-of-product, multiple-of-zero, multiple-of-one, halves-accept, doublings-are-multiple, halvings-are-halves, halvings-of-doublings, doublings-of-halvings}
+use Rattle.licence_theorems.specs.Rebuilt.{doubled-record, halved-record}
 use Rattle.licence_theorems.proofs.Passing.{multiple-given, halvings-given}
 
 times : ℕ → Curve → Class → Result
@@ -70,19 +70,6 @@ module _ {c : Curve} {a : Class} (p : ClassPasses c a) (out : List ℕ) (room : 
   halved-is : halved-record out k (class-record-bytes c a) ≡ class-record-bytes c (halves c k a)
   unfolding seal.answered
   halved-is = repeated (λ x b. result (half-answer x b)) (λ b q. half-given q) out room k p
-
--- the byte sum of two classes that pass
-sum-writes : {c : Curve} {a b : Class} → ClassPasses c a → ClassPasses c b → {s : List ℕ} → s ≡ sum-record-bytes c a b → (out : List ℕ) → class-room ≤ length out
-    → sum-call s out ≡ write (class-field 0x43 (sum-answer c a b .class)) out
-unfolding seal.answered class-handed on
-sum-writes {c} {a} {b} p q {s} bytes out room =
-    let x = sum-answer c a b .class in
-    let g = sum-given p q in
-    let stored : SumStored s (sum-held c a b) = record { curve = c; first = a; second = b; held = refl; bytes = bytes; first-passes = p; second-passes = q } in
-    let short : length (class-field 0x43 x) ≤ class-room = class-short 0x43 c x (g .passes .none) in
-    call-found class-room sum-record _ s out room (sum-record-back stored)
-    ∙ ap (λ (r : Result). put (class-handed r) out) (g .gives-class)
-    ∙ put-written (class-field 0x43 x) out (omega arith)
 
 -- ---- the laws, for every record that is read
 
@@ -135,21 +122,15 @@ module _ (s : List ℕ) (bytes : Bytes s) {h : Held} {end : ℕ} (read : read-re
           ∙ sym (follow-writes (is-stored s bytes read) mid room' out room (times n) (times m) g (multiple-given (g .passes) m lm))
 
       pub sum-bytes : (last : List ℕ) → class-room ≤ length last → (m n : ℕ) → m + n < multiple-limit
-          → multiple-call (m + n) s out ≡ sum-call (sum-rebuilt s (multiple-call m s mid) (multiple-call n s last)) out
-      unfolding sum-rebuilt sum-record-bytes
+          → multiple-call (m + n) s out ≡ sum-call (sum-record-of (class-rebuilt s (multiple-call m s mid)) (class-rebuilt s (multiple-call n s last))) out
       sum-bytes last room'' m n l =
           let lm : m < multiple-limit = omega (arith, l) in
           let ln : n < multiple-limit = omega (arith, l) in
-          let x = multiple-answer c a m .class in
-          let y = multiple-answer c a n .class in
-          let there : sum-rebuilt s (multiple-call m s mid) (multiple-call n s last) ≡ sum-record-bytes c x y =
-          ap₂ (λ (e f : List ℕ). first-fields s ++ e ++ f)
-          (ap wrote (multiple-field m lm mid room') ∙ wrote-write (class-field 0x43 x) mid)
-          (ap wrote (multiple-field n ln last room'') ∙ wrote-write (class-field 0x43 y) last)
-          ∙ ap (λ (f : List ℕ). f ++ class-field 0x43 x ++ class-field 0x43 y) (first-is c a stored-bytes) in
           multiple-field (m + n) l out room
           ∙ ap (λ (r : Result). write (class-field 0x43 (r .class)) out) (multiple-of-sum passes m n l)
-          ∙ sym (sum-writes (multiple-given passes m lm .passes) (multiple-given passes n ln .passes) there out room)
+          ∙ sym
+          (sum-record-writes (multiple-given passes m lm .passes) (multiple-given passes n ln .passes)
+          (sum-record-is c _ _ (multiple-record m lm mid room') (multiple-record n ln last room'')) out room)
 
       -- the record after k byte doublings, and after k byte halves
       doubled-at : (k : ℕ) → doubled-record mid k s ≡ class-record-bytes c (doublings c k a)
@@ -162,7 +143,7 @@ module _ (s : List ℕ) (bytes : Bytes s) {h : Held} {end : ℕ} (read : read-re
       pub doublings-write : (k : ℕ) → double-call (doubled-record mid k s) mid ≡ write (last-field (doubled-record mid (suc k) s)) mid
       unfolding seal.answered repeat
       doublings-write k =
-          let p = doublings-accept passes k in
+          let p = doublings-accept c passes k in
           stored-writes (doubled-at k) p (λ x b. result (double-answer x b)) (double-given p) mid room'
           ∙ ap (λ (b : List ℕ). write b mid) (sym (last-is c (doublings c (suc k) a) (doubled-at (suc k))))
 
@@ -188,7 +169,7 @@ module _ (s : List ℕ) (bytes : Bytes s) {h : Held} {end : ℕ} (read : read-re
       pub halvings-of-doublings-bytes : (k : ℕ) → k ≤ halvings-limit → halvings-call k (doubled-record mid k s) out ≡ write (last-field s) out
       unfolding answered halved
       halvings-of-doublings-bytes k l =
-          let p = doublings-accept passes k in
+          let p = doublings-accept c passes k in
           stored-writes (doubled-at k) p (halved k) (halvings-given p k l) out room
           ∙ ap (λ (b : List ℕ). write b out) (own-field _ (ap (λ (r : Result). r .class) (halvings-of-doublings passes k l)))
 

@@ -12,8 +12,8 @@ use Rattle.jacobian.specs.{Answer.accepted, Answer.refused, declared.Class.Clas
 use Rattle.jacobian.proofs.Representation.{accepts-both}
 use Rattle.history.specs.declared.{Register.Register, Step.Step, Step.the-variants.Commit, Step.the-variants.Undo}
 use Rattle.history.specs.Register.{RegisterReply, step-refusal, stepped, other, step-answer, commit-answer, undo-answer}
-use Rattle.history.proofs.Registers.{Passes, step-passes, follows-accepted, follows-zero}
-use Rattle.history.proofs.OneStep.{taken, stepped-curve, stepped-passes, step-taken-back}
+use Rattle.history.proofs.Registers.{Passes, step-passes, follows-accepted}
+use Rattle.history.proofs.OneStep.{taken, step-taken, stepped-curve, stepped-passes, step-taken-back}
 use Rattle.stored_form.specs.{Reading.found, Fields.count-field, Classes.class-field, Held.read-record, Held.register-record}
 use Rattle.written_form.specs.Effect.{Effect, refuse, write, on, put, register-room}
 use Rattle.stored_form.specs.declared.Held.{Held}
@@ -66,8 +66,7 @@ module _ (k : Step) (g : Register) (a : Class) (e : step-answer k g a .outcome �
   none-due = follows-accepted (step-refusal k g a) g (stepped k g a) e
 
   accepted-is : step-answer k g a ≡ taken (stepped k g a)
-  unfolding step-answer
-  accepted-is = follows-zero (step-refusal k g a) g (stepped k g a) none-due
+  accepted-is = step-taken k g a e
 
   pub follows-fits : length (register-fields (step-answer k g a .register)) ≤ register-room
   follows-fits =

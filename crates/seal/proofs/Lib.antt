@@ -4,6 +4,7 @@ pub mod Passing
 pub mod ClassCalls
 pub mod ByteRegister
 pub mod ByteHalving
+pub mod ByteGroup
 pub mod ByteStamps
 pub mod ToldApart
 pub mod Promises

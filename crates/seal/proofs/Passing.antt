@@ -9,6 +9,7 @@ use Rattle.jacobian.specs.Curves.{curve-refusal}
 use Rattle.jacobian.specs.Answer.{Result, result, gives, opposite-answer, double-answer, half-answer, sum-answer}
 use Rattle.jacobian.specs.declared.{Curve.Curve, Class.Class}
 use Rattle.jacobian.proofs.Calls.{opposite-gives, double-gives, half-gives, sum-gives, opposite-accepts, double-accepts, half-accepts, sum-accepts}
+use Rattle.jacobian.proofs.Group.{gives-own}
 use Rattle.stored_form.specs.{Reading.found, Head.body-at, Fields.count-refusal, Passing.CountPasses, Passing.ClassPasses}
 use Rattle.stored_form.specs.Held.{nothing-held, hold, field-refusal, read-field, read-fields, ended, read-record, curve-fields, class-record, sum-record, register-record}
 use Rattle.stored_form.specs.declared.Held.{Held}
@@ -65,7 +66,7 @@ pub record Given (c : Curve) (r : Result) : Type 0 where
   pub passes : ClassPasses c (r .class)
 
 pub given : {c : Curve} {r : Result} {x : Class} → r ≡ gives x → ClassPasses c (r .class) → Given c r
-given e h = record { gives-class = e ∙ sym (ap (λ (y : Result). gives (y .class)) e); passes = h }
+given e h = record { gives-class = gives-own e; passes = h }
 
 module _ {c : Curve} {a : Class} (p : ClassPasses c a) where
   pub opposite-given : Given c (result (opposite-answer c a))

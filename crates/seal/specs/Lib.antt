@@ -2,4 +2,5 @@
 pub mod Records
 pub mod Calls
 pub mod Rebuilt
+pub mod Group
 pub mod Steps

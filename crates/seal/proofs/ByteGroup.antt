@@ -1,0 +1,241 @@
+-- The laws of the group by bytes (docs/SPECIFICATION.md, 11), for records of classes that are read and have the same fields of degree and curve, where the outputs have room for a class
+-- field. A sum and an opposite write the field of what the call by value gives (`sum-writes`, `opposite-writes`), so neither is refused, and the record rebuilt from that is read again
+-- (`sum-read`, `opposite-read`, `neutral-read`). Sums in either order and either grouping answer the same and leave the same in the output (`sum-comm-bytes`, `sum-assoc-bytes`); with the
+-- neutral class's field the class's own is written (`sum-neutral-bytes`), and of a class and its opposite the neutral class's (`sum-opposite-bytes`).
+-- So the records with the same such fields are a commutative group (`byte-group`) in which doubling is one to one (`byte-doubling`), and all of class_group's laws of groups hold of them.
+-- Every record of a sum that is read is made of two such records (`sum-record-parts`).
+use Prim.Native.Nat.{ℕ, _≤_}
+use mathlib.Core.Path.{_≡_, refl, sym, ap, ap₂, _∙_, subst}
+use mathlib.Core.List.{List, _++_}
+use native.Mathlib.Omega.{arith}
+use lib.Dec.{lit<}
+use lib.ListN.{length}
+use Rattle.class_group.specs.Group.{CommutativeGroup, Doubling}
+use Rattle.jacobian.specs.{Curves.curve-refusal, Answer.Result, Answer.result, Answer.gives, Answer.neutral-class, Answer.opposite-answer, Answer.double-answer, Answer.sum-answer}
+use Rattle.jacobian.specs.Group.{sum-of, opposite-of, double-of}
+use Rattle.jacobian.specs.declared.{Curve.Curve, Class.Class}
+use Rattle.jacobian.proofs.{Calls.neutral-accepts, Group.group, Group.doubling}
+use Rattle.stored_form.specs.{Number.Bytes, Reading.found, Head.class-room, Passing.ClassPasses, Classes.curve-first-fields, Classes.class-field}
+use Rattle.stored_form.specs.Held.{read-record, curve-fields, class-record, sum-record}
+use Rattle.stored_form.specs.declared.Held.{Held}
+use Rattle.stored_form.proofs.Readings.{same-found}
+use Rattle.stored_form_theorems.specs.Records.{none}
+use Rattle.stored_form_theorems.proofs.{ClassRoundTrips.class-short, RecordRoundTrips.record-read-back, FieldValues.curve-more}
+use Rattle.stored_form_theorems.proofs.Written.{bytes-append, class-bytes, first-bytes}
+use Rattle.written_form.specs.Effect.{Effect, write, on, class-handed, put}
+use Rattle.written_form.proofs.Effects.{call-found, put-written}
+use Rattle.seal.specs.Records.{class-held, class-record-bytes, sum-held, sum-record-bytes, SumStored}
+use Rattle.seal.specs.Rebuilt.{first-fields, last-field, class-rebuilt}
+use Rattle.seal.specs.Calls.{answered, opposite-call, double-call, sum-call}
+use Rattle.seal.specs.Group.{ReadWith, sum-record-of, record-sum, record-opposite, record-double, neutral-record}
+use Rattle.seal.proofs.Written.{curve-passes, sum-record-back, sum-record-written}
+use Rattle.seal.proofs.Passing.{class-holds, opposite-given, double-given, sum-given}
+use Rattle.seal.proofs.ClassCalls.{class-call, first-is, last-is, rebuilt-bytes, stored-read, stored-writes, stored-rebuilt, is-stored}
+
+-- ---- a class's record and its values
+
+-- two accepted curves with the same fields are one
+same-curve : {c d : Curve} → curve-refusal c ≡ 0 → curve-refusal d ≡ 0 → curve-first-fields c ≡ curve-first-fields d → c ≡ d
+same-curve {c} {d} p q e =
+    ap (λ (h : Held). h .curve)
+    (same-found
+    (sym (record-read-back curve-fields (curve-first-fields c) (curve-more c p none))
+    ∙ ap (read-record curve-fields) e
+    ∙ record-read-back curve-fields (curve-first-fields d) (curve-more d q none)) .0)
+
+-- fields of degree and curve, and the record of an accepted class that begins with them
+record Holds (c : Curve) (a : Class) (fields s : List ℕ) : Type 0 where
+  passes : ClassPasses c a
+  bytes : s ≡ class-record-bytes c a
+  begins : fields ≡ curve-first-fields c
+
+-- what is read is one
+own : {fields s : List ℕ} (r : ReadWith fields s) → Holds (r .held .curve) (r .held .class) fields s
+own {s = s} r =
+    let w = is-stored s (r .bytes) (r .read) in
+    let stored = w .bytes ∙ sym (ap (λ (h : Held). class-record-bytes (h .curve) (h .class)) (w .held)) in
+    record { passes = class-holds s (r .read); bytes = stored; begins = sym (r .begins) ∙ first-is (r .held .curve) (r .held .class) stored }
+
+-- a second one with the same fields is of the same curve
+same-curves : {fields s t : List ℕ} (x : ReadWith fields s) (y : ReadWith fields t) → y .held .curve ≡ x .held .curve
+same-curves x y = same-curve (curve-passes (own y .passes)) (curve-passes (own x .passes)) (sym (own y .begins) ∙ own x .begins)
+
+beside : {fields s t : List ℕ} (x : ReadWith fields s) (y : ReadWith fields t) → Holds (x .held .curve) (y .held .class) fields t
+beside {fields} {t = t} x y = subst (λ c. Holds c (y .held .class) fields t) (same-curves x y) (own y)
+
+-- and what is one is read
+read-again : {c : Curve} {a : Class} {fields s : List ℕ} → Holds c a fields s → ReadWith fields s
+unfolding class-record-bytes
+read-again {c} {a} {s = s} x = record {
+  bytes = subst Bytes (sym (x .bytes)) (bytes-append (curve-first-fields c) (class-field 0x43 a) (first-bytes c) (class-bytes 0x43 a (lit< tt)));
+  begins = first-is c a (x .bytes) ∙ sym (x .begins);
+  held = class-held c a;
+  end = length s;
+  read = stored-read (x .bytes) (x .passes);
+}
+
+-- ---- the byte sum of two classes that pass
+pub sum-record-writes : {c : Curve} {a b : Class} → ClassPasses c a → ClassPasses c b → {s : List ℕ} → s ≡ sum-record-bytes c a b → (out : List ℕ) → class-room ≤ length out
+    → sum-call s out ≡ write (class-field 0x43 (sum-of c a b)) out
+unfolding answered class-handed on
+sum-record-writes {c} {a} {b} p q {s} bytes out room =
+    let x = sum-of c a b in
+    let g = sum-given p q in
+    let stored : SumStored s (sum-held c a b) = record { curve = c; first = a; second = b; held = refl; bytes = bytes; first-passes = p; second-passes = q } in
+    let short : length (class-field 0x43 x) ≤ class-room = class-short 0x43 c x (g .passes .none) in
+    call-found class-room sum-record _ s out room (sum-record-back stored)
+    ∙ ap (λ (r : Result). put (class-handed r) out) (g .gives-class)
+    ∙ put-written (class-field 0x43 x) out (omega arith)
+
+pub sum-record-is : (c : Curve) (a b : Class) {s t : List ℕ} → s ≡ class-record-bytes c a → t ≡ class-record-bytes c b → sum-record-of s t ≡ sum-record-bytes c a b
+unfolding sum-record-bytes
+sum-record-is c a b x y = rw (first-is c a x, last-is c a x, last-is c b y)
+
+-- ---- what the calls write, and the records rebuilt from it
+module _ {c : Curve} {fields : List ℕ} (out : List ℕ) (room : class-room ≤ length out) where
+  sum-written : {a b : Class} {s t : List ℕ} → Holds c a fields s → Holds c b fields t → sum-call (sum-record-of s t) out ≡ write (class-field 0x43 (sum-of c a b)) out
+  sum-written x y = sum-record-writes (x .passes) (y .passes) (sum-record-is c _ _ (x .bytes) (y .bytes)) out room
+
+  sum-holds : {a b : Class} {s t : List ℕ} → Holds c a fields s → Holds c b fields t → Holds c (sum-of c a b) fields (record-sum out s t)
+  sum-holds {a} {b} {s} x y = record {
+    passes = sum-given (x .passes) (y .passes) .passes;
+    bytes = ap (class-rebuilt s) (sum-written x y) ∙ rebuilt-bytes c a (x .bytes) (sum-of c a b) out;
+    begins = x .begins;
+  }
+
+  opposite-written : {a : Class} {s : List ℕ} → Holds c a fields s → opposite-call s out ≡ write (class-field 0x43 (opposite-of c a)) out
+  unfolding answered
+  opposite-written x = stored-writes (x .bytes) (x .passes) (λ d a. result (opposite-answer d a)) (opposite-given (x .passes)) out room
+
+  opposite-holds : {a : Class} {s : List ℕ} → Holds c a fields s → Holds c (opposite-of c a) fields (record-opposite out s)
+  unfolding answered
+  opposite-holds x = record {
+    passes = opposite-given (x .passes) .passes;
+    bytes = stored-rebuilt (x .bytes) (x .passes) (λ d a. result (opposite-answer d a)) (opposite-given (x .passes)) out room;
+    begins = x .begins;
+  }
+
+  double-holds : {a : Class} {s : List ℕ} → Holds c a fields s → Holds c (double-of c a) fields (record-double out s)
+  unfolding answered
+  double-holds x = record {
+    passes = double-given (x .passes) .passes;
+    bytes = stored-rebuilt (x .bytes) (x .passes) (λ d a. result (double-answer d a)) (double-given (x .passes)) out room;
+    begins = x .begins;
+  }
+
+neutral-holds : {c : Curve} {a : Class} {fields s : List ℕ} → Holds c a fields s → Holds c neutral-class fields (neutral-record fields)
+unfolding class-record-bytes
+neutral-holds {c} x = record { passes = neutral-accepts c (curve-passes (x .passes)); bytes = ap neutral-record (x .begins); begins = x .begins }
+
+-- ---- no call is refused, and what it writes makes a record that is read
+module _ {fields s : List ℕ} (x : ReadWith fields s) where
+  abbrev c : Curve
+  c = x .held .curve
+
+  abbrev a : Class
+  a = x .held .class
+
+  pub neutral-read : ReadWith fields (neutral-record fields)
+  neutral-read = read-again (neutral-holds (own x))
+
+  module _ (out : List ℕ) (room : class-room ≤ length out) where
+    pub opposite-writes : opposite-call s out ≡ write (class-field 0x43 (opposite-of (x .held .curve) (x .held .class))) out
+    opposite-writes = opposite-written out room (own x)
+
+    pub opposite-read : ReadWith fields (record-opposite out s)
+    opposite-read = read-again (opposite-holds out room (own x))
+
+    pub double-read : ReadWith fields (record-double out s)
+    double-read = read-again (double-holds out room (own x))
+
+    -- ---- the neutral class and the opposite
+    pub sum-neutral-bytes : sum-call (sum-record-of s (neutral-record fields)) out ≡ write (last-field s) out
+    sum-neutral-bytes =
+        sum-written out room (own x) (neutral-holds (own x))
+        ∙ ap (λ (b : List ℕ). write b out)
+        (ap (class-field 0x43) (group c (curve-passes (own x .passes)) .sum-neutral (own x .passes)) ∙ sym (last-is c a (own x .bytes)))
+
+    pub sum-opposite-bytes : (mid : List ℕ) → class-room ≤ length mid → sum-call (sum-record-of s (record-opposite mid s)) out ≡ write (class-field 0x43 neutral-class) out
+    sum-opposite-bytes mid room' =
+        sum-written out room (own x) (opposite-holds mid room' (own x))
+        ∙ ap (λ (b : Class). write (class-field 0x43 b) out) (group c (curve-passes (own x .passes)) .sum-opposite (own x .passes))
+
+  module _ {t : List ℕ} (y : ReadWith fields t) (out : List ℕ) (room : class-room ≤ length out) where
+    pub sum-writes : sum-call (sum-record-of s t) out ≡ write (class-field 0x43 (sum-of (x .held .curve) (x .held .class) (y .held .class))) out
+    sum-writes = sum-written out room (own x) (beside x y)
+
+    pub sum-read : ReadWith fields (record-sum out s t)
+    sum-read = read-again (sum-holds out room (own x) (beside x y))
+
+    -- ---- either order, either grouping
+    pub sum-comm-bytes : sum-call (sum-record-of s t) out ≡ sum-call (sum-record-of t s) out
+    sum-comm-bytes =
+        sum-writes
+        ∙ ap (λ (b : Class). write (class-field 0x43 b) out) (group c (curve-passes (own x .passes)) .comm (own x .passes) (beside x y .passes))
+        ∙ sym (sum-written out room (beside x y) (own x))
+
+    module _ {u : List ℕ} (z : ReadWith fields u) (mid : List ℕ) (room' : class-room ≤ length mid) (last : List ℕ) (room'' : class-room ≤ length last) where
+      pub sum-assoc-bytes : sum-call (sum-record-of (record-sum mid s t) u) out ≡ sum-call (sum-record-of s (record-sum last t u)) out
+      sum-assoc-bytes =
+          let p = own x in
+          let q = beside x y in
+          let r = beside x z in
+          sum-written out room (sum-holds mid room' p q) r
+          ∙ ap (λ (b : Class). write (class-field 0x43 b) out) (group c (curve-passes (p .passes)) .assoc (p .passes) (q .passes) (r .passes))
+          ∙ sym (sum-written out room p (sum-holds last room'' q r))
+
+-- ---- the group of the records with the same fields of degree and curve, of which one is read
+same-bytes : {c : Curve} {a b : Class} {fields s t : List ℕ} → Holds c a fields s → Holds c b fields t → a ≡ b → s ≡ t
+same-bytes {c} x y e = x .bytes ∙ ap (class-record-bytes c) e ∙ sym (y .bytes)
+
+module _ {fields w : List ℕ} (some : ReadWith fields w) (out : List ℕ) (room : class-room ≤ length out) where
+  abbrev d : Curve
+  d = some .held .curve
+
+  known : curve-refusal d ≡ 0
+  known = curve-passes (own some .passes)
+
+  pub byte-group : CommutativeGroup (ReadWith fields) (record-sum out) (neutral-record fields) (record-opposite out)
+  byte-group = record {
+    sum-closed = λ x y. sum-read x y out room;
+    neutral-closed = neutral-read some;
+    opposite-closed = λ x. opposite-read x out room;
+    comm = λ x y.
+        let p = beside some x in
+        let q = beside some y in
+        same-bytes (sum-holds out room p q) (sum-holds out room q p) (group d known .comm (p .passes) (q .passes));
+    assoc = λ x y z.
+        let p = beside some x in
+        let q = beside some y in
+        let r = beside some z in
+        same-bytes (sum-holds out room (sum-holds out room p q) r) (sum-holds out room p (sum-holds out room q r)) (group d known .assoc (p .passes) (q .passes) (r .passes));
+    sum-neutral = λ x. let p = beside some x in same-bytes (sum-holds out room p (neutral-holds p)) p (group d known .sum-neutral (p .passes));
+    sum-opposite = λ x.
+        let p = beside some x in
+        same-bytes (sum-holds out room p (opposite-holds out room p)) (neutral-holds p) (group d known .sum-opposite (p .passes));
+  }
+
+  -- records of the same bytes are of the same class
+  same-class : {a b : Class} {s t : List ℕ} → Holds d a fields s → Holds d b fields t → s ≡ t → a ≡ b
+  same-class {a} {b} x y e =
+      ap (λ (h : Held). h .class) (same-found (sym (stored-read (x .bytes) (x .passes)) ∙ ap (read-record class-record) e ∙ stored-read (y .bytes) (y .passes)) .0)
+
+  pub byte-doubling : Doubling (ReadWith fields) (record-sum out) (neutral-record fields) (record-opposite out) (record-double out)
+  byte-doubling = record {
+    group = byte-group;
+    double-sum = λ x. let p = beside some x in same-bytes (double-holds out room p) (sum-holds out room p p) (doubling d known .double-sum (p .passes));
+    double-injective = λ x y e.
+        let p = beside some x in
+        let q = beside some y in
+        same-bytes p q (doubling d known .double-injective (p .passes) (q .passes) (same-class (double-holds out room p) (double-holds out room q) e));
+  }
+
+-- ---- every record of a sum is made of two such records
+pub sum-record-parts : {r : List ℕ} → Bytes r → {h : Held} {end : ℕ} → read-record sum-record r ≡ found h end →
+    (fields : List ℕ) × (s : List ℕ) × (t : List ℕ) × ReadWith fields s × ReadWith fields t × (r ≡ sum-record-of s t)
+sum-record-parts bytes read =
+    let w = sum-record-written bytes read .0 in
+    let c = w .curve in
+    let x : Holds c (w .first) (curve-first-fields c) (class-record-bytes c (w .first)) = record { passes = w .first-passes; bytes = refl; begins = refl } in
+    let y : Holds c (w .second) (curve-first-fields c) (class-record-bytes c (w .second)) = record { passes = w .second-passes; bytes = refl; begins = refl } in
+    (curve-first-fields c, class-record-bytes c (w .first), class-record-bytes c (w .second), read-again x, read-again y, w .bytes ∙ sym (sum-record-is c (w .first) (w .second) refl refl))
