@@ -3,23 +3,16 @@
 use Prim.Native.Nat.{ℕ, _≤_}
 use mathlib.Core.Path.{_≡_, subst}
 use mathlib.Core.Bool.{true}
-use mathlib.Core.List.{List, [], _∷_}
+use mathlib.Core.List.{List}
 use lib.ListN.{length, length-map}
-use Rattle.class_group.specs.Walk.{All, none, more}
-use Rattle.jacobian.specs.{Curves.curve-refusal, Classes.class-refusal, Answer.Accepts, declared.Curve.Curve}
+use Rattle.jacobian.specs.{Classes.class-refusal, declared.Curve.Curve}
 use Rattle.jacobian.proofs.Representation.{accepts-both}
-use Rattle.history.specs.{Register.register-refusal, Calls.Call, Calls.Event, Calls.last, Calls.newest, Calls.classes, Calls.OnlyCommits, declared.Register.Register}
+use Rattle.history.specs.{Register.register-refusal, Calls.Call, Calls.last, Calls.newest, Calls.classes, Calls.OnlyCommits, declared.Register.Register}
 use Rattle.history.proofs.{Registers.register-passes, TakingBack.last-curve}
-use Rattle.history.proofs.{Preserved.last-passes, Preserved.accepted-classes, WalkingBack.accepted-few}
+use Rattle.history.proofs.{Preserved.last-passes, Preserved.accepted-classes, Preserved.classes-accept, WalkingBack.accepted-few}
 use Rattle.stored_form.specs.{Head.drawing-limit, Fields.printable}
 use Rattle.archive_theorems.specs.Written.{Storable}
 use Rattle.report_theorems.specs.Demand3.{kept-archive}
-
-module _ (c : Curve) (ok : curve-refusal c ≡ 0) where
-  allowed-classes : (es : List Event) → All (λ e. class-refusal c (e .call .class) ≡ 0) es → All (Accepts c) (classes es)
-  unfolding classes
-  allowed-classes [] none = none
-  allowed-classes (e ∷ es) (more p ps) = more (accepts-both c (e .call .class) ok p) (allowed-classes es ps)
 
 pub kept-storable : (r : Register) (cs : List Call) → OnlyCommits (newest r cs) → register-refusal r ≡ 0 →
     (drawing : List ℕ) → printable drawing ≡ true → length drawing ≤ drawing-limit → Storable (kept-archive r (last r cs) (newest r cs) drawing)
@@ -35,5 +28,5 @@ kept-storable r cs only passes drawing clean short =
       seal-allowed =
           accepts-both (r .curve) (last r cs .seal) curve-ok
           (subst (λ (c : Curve). class-refusal c (last r cs .seal) ≡ 0) (last-curve r cs) (left .seal-passes));
-      operations-allowed = allowed-classes (r .curve) curve-ok (newest r cs) (accepted-classes r cs);
+      operations-allowed = classes-accept (r .curve) curve-ok (newest r cs) (accepted-classes r cs);
     }

@@ -7,3 +7,4 @@ pub mod Letters
 pub mod Through
 pub mod Kept
 pub mod Demand3
+pub mod Displacement

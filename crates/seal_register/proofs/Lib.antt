@@ -4,4 +4,5 @@ pub mod ByHand
 pub mod InPlace
 pub mod RowSteps
 pub mod RowWalk
+pub mod Displacement
 pub mod ToldApart

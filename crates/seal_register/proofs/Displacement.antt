@@ -1,0 +1,65 @@
+-- How far one changed operation moves a seal (docs/SPECIFICATION.md, 11), of lists in which each call is by value or in place: where only operation k of n changes, from d to e, the
+-- last seal moves by n - k doublings of e - d (`displacement`), and it moves where d and e differ (`moves`). Of walks over two lent rows that are not refused and reach one earliest
+-- seal: `row-displacement`, `row-moves` say the same of the last seals handed over.
+use Prim.Native.Nat.{ℕ, _-_}
+use mathlib.Core.Path.{_≡_, sym, _∙_, ap}
+use mathlib.Core.List.{List, [], _∷_, reverse}
+use lib.ListN.{length}
+use Rattle.class_group.specs.Walk.{All, none, more, ChangedAt}
+use Rattle.jacobian.specs.{Curves.curve-refusal, Answer.Accepts, Answer.Result, Answer.gives, Answer.verdict-of, declared.Curve.Curve, declared.Class.Class}
+use Rattle.jacobian.proofs.{ByValue.Checks.then-zero, Representation.accepts-both}
+use Rattle.history.specs.{Calls.newest, Calls.walk-back, Calls.Variants, Calls.displaced, declared.Register.Register}
+use Rattle.history.proofs.Answers.{sealed-outcome}
+use Rattle.history.proofs.Displacement as history
+use Rattle.seal_register.specs.{InPlace.Made, InPlace.calls, InPlace.Session, InPlace.left-by, InPlace.newest-made, RowWalk.classes-refusal, RowWalk.row-refusal, RowWalk.reached, RowWalk.row-walk-answer, declared.walk.RowWalk.RowWalk}
+use Rattle.seal_register.proofs.{Answer.verdict-number, InPlace.newest-is, InPlace.left-by-last, RowSteps.accepted-is}
+
+-- ---- lists of calls, each by value or in place
+module _ (r t : Register) (ms ns : List Made) (here : Session r ms) (there : Session t ns) {k : ℕ} {d e : Class} (v : Variants k d e r t (newest-made r ms) (newest-made t ns)) where
+  by-value : Variants k d e r t (newest r (calls ms)) (newest t (calls ns))
+  by-value = rw (newest-is r ms here, newest-is t ns there) at v
+
+  pub displacement : displaced (r .curve) (length (newest-made r ms) - k) d e (left-by r ms .seal) ≡ gives (left-by t ns .seal)
+  displacement = rw (newest-is r ms here, left-by-last r ms here, left-by-last t ns there) (history.displacement r t (calls ms) (calls ns) by-value)
+
+  pub moves : ¬ (d ≡ e) → ¬ (left-by r ms .seal ≡ left-by t ns .seal)
+  moves = rw (left-by-last r ms here, left-by-last t ns there) (history.moves r t (calls ms) (calls ns) by-value)
+
+-- ---- walks over lent rows, newest first
+classes-pass : (c : Curve) → curve-refusal c ≡ 0 → (ops : List Class) → classes-refusal c ops ≡ 0 → All (Accepts c) ops
+unfolding classes-refusal
+classes-pass c ok [] e = none
+classes-pass c ok (a ∷ ops) e = let p = then-zero _ _ e in more (accepts-both c a ok (p .0)) (classes-pass c ok ops (p .1))
+
+-- what a walk that is not refused was given, and what it reaches
+record Walked (c : Curve) (s : Class) (ops : List Class) (w : RowWalk) : Type 0 where
+  seal : Accepts c s
+  operations : All (Accepts c) ops
+  reaches : walk-back c s ops ≡ w .seal
+
+walked : (c : Curve) (s : Class) (ops : List Class) (w : RowWalk) → reached w ≡ row-walk-answer c s ops → w .refusal ≡ 0 → Walked c s ops w
+unfolding row-walk-answer row-refusal
+walked c s ops w e z =
+    let none-due : row-refusal c s ops ≡ 0 =
+    verdict-number _ 0 (sym (ap (λ (x : Result). x .outcome) e ∙ sealed-outcome (row-refusal c s ops) (walk-back c s ops)) ∙ ap verdict-of z) in
+    let p = then-zero _ _ none-due in
+    let q = then-zero _ _ (then-zero _ _ (p .1) .1) in
+    record {
+      seal = accepts-both c s (p .0) (q .0);
+      operations = classes-pass c (p .0) ops (q .1);
+      reaches = ap (λ (x : Result). x .class) (accepted-is _ (walk-back c s ops) none-due ∙ sym e);
+    }
+
+module _ (c : Curve) (s t : Class) (xs ys : List Class) (w v : RowWalk) (here : reached w ≡ row-walk-answer c s xs) (there : reached v ≡ row-walk-answer c t ys)
+    (unrefused : w .refusal ≡ 0) (unrefused' : v .refusal ≡ 0) (same : w .seal ≡ v .seal) {k : ℕ} {d e : Class} (at : ChangedAt k d e (reverse xs) (reverse ys)) where
+  x : Walked c s xs w
+  x = walked c s xs w here unrefused
+
+  y : Walked c t ys v
+  y = walked c t ys v there unrefused'
+
+  pub row-displacement : displaced c (length xs - k) d e s ≡ gives t
+  row-displacement = history.walk-displacement (x .seal) (x .operations) (y .seal) (y .operations) (x .reaches ∙ same ∙ sym (y .reaches)) at
+
+  pub row-moves : ¬ (d ≡ e) → ¬ (s ≡ t)
+  row-moves = history.walk-moves (x .seal) (x .operations) (y .seal) (y .operations) (x .reaches ∙ same ∙ sym (y .reaches)) at
