@@ -1,9 +1,10 @@
--- Lists whose elements are all members: reversed, a part of one, two one after the other, and the element at a place.
+-- Lists whose elements are all members: reversed, a part of one, two one after the other, the element at a place, and the two at the place where lists differ.
 use Prim.Native.Nat.{ℕ, zero, suc, _<_}
+use mathlib.Core.Path.{subst}
 use mathlib.Core.List.{List, [], _∷_, _++_, reverse, reverseAux}
 use lib.ListN.{length, take, drop, getD}
 use native.Mathlib.Omega.{arith}
-use Rattle.class_group.specs.Walk.{All, none, more}
+use Rattle.class_group.specs.Walk.{All, none, more, ChangedAt}
 
 module _ {X : Type 0} {Member : X → Type 0} where
   all-onto : {l m : List X} → All Member l → All Member m → All Member (reverseAux l m)
@@ -23,6 +24,9 @@ module _ {X : Type 0} {Member : X → Type 0} where
   all-drop (suc k) none = none
   all-drop (suc k) (more h r) = all-drop k r
 
+  pub all-head : {a : X} {l : List X} → All Member (a ∷ l) → Member a × All Member l
+  all-head (more h r) = (h, r)
+
   pub all-split : (l : List X) {m : List X} → All Member (l ++ m) → All Member l × All Member m
   all-split [] h = (none, h)
   all-split (a ∷ l) (more h r) = let p = all-split l r in (more h (p .0), p .1)
@@ -31,3 +35,7 @@ module _ {X : Type 0} {Member : X → Type 0} where
   all-at k x l none = absurd (omega arith)
   all-at zero x l (more h r) = h
   all-at (suc k) x l (more h r) = all-at k x (omega arith) r
+
+  pub changed-members : {k : ℕ} {d e : X} {l m : List X} → ChangedAt k d e l m → All Member l → All Member m → Member d × Member e
+  changed-members at h r =
+      (all-head (all-split (at .before) (subst (All Member) (at .was) h) .1) .0, all-head (all-split (at .before) (subst (All Member) (at .is) r) .1) .0)

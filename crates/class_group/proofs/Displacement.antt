@@ -14,7 +14,7 @@ use Rattle.class_group.specs.{Multiples.repeat, Multiples.weighted-sum}
 use Rattle.class_group.specs.Walk.{All, none, more, ChangedAt, after, Reversible}
 use Rattle.class_group.proofs.GroupLaws.{sums, add-subtract, subtract-add, neutral-sum, cancel-left, cancel-right, eq-of-difference, interchange}
 use Rattle.class_group.proofs.Doublings.{double-member, half-double, repeat-inner, doublings-member, doublings-sum, doublings-opposite, doublings-neutral, doublings-injective}
-use Rattle.class_group.proofs.All.{all-take, all-drop, all-split, all-at}
+use Rattle.class_group.proofs.All.{all-take, all-drop, all-head, all-split, all-at, changed-members}
 use Rattle.class_group.proofs.Walk.{after-append, after-member, after-injective}
 
 module _ {X : Type 0} {Member : X → Type 0} {_+_ : X → X → X} {nought : X} {minus double : X → X} (D : Doubling Member _+_ nought minus double) where
@@ -121,23 +121,14 @@ module _ {X : Type 0} {Member : X → Type 0} {_+_ : X → X → X} {nought : X}
 
   -- one of n elements changes, the k-th from d to e
   module _ {k : ℕ} {d e s : X} {l m : List X} (at : ChangedAt k d e l m) (hs : Member s) (hl : All Member l) (hm : All Member m) where
-    was-members : All Member (at .before) × All Member (d ∷ at .behind)
-    was-members = all-split (at .before) (subst (All Member) (at .was) hl)
+    member-d : Member d
+    member-d = changed-members at hl hm .0
 
-    is-members : All Member (at .before) × All Member (e ∷ at .behind)
-    is-members = all-split (at .before) (subst (All Member) (at .is) hm)
+    member-e : Member e
+    member-e = changed-members at hl hm .1
 
-    first : {a : X} {r : List X} → All Member (a ∷ r) → Member a
-    first (more h r) = h
-
-    rest : {a : X} {r : List X} → All Member (a ∷ r) → All Member r
-    rest (more h r) = r
-
-    pub member-d : Member d
-    member-d = first (was-members .1)
-
-    pub member-e : Member e
-    member-e = first (is-members .1)
+    around : All Member (at .before) × All Member (d ∷ at .behind)
+    around = all-split (at .before) (subst (All Member) (at .was) hl)
 
     behind-is : length (at .behind) ≡ length l - k
     behind-is =
@@ -147,13 +138,13 @@ module _ {X : Type 0} {Member : X → Type 0} {_+_ : X → X → X} {nought : X}
     pub displacement : forward s m ≡ forward s l + repeat double (length l - k) (e + minus d)
     displacement =
         ap (forward s) (at .is)
-        ∙ displaced hs (was-members .0) member-d member-e (rest (was-members .1))
+        ∙ displaced hs (around .0) member-d member-e (all-head (around .1) .1)
         ∙ ap₂ (λ x n. forward s x + repeat double n (e + minus d)) (sym (at .was)) behind-is
 
     -- the end moves
     pub changed-end : ¬ (d ≡ e) → ¬ (forward s l ≡ forward s m)
     changed-end n h =
-        n (same-end hs (was-members .0) member-d member-e (rest (was-members .1)) (sym (ap (forward s) (at .was)) ∙ h ∙ ap (forward s) (at .is)))
+        n (same-end hs (around .0) member-d member-e (all-head (around .1) .1) (sym (ap (forward s) (at .was)) ∙ h ∙ ap (forward s) (at .is)))
 
     -- what it moves by is nothing else
     moved-by : (x : X) → Member x → forward s m ≡ forward s l + x → repeat double (length l - k) (e + minus d) ≡ x

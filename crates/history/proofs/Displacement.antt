@@ -10,7 +10,7 @@ use native.Mathlib.Omega.{arith}
 use lib.ListN.{length, length-append, length-map, length-reverse}
 use Rattle.class_group.specs.Walk.{All, none, more, ChangedAt, after}
 use Rattle.class_group.specs.{Group.Doubling, Multiples.repeat}
-use Rattle.class_group.proofs.{All.all-reverse, Walk.after-agrees, Walk.after-state, Walk.after-back, Walk.turned}
+use Rattle.class_group.proofs.{All.all-reverse, All.changed-members, Walk.after-agrees, Walk.after-state, Walk.after-back, Walk.turned}
 use Rattle.class_group.proofs.Displacement as group
 use Rattle.jacobian.specs.{Curves.curve-refusal, Answer.Verdict, Answer.accepted, Answer.refused, Answer.Accepts, Answer.Result, Answer.result, Answer.gives, Answer.neutral-class, Answer.sum-answer}
 use Rattle.jacobian.specs.Group.{sum-of, opposite-of, double-of, difference, doublings}
@@ -38,7 +38,7 @@ module _ {c : Curve} {k : ℕ} {d e s : Class} {l m : List Class} (at : ChangedA
   end-accepts = after-state (reversible c) hs hl
 
   difference-accepted : Accepts c (difference c e d)
-  difference-accepted = difference-accepts c (group.member-e G at hs hl hm) (group.member-d G at hs hl hm)
+  difference-accepted = difference-accepts c (changed-members at hl hm .1) (changed-members at hl hm .0)
 
   -- where it ends, by the group's sum
   reached : sum-of c (end l) (doublings c (length l - k) (difference c e d)) ≡ end m
@@ -65,7 +65,7 @@ module _ {c : Curve} {k : ℕ} {d e s : Class} {l m : List Class} (at : ChangedA
   pub not-turned : ¬ (d ≡ e) → ¬ (displaced c (length l - k) e d (end l) ≡ gives (end m))
   not-turned n h =
       group.turned-difference G at hs hl hm n
-      (other-sum (doublings-accept c (difference-accepts c (group.member-d G at hs hl hm) (group.member-e G at hs hl hm)) (length l - k)) h)
+      (other-sum (doublings-accept c (difference-accepts c (changed-members at hl hm .0) (changed-members at hl hm .1)) (length l - k)) h)
 
 -- ---- a list of calls on a register
 -- where all accepted ones are commits, the last seal is where the commit's rule leads over their classes, oldest first

@@ -44,10 +44,10 @@ same-curve {c} {d} p q e =
     ∙ record-read-back curve-fields (curve-first-fields d) (curve-more d q none)) .0)
 
 -- fields of degree and curve, and the record of an accepted class that begins with them
-record Holds (c : Curve) (a : Class) (fields s : List ℕ) : Type 0 where
-  passes : ClassPasses c a
-  bytes : s ≡ class-record-bytes c a
-  begins : fields ≡ curve-first-fields c
+pub record Holds (c : Curve) (a : Class) (fields s : List ℕ) : Type 0 where
+  pub passes : ClassPasses c a
+  pub bytes : s ≡ class-record-bytes c a
+  pub begins : fields ≡ curve-first-fields c
 
 -- what is read is one
 own : {fields s : List ℕ} (r : ReadWith fields s) → Holds (r .held .curve) (r .held .class) fields s
@@ -64,7 +64,7 @@ beside : {fields s t : List ℕ} (x : ReadWith fields s) (y : ReadWith fields t)
 beside {fields} {t = t} x y = subst (λ c. Holds c (y .held .class) fields t) (same-curves x y) (own y)
 
 -- and what is one is read
-read-again : {c : Curve} {a : Class} {fields s : List ℕ} → Holds c a fields s → ReadWith fields s
+pub read-again : {c : Curve} {a : Class} {fields s : List ℕ} → Holds c a fields s → ReadWith fields s
 unfolding class-record-bytes
 read-again {c} {a} {s = s} x = record {
   bytes = subst Bytes (sym (x .bytes)) (bytes-append (curve-first-fields c) (class-field 0x43 a) (first-bytes c) (class-bytes 0x43 a (lit< tt)));
@@ -96,7 +96,7 @@ module _ {c : Curve} {fields : List ℕ} (out : List ℕ) (room : class-room ≤
   sum-written : {a b : Class} {s t : List ℕ} → Holds c a fields s → Holds c b fields t → sum-call (sum-record-of s t) out ≡ write (class-field 0x43 (sum-of c a b)) out
   sum-written x y = sum-record-writes (x .passes) (y .passes) (sum-record-is c _ _ (x .bytes) (y .bytes)) out room
 
-  sum-holds : {a b : Class} {s t : List ℕ} → Holds c a fields s → Holds c b fields t → Holds c (sum-of c a b) fields (record-sum out s t)
+  pub sum-holds : {a b : Class} {s t : List ℕ} → Holds c a fields s → Holds c b fields t → Holds c (sum-of c a b) fields (record-sum out s t)
   sum-holds {a} {b} {s} x y = record {
     passes = sum-given (x .passes) (y .passes) .passes;
     bytes = ap (class-rebuilt s) (sum-written x y) ∙ rebuilt-bytes c a (x .bytes) (sum-of c a b) out;
@@ -115,7 +115,7 @@ module _ {c : Curve} {fields : List ℕ} (out : List ℕ) (room : class-room ≤
     begins = x .begins;
   }
 
-  double-holds : {a : Class} {s : List ℕ} → Holds c a fields s → Holds c (double-of c a) fields (record-double out s)
+  pub double-holds : {a : Class} {s : List ℕ} → Holds c a fields s → Holds c (double-of c a) fields (record-double out s)
   unfolding answered
   double-holds x = record {
     passes = double-given (x .passes) .passes;
@@ -188,6 +188,11 @@ module _ {fields s : List ℕ} (x : ReadWith fields s) where
 same-bytes : {c : Curve} {a b : Class} {fields s t : List ℕ} → Holds c a fields s → Holds c b fields t → a ≡ b → s ≡ t
 same-bytes {c} x y e = x .bytes ∙ ap (class-record-bytes c) e ∙ sym (y .bytes)
 
+-- and records of the same bytes are of the same class
+same-class : {c : Curve} {a b : Class} {fields s t : List ℕ} → Holds c a fields s → Holds c b fields t → s ≡ t → a ≡ b
+same-class x y e =
+    ap (λ (h : Held). h .class) (same-found (sym (stored-read (x .bytes) (x .passes)) ∙ ap (read-record class-record) e ∙ stored-read (y .bytes) (y .passes)) .0)
+
 module _ {fields w : List ℕ} (some : ReadWith fields w) (out : List ℕ) (room : class-room ≤ length out) where
   abbrev d : Curve
   d = some .held .curve
@@ -214,11 +219,6 @@ module _ {fields w : List ℕ} (some : ReadWith fields w) (out : List ℕ) (room
         let p = beside some x in
         same-bytes (sum-holds out room p (opposite-holds out room p)) (neutral-holds p) (group d known .sum-opposite (p .passes));
   }
-
-  -- records of the same bytes are of the same class
-  same-class : {a b : Class} {s t : List ℕ} → Holds d a fields s → Holds d b fields t → s ≡ t → a ≡ b
-  same-class {a} {b} x y e =
-      ap (λ (h : Held). h .class) (same-found (sym (stored-read (x .bytes) (x .passes)) ∙ ap (read-record class-record) e ∙ stored-read (y .bytes) (y .passes)) .0)
 
   pub byte-doubling : Doubling (ReadWith fields) (record-sum out) (neutral-record fields) (record-opposite out) (record-double out)
   byte-doubling = record {

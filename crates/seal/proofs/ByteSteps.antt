@@ -21,7 +21,7 @@ use Rattle.history.specs.Calls.{answer}
 use Rattle.history.proofs.{Machine.Run.accepted-fit, OneStep.taken, OneStep.step-taken-back, OneCall.answer-curve, OneCall.accepted-passes}
 use Rattle.jacobian.proofs.Representation.{accepts-both}
 use Rattle.history.proofs.Machine.TakingBack as machine
-use Rattle.stored_form.specs.{Number.Bytes, Classes.curve-first-fields}
+use Rattle.stored_form.specs.{Number.Bytes, Classes.curve-first-fields, Classes.class-field}
 use Rattle.written_form.specs.Effect.{Effect, write, register-room, longest-answer}
 use Rattle.stored_form.specs.declared.Held.{Held}
 use Rattle.seal.specs.{Records.register-fields, Records.register-record-bytes, Rebuilt.wrote, Calls.register, Calls.step-call}
@@ -43,7 +43,7 @@ accepted-low n e = go (ltb longest-answer n) refl e
     go false is e = ltb-false longest-answer n is
 
 -- after a refusal all is as it was
-refused-stays : (k : Kept) (e : Effect) (n : ℕ) → outcome (e .answer) ≡ refused n → next k e ≡ k
+pub refused-stays : (k : Kept) (e : Effect) (n : ℕ) → outcome (e .answer) ≡ refused n → next k e ≡ k
 unfolding outcome next
 refused-stays k e n = go (ltb longest-answer (e .answer))
   where
@@ -68,7 +68,13 @@ write-event k c xs short e =
     (ap (λ (x : Effect). outcome (x .answer)) e ∙ outcome-low (length xs) (omega arith))
     (ap (next k) e ∙ next-written k xs (c .output) (omega arith))
 
--- an accepted call from the stored form of a register
+-- what an accepted call did from the stored form of a register: it carried the field of a class with which the register's call is accepted, and wrote the register that follows
+pub record Done (k : Kept) (g : Register) (c : ByteStep) : Type 0 where
+  pub class : Class
+  pub field : c .operation ≡ class-field 0x44 class
+  pub taken-step : step-answer (c .step) g class .outcome ≡ accepted
+  pub happens : event byte-steps k c ≡ record { before = k; call = c; outcome = accepted; left = with-register k (register-fields (step-answer (c .step) g class .register)) }
+
 module _ (k : Kept) (stored : InStoredForm k) (c : ByteStep) (bytes : Bytes (c .operation)) (ok : outcome (made k c .answer) ≡ accepted) where
   abbrev g : Register
   g = stored .register
@@ -125,6 +131,14 @@ module _ (k : Kept) (stored : InStoredForm k) (c : ByteStep) (bytes : Bytes (c .
         register-bytes = refl;
       }
 
+  pub done : Done k (stored .register) c
+  done = record { class = a; field = carries .field; taken-step = taken-step; happens = there }
+
+  -- and leaves it in stored form
+  pub kept-stored : InStoredForm (byte-steps .next k c)
+  unfolding event
+  kept-stored = subst InStoredForm (sym (ap (λ (x : Event Kept ByteStep). x .left) there)) left-stored
+
   -- and the other step brings back what was kept
   module _ (lend : ByteStep → List ℕ) (room : register-room ≤ length (lend c)) where
     taken-back-step : step-answer (other (c .step)) then-register a ≡ taken g
@@ -157,7 +171,7 @@ module _ (lend : ByteStep → List ℕ) (room : (c : ByteStep) → register-room
   unfolding event
   reversible = record {
     stays = λ k c n e. refused-stays k (made k c) n e;
-    keeps = λ k c h f e. subst InStoredForm (sym (ap (λ (x : Event Kept ByteStep). x .left) (there k h c f e))) (left-stored k h c f e);
+    keeps = λ k c h f e. kept-stored k h c f e;
     returns = λ k c h f e. returned k h c f e lend (room c);
   }
 

@@ -10,3 +10,4 @@ pub mod ToldApart
 pub mod Promises
 pub mod KeptFields
 pub mod ByteSteps
+pub mod ByteDisplacement

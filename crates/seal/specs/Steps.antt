@@ -1,10 +1,12 @@
--- Lists of byte commits and undos, each on the record made of what the last accepted one wrote (docs/SPECIFICATION.md, 11).
-use Prim.Native.Nat.{ℕ}
-use mathlib.Core.{Path._≡_, Bool.cond, List.List, List._++_}
+-- Lists of byte commits and undos, each on the record made of what the last accepted one wrote, and one changed operation in them (docs/SPECIFICATION.md, 11).
+use Prim.Native.Nat.{ℕ, _+_}
+use mathlib.Core.{Path._≡_, Bool.cond, List.List, List._∷_, List._++_, List.map, List.reverse}
 use lib.Dec.{ltb}
+use lib.ListN.{drop}
+use Rattle.class_group.specs.Walk.{All, ChangedAt}
 use Rattle.jacobian.specs.Answer.{Verdict, accepted, refused}
-use Rattle.history.specs.{Machine.Machine, Register.other, declared.Register.Register, declared.Step.Step}
-use Rattle.stored_form.specs.{Passing.CountPasses, Passing.ClassPasses, Classes.curve-first-fields}
+use Rattle.history.specs.{Machine.Machine, Machine.Event, Register.other, declared.Register.Register, declared.Step.Step, declared.Step.the-variants.Commit}
+use Rattle.stored_form.specs.{Head.count-length, Passing.CountPasses, Passing.ClassPasses, Classes.curve-first-fields}
 use Rattle.written_form.specs.Effect.{Effect, longest-answer}
 use Rattle.seal.specs.{Records.register-fields, Rebuilt.wrote, Calls.step-call}
 
@@ -47,3 +49,30 @@ pub record InStoredForm (k : Kept) : Type 0 where
   pub seal-passes : ClassPasses (register .curve) (register .seal)
   pub curve-bytes : k .curve ≡ curve-first-fields (register .curve)
   pub register-bytes : k .register ≡ register-fields register
+
+-- ---- one changed operation
+
+-- the record of the seal that is kept: degree and curve, and the class field behind the count's
+abbrev pub seal-record : Kept → List ℕ
+seal-record k = k .curve ++ drop (3 + count-length) (k .register)
+
+-- the record of the class of an operation: its field with the tag of a class
+abbrev pub operation-record : List ℕ → List ℕ → List ℕ
+operation-record fields op = fields ++ (0x43 ∷ drop 1 op)
+
+-- all of these calls are commits
+abbrev pub OnlyCommits : List (Event Kept ByteStep) → Type 0
+OnlyCommits es = All (λ e. e .call .step ≡ Commit) es
+
+-- the fields of the operations of these calls, which are given newest first, oldest first
+abbrev pub operations : List (Event Kept ByteStep) → List (List ℕ)
+operations es = map (λ e. e .call .operation) (reverse es)
+
+-- two lists of calls, of which es and fs are the accepted ones, newest first: from one first seal on one curve, all of them commits, of which only operation n
+-- changes, from d to e
+pub record ByteVariants (n : ℕ) (d e : List ℕ) (k t : Kept) (es fs : List (Event Kept ByteStep)) : Type 0 where
+  pub same-curve : t .curve ≡ k .curve
+  pub same-seal : seal-record t ≡ seal-record k
+  pub commits : OnlyCommits es
+  pub changed-commits : OnlyCommits fs
+  pub changed : ChangedAt n d e (operations es) (operations fs)

@@ -1,0 +1,219 @@
+-- How far one changed operation moves the seal of a list of byte commits (docs/SPECIFICATION.md, 11), from the stored form of any register that no check refuses, whatever bytes stand in
+-- the place of the operations, refused calls among them. The record of the seal moves as the records' group says: an accepted commit doubles it and adds the operation's (`commit-record`).
+-- So where of n accepted commits only operation k changes, the last record is the other list's plus n - k doublings of the difference of the operations' records, to the byte
+-- (`displacement-bytes`), and it is another one where the operations' fields are (`moves-bytes`). The records of the last seal and of the two operations are read (`last-read`,
+-- `operations-read`), so that none of these calls is refused (`sum-read`, `double-read`, `opposite-read` of ByteGroup).
+use Prim.Native.Nat.{ℕ, _+_, _-_, _≤_}
+use mathlib.Core.Path.{_≡_, refl, sym, ap, ap₂, _∙_, subst}
+use mathlib.Core.List.{List, [], _∷_, _++_, map, reverse, reverse-reverse}
+use lib.ListN.{length, drop, length-map, length-reverse}
+use lib.Seq.{drop-at, drop-append-seam}
+use Rattle.class_group.specs.{Walk.All, Walk.none, Walk.more, Walk.ChangedAt, Walk.after, Multiples.repeat}
+use Rattle.class_group.proofs.{All.all-reverse, All.changed-members, Walk.changed-map}
+use Rattle.class_group.proofs.Displacement as group
+use Rattle.jacobian.specs.{Answer.Verdict, Answer.accepted, Answer.refused, Answer.Accepts, Group.sum-of, Group.double-of, declared.Class.Class}
+use Rattle.history.specs.Register.{RegisterReply, moved, stepped, step-answer}
+use Rattle.history.specs.Calls.{answer}
+use Rattle.history.specs.Machine.{Event, accepted-of, event, run, last, newest}
+use Rattle.history.specs.declared.{Register.Register, Step.the-variants.Commit, Step.Step}
+use Rattle.history.proofs.{Seals.commit-sum, OneStep.step-taken, Preserved.accepted-class}
+use Rattle.stored_form.specs.{Number.Bytes, Number.bytes-of, Head.class-room, Head.stored, Head.head-bytes, Head.count-length, Fields.count-field, Classes.curve-first-fields, Classes.class-field}
+use Rattle.stored_form.proofs.Lengths.{length-count}
+use Rattle.seal.specs.{Records.register-fields, Records.class-record-bytes}
+use Rattle.seal.specs.Group.{ReadWith, record-sum, record-double, record-opposite}
+use Rattle.seal.specs.Steps.{Kept, ByteStep, made, outcome, byte-steps, InStoredForm, seal-record, operation-record, OnlyCommits, operations, ByteVariants}
+use Rattle.seal.proofs.ByteGroup.{Holds, read-again, sum-holds, double-holds, byte-doubling}
+use Rattle.seal.proofs.ByteSteps.{refused-stays, Done, done, kept-stored}
+
+-- ---- the records of the seal and of an operation
+
+register-seal : (g : Register) → drop (3 + count-length) (register-fields g) ≡ class-field 0x43 (g .seal)
+register-seal g = drop-at (count-field (g .count)) (class-field 0x43 (g .seal)) (3 + count-length) (length-count (g .count))
+
+seal-holds : (k : Kept) (stored : InStoredForm k) → Holds (stored .register .curve) (stored .register .seal) (k .curve) (seal-record k)
+unfolding class-record-bytes
+seal-holds k stored = record {
+  passes = stored .seal-passes;
+  bytes = ap₂ (λ (xs ys : List ℕ). xs ++ ys) (stored .curve-bytes) (ap (drop (3 + count-length)) (stored .register-bytes) ∙ register-seal (stored .register));
+  begins = stored .curve-bytes;
+}
+
+-- the field of an operation with the tag of a class
+other-tag : (a : Class) → 0x43 ∷ drop 1 (class-field 0x44 a) ≡ class-field 0x43 a
+unfolding class-field stored head-bytes bytes-of
+other-tag a = refl
+
+own-tag : (a : Class) → class-field 0x44 a ≡ 0x44 ∷ drop 1 (class-field 0x44 a)
+unfolding class-field stored head-bytes bytes-of
+own-tag a = refl
+
+-- bytes in the place of an operation that are the field of a class
+record Carried (fields op : List ℕ) : Type 0 where
+  tagged : op ≡ 0x44 ∷ drop 1 op
+  read : ReadWith fields (operation-record fields op)
+
+-- fields with the same record are the same
+same-operation : (fields : List ℕ) {d e : List ℕ} → Carried fields d → Carried fields e → operation-record fields d ≡ operation-record fields e → d ≡ e
+same-operation fields {d} {e} x y same =
+    let rest : 0x43 ∷ drop 1 d ≡ 0x43 ∷ drop 1 e =
+    sym (drop-append-seam fields (0x43 ∷ drop 1 d)) ∙ ap (drop (length fields)) same ∙ drop-append-seam fields (0x43 ∷ drop 1 e) in
+    x .tagged ∙ ap (λ (l : List ℕ). 0x44 ∷ drop 1 l) rest ∙ sym (y .tagged)
+
+-- ---- one accepted commit
+module _ (k : Kept) (stored : InStoredForm k) (c : ByteStep) (bytes : Bytes (c .operation)) (ok : outcome (made k c .answer) ≡ accepted) (commits : c .step ≡ Commit) where
+  abbrev g : Register
+  g = stored .register
+
+  step : Done k g c
+  step = done k stored c bytes ok
+
+  passes : Accepts (g .curve) (step .class)
+  unfolding answer
+  passes = accepted-class g (record { step = c .step; class = step .class }) (step .taken-step) .1
+
+  operation-holds : Holds (g .curve) (step .class) (k .curve) (operation-record (k .curve) (c .operation))
+  unfolding class-record-bytes
+  operation-holds = record {
+    passes = passes;
+    bytes =
+        ap₂ (λ (xs ys : List ℕ). xs ++ (0x43 ∷ drop 1 ys)) (stored .curve-bytes) (step .field)
+        ∙ ap (λ (xs : List ℕ). curve-first-fields (g .curve) ++ xs) (other-tag (step .class));
+    begins = stored .curve-bytes;
+  }
+
+  carried : Carried (k .curve) (c .operation)
+  carried = record {
+    tagged = step .field ∙ own-tag (step .class) ∙ ap (λ (xs : List ℕ). 0x44 ∷ drop 1 xs) (sym (step .field));
+    read = read-again operation-holds;
+  }
+
+  then-seal : step-answer (c .step) g (step .class) .register .seal ≡ sum-of (g .curve) (double-of (g .curve) (g .seal)) (step .class)
+  unfolding stepped moved
+  then-seal =
+      ap (λ (x : RegisterReply). x .register .seal) (step-taken (c .step) g (step .class) (step .taken-step))
+      ∙ ap (λ (x : Step). stepped x g (step .class) .seal) commits
+      ∙ commit-sum (stored .seal-passes) passes
+
+  left-curve : event byte-steps k c .left .curve ≡ k .curve
+  left-curve = ap (λ (x : Event Kept ByteStep). x .left .curve) (step .happens)
+
+  module _ (out : List ℕ) (room : class-room ≤ length out) where
+    -- the seal's record is doubled, and the operation's is added
+    pub commit-record : seal-record (event byte-steps k c .left) ≡ record-sum out (record-double out (seal-record k)) (operation-record (k .curve) (c .operation))
+    unfolding class-record-bytes
+    commit-record =
+        ap (λ (x : Event Kept ByteStep). seal-record (x .left)) (step .happens)
+        ∙ ap₂ (λ (xs ys : List ℕ). xs ++ ys) (stored .curve-bytes) (register-seal (step-answer (c .step) g (step .class) .register) ∙ ap (class-field 0x43) then-seal)
+        ∙ sym (sum-holds out room (double-holds out room (seal-holds k stored)) operation-holds .bytes)
+
+-- ---- lists of calls
+abbrev fields-of : List (Event Kept ByteStep) → List (List ℕ)
+fields-of es = map (λ e. e .call .operation) es
+
+module _ (out : List ℕ) (room : class-room ≤ length out) where
+  abbrev rule : List ℕ → List ℕ → List ℕ
+  rule s d = record-sum out (record-double out s) d
+
+  -- accepted commits lead from what is kept to this record of a seal, and carry fields of classes
+  abbrev Leads : Kept → List (Event Kept ByteStep) → List ℕ → Type 0
+  Leads k es end = (end ≡ after rule (seal-record k) (map (operation-record (k .curve)) (fields-of es))) × All (Carried (k .curve)) (fields-of es)
+
+  leads : (k : Kept) → InStoredForm k → (cs : List ByteStep) → All (λ c. Bytes (c .operation)) cs → OnlyCommits (accepted-of (run byte-steps k cs))
+      → Leads k (accepted-of (run byte-steps k cs)) (seal-record (last byte-steps k cs))
+  unfolding run last event accepted-of after
+  leads k stored [] bytes only = (refl, none)
+  leads k stored (c ∷ cs) (more b bs) only = go (byte-steps .outcome k c) refl only (λ s h. leads (byte-steps .next k c) s cs bs h)
+    where
+      left : Kept
+      left = byte-steps .next k c
+
+      rest : List (Event Kept ByteStep)
+      rest = accepted-of (run byte-steps left cs)
+
+      end : List ℕ
+      end = seal-record (last byte-steps left cs)
+
+      go : (v : Verdict) → byte-steps .outcome k c ≡ v → OnlyCommits (elim v [ accepted ↦ event byte-steps k c ∷ rest | refused n ↦ rest ])
+          → (InStoredForm left → OnlyCommits rest → Leads left rest end) → Leads k (elim v [ accepted ↦ event byte-steps k c ∷ rest | refused n ↦ rest ]) end
+      go accepted e (more h hs) on =
+          let p = on (kept-stored k stored c b e) hs in
+          let same = left-curve k stored c b e h in (
+            p .0 ∙ ap₂ (λ f s. after rule s (map (operation-record f) (fields-of rest))) same (commit-record k stored c b e h out room),
+            more (carried k stored c b e h) (subst (λ f. All (Carried f) (fields-of rest)) same (p .1)),
+          )
+      go (refused n) e hs on =
+          let same = refused-stays k (made k c) n e in
+          subst (λ (t : Kept). Leads t rest end) same (on (subst InStoredForm (sym same) stored) hs)
+
+-- the fields, oldest first
+oldest-first : (k : Kept) (cs : List ByteStep) → operations (newest byte-steps k cs) ≡ fields-of (accepted-of (run byte-steps k cs))
+unfolding newest
+oldest-first k cs = ap fields-of (reverse-reverse (accepted-of (run byte-steps k cs)))
+
+operation-count : (k : Kept) (cs : List ByteStep) (f : List ℕ → List ℕ) → length (map f (operations (newest byte-steps k cs))) ≡ length (newest byte-steps k cs)
+operation-count k cs f =
+    length-map (operations (newest byte-steps k cs)) f
+    ∙ length-map (reverse (newest byte-steps k cs)) (λ e. e .call .operation)
+    ∙ length-reverse (newest byte-steps k cs)
+
+module _ (out : List ℕ) (room : class-room ≤ length out) (k : Kept) (stored : InStoredForm k) (cs : List ByteStep) (bytes : All (λ c. Bytes (c .operation)) cs)
+    (only : OnlyCommits (newest byte-steps k cs)) where
+  led : Leads out room k (accepted-of (run byte-steps k cs)) (seal-record (last byte-steps k cs))
+  unfolding newest
+  led = leads out room k stored cs bytes (subst OnlyCommits (reverse-reverse (accepted-of (run byte-steps k cs))) (all-reverse only))
+
+  led-to : seal-record (last byte-steps k cs) ≡ after (rule out room) (seal-record k) (map (operation-record (k .curve)) (operations (newest byte-steps k cs)))
+  led-to = led .0 ∙ ap (λ l. after (rule out room) (seal-record k) (map (operation-record (k .curve)) l)) (sym (oldest-first k cs))
+
+  all-carried : All (Carried (k .curve)) (operations (newest byte-steps k cs))
+  all-carried = subst (All (Carried (k .curve))) (sym (oldest-first k cs)) (led .1)
+
+-- the records of what is carried are read
+all-read : {fields : List ℕ} {l : List (List ℕ)} → All (Carried fields) l → All (ReadWith fields) (map (operation-record fields) l)
+all-read none = none
+all-read (more h r) = more (h .read) (all-read r)
+
+seal-read : (k : Kept) → InStoredForm k → ReadWith (k .curve) (seal-record k)
+seal-read k stored = read-again (seal-holds k stored)
+
+module _ (k t : Kept) (stored : InStoredForm k) (stored' : InStoredForm t) (cs ds : List ByteStep) (bytes : All (λ c. Bytes (c .operation)) cs) (bytes' : All (λ c. Bytes (c .operation)) ds)
+    {n : ℕ} {d e : List ℕ} (v : ByteVariants n d e k t (newest byte-steps k cs) (newest byte-steps t ds)) (out : List ℕ) (room : class-room ≤ length out) where
+  abbrev record-of : List ℕ → List ℕ
+  record-of op = operation-record (k .curve) op
+
+  was-carried : All (Carried (k .curve)) (operations (newest byte-steps k cs))
+  was-carried = all-carried out room k stored cs bytes (v .commits)
+
+  is-carried : All (Carried (k .curve)) (operations (newest byte-steps t ds))
+  is-carried = subst (λ f. All (Carried f) (operations (newest byte-steps t ds))) (v .same-curve) (all-carried out room t stored' ds bytes' (v .changed-commits))
+
+  -- the records of the two operations are read
+  pub operations-read : ReadWith (k .curve) (operation-record (k .curve) d) × ReadWith (k .curve) (operation-record (k .curve) e)
+  operations-read = let p = changed-members (v .changed) was-carried is-carried in (p .0 .read, p .1 .read)
+
+  was-led : seal-record (last byte-steps k cs) ≡ after (rule out room) (seal-record k) (map record-of (operations (newest byte-steps k cs)))
+  was-led = led-to out room k stored cs bytes (v .commits)
+
+  is-led : seal-record (last byte-steps t ds) ≡ after (rule out room) (seal-record k) (map record-of (operations (newest byte-steps t ds)))
+  is-led =
+      led-to out room t stored' ds bytes' (v .changed-commits)
+      ∙ ap₂ (λ f s. after (rule out room) s (map (operation-record f) (operations (newest byte-steps t ds)))) (v .same-curve) (v .same-seal)
+
+  -- and that of the last seal
+  pub last-read : ReadWith (k .curve) (seal-record (last byte-steps k cs))
+  last-read = subst (ReadWith (k .curve)) (sym was-led) (group.forward-member (byte-doubling (seal-read k stored) out room) (seal-read k stored) (all-read was-carried))
+
+  -- the last seal's record moves by as many doublings of the difference as commits follow
+  pub displacement-bytes :
+      record-sum out (seal-record (last byte-steps k cs)) (repeat (record-double out) (length (newest byte-steps k cs) - n)
+      (record-sum out (operation-record (k .curve) e) (record-opposite out (operation-record (k .curve) d))))
+      ≡ seal-record (last byte-steps t ds)
+  displacement-bytes =
+      ap₂ (λ s j. record-sum out s (repeat (record-double out) (j - n) (record-sum out (record-of e) (record-opposite out (record-of d))))) was-led (sym (operation-count k cs record-of))
+      ∙ sym (is-led ∙ group.displacement (byte-doubling (seal-read k stored) out room) (changed-map record-of (v .changed)) (seal-read k stored) (all-read was-carried) (all-read is-carried))
+
+  pub moves-bytes : ¬ (d ≡ e) → ¬ (seal-record (last byte-steps k cs) ≡ seal-record (last byte-steps t ds))
+  moves-bytes differ same =
+      let p = changed-members (v .changed) was-carried is-carried in
+      group.changed-end (byte-doubling (seal-read k stored) out room) (changed-map record-of (v .changed)) (seal-read k stored) (all-read was-carried) (all-read is-carried)
+      (λ h. differ (same-operation (k .curve) (p .0) (p .1) h)) (sym was-led ∙ same ∙ is-led)
