@@ -8,8 +8,12 @@
 //!
 //! - `edges`: document 01's walk, every refusal at its edges and in its order, registers that fail a check.
 //! - `lists`: lists of calls drawn at random, each taken back call by call.
+//! - `displacement`: lists of commits, each with one operation changed.
+//! - `ground`: a curve with what the calls of lists are drawn from.
 
+pub mod displacement;
 pub mod edges;
+mod ground;
 pub mod lists;
 
 use crate::class_cases::edges::NONSENSE;

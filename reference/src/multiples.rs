@@ -32,6 +32,29 @@ fn by_decimal_digits(curve: &Curve, n: u64, class: &Class) -> Class {
     })
 }
 
+/// Many multiples of one class by decimal digits: for each power of ten a row, 0 to 9 times that power times the class.
+pub struct DecimalTable<'a> {
+    curve: &'a Curve,
+    rows: Vec<Vec<Class>>,
+}
+
+impl DecimalTable<'_> {
+    /// For the numbers up to the largest.
+    pub fn new<'a>(curve: &'a Curve, class: &Class, largest: u64) -> DecimalTable<'a> {
+        let row = |power: &Class| multiples(curve, power).take(10).collect::<Vec<_>>();
+        let rows = std::iter::successors(Some(row(class)), |last| Some(row(&curve.sum(&last[9], &last[1]))));
+        DecimalTable { curve, rows: rows.take(largest.to_string().len()).collect() }
+    }
+
+    /// n times the class: the sum of what n's digits stand for, the lowest first.
+    pub fn times(&self, n: u64) -> Class {
+        let digits = n.to_string();
+        assert!(digits.len() <= self.rows.len(), "the table is too small for {n}");
+        let terms = digits.bytes().rev().zip(&self.rows).map(|(digit, row)| &row[(digit - b'0') as usize]);
+        terms.fold(Class::neutral(), |so_far, term| self.curve.sum(&so_far, term))
+    }
+}
+
 /// n times the class, or the refusal: 118 for an n that is too large.
 pub fn multiple(curve: &Curve, n: u64, class: &Class) -> Result<Class, Refusal> {
     if n >= MULTIPLE_LIMIT {
@@ -90,14 +113,19 @@ mod tests {
         }
     }
 
-    /// Any multiple, by decimal and by binary digits.
+    /// Any multiple, by decimal and by binary digits, and beyond the limit too from a table.
     #[test]
     fn large_multiples() {
         let mut random = Random::new(15);
         for curve in [BENCH, WIDE].into_iter().flat_map(curves) {
             for class in drawn_classes(&mut random, &curve) {
+                let table = DecimalTable::new(&curve, &class, u64::MAX);
                 for n in [MULTIPLE_LIMIT - 1, random.number() >> 3, random.number() >> 20] {
                     assert_eq!(multiple(&curve, n, &class), Ok(curve.multiple(n as u128, &class)), "{n}");
+                    assert_eq!(multiple(&curve, n, &class), Ok(table.times(n)), "{n}");
+                }
+                for n in [MULTIPLE_LIMIT, 1 << 63, u64::MAX] {
+                    assert_eq!(table.times(n), curve.multiple(n as u128, &class), "{n}");
                 }
             }
         }

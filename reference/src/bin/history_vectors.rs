@@ -5,9 +5,10 @@
 //! - `bench`, `known-halves` and `wide`, lists of calls that are taken back: over the bench field, on curves over
 //!   GF(2^61) where every half is known, and on any curve over GF(2^61);
 //! - `full`, 1,024 commits and the way back;
-//! - `every-class`, an undo with every class of f = x^7 over the bench field.
+//! - `every-class`, an undo with every class of f = x^7 over the bench field;
+//! - `displacement`, lists of 1 to 64 commits over both fields, each once more with one operation changed.
 
-use reference::history_cases::{lists, stored, Trial};
+use reference::history_cases::{displacement, lists, stored, Trial};
 use reference::write_case;
 
 fn made(kind: &str) -> Option<Trial> {
@@ -18,6 +19,7 @@ fn made(kind: &str) -> Option<Trial> {
         "wide" => lists::wide,
         "full" => lists::full,
         "every-class" => lists::every_class,
+        "displacement" => displacement::lists,
         _ => return None,
     };
     let mut trial = Trial::new();
@@ -33,7 +35,7 @@ fn main() {
     };
     let Some((trial, folder)) = wanted else {
         eprintln!(
-            "usage: history_vectors KIND FOLDER with KIND one of stored bench known-halves wide full every-class"
+            "usage: history_vectors KIND FOLDER with KIND one of stored bench known-halves wide full every-class displacement"
         );
         std::process::exit(2);
     };

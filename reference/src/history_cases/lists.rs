@@ -1,113 +1,15 @@
 //! Lists of calls drawn at random, commits and undos in any order, refused ones among them; after each list the accepted
 //! calls are taken back. Where only commits were accepted, the walk over their classes is these same undos.
 //!
-//! The half that an undo needs is known in one of three ways: over the bench field from the doubles of all classes, on a
-//! curve with coefficients 0 and 1 over GF(2^61) from the squaring map, and on any other curve from the answer: the new
-//! seal is drawn first, and the class is what leads to it.
+//! The half that an undo needs is known on the curve (`ground`), or from the answer: the new seal is drawn first, and the
+//! class is what leads to it.
 
-use super::edges::no_classes;
+use super::ground::{drawn_values, Ground, Halves};
 use super::{RegisterValues, Trial, COMMIT, LIMIT, UNDO};
-use crate::bench_classes::all_classes;
 use crate::class_cases::{ClassValues, CurveValues};
 use crate::field::{BENCH, WIDE};
-use crate::halving::{halves_from_doubles, HalfByFrobenius};
-use crate::jacobian::{Class, Curve};
+use crate::jacobian::Class;
 use crate::random::Random;
-use std::collections::HashMap;
-
-enum Halves<'a> {
-    FromDoubles(HashMap<Class, Class>),
-    ByFrobenius(HalfByFrobenius<'a>),
-    FromAnswers,
-}
-
-/// A curve, with what is known on it.
-struct Ground<'a> {
-    values: CurveValues,
-    curve: &'a Curve,
-    /// All classes over the bench field, in order of their degree.
-    classes: Vec<Class>,
-    halves: Halves<'a>,
-}
-
-impl Ground<'_> {
-    fn new(values: CurveValues, curve: &Curve) -> Ground<'_> {
-        if curve.field == BENCH {
-            let classes = all_classes(curve);
-            let halves = Halves::FromDoubles(halves_from_doubles(curve, &classes));
-            return Ground { values, curve, classes, halves };
-        }
-        let halves = if [values.f3, values.f1, values.f0].iter().all(|&c| c < 2) {
-            Halves::ByFrobenius(HalfByFrobenius::new(curve))
-        } else {
-            Halves::FromAnswers
-        };
-        Ground { values, curve, classes: vec![], halves }
-    }
-
-    fn half(&self, class: &Class) -> Option<Class> {
-        match &self.halves {
-            Halves::FromDoubles(halves) => Some(halves[class].clone()),
-            Halves::ByFrobenius(halves) => Some(halves.half(class)),
-            Halves::FromAnswers => None,
-        }
-    }
-
-    /// A point of the curve; the neutral class where none is met.
-    fn point(&self, random: &mut Random) -> Class {
-        let drawn = (0..64).find_map(|_| self.curve.point(random.element(self.curve.field)));
-        let point = drawn.unwrap_or_else(Class::neutral);
-        if random.number() & 1 == 0 {
-            point
-        } else {
-            self.curve.opposite(&point)
-        }
-    }
-
-    /// A class of any degree: a sum of up to five points, some of them equal, or any class of the bench field.
-    fn class(&self, random: &mut Random) -> Class {
-        if !self.classes.is_empty() && random.number() & 1 == 0 {
-            return self.classes[random.number() as usize % self.classes.len()].clone();
-        }
-        let mut class = Class::neutral();
-        let mut point = self.point(random);
-        for _ in 0..random.number() % 6 {
-            if random.number() & 3 > 0 {
-                point = self.point(random);
-            }
-            class = self.curve.sum(&class, &point);
-        }
-        class
-    }
-
-    /// Values in a class's place that are none: what is none on x^7, or a class with one number changed.
-    fn no_class(&self, random: &mut Random) -> ClassValues {
-        loop {
-            let drawn = no_classes(self.curve.field)[(random.number() % 5) as usize];
-            let mut changed = ClassValues::from(&self.class(random));
-            let place = (random.number() % 3) as usize;
-            let value = random.element(self.curve.field);
-            match random.number() % 4 {
-                0 => changed = drawn,
-                1 => changed.u[place] = value,
-                2 => changed.v[place] = value,
-                _ => changed.degree = random.number() % 8,
-            }
-            if changed.class(self.curve).is_err() {
-                return changed;
-            }
-        }
-    }
-
-    /// The class of a commit or an undo that leads from one seal to another: the difference of one and the double of
-    /// the other.
-    fn between(&self, call: u8, seal: &Class, next: &Class) -> Class {
-        match call {
-            COMMIT => self.curve.difference(next, &self.curve.double(seal)),
-            _ => self.curve.difference(seal, &self.curve.double(next)),
-        }
-    }
-}
 
 /// How a list is drawn: the count that it starts from, how many of sixteen calls are commits, and how many calls there
 /// are.
@@ -171,17 +73,13 @@ fn on_curve(trial: &mut Trial, random: &mut Random, values: CurveValues, lists: 
     }
 }
 
-fn drawn(random: &mut Random) -> CurveValues {
-    CurveValues::new(WIDE, random.element(WIDE), random.element(WIDE), random.element(WIDE))
-}
-
 /// The stored lists, after the edges.
 pub fn stored(trial: &mut Trial) {
     let mut random = Random::new(91);
     for [f3, f1, f0] in [[0, 0, 0], [12, 25, 6]] {
         on_curve(trial, &mut random, CurveValues::new(BENCH, f3, f1, f0), 4, 10);
     }
-    let wide = [CurveValues::new(WIDE, 0, 0, 1), drawn(&mut random), drawn(&mut random)];
+    let wide = [CurveValues::new(WIDE, 0, 0, 1), drawn_values(&mut random, WIDE), drawn_values(&mut random, WIDE)];
     for values in wide {
         on_curve(trial, &mut random, values, 4, 10);
     }
@@ -211,7 +109,7 @@ pub fn known_halves(trial: &mut Trial) {
 pub fn wide(trial: &mut Trial) {
     let mut random = Random::new(94);
     for _ in 0..40 {
-        let values = drawn(&mut random);
+        let values = drawn_values(&mut random, WIDE);
         on_curve(trial, &mut random, values, 4, 24);
     }
 }
@@ -219,7 +117,7 @@ pub fn wide(trial: &mut Trial) {
 /// As many commits as there can be, over both fields: from count 0 to 1,024, 114 there, and all the way back, 113.
 pub fn full(trial: &mut Trial) {
     let mut random = Random::new(95);
-    for values in [CurveValues::new(BENCH, 12, 25, 6), drawn(&mut random)] {
+    for values in [CurveValues::new(BENCH, 12, 25, 6), drawn_values(&mut random, WIDE)] {
         let curve = values.curve().expect("the curve is accepted");
         let ground = Ground::new(values, &curve);
         let seal = ground.class(&mut random);
