@@ -1,6 +1,6 @@
 /* Multiples and repeated halves of a class (document 02, request 4), and their refusals 118 and 119. */
 #include "edges.h"
-#include "records.h"
+#include "samples.h"
 #include "seal.h"
 #include "seal_licence.h"
 
@@ -118,77 +118,16 @@ static void too_many_halvings(void) {
     end_test("119: 65, powers of 2 and more, after all that is wrong with the input; 64 passes");
 }
 
-/* ---- laws: what the calls answer to each other's answers */
+/* ---- laws: what the calls answer to each other's answers, on the curves x^7 and x^7 + 1 over each field */
 
 #define SAMPLES 4
-#define CLASSES 4
-
-/* A curve in stored form, and the fields of classes on it, of degrees 0, 1, 2 and 3. */
-struct sample {
-    struct bytes curve, class[CLASSES];
-};
-
-/* The record of one class, or of two. */
-static struct bytes record_of(const struct sample *s, const struct bytes *first, const struct bytes *second) {
-    struct bytes in = s->curve;
-    append(&in, first);
-    if (second != NULL)
-        append(&in, second);
-    return in;
-}
-
-/* The field that a call writes; where it is refused a fault, and no byte. */
-static struct bytes made(enum call call, const struct bytes *in, uint64_t number) {
-    struct bytes out = {0};
-    uint32_t answer = call_library(call, in->at, in->length, number, out.at, 51);
-    count_call();
-    if (SEAL_IS_REFUSAL(answer))
-        complain(call, in->at, in->length, number, 51, "answer of a call that has to be accepted", 51, answer);
-    else
-        out.length = answer;
-    return out;
-}
-
-static struct bytes sum_of(const struct sample *s, const struct bytes *first, const struct bytes *second) {
-    struct bytes in = record_of(s, first, second);
-    return made(SUM, &in, 0);
-}
-
-static struct bytes on_one(enum call call, const struct sample *s, const struct bytes *class, uint64_t number) {
-    struct bytes in = record_of(s, class, NULL);
-    return made(call, &in, number);
-}
+static const int which_sample[SAMPLES] = {0, 1, 3, 4};
 
 /* The call on a class with a number owes the field given. */
 static void is(enum call call, const struct sample *s, const struct bytes *class, uint64_t number,
                const struct bytes *owed) {
     struct bytes in = record_of(s, class, NULL);
     expect_at(call, in.at, in.length, number, 51, (uint32_t)owed->length, owed->at, number % 2 == 0);
-}
-
-/* f = x^7 + f0, and the neutral class, a point, and the sums of two and of three points. The points are classes of
- * stamps (stamps.c). */
-static struct sample sample(int which) {
-    static const struct {
-        int d;
-        uint64_t f0, points[3][2];
-    } curves[SAMPLES] = {
-        {5, 0, {{12, 18}, {16, 12}, {24, 22}}},
-        {5, 1, {{8, 26}, {18, 24}, {25, 30}}},
-        {61, 0, {{8, 0x13c808a013a1ee0}, {16, 0x129fa6407f23380}, {0x15e1, 0xa3b0e0cb5fbf4c}}},
-        {61, 1, {{9, 0x70c48c2de7d42e2}, {0x15e9, 0x1be0568f3dc4d3e4}, {0x1802, 0x921258987bf8c10}}},
-    };
-    struct sample s = {0};
-    put_degree(&s.curve, curves[which].d);
-    put_curve(&s.curve, 0, 0, curves[which].f0);
-    put_class(&s.class[0], SEAL_TAG_CLASS, neutral);
-    for (int i = 0; i < 3; i++) {
-        struct seal_class point = {1, {curves[which].points[i][0], 0, 0}, {curves[which].points[i][1], 0, 0}};
-        struct bytes field = {0};
-        put_class(&field, SEAL_TAG_CLASS, point);
-        s.class[i + 1] = sum_of(&s, &s.class[i], &field);
-    }
-    return s;
 }
 
 /* (m + n) times a class is the sum of m times and n times it; m n times it is m times n times it, where that is a number
@@ -210,7 +149,7 @@ static void laws_of_multiples(void) {
         {1000000007, 1000000009}, {MOST - 1, 1}, {(uint64_t)1 << 60, ((uint64_t)1 << 60) - 1},
     };
     for (int which = 0; which < SAMPLES; which++) {
-        struct sample s = sample(which);
+        struct sample s = sample(which_sample[which]);
         for (int c = 0; c < CLASSES; c++)
             for (int i = 0; i < 4; i++)
                 adds_up(&s, &s.class[c], small[i][0], small[i][1]);
@@ -237,7 +176,7 @@ static void undone(const struct sample *s, const struct bytes *class, uint64_t k
 
 static void halvings_and_doublings(void) {
     for (int which = 0; which < SAMPLES; which++) {
-        struct sample s = sample(which);
+        struct sample s = sample(which_sample[which]);
         const struct bytes *often = &s.class[which % 2 == 0 ? 1 : 3];
         for (int c = 0; c < CLASSES; c++)
             for (uint64_t k = 0; k < 4; k++)

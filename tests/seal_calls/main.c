@@ -4,6 +4,7 @@
  *
  *     seal_calls              the edges
  *     seal_calls N < FILE     the edges, then the N cases of the file
+ *     seal_calls group        the laws of the group alone
  *
  * A line is printed for each test. The last line is 'N passed, M failed', and the status is 0 where nothing failed.
  */
@@ -12,6 +13,7 @@
 
 #include <stdio.h>
 #include <stdlib.h>
+#include <string.h>
 
 static uint32_t number_of(const uint8_t *b) {
     return (uint32_t)b[0] << 24 | (uint32_t)b[1] << 16 | (uint32_t)b[2] << 8 | b[3];
@@ -39,15 +41,23 @@ static void test_file(unsigned long number) {
     end_test("cases made by the second implementation");
 }
 
-int main(int words, char **word) {
-    make_areas();
+static void test_edges(void) {
     test_accepted();
     test_heads();
     test_bodies();
     test_ends();
     test_stamps();
     test_licence();
-    if (words > 1)
+}
+
+int main(int words, char **word) {
+    int laws = words > 1 && strcmp(word[1], "group") == 0;
+    make_areas();
+    if (laws)
+        test_group();
+    else
+        test_edges();
+    if (words > 1 && !laws)
         test_file(strtoul(word[1], NULL, 10));
     print_met();
     return end_tests() ? 0 : 1;

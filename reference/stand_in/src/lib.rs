@@ -2,10 +2,11 @@
 //! It stands in for the two proved libraries where tests/seal_calls is tested itself: the variable SEAL_FAULT, one of
 //! `FAULTS`, makes the calls wrong in one way, and that test has to fail.
 
-use reference::calls::{answer, Call};
+use reference::calls::{answer, seal_after_commit, Call};
+use reference::jacobian::Class;
 use reference::multiples::{doublings, HALVINGS_LIMIT, MULTIPLE_LIMIT};
 use reference::stamp::{first_class, stamp_limit};
-use reference::stored::{class_field, Reader, Refusal};
+use reference::stored::{class_field, count_field, Reader, Refusal};
 use std::sync::OnceLock;
 
 /// The faults, by name.
@@ -33,7 +34,15 @@ use std::sync::OnceLock;
 /// - `halvings-count`: one halving too few is made.
 /// - `halvings-bound`: 65 halvings are accepted.
 /// - `halvings-order`: a k that is too large is refused before bytes that remain.
-const FAULTS: [&str; 22] = [
+/// - `sum-order`: the opposite of the sum is answered where the first class has the lower degree and is not neutral.
+/// - `sum-grouping`: the same where both have degree 3, in either order.
+/// - `sum-neutral`: the sum of a class with the neutral one is the opposite of the class, in either order.
+/// - `sum-opposite`: the sum of a class with its opposite is the first of them, where they have degree 2 or 3.
+/// - `commit-adds-first`: the class is added before the seal is doubled.
+/// - `commit-subtracts`: the class is subtracted from the double of the seal.
+/// - `commit-leaves-out`: a class of degree 3 is left out, and the seal is doubled alone.
+/// - `all-neutral`: every class that is written, but a stamp's, is the neutral one, so that no seal moves.
+const FAULTS: [&str; 30] = [
     "bound",
     "scratch",
     "beyond",
@@ -56,6 +65,14 @@ const FAULTS: [&str; 22] = [
     "halvings-count",
     "halvings-bound",
     "halvings-order",
+    "sum-order",
+    "sum-grouping",
+    "sum-neutral",
+    "sum-opposite",
+    "commit-adds-first",
+    "commit-subtracts",
+    "commit-leaves-out",
+    "all-neutral",
 ];
 
 /// The least number of halvings that is too large.
@@ -129,6 +146,54 @@ fn faulty_number(call: Call, right: u32, input: &[u8], length: usize) -> Option<
     }
 }
 
+/// What an accepted sum writes, with one of its faults.
+fn faulty_sum(input: &[u8]) -> Result<Vec<u8>, Refusal> {
+    let mut reader = Reader::new(input);
+    let curve = reader.curve()?;
+    let (first, second) = (reader.class(&curve)?, reader.class(&curve)?);
+    let (sum, degrees) = (curve.sum(&first, &second), [first.degree(), second.degree()]);
+    let turned = match fault() {
+        "sum-order" => degrees[0] > 0 && degrees[0] < degrees[1],
+        "sum-grouping" => degrees == [3, 3],
+        "sum-neutral" => degrees.contains(&0),
+        _ => false,
+    };
+    if turned {
+        return Ok(class_field(&curve.opposite(&sum)));
+    }
+    let stays = fault() == "sum-opposite" && sum == Class::neutral() && degrees[0] > 1;
+    Ok(class_field(if stays { &first } else { &sum }))
+}
+
+/// What an accepted commit writes, with one of its faults.
+fn faulty_commit(input: &[u8]) -> Result<Vec<u8>, Refusal> {
+    let mut reader = Reader::new(input);
+    let curve = reader.curve()?;
+    let count = reader.count()?;
+    let (seal, operation) = (reader.class(&curve)?, reader.operation(&curve)?);
+    let next = match fault() {
+        "commit-adds-first" => curve.double(&curve.sum(&seal, &operation)),
+        "commit-subtracts" => curve.difference(&curve.double(&seal), &operation),
+        "commit-leaves-out" if operation.degree() == 3 => curve.double(&seal),
+        _ => seal_after_commit(&curve, &seal, &operation),
+    };
+    Ok([count_field(count + 1), class_field(&next)].concat())
+}
+
+/// What an accepted call writes, with a fault by which a law of the group fails; none where the fault does not show.
+fn faulty_group(call: Call, right: &[u8], input: &[u8]) -> Option<Vec<u8>> {
+    match (fault(), call) {
+        ("sum-order" | "sum-grouping" | "sum-neutral" | "sum-opposite", Call::Sum) => faulty_sum(input).ok(),
+        ("commit-adds-first" | "commit-subtracts" | "commit-leaves-out", Call::Commit) => faulty_commit(input).ok(),
+        ("all-neutral", Call::Membership | Call::Stamp(_)) => None,
+        ("all-neutral", _) => {
+            let before = if call.is_of_register() { &right[..5] } else { &[] };
+            Some([before, &class_field(&Class::neutral())].concat())
+        }
+        _ => None,
+    }
+}
+
 /// An answer that is wrong in the way asked for.
 fn faulty(call: Call, input: &[u8], length: usize) -> (u32, Vec<u8>) {
     let right = answer(call, input, length);
@@ -168,6 +233,11 @@ fn faulty(call: Call, input: &[u8], length: usize) -> (u32, Vec<u8>) {
             }
         }
         _ => {}
+    }
+    if right.0 <= 100 {
+        if let Some(bytes) = faulty_group(call, &right.1, input) {
+            return (bytes.len() as u32, bytes);
+        }
     }
     faulty_number(call, right.0, input, length).unwrap_or(right)
 }
