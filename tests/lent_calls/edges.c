@@ -119,10 +119,9 @@ static void there_and_back(void) {
     end_test("1,024 commits on one register, and the way back");
 }
 
-int test_edges(void) {
+void test_edges(void) {
     counts();
     degrees_and_curves();
     classes();
     there_and_back();
-    return end_tests();
 }

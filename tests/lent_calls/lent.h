@@ -15,8 +15,8 @@ void make_room(void);
  * on a register that cannot be written: one that writes, whatever it writes, ends the program. */
 uint32_t lend(enum call call, struct seal_register *given, struct seal_class operation, int at_end);
 
-/* Makes the tests of the edges and prints a line for each, then 'N passed, M failed'; answers whether nothing
- * failed. */
-int test_edges(void);
+/* The tests of the edges, and of lists of commits of which one is changed: a line is printed for each. */
+void test_edges(void);
+void test_displacement(void);
 
 #endif

@@ -1,6 +1,6 @@
 /* Tests the calls on a register of include/seal_register.h.
  *
- *     lent_calls            the edges, a line for each test
+ *     lent_calls            the edges and a changed commit, a line for each test, then 'N passed, M failed'
  *     lent_calls trial      answers calls that it reads from standard input, one line for each, on one register
  *
  * The records and the lines of a trial are those of the program history_trial (crates/history_trial/src/main.rt),
@@ -67,8 +67,11 @@ static void trial(void) {
 
 int main(int words, char **word) {
     make_room();
-    if (words == 1)
-        return test_edges() ? 0 : 1;
+    if (words == 1) {
+        test_edges();
+        test_displacement();
+        return end_tests() ? 0 : 1;
+    }
     if (words != 2 || strcmp(word[1], "trial") != 0)
         return 2;
     trial();
