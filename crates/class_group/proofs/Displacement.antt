@@ -6,12 +6,12 @@
 -- `forward-injective`: different starts have different ends. `reversible`: the two rules take each other back, so that all of proofs/Walk.antt holds of them.
 use Prim.Native.Nat.{ℕ, suc, _-_, _<_}
 use mathlib.Core.Path.{_≡_, refl, sym, _∙_, ap, ap₂, subst}
-use mathlib.Core.List.{List, [], _∷_, _++_}
+use mathlib.Core.List.{List, _∷_, _++_}
 use native.Mathlib.Omega.{arith}
 use lib.{ListN.length, ListN.getD, ListN.set, ListN.length-append, ListN.length-drop, Seq.set-split, Seq.split-at}
 use Rattle.class_group.specs.Group.{CommutativeGroup, Doubling, Halving}
 use Rattle.class_group.specs.{Multiples.repeat, Multiples.weighted-sum}
-use Rattle.class_group.specs.Walk.{All, none, more, ChangedAt, after, Reversible}
+use Rattle.class_group.specs.Walk.{All, none, more, ChangedAt, after, forward, Reversible}
 use Rattle.class_group.proofs.GroupLaws.{sums, add-subtract, subtract-add, neutral-sum, cancel-left, cancel-right, eq-of-difference, interchange}
 use Rattle.class_group.proofs.Doublings.{double-member, half-double, repeat-inner, doublings-member, doublings-sum, doublings-opposite, doublings-neutral, doublings-injective}
 use Rattle.class_group.proofs.All.{all-take, all-drop, all-head, all-split, all-at, changed-members}
@@ -22,13 +22,13 @@ module _ {X : Type 0} {Member : X → Type 0} {_+_ : X → X → X} {nought : X}
   abbrev G : CommutativeGroup Member _+_ nought minus
   G = D .group
 
-  abbrev forward : X → List X → X
-  forward s l = after (λ s d. double s + d) s l
+  abbrev walked : X → List X → X
+  walked s l = forward _+_ double s l
 
   forward-closed : (s d : X) → Member s → Member d → Member (double s + d)
   forward-closed s d h k = G .sum-closed (double-member D h) k
 
-  pub forward-member : {s : X} {l : List X} → Member s → All Member l → Member (forward s l)
+  pub forward-member : {s : X} {l : List X} → Member s → All Member l → Member (walked s l)
   forward-member = after-member (λ s d. double s + d) forward-closed
 
   -- a start moved by t moves the end by 2^n t
@@ -36,15 +36,15 @@ module _ {X : Type 0} {Member : X → Type 0} {_+_ : X → X → X} {nought : X}
   moved {s} {t} {d} h k m = rw (D .double-sum (G .sum-closed h k), D .double-sum h, D .double-sum k) (simp (sums, G))
 
   pub start-displacement : {s t : X} {l : List X} → Member s → Member t → All Member l
-      → forward (s + t) l ≡ forward s l + repeat double (length l) t
+      → walked (s + t) l ≡ walked s l + repeat double (length l) t
   unfolding after repeat
   start-displacement h k none = refl
   start-displacement {s} {t} h k (more {a = d} {l = l} m r) =
-      ap (λ z. forward z l) (moved h k m)
+      ap (λ z. walked z l) (moved h k m)
       ∙ start-displacement (forward-closed s d h m) (double-member D k) r
-      ∙ ap (λ z. forward (double s + d) l + z) (repeat-inner double (length l) t)
+      ∙ ap (λ z. walked (double s + d) l + z) (repeat-inner double (length l) t)
 
-  pub forward-injective : {s t : X} {l : List X} → Member s → Member t → All Member l → forward s l ≡ forward t l → s ≡ t
+  pub forward-injective : {s t : X} {l : List X} → Member s → Member t → All Member l → walked s l ≡ walked t l → s ≡ t
   forward-injective =
       after-injective (λ s d. double s + d) forward-closed
       (λ s t d h k m e. D .double-injective h k (cancel-right G (double-member D h) (double-member D k) m e))
@@ -55,7 +55,7 @@ module _ {X : Type 0} {Member : X → Type 0} {_+_ : X → X → X} {nought : X}
   weighted-member none = G .neutral-closed
   weighted-member (more {l = l} h r) = G .sum-closed (doublings-member D (length l) h) (weighted-member r)
 
-  pub forward-end : {s : X} {l : List X} → Member s → All Member l → forward s l ≡ repeat double (length l) s + weighted-sum _+_ nought double l
+  pub forward-end : {s : X} {l : List X} → Member s → All Member l → walked s l ≡ repeat double (length l) s + weighted-sum _+_ nought double l
   unfolding after repeat weighted-sum
   forward-end h none = sym (G .sum-neutral h)
   forward-end {s} h (more {a = d} {l = l} k r) =
@@ -70,29 +70,29 @@ module _ {X : Type 0} {Member : X → Type 0} {_+_ : X → X → X} {nought : X}
 
   -- d at one place of the list, or e
   module _ {s d e : X} {l m : List X} (hs : Member s) (hl : All Member l) (hd : Member d) (he : Member e) (hm : All Member m) where
-    before : Member (double (forward s l))
+    before : Member (double (walked s l))
     before = double-member D (forward-member hs hl)
 
-    split : (c : X) → forward s (l ++ (c ∷ m)) ≡ forward (double (forward s l) + c) m
+    split : (c : X) → walked s (l ++ (c ∷ m)) ≡ walked (double (walked s l) + c) m
     unfolding after
     split c = after-append (λ s d. double s + d) s l (c ∷ m)
 
     -- d and the difference make e
-    replaced : double (forward s l) + e ≡ double (forward s l) + d + (e + minus d)
+    replaced : double (walked s l) + e ≡ double (walked s l) + d + (e + minus d)
     replaced =
         sym
         (interchange G before hd he (G .opposite-closed hd)
-        ∙ ap (λ z. double (forward s l) + e + z) (G .sum-opposite hd)
+        ∙ ap (λ z. double (walked s l) + e + z) (G .sum-opposite hd)
         ∙ G .sum-neutral (G .sum-closed before he))
 
-    displaced : forward s (l ++ (e ∷ m)) ≡ forward s (l ++ (d ∷ m)) + repeat double (length m) (e + minus d)
+    displaced : walked s (l ++ (e ∷ m)) ≡ walked s (l ++ (d ∷ m)) + repeat double (length m) (e + minus d)
     displaced =
         split e
-        ∙ ap (λ z. forward z m) replaced
+        ∙ ap (λ z. walked z m) replaced
         ∙ start-displacement (G .sum-closed before hd) (difference hd he) hm
         ∙ ap (λ z. z + repeat double (length m) (e + minus d)) (sym (split d))
 
-    same-end : forward s (l ++ (d ∷ m)) ≡ forward s (l ++ (e ∷ m)) → d ≡ e
+    same-end : walked s (l ++ (d ∷ m)) ≡ walked s (l ++ (e ∷ m)) → d ≡ e
     same-end h =
         cancel-left G hd he before
         (forward-injective (G .sum-closed before hd) (G .sum-closed before he) hm (sym (split d) ∙ h ∙ split e))
@@ -135,49 +135,49 @@ module _ {X : Type 0} {Member : X → Type 0} {_+_ : X → X → X} {nought : X}
         let n : length l ≡ length (at .before ++ (d ∷ at .behind)) = ap length (at .was) in
         omega (arith, n, length-append (at .before) (d ∷ at .behind), at .place)
 
-    pub displacement : forward s m ≡ forward s l + repeat double (length l - k) (e + minus d)
+    pub displacement : forward _+_ double s m ≡ forward _+_ double s l + repeat double (length l - k) (e + minus d)
     displacement =
-        ap (forward s) (at .is)
+        ap (walked s) (at .is)
         ∙ displaced hs (around .0) member-d member-e (all-head (around .1) .1)
-        ∙ ap₂ (λ x n. forward s x + repeat double n (e + minus d)) (sym (at .was)) behind-is
+        ∙ ap₂ (λ x n. walked s x + repeat double n (e + minus d)) (sym (at .was)) behind-is
 
     -- the end moves
-    pub changed-end : ¬ (d ≡ e) → ¬ (forward s l ≡ forward s m)
+    pub changed-end : ¬ (d ≡ e) → ¬ (forward _+_ double s l ≡ forward _+_ double s m)
     changed-end n h =
-        n (same-end hs (around .0) member-d member-e (all-head (around .1) .1) (sym (ap (forward s) (at .was)) ∙ h ∙ ap (forward s) (at .is)))
+        n (same-end hs (around .0) member-d member-e (all-head (around .1) .1) (sym (ap (walked s) (at .was)) ∙ h ∙ ap (walked s) (at .is)))
 
     -- what it moves by is nothing else
-    moved-by : (x : X) → Member x → forward s m ≡ forward s l + x → repeat double (length l - k) (e + minus d) ≡ x
+    moved-by : (x : X) → Member x → walked s m ≡ walked s l + x → repeat double (length l - k) (e + minus d) ≡ x
     moved-by x h same =
         cancel-left G (doublings-member D (length l - k) (difference member-d member-e)) h (forward-member hs hl) (sym displacement ∙ same)
 
-    pub one-doubling-more : ¬ (d ≡ e) → ¬ (forward s m ≡ forward s l + repeat double (suc (length l - k)) (e + minus d))
+    pub one-doubling-more : ¬ (d ≡ e) → ¬ (forward _+_ double s m ≡ forward _+_ double s l + repeat double (suc (length l - k)) (e + minus d))
     one-doubling-more n h =
         n (doubled-again member-d member-e (length l - k)
         (moved-by _ (doublings-member D (suc (length l - k)) (difference member-d member-e)) h))
 
-    pub turned-difference : ¬ (d ≡ e) → ¬ (forward s m ≡ forward s l + repeat double (length l - k) (d + minus e))
+    pub turned-difference : ¬ (d ≡ e) → ¬ (forward _+_ double s m ≡ forward _+_ double s l + repeat double (length l - k) (d + minus e))
     turned-difference n h =
         n (turned member-d member-e (length l - k)
         (moved-by _ (doublings-member D (length l - k) (difference member-e member-d)) h))
 
   -- e at place k, counted from 0: as many doublings as there are places after it
   pub displacement-at : {s e : X} {l : List X} (k : ℕ) → k < length l → Member s → Member e → All Member l
-      → forward s (set l k e) ≡ forward s l + repeat double (length l - suc k) (e + minus (getD l k nought))
+      → walked s (set l k e) ≡ walked s l + repeat double (length l - suc k) (e + minus (getD l k nought))
   displacement-at {s} {e} {l} k b hs he hl =
       let d = getD l k nought in
-      ap (forward s) (set-split l k e b)
+      ap (walked s) (set-split l k e b)
       ∙ displaced hs (all-take k hl) (all-at k nought b hl) he (all-drop (suc k) hl)
-      ∙ ap₂ (λ m n. forward s m + repeat double n (e + minus d)) (sym (split-at l k nought b)) (length-drop (suc k) l)
+      ∙ ap₂ (λ m n. walked s m + repeat double n (e + minus d)) (sym (split-at l k nought b)) (length-drop (suc k) l)
 
   -- the neutral element there
   pub suppression : {s : X} {l : List X} (k : ℕ) → k < length l → Member s → All Member l
-      → forward s (set l k nought) ≡ forward s l + minus (repeat double (length l - suc k) (getD l k nought))
+      → walked s (set l k nought) ≡ walked s l + minus (repeat double (length l - suc k) (getD l k nought))
   suppression {s} {l} k b hs hl =
       let n = length l - suc k in
       let d = all-at k nought b hl in
       displacement-at k b hs (G .neutral-closed) hl
-      ∙ ap (λ z. forward s l + z) (ap (repeat double n) (neutral-sum G (G .opposite-closed d)) ∙ doublings-opposite D n d)
+      ∙ ap (λ z. walked s l + z) (ap (repeat double n) (neutral-sum G (G .opposite-closed d)) ∙ doublings-opposite D n d)
 
 module _ {X : Type 0} {Member : X → Type 0} {_+_ : X → X → X} {nought : X} {minus double half : X → X} (H : Halving Member _+_ nought minus double half) where
   infixl 60 _+_

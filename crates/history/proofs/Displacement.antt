@@ -8,11 +8,11 @@ use mathlib.Core.Path.{_≡_, refl, sym, _∙_, ap, ap₂, subst}
 use mathlib.Core.List.{List, [], _∷_, _++_, reverse, reverse-reverse}
 use native.Mathlib.Omega.{arith}
 use lib.ListN.{length, length-append, length-map, length-reverse}
-use Rattle.class_group.specs.Walk.{All, none, more, ChangedAt, after}
+use Rattle.class_group.specs.Walk.{All, none, more, ChangedAt, after, forward}
 use Rattle.class_group.specs.{Group.Doubling, Multiples.repeat}
 use Rattle.class_group.proofs.{All.all-reverse, All.changed-members, Walk.after-agrees, Walk.after-state, Walk.after-back, Walk.turned}
 use Rattle.class_group.proofs.Displacement as group
-use Rattle.jacobian.specs.{Curves.curve-refusal, Answer.Verdict, Answer.accepted, Answer.refused, Answer.Accepts, Answer.Result, Answer.result, Answer.gives, Answer.neutral-class, Answer.sum-answer}
+use Rattle.jacobian.specs.{Answer.Verdict, Answer.accepted, Answer.refused, Answer.Accepts, Answer.result, Answer.gives, Answer.neutral-class, Answer.sum-answer}
 use Rattle.jacobian.specs.Group.{sum-of, opposite-of, double-of, difference, doublings}
 use Rattle.jacobian.specs.declared.{Curve.Curve, Class.Class}
 use Rattle.jacobian.proofs.{Representation.accepts-curve, Representation.accepts-both, Group.class-is, Group.doubling, Group.sum-given, Group.difference-accepts, Group.doublings-accept}
@@ -31,7 +31,7 @@ module _ {c : Curve} {k : ℕ} {d e s : Class} {l m : List Class} (at : ChangedA
   G = doubling c (accepts-curve hs)
 
   -- the rule is double and add in the group
-  in-group : {x : List Class} → All (Accepts c) x → end x ≡ after (λ a b. sum-of c (double-of c a) b) s x
+  in-group : {x : List Class} → All (Accepts c) x → end x ≡ forward (sum-of c) (double-of c) s x
   in-group h = after-agrees (commit-seal c) (λ a b ha hb. commit-sound ha hb) (λ a b. sum-of c (double-of c a) b) (λ a b ha hb. commit-sum ha hb) hs h
 
   end-accepts : Accepts c (end l)
@@ -44,25 +44,25 @@ module _ {c : Curve} {k : ℕ} {d e s : Class} {l m : List Class} (at : ChangedA
   reached : sum-of c (end l) (doublings c (length l - k) (difference c e d)) ≡ end m
   reached = ap (λ z. sum-of c z (doublings c (length l - k) (difference c e d))) (in-group hl) ∙ sym (in-group hm ∙ group.displacement G at hs hl hm)
 
-  pub seals-displaced : displaced c (length l - k) d e (end l) ≡ gives (end m)
+  pub seals-displaced : displaced c (length l - k) d e (after (commit-seal c) s l) ≡ gives (after (commit-seal c) s m)
   seals-displaced = sum-given c end-accepts (doublings-accept c difference-accepted (length l - k)) ∙ ap gives reached
 
-  pub seals-move : ¬ (d ≡ e) → ¬ (end l ≡ end m)
+  pub seals-move : ¬ (d ≡ e) → ¬ (after (commit-seal c) s l ≡ after (commit-seal c) s m)
   seals-move n h = group.changed-end G at hs hl hm n (sym (in-group hl) ∙ h ∙ in-group hm)
 
   -- what the calls answer for another class in the place of those doublings
   other-sum : {x : Class} → Accepts c x → result (sum-answer c (end l) x) ≡ gives (end m)
-      → after (λ a b. sum-of c (double-of c a) b) s m ≡ sum-of c (after (λ a b. sum-of c (double-of c a) b) s l) x
+      → forward (sum-of c) (double-of c) s m ≡ sum-of c (forward (sum-of c) (double-of c) s l) x
   other-sum {x} h same =
       sym (in-group hm)
       ∙ sym (class-is (sym (sum-given c end-accepts h) ∙ same))
       ∙ ap (λ z. sum-of c z x) (in-group hl)
 
   -- it is not where one doubling more would lead, nor the difference the other way round
-  pub not-one-more : ¬ (d ≡ e) → ¬ (displaced c (suc (length l - k)) d e (end l) ≡ gives (end m))
+  pub not-one-more : ¬ (d ≡ e) → ¬ (displaced c (suc (length l - k)) d e (after (commit-seal c) s l) ≡ gives (after (commit-seal c) s m))
   not-one-more n h = group.one-doubling-more G at hs hl hm n (other-sum (doublings-accept c difference-accepted (suc (length l - k))) h)
 
-  pub not-turned : ¬ (d ≡ e) → ¬ (displaced c (length l - k) e d (end l) ≡ gives (end m))
+  pub not-turned : ¬ (d ≡ e) → ¬ (displaced c (length l - k) e d (after (commit-seal c) s l) ≡ gives (after (commit-seal c) s m))
   not-turned n h =
       group.turned-difference G at hs hl hm n
       (other-sum (doublings-accept c (difference-accepts c (changed-members at hl hm .0) (changed-members at hl hm .1)) (length l - k)) h)
@@ -122,33 +122,30 @@ changed-some {d = d} {e = e} {l = l} {m = m} at =
     (omega (arith, was, length-append (at .before) (d ∷ at .behind)), omega (arith, is, length-append (at .before) (e ∷ at .behind)))
 
 module _ (r t : Register) (cs ds : List Call) {k : ℕ} {d e : Class} (v : Variants k d e r t (newest r cs) (newest t ds)) where
-  abbrev c : Curve
-  c = r .curve
-
   some : (0 < length (newest r cs)) × (0 < length (newest t ds))
   some = let p = changed-some (v .changed) in (rw (operation-count r cs) at (p .0), rw (operation-count t ds) at (p .1))
 
-  changed-accept : All (Accepts c) (operations (newest t ds))
+  changed-accept : All (Accepts (r .curve)) (operations (newest t ds))
   changed-accept = subst (λ x. All (Accepts x) (operations (newest t ds))) (v .same-curve) (operations-accept t ds (some .1))
 
-  changed-lead : last t ds .seal ≡ after (commit-seal c) (r .seal) (operations (newest t ds))
+  changed-lead : last t ds .seal ≡ after (commit-seal (r .curve)) (r .seal) (operations (newest t ds))
   changed-lead =
       commits-lead t ds (v .changed-commits)
       ∙ ap₂ (λ x s. after (commit-seal x) s (operations (newest t ds))) (v .same-curve) (v .same-seal)
 
   -- the last seal moves by n - k doublings of e - d
-  pub displacement : displaced c (length (newest r cs) - k) d e (last r cs .seal) ≡ gives (last t ds .seal)
+  pub displacement : displaced (r .curve) (length (newest r cs) - k) d e (last r cs .seal) ≡ gives (last t ds .seal)
   displacement =
-      ap₂ (λ n s. displaced c (n - k) d e s) (sym (operation-count r cs)) (commits-lead r cs (v .commits))
+      ap₂ (λ n s. displaced (r .curve) (n - k) d e s) (sym (operation-count r cs)) (commits-lead r cs (v .commits))
       ∙ seals-displaced (v .changed) (first-accepts r cs (some .0)) (operations-accept r cs (some .0)) changed-accept
       ∙ ap gives (sym changed-lead)
 
   -- the newest operation moves it by e - d itself
-  pub newest-displacement : k ≡ length (newest r cs) → result (sum-answer c (last r cs .seal) (difference c e d)) ≡ gives (last t ds .seal)
+  pub newest-displacement : k ≡ length (newest r cs) → result (sum-answer (r .curve) (last r cs .seal) (difference (r .curve) e d)) ≡ gives (last t ds .seal)
   unfolding repeat
   newest-displacement newest-one =
       let no-more : 0 ≡ length (newest r cs) - k = omega (arith, newest-one) in
-      ap (λ n. displaced c n d e (last r cs .seal)) no-more ∙ displacement
+      ap (λ n. displaced (r .curve) n d e (last r cs .seal)) no-more ∙ displacement
 
   -- and it moves wherever d and e differ
   pub moves : ¬ (d ≡ e) → ¬ (last r cs .seal ≡ last t ds .seal)

@@ -6,7 +6,7 @@
 -- (`doublings-sum`), and double and add is the sum with the double (`double-and-add-is`).
 use Prim.Native.Nat.{ℕ, suc, _^_}
 use mathlib.Core.Path.{_≡_, sym, _∙_, ap}
-use Rattle.class_group.specs.{Group.CommutativeGroup, Group.Doubling, Multiples.repeat, Multiples.multiple, Operations.sum, Operations.double, Moves.double-and-add}
+use Rattle.class_group.specs.{Group.CommutativeGroup, Group.Doubling, Multiples.repeat, Multiples.multiple, Operations.sum, Moves.double-and-add}
 use Rattle.class_group.proofs.{Closed.double-reduced, Group.double-sum, Doublings.doublings-member, Doublings.doublings-multiple}
 use Rattle.jacobian.specs.{Curves.curve-refusal, Curves.curve, Classes.pair, Classes.class-of}
 use Rattle.jacobian.specs.Answer.{Accepts, Result, result, gives, neutral-class, opposite-answer, double-answer, half-answer, sum-answer, double-and-add-answer}

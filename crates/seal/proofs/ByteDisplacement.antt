@@ -8,7 +8,7 @@ use mathlib.Core.Path.{_≡_, refl, sym, ap, ap₂, _∙_, subst}
 use mathlib.Core.List.{List, [], _∷_, _++_, map, reverse, reverse-reverse}
 use lib.ListN.{length, drop, length-map, length-reverse}
 use lib.Seq.{drop-at, drop-append-seam}
-use Rattle.class_group.specs.{Walk.All, Walk.none, Walk.more, Walk.ChangedAt, Walk.after, Multiples.repeat}
+use Rattle.class_group.specs.{Walk.All, Walk.none, Walk.more, Walk.after, Walk.forward, Multiples.repeat}
 use Rattle.class_group.proofs.{All.all-reverse, All.changed-members, Walk.changed-map}
 use Rattle.class_group.proofs.Displacement as group
 use Rattle.jacobian.specs.{Answer.Verdict, Answer.accepted, Answer.refused, Answer.Accepts, Group.sum-of, Group.double-of, declared.Class.Class}
@@ -111,12 +111,9 @@ abbrev fields-of : List (Event Kept ByteStep) → List (List ℕ)
 fields-of es = map (λ e. e .call .operation) es
 
 module _ (out : List ℕ) (room : class-room ≤ length out) where
-  abbrev rule : List ℕ → List ℕ → List ℕ
-  rule s d = record-sum out (record-double out s) d
-
   -- accepted commits lead from what is kept to this record of a seal, and carry fields of classes
   abbrev Leads : Kept → List (Event Kept ByteStep) → List ℕ → Type 0
-  Leads k es end = (end ≡ after rule (seal-record k) (map (operation-record (k .curve)) (fields-of es))) × All (Carried (k .curve)) (fields-of es)
+  Leads k es end = (end ≡ forward (record-sum out) (record-double out) (seal-record k) (map (operation-record (k .curve)) (fields-of es))) × All (Carried (k .curve)) (fields-of es)
 
   leads : (k : Kept) → InStoredForm k → (cs : List ByteStep) → All (λ c. Bytes (c .operation)) cs → OnlyCommits (accepted-of (run byte-steps k cs))
       → Leads k (accepted-of (run byte-steps k cs)) (seal-record (last byte-steps k cs))
@@ -138,7 +135,7 @@ module _ (out : List ℕ) (room : class-room ≤ length out) where
       go accepted e (more h hs) on =
           let p = on (kept-stored k stored c b e) hs in
           let same = left-curve k stored c b e h in (
-            p .0 ∙ ap₂ (λ f s. after rule s (map (operation-record f) (fields-of rest))) same (commit-record k stored c b e h out room),
+            p .0 ∙ ap₂ (λ f s. forward (record-sum out) (record-double out) s (map (operation-record f) (fields-of rest))) same (commit-record k stored c b e h out room),
             more (carried k stored c b e h) (subst (λ f. All (Carried f) (fields-of rest)) same (p .1)),
           )
       go (refused n) e hs on =
@@ -162,8 +159,8 @@ module _ (out : List ℕ) (room : class-room ≤ length out) (k : Kept) (stored 
   unfolding newest
   led = leads out room k stored cs bytes (subst OnlyCommits (reverse-reverse (accepted-of (run byte-steps k cs))) (all-reverse only))
 
-  led-to : seal-record (last byte-steps k cs) ≡ after (rule out room) (seal-record k) (map (operation-record (k .curve)) (operations (newest byte-steps k cs)))
-  led-to = led .0 ∙ ap (λ l. after (rule out room) (seal-record k) (map (operation-record (k .curve)) l)) (sym (oldest-first k cs))
+  led-to : seal-record (last byte-steps k cs) ≡ forward (record-sum out) (record-double out) (seal-record k) (map (operation-record (k .curve)) (operations (newest byte-steps k cs)))
+  led-to = led .0 ∙ ap (λ l. forward (record-sum out) (record-double out) (seal-record k) (map (operation-record (k .curve)) l)) (sym (oldest-first k cs))
 
   all-carried : All (Carried (k .curve)) (operations (newest byte-steps k cs))
   all-carried = subst (All (Carried (k .curve))) (sym (oldest-first k cs)) (led .1)
@@ -191,13 +188,13 @@ module _ (k t : Kept) (stored : InStoredForm k) (stored' : InStoredForm t) (cs d
   pub operations-read : ReadWith (k .curve) (operation-record (k .curve) d) × ReadWith (k .curve) (operation-record (k .curve) e)
   operations-read = let p = changed-members (v .changed) was-carried is-carried in (p .0 .read, p .1 .read)
 
-  was-led : seal-record (last byte-steps k cs) ≡ after (rule out room) (seal-record k) (map record-of (operations (newest byte-steps k cs)))
+  was-led : seal-record (last byte-steps k cs) ≡ forward (record-sum out) (record-double out) (seal-record k) (map record-of (operations (newest byte-steps k cs)))
   was-led = led-to out room k stored cs bytes (v .commits)
 
-  is-led : seal-record (last byte-steps t ds) ≡ after (rule out room) (seal-record k) (map record-of (operations (newest byte-steps t ds)))
+  is-led : seal-record (last byte-steps t ds) ≡ forward (record-sum out) (record-double out) (seal-record k) (map record-of (operations (newest byte-steps t ds)))
   is-led =
       led-to out room t stored' ds bytes' (v .changed-commits)
-      ∙ ap₂ (λ f s. after (rule out room) s (map (operation-record f) (operations (newest byte-steps t ds)))) (v .same-curve) (v .same-seal)
+      ∙ ap₂ (λ f s. forward (record-sum out) (record-double out) s (map (operation-record f) (operations (newest byte-steps t ds)))) (v .same-curve) (v .same-seal)
 
   -- and that of the last seal
   pub last-read : ReadWith (k .curve) (seal-record (last byte-steps k cs))

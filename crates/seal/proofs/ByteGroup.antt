@@ -5,13 +5,13 @@
 -- So the records with the same such fields are a commutative group (`byte-group`) in which doubling is one to one (`byte-doubling`), and all of class_group's laws of groups hold of them.
 -- Every record of a sum that is read is made of two such records (`sum-record-parts`).
 use Prim.Native.Nat.{ℕ, _≤_}
-use mathlib.Core.Path.{_≡_, refl, sym, ap, ap₂, _∙_, subst}
-use mathlib.Core.List.{List, _++_}
+use mathlib.Core.Path.{_≡_, refl, sym, ap, _∙_, subst}
+use mathlib.Core.List.{List}
 use native.Mathlib.Omega.{arith}
 use lib.Dec.{lit<}
 use lib.ListN.{length}
 use Rattle.class_group.specs.Group.{CommutativeGroup, Doubling}
-use Rattle.jacobian.specs.{Curves.curve-refusal, Answer.Result, Answer.result, Answer.gives, Answer.neutral-class, Answer.opposite-answer, Answer.double-answer, Answer.sum-answer}
+use Rattle.jacobian.specs.{Curves.curve-refusal, Answer.Result, Answer.result, Answer.neutral-class, Answer.opposite-answer, Answer.double-answer}
 use Rattle.jacobian.specs.Group.{sum-of, opposite-of, double-of}
 use Rattle.jacobian.specs.declared.{Curve.Curve, Class.Class}
 use Rattle.jacobian.proofs.{Calls.neutral-accepts, Group.group, Group.doubling}
@@ -22,15 +22,15 @@ use Rattle.stored_form.proofs.Readings.{same-found}
 use Rattle.stored_form_theorems.specs.Records.{none}
 use Rattle.stored_form_theorems.proofs.{ClassRoundTrips.class-short, RecordRoundTrips.record-read-back, FieldValues.curve-more}
 use Rattle.stored_form_theorems.proofs.Written.{bytes-append, class-bytes, first-bytes}
-use Rattle.written_form.specs.Effect.{Effect, write, on, class-handed, put}
+use Rattle.written_form.specs.Effect.{write, on, class-handed, put}
 use Rattle.written_form.proofs.Effects.{call-found, put-written}
 use Rattle.seal.specs.Records.{class-held, class-record-bytes, sum-held, sum-record-bytes, SumStored}
-use Rattle.seal.specs.Rebuilt.{first-fields, last-field, class-rebuilt}
-use Rattle.seal.specs.Calls.{answered, opposite-call, double-call, sum-call}
+use Rattle.seal.specs.Rebuilt.{last-field, class-rebuilt}
+use Rattle.seal.specs.Calls.{answered, opposite-call, sum-call}
 use Rattle.seal.specs.Group.{ReadWith, sum-record-of, record-sum, record-opposite, record-double, neutral-record}
 use Rattle.seal.proofs.Written.{curve-passes, sum-record-back, sum-record-written}
 use Rattle.seal.proofs.Passing.{class-holds, opposite-given, double-given, sum-given}
-use Rattle.seal.proofs.ClassCalls.{class-call, first-is, last-is, rebuilt-bytes, stored-read, stored-writes, stored-rebuilt, is-stored}
+use Rattle.seal.proofs.ClassCalls.{first-is, last-is, rebuilt-bytes, stored-read, stored-writes, stored-rebuilt, is-stored}
 
 -- ---- a class's record and its values
 

@@ -1,7 +1,7 @@
 -- What a record that is read holds passes its checks, whatever its bytes (`curve-holds`, `class-holds`, `sum-holds`, `register-holds`), and so does what each call by
 -- value then gives (`opposite-given` and its like).
 use Prim.Native.Nat.{ℕ}
-use mathlib.Core.Path.{_≡_, sym, ap, _∙_, subst}
+use mathlib.Core.Path.{_≡_, subst}
 use mathlib.Core.List.{List, [], _∷_}
 use lib.Dec.{lit<}
 use borrow.Author.Tests.{leb-true}
