@@ -1,8 +1,8 @@
 -- How far one changed operation moves a seal (docs/SPECIFICATION.md, 11), from the laws of groups in class_group, of which the accepted classes are one.
 -- Of the commit's rule over two lists of accepted classes of which only the k-th of n changes, from d to e: the seal moves by n - k doublings of e - d (`seals-displaced`), by
--- calls of which none is refused; it moves where d and e differ (`seals-move`), and then neither one doubling more (`not-one-more`) nor d - e (`not-turned`) leads there.
--- Of two lists of calls on registers, refused calls among them, from one first seal, all of whose accepted calls are commits: `displacement`, for k = n `newest-displacement`, and
--- `moves`. Of walks back that end in one earliest seal: `walk-displacement`, `walk-moves`.
+-- calls of which none is refused; it moves where d and e differ (`seals-move`), and then neither one doubling more (`seals-not-one-more`) nor d - e (`seals-not-turned`) leads there.
+-- Of two lists of calls on registers, refused calls among them, from one first seal, all of whose accepted calls are commits: `displacement`, for k = n `newest-displacement`,
+-- `moves`, `not-one-more`, `not-turned`; d and e are accepted (`both-accept`). Of walks back that end in one earliest seal: `walk-displacement`, `walk-moves`.
 use Prim.Native.Nat.{ℕ, suc, _-_, _<_}
 use mathlib.Core.Path.{_≡_, refl, sym, _∙_, ap, ap₂, subst}
 use mathlib.Core.List.{List, [], _∷_, _++_, reverse, reverse-reverse}
@@ -59,11 +59,11 @@ module _ {c : Curve} {k : ℕ} {d e s : Class} {l m : List Class} (at : ChangedA
       ∙ ap (λ z. sum-of c z x) (in-group hl)
 
   -- it is not where one doubling more would lead, nor the difference the other way round
-  pub not-one-more : ¬ (d ≡ e) → ¬ (displaced c (suc (length l - k)) d e (after (commit-seal c) s l) ≡ gives (after (commit-seal c) s m))
-  not-one-more n h = group.one-doubling-more G at hs hl hm n (other-sum (doublings-accept c difference-accepted (suc (length l - k))) h)
+  pub seals-not-one-more : ¬ (d ≡ e) → ¬ (displaced c (suc (length l - k)) d e (after (commit-seal c) s l) ≡ gives (after (commit-seal c) s m))
+  seals-not-one-more n h = group.one-doubling-more G at hs hl hm n (other-sum (doublings-accept c difference-accepted (suc (length l - k))) h)
 
-  pub not-turned : ¬ (d ≡ e) → ¬ (displaced c (length l - k) e d (after (commit-seal c) s l) ≡ gives (after (commit-seal c) s m))
-  not-turned n h =
+  pub seals-not-turned : ¬ (d ≡ e) → ¬ (displaced c (length l - k) e d (after (commit-seal c) s l) ≡ gives (after (commit-seal c) s m))
+  seals-not-turned n h =
       group.turned-difference G at hs hl hm n
       (other-sum (doublings-accept c (difference-accepts c (changed-members at hl hm .0) (changed-members at hl hm .1)) (length l - k)) h)
 
@@ -133,6 +133,10 @@ module _ (r t : Register) (cs ds : List Call) {k : ℕ} {d e : Class} (v : Varia
       commits-lead t ds (v .changed-commits)
       ∙ ap₂ (λ x s. after (commit-seal x) s (operations (newest t ds))) (v .same-curve) (v .same-seal)
 
+  -- both classes are accepted, so that the opposite, the difference and the doublings are not refused (Group of jacobian)
+  pub both-accept : Accepts (r .curve) d × Accepts (r .curve) e
+  both-accept = changed-members (v .changed) (operations-accept r cs (some .0)) changed-accept
+
   -- the last seal moves by n - k doublings of e - d
   pub displacement : displaced (r .curve) (length (newest r cs) - k) d e (last r cs .seal) ≡ gives (last t ds .seal)
   displacement =
@@ -152,6 +156,21 @@ module _ (r t : Register) (cs ds : List Call) {k : ℕ} {d e : Class} (v : Varia
   moves n h =
       seals-move (v .changed) (first-accepts r cs (some .0)) (operations-accept r cs (some .0)) changed-accept n
       (sym (commits-lead r cs (v .commits)) ∙ h ∙ changed-lead)
+
+  -- then one doubling more does not lead there, nor does d - e
+  by-rule : (a b : Class) (f : ℕ → ℕ) → displaced (r .curve) (f (length (newest r cs) - k)) a b (last r cs .seal) ≡ gives (last t ds .seal)
+      → displaced (r .curve) (f (length (operations (newest r cs)) - k)) a b (after (commit-seal (r .curve)) (r .seal) (operations (newest r cs)))
+      ≡ gives (after (commit-seal (r .curve)) (r .seal) (operations (newest t ds)))
+  by-rule a b f h =
+      ap₂ (λ n s. displaced (r .curve) (f (n - k)) a b s) (operation-count r cs) (sym (commits-lead r cs (v .commits))) ∙ h ∙ ap gives changed-lead
+
+  pub not-one-more : ¬ (d ≡ e) → ¬ (displaced (r .curve) (suc (length (newest r cs) - k)) d e (last r cs .seal) ≡ gives (last t ds .seal))
+  not-one-more n h =
+      seals-not-one-more (v .changed) (first-accepts r cs (some .0)) (operations-accept r cs (some .0)) changed-accept n (by-rule d e (λ j. suc j) h)
+
+  pub not-turned : ¬ (d ≡ e) → ¬ (displaced (r .curve) (length (newest r cs) - k) e d (last r cs .seal) ≡ gives (last t ds .seal))
+  not-turned n h =
+      seals-not-turned (v .changed) (first-accepts r cs (some .0)) (operations-accept r cs (some .0)) changed-accept n (by-rule e d (λ j. j) h)
 
 -- ---- walks back, newest first, that end in one earliest seal
 module _ {c : Curve} {s t : Class} {xs ys : List Class} (hs : Accepts c s) (hx : All (Accepts c) xs) (ht : Accepts c t) (hy : All (Accepts c) ys)

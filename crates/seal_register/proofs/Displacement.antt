@@ -1,5 +1,5 @@
 -- How far one changed operation moves a seal (docs/SPECIFICATION.md, 11), of lists in which each call is by value or in place: where only operation k of n changes, from d to e, the
--- last seal moves by n - k doublings of e - d (`displacement`), and it moves where d and e differ (`moves`). Of walks over two lent rows that are not refused and reach one earliest
+-- last seal moves by n - k doublings of e - d (`displacement`), and it moves where d and e differ (`moves`); both are accepted (`both-accept`). Of walks over two lent rows that are not refused and reach one earliest
 -- seal: `row-displacement`, `row-moves` say the same of the last seals handed over.
 use Prim.Native.Nat.{ℕ, _-_}
 use mathlib.Core.Path.{_≡_, sym, _∙_, ap}
@@ -18,6 +18,9 @@ use Rattle.seal_register.proofs.{Answer.verdict-number, InPlace.newest-
 module _ (r t : Register) (ms ns : List Made) (here : Session r ms) (there : Session t ns) {k : ℕ} {d e : Class} (v : Variants k d e r t (newest-made r ms) (newest-made t ns)) where
   by-value : Variants k d e r t (newest r (calls ms)) (newest t (calls ns))
   by-value = rw (newest-is r ms here, newest-is t ns there) at v
+
+  pub both-accept : Accepts (r .curve) d × Accepts (r .curve) e
+  both-accept = history.both-accept r t (calls ms) (calls ns) by-value
 
   pub displacement : displaced (r .curve) (length (newest-made r ms) - k) d e (left-by r ms .seal) ≡ gives (left-by t ns .seal)
   displacement = rw (newest-is r ms here, left-by-last r ms here, left-by-last t ns there) (history.displacement r t (calls ms) (calls ns) by-value)
