@@ -1,5 +1,5 @@
 -- k doublings and k halvings in a commutative group.
--- `doublings-multiple`: k doublings are the 2^k-fold sum. `doublings-sum`, `doublings-difference`: they carry over sums and differences; `doublings-injective`:
+-- `doublings-multiple`: k doublings are the 2^k-fold sum. `doublings-sum`, `doublings-opposite`: they carry over sums and opposites; `doublings-injective`:
 -- they are one to one where doubling is. `halvings-doublings`, `doublings-halvings`: k halvings and k doublings undo each other.
 use Prim.Native.Nat.{ℕ, zero, suc, _+_ as _+ℕ_, _*_, _^_}
 use mathlib.Core.Path.{_≡_, refl, sym, _∙_, ap, ap₂}
@@ -59,9 +59,6 @@ module _ {X : Type 0} {Member : X → Type 0} {_+_ : X → X → X} {nought : X}
   pub doublings-opposite : (k : ℕ) {a : X} → Member a → repeat double k (minus a) ≡ minus (repeat double k a)
   doublings-opposite k h =
       doublings-multiple k (G .opposite-closed h) ∙ multiple-opposite G (2 ^ k) h ∙ ap minus (sym (doublings-multiple k h))
-
-  pub doublings-difference : (k : ℕ) {a b : X} → Member a → Member b → repeat double k (a + minus b) ≡ repeat double k a + minus (repeat double k b)
-  doublings-difference k {a} h m = doublings-sum k h (G .opposite-closed m) ∙ ap (λ z. repeat double k a + z) (doublings-opposite k m)
 
   pub doublings-neutral : (k : ℕ) → repeat double k nought ≡ nought
   doublings-neutral k = doublings-multiple k (G .neutral-closed) ∙ multiple-neutral G (2 ^ k)

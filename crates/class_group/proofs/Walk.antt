@@ -1,7 +1,7 @@
 -- Walks by a rule over a list, and back by a rule that takes it back (`Reversible`).
 -- `after-reverse`: the way back over the reversed list ends at the start. `walk-reverse`: it meets the same states in reverse order. `only-start`: where it
--- ends is the only start from which the rule leads there, and `after-back`: it is one. `after-injective`: different starts have different ends. `after-state`,
--- `walk-states`: all that is met are states. `after-agrees`: rules that agree on states lead to the same.
+-- ends is the only start from which the rule leads there, and `after-back`: it is one. `after-injective`: different starts have different ends. `after-state`:
+-- the end is a state. `after-agrees`: rules that agree on states lead to the same.
 -- `changed-map`: a function of the elements of two lists that differ at one place.
 use Prim.Native.Nat.{ℕ, suc}
 use mathlib.Core.Path.{_≡_, refl, sym, _∙_, ap}
@@ -58,11 +58,6 @@ module _ {X Y : Type 0} (rule : X → Y → X) where
 module _ {X Y : Type 0} {State : X → Type 0} {Step : Y → Type 0} {rule back : X → Y → X} (R : Reversible State Step rule back) where
   pub after-state : {s : X} {l : List Y} → State s → All Step l → State (after rule s l)
   after-state = after-member rule {State = State} {Step = Step} (λ s c h k. R .rule-closed h k)
-
-  pub walk-states : {s : X} {l : List Y} → State s → All Step l → All State (walk rule s l)
-  unfolding walk
-  walk-states h none = more h none
-  walk-states h (more k r) = more h (walk-states (R .rule-closed h k) r)
 
   pub after-reverse : {s : X} {l : List Y} → State s → All Step l → after back (after rule s l) (reverse l) ≡ s
   unfolding after

@@ -1,6 +1,6 @@
 -- How far one changed operation moves the seal of a list of byte commits (docs/SPECIFICATION.md, 11), from the stored form of any register that no check refuses, whatever bytes stand in
 -- the place of the operations, refused calls among them. The record of the seal moves as the records' group says: an accepted commit doubles it and adds the operation's (`commit-record`).
--- So where of n accepted commits only operation k changes, the last record is the other list's plus n - k doublings of the difference of the operations' records, to the byte
+-- So where of n accepted commits only operation j changes, the last record is the other list's plus n - j doublings of the difference of the operations' records, to the byte
 -- (`displacement-bytes`), and it is another one where the operations' fields are (`moves-bytes`). The records of the last seal and of the two operations are read (`last-read`,
 -- `operations-read`), so that none of these calls is refused (`sum-read`, `double-read`, `opposite-read` of ByteGroup).
 use Prim.Native.Nat.{ℕ, _+_, _-_, _≤_}
@@ -174,7 +174,7 @@ seal-read : (k : Kept) → InStoredForm k → ReadWith (k .curve) (seal-record k
 seal-read k stored = read-again (seal-holds k stored)
 
 module _ (k t : Kept) (stored : InStoredForm k) (stored' : InStoredForm t) (cs ds : List ByteStep) (bytes : All (λ c. Bytes (c .operation)) cs) (bytes' : All (λ c. Bytes (c .operation)) ds)
-    {n : ℕ} {d e : List ℕ} (v : ByteVariants n d e k t (newest byte-steps k cs) (newest byte-steps t ds)) (out : List ℕ) (room : class-room ≤ length out) where
+    {j : ℕ} {d e : List ℕ} (v : ByteVariants j d e k t (newest byte-steps k cs) (newest byte-steps t ds)) (out : List ℕ) (room : class-room ≤ length out) where
   abbrev record-of : List ℕ → List ℕ
   record-of op = operation-record (k .curve) op
 
@@ -202,11 +202,11 @@ module _ (k t : Kept) (stored : InStoredForm k) (stored' : InStoredForm t) (cs d
 
   -- the last seal's record moves by as many doublings of the difference as commits follow
   pub displacement-bytes :
-      record-sum out (seal-record (last byte-steps k cs)) (repeat (record-double out) (length (newest byte-steps k cs) - n)
+      record-sum out (seal-record (last byte-steps k cs)) (repeat (record-double out) (length (newest byte-steps k cs) - j)
       (record-sum out (operation-record (k .curve) e) (record-opposite out (operation-record (k .curve) d))))
       ≡ seal-record (last byte-steps t ds)
   displacement-bytes =
-      ap₂ (λ s j. record-sum out s (repeat (record-double out) (j - n) (record-sum out (record-of e) (record-opposite out (record-of d))))) was-led (sym (operation-count k cs record-of))
+      ap₂ (λ s n. record-sum out s (repeat (record-double out) (n - j) (record-sum out (record-of e) (record-opposite out (record-of d))))) was-led (sym (operation-count k cs record-of))
       ∙ sym (is-led ∙ group.displacement (byte-doubling (seal-read k stored) out room) (changed-map record-of (v .changed)) (seal-read k stored) (all-read was-carried) (all-read is-carried))
 
   pub moves-bytes : ¬ (d ≡ e) → ¬ (seal-record (last byte-steps k cs) ≡ seal-record (last byte-steps t ds))

@@ -68,11 +68,11 @@ OnlyCommits es = All (λ e. e .call .step ≡ Commit) es
 abbrev pub operations : List (Event Kept ByteStep) → List (List ℕ)
 operations es = map (λ e. e .call .operation) (reverse es)
 
--- two lists of calls, of which es and fs are the accepted ones, newest first: from one first seal on one curve, all of them commits, of which only operation n
+-- two lists of calls, of which es and fs are the accepted ones, newest first: from one first seal on one curve, all of them commits, of which only operation j
 -- changes, from d to e
-pub record ByteVariants (n : ℕ) (d e : List ℕ) (k t : Kept) (es fs : List (Event Kept ByteStep)) : Type 0 where
+pub record ByteVariants (j : ℕ) (d e : List ℕ) (k t : Kept) (es fs : List (Event Kept ByteStep)) : Type 0 where
   pub same-curve : t .curve ≡ k .curve
   pub same-seal : seal-record t ≡ seal-record k
   pub commits : OnlyCommits es
   pub changed-commits : OnlyCommits fs
-  pub changed : ChangedAt n d e (operations es) (operations fs)
+  pub changed : ChangedAt j d e (operations es) (operations fs)
