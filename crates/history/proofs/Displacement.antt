@@ -1,21 +1,22 @@
 -- How far one changed operation moves a seal (docs/SPECIFICATION.md, 11), from the laws of groups in class_group, of which the accepted classes are one.
 -- Of the commit's rule over two lists of accepted classes of which only the k-th of n changes, from d to e: the seal moves by n - k doublings of e - d (`seals-displaced`), by
 -- calls of which none is refused; it moves where d and e differ (`seals-move`), and then neither one doubling more (`seals-not-one-more`) nor d - e (`seals-not-turned`) leads there.
--- Of two lists of calls on registers, refused calls among them, from one first seal, all of whose accepted calls are commits: `displacement`, for k = n `newest-displacement`,
--- `moves`, `not-one-more`, `not-turned`; d and e are accepted (`both-accept`). Of walks back that end in one earliest seal: `walk-displacement`, `walk-moves`.
-use Prim.Native.Nat.{ℕ, suc, _-_, _<_}
+-- Of two lists of calls on registers, refused calls among them, from one first seal, all of whose accepted calls are commits: `displacement`, as 2^(n-k) times e - d
+-- `displacement-times`, for k = n `newest-displacement`, `moves`, `not-one-more`, `not-turned`; d and e are accepted (`both-accept`).
+-- Of walks back that end in one earliest seal: `walk-displacement`, `walk-moves`.
+use Prim.Native.Nat.{ℕ, suc, _-_, _^_, _<_}
 use mathlib.Core.Path.{_≡_, refl, sym, _∙_, ap, ap₂, subst}
 use mathlib.Core.List.{List, [], _∷_, _++_, reverse, reverse-reverse}
 use native.Mathlib.Omega.{arith}
 use lib.ListN.{length, length-append, length-map, length-reverse}
 use Rattle.class_group.specs.Walk.{All, none, more, ChangedAt, after, forward}
-use Rattle.class_group.specs.{Group.Doubling, Multiples.repeat}
+use Rattle.class_group.specs.{Group.Doubling, Multiples.repeat, Multiples.multiple}
 use Rattle.class_group.proofs.{All.all-reverse, All.changed-members, Walk.after-agrees, Walk.after-state, Walk.after-back, Walk.turned}
 use Rattle.class_group.proofs.Displacement as group
 use Rattle.jacobian.specs.{Answer.Verdict, Answer.accepted, Answer.refused, Answer.Accepts, Answer.result, Answer.gives, Answer.neutral-class, Answer.sum-answer}
 use Rattle.jacobian.specs.Group.{sum-of, opposite-of, double-of, difference, doublings}
 use Rattle.jacobian.specs.declared.{Curve.Curve, Class.Class}
-use Rattle.jacobian.proofs.{Representation.accepts-curve, Representation.accepts-both, Group.class-is, Group.doubling, Group.sum-given, Group.difference-accepts, Group.doublings-accept}
+use Rattle.jacobian.proofs.{Representation.accepts-curve, Representation.accepts-both, Group.class-is, Group.doubling, Group.sum-given, Group.difference-accepts, Group.doublings-accept, Group.doublings-sum}
 use Rattle.history.specs.Register.{RegisterReply, commit-seal, undo-seal, moved, stepped}
 use Rattle.history.specs.Machine as definition
 use Rattle.history.specs.Calls.{Call, answer, registers, Event, run, last, newest, classes, OnlyCommits, walk-back, operations, Variants, displaced}
@@ -143,6 +144,14 @@ module _ (r t : Register) (cs ds : List Call) {k : ℕ} {d e : Class} (v : Varia
       ap₂ (λ n s. displaced (r .curve) (n - k) d e s) (sym (operation-count r cs)) (commits-lead r cs (v .commits))
       ∙ seals-displaced (v .changed) (first-accepts r cs (some .0)) (operations-accept r cs (some .0)) changed-accept
       ∙ ap gives (sym changed-lead)
+
+  -- which are 2^(n-k) times it, by summing
+  pub displacement-times :
+      result (sum-answer (r .curve) (last r cs .seal) (multiple (sum-of (r .curve)) neutral-class (2 ^ (length (newest r cs) - k)) (difference (r .curve) e d)))
+      ≡ gives (last t ds .seal)
+  displacement-times =
+      let apart = difference-accepts (r .curve) (both-accept .1) (both-accept .0) in
+      ap (λ x. result (sum-answer (r .curve) (last r cs .seal) x)) (sym (doublings-sum (r .curve) apart (length (newest r cs) - k))) ∙ displacement
 
   -- the newest operation moves it by e - d itself
   pub newest-displacement : k ≡ length (newest r cs) → result (sum-answer (r .curve) (last r cs .seal) (difference (r .curve) e d)) ≡ gives (last t ds .seal)
