@@ -3,7 +3,7 @@
 -- writes (`sum-bytes`), m n times what m times writes on the record rebuilt from n times (`product-bytes`), 0 times the neutral class's field and once the record's own (`zero-bytes`, `once-bytes`).
 -- The record rebuilt from 2^k times is that after k byte doublings (`doublings-bytes`), the one rebuilt from k halvings that after k byte halves (`halvings-bytes`). k halvings of the record after k
 -- byte doublings write the record's own class field (`halvings-of-doublings-bytes`), and k byte doublings of the record rebuilt from k halvings give the record back, to the byte
--- (`doublings-of-halvings-bytes`). None of these byte doublings and halves is refused (`doublings-write`, `halves-write`), and no other record leads by k of them to the same
+-- (`doublings-of-halvings-bytes`). None of these byte doublings and halves is refused (`doublings-write` of seal's ByteGroup, `halves-write`), and no other record leads by k of them to the same
 -- (`only-halvings-bytes`).
 use Prim.Native.Nat.{ℕ, zero, suc, _+_, _*_, _^_, _≤_, _<_}
 use mathlib.Core.Path.{_≡_, refl, sym, ap, _∙_}
@@ -16,7 +16,7 @@ use Rattle.stored_form.specs.{Number.Bytes, Reading.found, Head.class-room, Hea
 use Rattle.written_form.specs.Effect.{write}
 use Rattle.seal.specs.Records.{class-record-bytes}
 use Rattle.seal.specs.Rebuilt.{last-field, class-rebuilt}
-use Rattle.seal.specs.Calls.{double-call, half-call, sum-call}
+use Rattle.seal.specs.Calls.{half-call, sum-call}
 use Rattle.seal.specs.Calls as seal
 use Rattle.seal.specs.Group.{sum-record-of}
 use Rattle.seal.proofs.{Passing.class-holds, Passing.Given, Passing.double-given, Passing.half-given, ByteGroup.sum-record-writes, ByteGroup.sum-record-is}
@@ -139,14 +139,7 @@ module _ (s : List ℕ) (bytes : Bytes s) {h : Held} {end : ℕ} (read : read-re
       halved-at : (k : ℕ) → halved-record mid k s ≡ class-record-bytes c (halves c k a)
       halved-at k = ap (halved-record mid k) stored-bytes ∙ halved-is passes mid room' k
 
-      -- none of these calls is refused: each writes the class field of the next record
-      pub doublings-write : (k : ℕ) → double-call (doubled-record mid k s) mid ≡ write (last-field (doubled-record mid (suc k) s)) mid
-      unfolding seal.answered repeat
-      doublings-write k =
-          let p = doublings-accept c passes k in
-          stored-writes (doubled-at k) p (λ x b. result (double-answer x b)) (double-given p) mid room'
-          ∙ ap (λ (b : List ℕ). write b mid) (sym (last-is c (doublings c (suc k) a) (doubled-at (suc k))))
-
+      -- none of these halves is refused: each writes the class field of the next record
       pub halves-write : (k : ℕ) → half-call (halved-record mid k s) mid ≡ write (last-field (halved-record mid (suc k) s)) mid
       unfolding seal.answered repeat
       halves-write k =

@@ -23,6 +23,10 @@ record-sum out s t = class-rebuilt s (sum-call (sum-record-of s t) out)
 abbrev pub record-opposite : List ℕ → List ℕ → List ℕ
 record-opposite out s = class-rebuilt s (opposite-call s out)
 
+-- a - b: a plus the opposite of b
+abbrev pub record-difference : List ℕ → List ℕ → List ℕ → List ℕ
+record-difference out s t = record-sum out s (record-opposite out t)
+
 abbrev pub record-double : List ℕ → List ℕ → List ℕ
 record-double out s = class-rebuilt s (double-call s out)
 
