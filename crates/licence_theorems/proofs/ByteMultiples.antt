@@ -139,13 +139,13 @@ module _ (s : List ℕ) (bytes : Bytes s) {h : Held} {end : ℕ} (read : read-re
       halved-at : (k : ℕ) → halved-record mid k s ≡ class-record-bytes c (halves c k a)
       halved-at k = ap (halved-record mid k) stored-bytes ∙ halved-is passes mid room' k
 
-      -- none of these halves is refused: each writes the class field of the next record
-      pub halves-write : (k : ℕ) → half-call (halved-record mid k s) mid ≡ write (last-field (halved-record mid (suc k) s)) mid
+      -- none of these halves is refused: each writes the field of the class after one half more
+      pub halves-write : (k : ℕ) → half-call (halved-record mid k s) mid ≡ write (class-field 0x43 (halves (h .curve) (suc k) (h .class))) mid
       unfolding seal.answered repeat
       halves-write k =
           let p = halves-accept passes k in
           stored-writes (halved-at k) p (λ x b. result (half-answer x b)) (half-given p) mid room'
-          ∙ ap (λ (b : List ℕ). write b mid) (sym (last-is c (halves c (suc k) a) (halved-at (suc k))))
+          ∙ ap (λ (g : Held). write (class-field 0x43 (halves (g .curve) (suc k) (g .class))) mid) (sym (is-stored s bytes read .held))
 
       pub doublings-bytes : (k : ℕ) → k < 61 → class-rebuilt s (multiple-call (2 ^ k) s out) ≡ doubled-record mid k s
       doublings-bytes k l =

@@ -2,8 +2,9 @@
 -- the place of the operations, refused calls among them. The record of the seal moves as the records' group says: an accepted commit doubles it and adds the operation's (`commit-record`).
 -- So where of n accepted commits only operation j changes, the last record is the other list's plus n - j doublings of the difference of the operations' records, to the byte
 -- (`displacement-bytes`), and it is another one where the operations' fields are (`moves-bytes`). None of the calls that say so is refused. The last sum writes the class field of the
--- other list's last seal (`displacement-writes`); the records of the last seal, of the two operations and of their difference are read (`last-read`, `operations-read`,
--- `difference-read`), so that the opposite, the difference's sum and the doublings write too (`opposite-field`, `sum-field`, `doublings-write` of ByteGroup).
+-- other list's last seal (`displacement-writes`). The records of the two last seals, of the two operations and of their difference are read (`last-read`, `changed-read`,
+-- `operations-read`, `difference-read`), so that the opposite, the difference's sum and the doublings write the fields of classes too (`opposite-writes`, `sum-writes`, `doublings-write`
+-- of ByteGroup).
 use Prim.Native.Nat.{ℕ, _+_, _-_, _≤_}
 use mathlib.Core.Path.{_≡_, refl, sym, ap, ap₂, _∙_, subst}
 use mathlib.Core.List.{List, [], _∷_, _++_, map, reverse, reverse-reverse}
@@ -25,7 +26,7 @@ use Rattle.seal.specs.{Records.register-fields, Records.class-record-byt
 use Rattle.seal.specs.{Rebuilt.last-field, Calls.sum-call}
 use Rattle.seal.specs.Group.{ReadWith, sum-record-of, record-sum, record-double, record-difference}
 use Rattle.seal.specs.Steps.{Kept, ByteStep, made, outcome, byte-steps, InStoredForm, seal-record, operation-record, OnlyCommits, operations, ByteVariants}
-use Rattle.seal.proofs.ByteGroup.{Holds, read-again, sum-holds, double-holds, byte-doubling, opposite-read, sum-read, sum-field, doublings-read}
+use Rattle.seal.proofs.ByteGroup.{Holds, read-again, sum-holds, double-holds, byte-doubling, opposite-read, sum-read, sum-writes, sum-field, doublings-read}
 use Rattle.seal.proofs.ByteSteps.{refused-stays, Done, done, kept-stored}
 
 -- ---- the records of the seal and of an operation
@@ -212,9 +213,15 @@ module _ (k t : Kept) (stored : InStoredForm k) (stored' : InStoredForm t) (cs d
       ap₂ (λ s n. record-sum out s (repeat (record-double out) (n - j) (record-difference out (record-of e) (record-of d)))) was-led (sym (operation-count k cs record-of))
       ∙ sym (is-led ∙ group.displacement (byte-doubling (seal-read k stored) out room) (changed-map record-of (v .changed)) (seal-read k stored) (all-read was-carried) (all-read is-carried))
 
-  -- by a call that writes the class field of the other list's last seal
+  -- that record is read, and its class field is what the last sum writes
   pub difference-read : ReadWith (k .curve) (record-difference out (operation-record (k .curve) e) (operation-record (k .curve) d))
   difference-read = sum-read (operations-read .1) (opposite-read (operations-read .0) out room) out room
+
+  doubled : ReadWith (k .curve) (repeat (record-double out) (length (newest byte-steps k cs) - j) (record-difference out (record-of e) (record-of d)))
+  doubled = doublings-read difference-read out room (length (newest byte-steps k cs) - j)
+
+  pub changed-read : ReadWith (k .curve) (seal-record (last byte-steps t ds))
+  changed-read = subst (ReadWith (k .curve)) displacement-bytes (sum-read last-read doubled out room)
 
   pub displacement-writes :
       sum-call
@@ -222,8 +229,8 @@ module _ (k t : Kept) (stored : InStoredForm k) (stored' : InStoredForm t) (cs d
       (record-difference out (operation-record (k .curve) e) (operation-record (k .curve) d)))) out
       ≡ write (last-field (seal-record (last byte-steps t ds))) out
   displacement-writes =
-      sum-field last-read (doublings-read difference-read out room (length (newest byte-steps k cs) - j)) out room
-      ∙ ap (λ (s : List ℕ). write (last-field s) out) displacement-bytes
+      sum-writes last-read doubled out room
+      ∙ ap (λ (b : List ℕ). write b out) (sym (sum-field last-read doubled out room) ∙ ap (λ (s : List ℕ). last-field s) displacement-bytes)
 
   pub moves-bytes : ¬ (d ≡ e) → ¬ (seal-record (last byte-steps k cs) ≡ seal-record (last byte-steps t ds))
   moves-bytes differ same =

@@ -1,20 +1,18 @@
 -- The laws of the group by bytes (docs/SPECIFICATION.md, 11), for records of classes that are read and have the same fields of degree and curve, where the outputs have room for a class
--- field. A sum and an opposite write the field of what the call by value gives (`sum-writes`, `opposite-writes`), so neither is refused; that is the class field of the record rebuilt
--- from it (`sum-field`, `opposite-field`, `double-field`, and k doublings one after the other `doublings-write`), and that record is read again (`sum-read`, `opposite-read`,
--- `double-read`, `doublings-read`, `neutral-read`). Sums in either order and either grouping answer the same and leave the same in the output (`sum-comm-bytes`, `sum-assoc-bytes`); with the
+-- field. A sum, an opposite and each of k doublings write the field of what the call by value gives (`sum-writes`, `opposite-writes`, `doublings-write`), so none is refused, and the
+-- record rebuilt from that, of which it is the class field (`sum-field`), is read again (`sum-read`, `opposite-read`, `double-read`, `doublings-read`, `neutral-read`). Sums in either order and either grouping answer the same and leave the same in the output (`sum-comm-bytes`, `sum-assoc-bytes`); with the
 -- neutral class's field the class's own is written (`sum-neutral-bytes`), and of a class and its opposite the neutral class's (`sum-opposite-bytes`).
 -- So the records with the same such fields are a commutative group (`byte-group`) in which doubling is one to one (`byte-doubling`), and all of class_group's laws of groups hold of them.
 -- Every record of a sum that is read is made of two such records (`sum-record-parts`).
-use Prim.Native.Nat.{ℕ, suc, _≤_}
+use Prim.Native.Nat.{ℕ, zero, suc, _≤_}
 use mathlib.Core.Path.{_≡_, refl, sym, ap, _∙_, subst}
 use mathlib.Core.List.{List}
 use native.Mathlib.Omega.{arith}
 use lib.Dec.{lit<}
 use lib.ListN.{length}
 use Rattle.class_group.specs.{Group.CommutativeGroup, Group.Doubling, Multiples.repeat}
-use Rattle.class_group.proofs.Doublings.{doublings-member}
 use Rattle.jacobian.specs.{Curves.curve-refusal, Answer.Result, Answer.result, Answer.neutral-class, Answer.opposite-answer, Answer.double-answer}
-use Rattle.jacobian.specs.Group.{sum-of, opposite-of, double-of}
+use Rattle.jacobian.specs.Group.{sum-of, opposite-of, double-of, doublings}
 use Rattle.jacobian.specs.declared.{Curve.Curve, Class.Class}
 use Rattle.jacobian.proofs.{Calls.neutral-accepts, Group.group, Group.doubling}
 use Rattle.stored_form.specs.{Number.Bytes, Reading.found, Head.class-room, Passing.ClassPasses, Classes.curve-first-fields, Classes.class-field}
@@ -24,7 +22,7 @@ use Rattle.stored_form.proofs.Readings.{same-found}
 use Rattle.stored_form_theorems.specs.Records.{none}
 use Rattle.stored_form_theorems.proofs.{ClassRoundTrips.class-short, RecordRoundTrips.record-read-back, FieldValues.curve-more}
 use Rattle.stored_form_theorems.proofs.Written.{bytes-append, class-bytes, first-bytes}
-use Rattle.written_form.specs.Effect.{Effect, write, on, class-handed, put}
+use Rattle.written_form.specs.Effect.{write, on, class-handed, put}
 use Rattle.written_form.proofs.Effects.{call-found, put-written}
 use Rattle.seal.specs.Records.{class-held, class-record-bytes, sum-held, sum-record-bytes, SumStored}
 use Rattle.seal.specs.Rebuilt.{last-field, class-rebuilt}
@@ -32,7 +30,6 @@ use Rattle.seal.specs.Calls.{answered, opposite-call, double-call, sum-c
 use Rattle.seal.specs.Group.{ReadWith, sum-record-of, record-sum, record-opposite, record-double, neutral-record}
 use Rattle.seal.proofs.Written.{curve-passes, sum-record-back, sum-record-written}
 use Rattle.seal.proofs.Passing.{class-holds, opposite-given, double-given, sum-given}
-use Rattle.seal.proofs.ByteHalving.{double-writes}
 use Rattle.seal.proofs.ClassCalls.{first-is, last-is, rebuilt-bytes, stored-read, stored-writes, stored-rebuilt, is-stored}
 
 -- ---- a class's record and its values
@@ -76,12 +73,6 @@ read-again {c} {a} {s = s} x = record {
   end = length s;
   read = stored-read (x .bytes) (x .passes);
 }
-
--- a call on such a record that writes the field of a class writes that of the record rebuilt from it
-written-own : {c : Curve} {a : Class} {fields s : List ℕ} → Holds c a fields s → (x : Class) (out : List ℕ) {e : Effect} → e ≡ write (class-field 0x43 x) out
-    → e ≡ write (last-field (class-rebuilt s e)) out
-written-own {c} {a} {s = s} h x out w =
-    w ∙ ap (λ (b : List ℕ). write b out) (sym (last-is c x (ap (class-rebuilt s) w ∙ rebuilt-bytes c a (h .bytes) x out)))
 
 -- ---- the byte sum of two classes that pass
 pub sum-record-writes : {c : Curve} {a b : Class} → ClassPasses c a → ClassPasses c b → {s : List ℕ} → s ≡ sum-record-bytes c a b → (out : List ℕ) → class-room ≤ length out
@@ -151,14 +142,8 @@ module _ {fields s : List ℕ} (x : ReadWith fields s) where
     pub opposite-writes : opposite-call s out ≡ write (class-field 0x43 (opposite-of (x .held .curve) (x .held .class))) out
     opposite-writes = opposite-written out room (own x)
 
-    pub opposite-field : opposite-call s out ≡ write (last-field (record-opposite out s)) out
-    opposite-field = written-own (own x) _ out opposite-writes
-
     pub opposite-read : ReadWith fields (record-opposite out s)
     opposite-read = read-again (opposite-holds out room (own x))
-
-    pub double-field : double-call s out ≡ write (last-field (record-double out s)) out
-    double-field = written-own (own x) _ out (double-writes s out room (x .read))
 
     pub double-read : ReadWith fields (record-double out s)
     double-read = read-again (double-holds out room (own x))
@@ -179,8 +164,8 @@ module _ {fields s : List ℕ} (x : ReadWith fields s) where
     pub sum-writes : sum-call (sum-record-of s t) out ≡ write (class-field 0x43 (sum-of (x .held .curve) (x .held .class) (y .held .class))) out
     sum-writes = sum-written out room (own x) (beside x y)
 
-    pub sum-field : sum-call (sum-record-of s t) out ≡ write (last-field (record-sum out s t)) out
-    sum-field = written-own (own x) _ out sum-writes
+    pub sum-field : last-field (record-sum out s t) ≡ class-field 0x43 (sum-of (x .held .curve) (x .held .class) (y .held .class))
+    sum-field = last-is c _ (sum-holds out room (own x) (beside x y) .bytes)
 
     pub sum-read : ReadWith fields (record-sum out s t)
     sum-read = read-again (sum-holds out room (own x) (beside x y))
@@ -250,12 +235,19 @@ module _ {fields w : List ℕ} (some : ReadWith fields w) (out : List ℕ) (room
 
 -- ---- k doublings, each on the record rebuilt from the one before
 module _ {fields s : List ℕ} (x : ReadWith fields s) (out : List ℕ) (room : class-room ≤ length out) where
-  pub doublings-read : (k : ℕ) → ReadWith fields (repeat (record-double out) k s)
-  doublings-read k = doublings-member (byte-doubling x out room) k x
-
-  pub doublings-write : (k : ℕ) → double-call (repeat (record-double out) k s) out ≡ write (last-field (repeat (record-double out) (suc k) s)) out
+  doublings-hold : (k : ℕ) → Holds (x .held .curve) (doublings (x .held .curve) k (x .held .class)) fields (repeat (record-double out) k s)
   unfolding repeat
-  doublings-write k = double-field (doublings-read k) out room
+  doublings-hold zero = own x
+  doublings-hold (suc k) = double-holds out room (doublings-hold k)
+
+  pub doublings-read : (k : ℕ) → ReadWith fields (repeat (record-double out) k s)
+  doublings-read k = read-again (doublings-hold k)
+
+  pub doublings-write : (k : ℕ) → double-call (repeat (record-double out) k s) out ≡ write (class-field 0x43 (doublings (x .held .curve) (suc k) (x .held .class))) out
+  unfolding answered repeat
+  doublings-write k =
+      let h = doublings-hold k in
+      stored-writes (h .bytes) (h .passes) (λ d a. result (double-answer d a)) (double-given (h .passes)) out room
 
 -- ---- every record of a sum is made of two such records
 pub sum-record-parts : {r : List ℕ} → Bytes r → {h : Held} {end : ℕ} → read-record sum-record r ≡ found h end →
