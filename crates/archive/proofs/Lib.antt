@@ -1,4 +1,4 @@
--- Reading an archive by steps is reading it in one piece; its answers and its refusals are told apart.
+-- An archive read by steps is refused as it is in one piece; its answers and its refusals are told apart.
+pub mod Tail
 pub mod ReaderSteps
-pub mod Agreement
 pub mod ToldApart

@@ -1,4 +1,4 @@
--- Reading by steps: one step of what is left to read, that a step leaves less to read, and what the code's answer says of a step.
+-- Reading by steps: what is left to read after a step is refused as the archive is, a step leaves less to read, and what the code's answer says of a step.
 use Prim.Native.Nat.{ℕ, zero, suc, _+_, _*_, _-_, _≤_, _<_}
 use mathlib.Core.Path.{_≡_, refl, sym, ap, _∙_}
 use mathlib.Core.Bool.{Bool, true, false, cond, true≢false, false≢true}
@@ -8,37 +8,42 @@ use lib.Dec.{ltb}
 use lib.ListN.{length, getD, drop, replicate, drop-of-length-le}
 use lib.Seq.{drop-cons}
 use borrow.Author.Tests.{lt-ltb, le-ltb, ltb-true, ltb-false}
-use Rattle.stored_form.specs.{Reading.Reading, Reading.found, Reading.refused, Reading._then_, Reading.reading-refusal, Fields.end-refusal}
-use Rattle.stored_form.specs.Held.{nothing-held, read-field, read-fields, archive-opening, place-refusal}
+use Rattle.stored_form.specs.{Reading.Reading, Reading.found, Reading.refused, Reading._then_, Reading.reading-refusal, Held.nothing-held}
+use Rattle.stored_form.specs.Records.{read-field, read-fields, read-operations, archive-opening, place-refusal}
 use Rattle.stored_form.specs.declared.{Held.Held, Cursor.Cursor}
 use Rattle.stored_form.specs.declared.Place.the-variants.{Next, Refused}
-use Rattle.stored_form.proofs.{Readings.then-found, Readings.then-refused, Readings.both-found, Readings.same-found, Readings.checked-found, Readings.checked-then, Readings.then-same, Readings.then-assoc, Readers.placed, Readers.answer-found, Readers.answer-refused, Readers.answer-refusal, FieldReadings.field-within}
+use Rattle.stored_form.proofs.Readings.{then-found, then-refused, both-found, same-found, then-same, then-assoc, found-refusal, same-refusal}
+use Rattle.stored_form.proofs.Readers.{placed, answer-found, answer-refused, answer-refusal, field-within}
+use Rattle.archive.specs.Archive.{Tail, read-tail, archive-of, read-archive, archive-refusal}
 use Rattle.archive.specs.declared.{Due.Due, Reader.Reader, Advance.Advance}
 use Rattle.archive.specs.declared.Due.the-variants.{Opening, Operations, End, Nothing}
-use Rattle.archive.specs.Reader.{reader, start, operations-due, after-opening, read-opening, read-operation, read-end, read-due, pending, read-steps, advance-of}
+use Rattle.archive.proofs.Tail.{tail-onward}
+use Rattle.archive.specs.Reader.{reader, start, operations-due, after-opening, read-opening, read-operation, read-end, read-due, pending, advance-of}
 
 -- ---- one step of what is left to read
 
 module _ (s : List ℕ) where
-  from-operations : ℕ → Held → ℕ → Reading Reader
-  from-operations n h at = read-fields (replicate n 0x44) h s at then λ h end. read-end h s end
+  from-operations : ℕ → Held → ℕ → Reading Tail
+  from-operations n h at = read-operations n h s at then λ ops end. read-tail s end
 
-  from-opening : List ℕ → Held → ℕ → Reading Reader
+  from-opening : List ℕ → Held → ℕ → Reading Tail
   from-opening tags h at = read-fields tags h s at then λ h next. from-operations (h .count) h next
 
   -- what is left to read
-  pub left : Due → Held → ℕ → Reading Reader
+  pub left : Due → Held → ℕ → Reading Tail
   left (Opening i) h at = read-field (getD archive-opening i 0) h s at then λ more next. from-opening (drop (suc i) archive-opening) more next
   left (Operations n) h at = read-field 0x44 h s at then λ more next. from-operations (n - 1) more next
-  left End h at = read-end h s at
-  left Nothing h at = found (reader Nothing h) at
+  left End h at = read-tail s at
+  left Nothing h at = found tt at
 
   operations-next : (n : ℕ) (h : Held) (at : ℕ) → from-operations n h at ≡ left (operations-due n) h at
-  unfolding from-operations left operations-due read-fields _then_
+  unfolding from-operations left operations-due read-operations _then_
   operations-next zero h at = refl
   operations-next (suc n) h at =
       let e : suc n - 1 ≡ n = omega arith in
-      then-assoc (read-field 0x44 h s at) _ _ ∙ ap (λ (k : ℕ). read-field 0x44 h s at then λ more next. from-operations k more next) (sym e)
+      then-assoc (read-field 0x44 h s at) _ _
+      ∙ then-same _ (read-field 0x44 h s at) (λ more next. then-assoc (read-operations n more s next) _ _)
+      ∙ ap (λ (k : ℕ). read-field 0x44 h s at then λ more next. from-operations k more next) (sym e)
 
   module _ (i : ℕ) (h : Held) (at : ℕ) where
     next : suc i < length archive-opening → from-opening (drop (suc i) archive-opening) h at ≡ left (Opening (suc i)) h at
@@ -66,19 +71,27 @@ module _ (s : List ℕ) where
   unfolding left read-opening read-operation read-end _then_
   one-step (Opening i) h at = then-same _ (read-field (getD archive-opening i 0) h s at) (λ more next. opening-next i more next) ∙ sym (then-assoc (read-field (getD archive-opening i 0) h s at) _ _)
   one-step (Operations n) h at = then-same _ (read-field 0x44 h s at) (λ more next. operations-next (n - 1) more next) ∙ sym (then-assoc (read-field 0x44 h s at) _ _)
-  one-step End h at = sym (checked-then (end-refusal s at) (reader Nothing h) at (λ r next. left (r .due) (r .held) next))
+  one-step End h at = sym (then-assoc (read-tail s at) _ _ ∙ then-found-same (read-tail s at))
+    where
+      then-found-same : (x : Reading Tail) → (x then λ t end. found tt end) ≡ x
+      then-found-same (found tt n) = refl
+      then-found-same (refused n) = refl
   one-step Nothing h at = refl
 
-  pub begun : {r : Reader} → r ≡ start → read-steps s ≡ left (r .due) (r .held) 0
-  unfolding read-steps start left from-opening from-operations read-fields
-  begun e = then-assoc (read-field 0x40 nothing-held s 0) _ _ ∙ ap (λ (r : Reader). left (r .due) (r .held) 0) (sym e)
-
-  pub nothing-left : (d : Due) (h : Held) (at : ℕ) → pending d ≡ false → left d h at ≡ found (reader d h) at
+  pub nothing-left : (d : Due) (h : Held) (at : ℕ) → pending d ≡ false → left d h at ≡ found tt at
   unfolding left pending
   nothing-left (Opening i) h at e = absurd (true≢false e)
   nothing-left (Operations n) h at e = absurd (true≢false e)
   nothing-left End h at e = absurd (true≢false e)
   nothing-left Nothing h at e = refl
+
+  pub begun : {r : Reader} → r ≡ start → archive-refusal s ≡ reading-refusal (left (r .due) (r .held) 0)
+  unfolding archive-refusal read-archive start left from-opening from-operations read-fields
+  begun e =
+      same-refusal (read-fields archive-opening nothing-held s 0) _ (λ h next. from-operations (h .count) h next)
+      (λ h first. same-refusal (read-operations (h .count) h s first) _ (λ ops end. read-tail s end) (λ ops end. found-refusal (read-tail s end) (λ tail. archive-of h ops)))
+      ∙ ap reading-refusal (then-assoc (read-field 0x40 nothing-held s 0) _ _)
+      ∙ ap (λ (r : Reader). reading-refusal (left (r .due) (r .held) 0)) (sym e)
 
 -- ---- the step of a field, as the code makes it
 
@@ -128,7 +141,7 @@ module _ (s : List ℕ) (h : Held) (at : ℕ) {r : Reader} {next : ℕ} where
   field-less : (tag : ℕ) (f : Held → Due) → (read-field tag h s at then λ more next. found (reader (f more) more) next) ≡ found r next → weight (r .due) + 2 * (length s - next) < 1 + 2 * (length s - at)
   field-less tag f e =
       let p = both-found _ (read-field tag h s at) e in
-      let w = field-within h s at tag (p .2) in
+      let w = field-within tag h s at (p .2) in
       let n = same-found (p .3) .1 in
       omega (arith, w .0, w .1, n, light (r .due))
 
@@ -137,9 +150,10 @@ module _ (s : List ℕ) (h : Held) (at : ℕ) {r : Reader} {next : ℕ} where
   less-left (Opening i) p e = field-less (getD archive-opening i 0) _ e
   less-left (Operations n) p e = field-less 0x44 _ e
   less-left End p e =
-      let c = same-found (checked-found _ _ e .1) in
+      let t = both-found _ (read-tail s at) e in
+      let c = same-found (t .3) in
       let none : weight (r .due) ≡ 0 = ap (λ (q : Reader). weight (q .due)) (sym (c .0)) in
-      omega (arith, none, c .1)
+      omega (arith, none, c .1, tail-onward s at (t .2))
   less-left Nothing p e = absurd (false≢true p)
 
 -- ---- what the code's answer says of a step

@@ -1,11 +1,9 @@
 -- An archive and how it is read (docs/SPECIFICATION.md, 6 and 9).
-use Prim.Native.Nat.{ℕ, zero, suc}
-use mathlib.Core.List.{List, [], _∷_}
-use Rattle.stored_form.specs.Reading.{Reading, found, checked, _then_, reading-refusal}
-use Rattle.stored_form.specs.Fields.{drawing-at, count-at, end-refusal}
-use Rattle.stored_form.specs.Classes.{curve-first, class-at}
-use Rattle.jacobian.specs.declared.Curve.{Curve}
-use Rattle.jacobian.specs.declared.Class.{Class}
+use Prim.Native.Nat.{ℕ}
+use mathlib.Core.List.{List}
+use Rattle.jacobian.specs.declared.{Curve.Curve, Class.Class}
+use Rattle.stored_form.specs.{Reading.Reading, Reading.found, Reading._then_, Reading.reading-refusal, Fields.ended, Held.drawing-name, Held.nothing-held}
+use Rattle.stored_form.specs.{Records.read-fields, Records.read-operations, Records.archive-opening, declared.Held.Held}
 
 -- what an archive holds; its operations newest first
 pub record Archive : Type 0 where
@@ -14,23 +12,24 @@ pub record Archive : Type 0 where
   pub seal : Class
   pub operations : List Class
 
--- as many 0x44 as the count says
-unfoldable pub operations-at : ℕ → Curve → List ℕ → ℕ → Reading (List Class)
-operations-at zero c s at = found [] at
-operations-at (suc n) c s at =
-    class-at 0x44 c s at then λ a next.
-    operations-at n c s next then λ older next.
-    found (a ∷ older) next
+-- what follows the operations: nothing, so that there is nothing to say of it
+abbrev pub Tail : Type 0
+Tail = Unit {0}
 
--- the whole archive: 0x40, 0x41, 0x46, 0x42, 0x43, the operations, and nothing after them
+unfoldable pub read-tail : List ℕ → ℕ → Reading Tail
+read-tail s at = ended s tt at
+
+-- the archive of what was held before its operations, with these operations
+unfoldable pub archive-of : Held → List Class → Archive
+archive-of h ops = record { curve = h .curve; drawing = drawing-name (h .drawing); seal = h .class; operations = ops }
+
+-- the whole archive: 0x40, 0x41, 0x46, 0x42, 0x43, as many 0x44 as the count says, and what follows them
 unfoldable pub read-archive : List ℕ → Reading Archive
 read-archive s =
-    curve-first s 0 then λ c next.
-    drawing-at s next then λ name next.
-    count-at s next then λ n next.
-    class-at 0x43 c s next then λ seal next.
-    operations-at n c s next then λ ops next.
-    checked (end-refusal s next) (found (record { curve = c; drawing = name; seal = seal; operations = ops }) next)
+    read-fields archive-opening nothing-held s 0 then λ h first.
+    read-operations (h .count) h s first then λ ops end.
+    read-tail s end then λ tail end.
+    found (archive-of h ops) end
 
 -- the number of an archive's refusal, and 0 where it is accepted
 unfoldable pub archive-refusal : List ℕ → ℕ

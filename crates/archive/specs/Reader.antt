@@ -1,16 +1,13 @@
 -- The reader of an archive: a state, and one step for each field (docs/SPECIFICATION.md, 6 and 9).
 use Prim.Native.Nat.{ℕ, zero, suc, _-_}
 use mathlib.Core.Bool.{Bool, true, false, cond}
-use mathlib.Core.List.{List, [], _∷_}
+use mathlib.Core.List.{List}
 use lib.Dec.{ltb}
-use lib.ListN.{length, getD, replicate}
-use Rattle.stored_form.specs.{Reading.Reading, Reading.found, Reading.refused, Reading.checked, Reading._then_, Fields.end-refusal}
-use Rattle.stored_form.specs.Held.{drawing-name, nothing-held, with-operation, read-field, read-fields, archive-opening}
-use Rattle.stored_form.specs.declared.Held.{Held}
+use lib.ListN.{length, getD}
+use Rattle.stored_form.specs.{Reading.Reading, Reading.found, Reading.refused, Reading._then_, Held.nothing-held}
+use Rattle.stored_form.specs.{Records.read-field, Records.read-fields, Records.archive-opening, declared.Held.Held}
 use Rattle.stored_form.specs.declared.Place.the-variants.{Next, Refused}
-use Rattle.jacobian.specs.declared.Class.{Class}
-use Rattle.archive.specs.Archive.{Archive, operations-at}
-use Rattle.archive.specs.declared.{Due.Due, Reader.Reader, Advance.Advance}
+use Rattle.archive.specs.{Archive.read-tail, declared.Due.Due, declared.Reader.Reader, declared.Advance.Advance}
 use Rattle.archive.specs.declared.Due.the-variants.{Opening, Operations, End, Nothing}
 
 abbrev pub reader : Due → Held → Reader
@@ -40,7 +37,7 @@ unfoldable pub read-operation : ℕ → Held → List ℕ → ℕ → Reading Re
 read-operation n h s at = read-field 0x44 h s at then λ more next. found (reader (operations-due (n - 1)) more) next
 
 unfoldable pub read-end : Held → List ℕ → ℕ → Reading Reader
-read-end h s at = checked (end-refusal s at) (found (reader Nothing h) at)
+read-end h s at = read-tail s at then λ tail end. found (reader Nothing h) end
 
 -- what is due is read at a place
 abbrev pub read-due : Due → Held → List ℕ → ℕ → Reading Reader
@@ -59,46 +56,12 @@ pending (Operations n) = true
 pending End = true
 pending Nothing = false
 
--- ---- all steps: the opening, as many 0x44 as the count says, and nothing after them
-
-unfoldable pub read-steps : List ℕ → Reading Reader
-read-steps s =
-    read-fields archive-opening nothing-held s 0 then λ h next.
-    read-fields (replicate (h .count) 0x44) h s next then λ h end.
-    read-end h s end
-
 -- the opening alone: the operations are due then
 unfoldable pub opening : List ℕ → Reading Reader
 opening s = read-fields archive-opening nothing-held s 0 then λ h next. found (reader (operations-due (h .count)) h) next
 
--- ---- the code's answer: the state beside its place, the start on a refusal
+-- ---- the code's answer: the state, with the place of the next field; the start on a refusal
 
 unfoldable pub advance-of : Reading Reader → Advance
 advance-of (found r next) = record { place = Next (record { at = next }); reader = r }
 advance-of (refused n) = record { place = Refused n; reader = start }
-
--- ---- an archive by its opening and its operations: what the steps hold at the end, and the archive's value, say of it
-
-pub record Opened : Type 0 where
-  pub held : Held
-  pub first : ℕ
-  pub operations : List Class
-
-unfoldable pub read-opened : List ℕ → Reading Opened
-read-opened s =
-    read-fields archive-opening nothing-held s 0 then λ h first.
-    operations-at (h .count) (h .curve) s first then λ ops end.
-    checked (end-refusal s end) (found (record { held = h; first = first; operations = ops }) end)
-
--- every operation was held in its turn
-unfoldable pub with-operations : List Class → Held → Held
-with-operations [] h = h
-with-operations (a ∷ older) h = with-operations older (with-operation a h)
-
-unfoldable pub last-state : Opened → Reader
-last-state o = reader Nothing (with-operations (o .operations) (o .held))
-
-unfoldable pub archive-of : Opened → Archive
-archive-of o =
-    let h = o .held in
-    record { curve = h .curve; drawing = drawing-name (h .drawing); seal = h .class; operations = o .operations }

@@ -2,9 +2,9 @@
 ghost use mathlib.Core.Path.{_≡_};
 ghost use lib.ListN.{getD};
 ghost use Rattle.stored_form.specs.Reading.{found, refused};
-ghost use Rattle.stored_form.specs.Held.{archive-opening};
+ghost use Rattle.stored_form.specs.Records.{archive-opening};
 ghost use Rattle.archive.specs.Archive.{archive-refusal};
-ghost use Rattle.archive.specs.Reader.{reader, start, after-opening, operations-due, read-opening, read-operation, read-end, step, pending, read-steps, opening, advance-of};
+ghost use Rattle.archive.specs.Reader.{reader, start, after-opening, operations-due, read-opening, read-operation, read-end, step, pending, opening, advance-of};
 use stored_form::ARCHIVE_OPENING;
 use stored_form::Cursor;
 use stored_form::Held;
@@ -165,28 +165,6 @@ fn pending(r: Reader) -> bool
     }
 }
 
-// Reads a whole archive: step after step, until nothing is due or a field is refused.
-pub fn read(s: &[u8]) -> Advance
-    ensures { λ r. ⌜ r ≡ advance-of (read-steps (now (s .entry))) ⌝ }
-{
-    let mut r = start();
-    let mut at = 0;
-    while pending(r) {
-        let t = step(r, s, Cursor { at });
-        let place = t.place;
-        let Place::Next(next) = place else {
-            return t;
-        };
-        let more = t.reader;
-        r = more;
-        at = next.at;
-    }
-    Advance {
-        place: Place::Next(Cursor { at }),
-        reader: r,
-    }
-}
-
 // Reads the fields before the operations, which are due then.
 pub fn opening(s: &[u8]) -> Advance
     ensures { λ r. ⌜ r ≡ advance-of (opening (now (s .entry))) ⌝ }
@@ -201,11 +179,21 @@ pub fn opening(s: &[u8]) -> Advance
     moved(operations_due(held.count), held, next)
 }
 
-// The refusal that is due to an archive, and 0 where it is accepted.
+// The refusal that is due to an archive, and 0 where it is accepted: step after step, until nothing is due or a field is refused.
 pub fn archive_refusal(s: &[u8]) -> u32
     ensures { λ r. ⌜ r ≡ archive-refusal (now (s .entry)) ⌝ }
 {
-    let t = read(s);
-    let place = t.place;
-    stored_form::place_refusal(place)
+    let mut r = start();
+    let mut at = 0;
+    while pending(r) {
+        let t = step(r, s, Cursor { at });
+        let place = t.place;
+        let Place::Next(next) = place else {
+            return stored_form::place_refusal(place);
+        };
+        let more = t.reader;
+        r = more;
+        at = next.at;
+    }
+    0
 }

@@ -8,17 +8,10 @@ use lib.Dec.{leb, lit<}
 use lib.ListN.{length, getD}
 use borrow.Author.Tests.{leb-true}
 use Rattle.jacobian.proofs.ByValue.Checks.{both}
-use Rattle.jacobian.specs.declared.{Class.Class}
-use Rattle.stored_form.specs.{Number.Bytes, Fields.printable}
-use Rattle.stored_form.specs.{Fields.count-field, Fields.drawing-field, Classes.curve-first-fields, Classes.class-field}
+use Rattle.stored_form.specs.{Number.Bytes, Fields.printable, Fields.count-field, Fields.drawing-field, Classes.curve-first-fields, Classes.class-field, Classes.operation-fields}
+use Rattle.stored_form_theorems.proofs.{Written.bytes-append, Written.number-bytes, Written.field-bytes, Written.class-bytes, Written.first-bytes, Operations.operations-bytes}
 use Rattle.archive.specs.Archive.{Archive}
-use Rattle.stored_form_theorems.proofs.Written.{bytes-append, number-bytes, field-bytes, class-bytes, first-bytes}
-use Rattle.archive_theorems.specs.Written.{operation-fields, archive-bytes}
-
-operations-bytes : (ops : List Class) → Bytes (operation-fields ops)
-unfolding operation-fields
-operations-bytes [] i = lit< tt
-operations-bytes (a ∷ older) i = bytes-append (class-field 0x44 a) (operation-fields older) (class-bytes 0x44 a (lit< tt)) (operations-bytes older) i
+use Rattle.archive_theorems.specs.Written.{archive-bytes}
 
 -- printable bytes are bytes
 printable-bytes : (xs : List ℕ) → printable xs ≡ true → Bytes xs

@@ -1,26 +1,20 @@
 -- Every accepted archive is shorter than 65,536 bytes (docs/SPECIFICATION.md, 10): the first fields, the drawing number, the count, and the room of each class.
-use Prim.Native.Nat.{ℕ, _*_, _≤_, _<_}
+use Prim.Native.Nat.{ℕ, _+_, _<_}
 use mathlib.Core.Path.{_≡_, refl, ap}
-use mathlib.Core.List.{List, [], _∷_, _++_}
+use mathlib.Core.List.{List, _++_}
 use native.Mathlib.Omega.{arith}
 use lib.ListN.{length, length-append}
-use Rattle.class_group.specs.Walk.{All, none, more}
-use Rattle.jacobian.specs.{Curves.coefficients, declared.Curve.Curve, declared.Class.Class}
-use Rattle.stored_form.specs.{Number.bytes-of, Number.Bytes, Reading.found, Head.class-room, Head.first-fields-length, Head.head-bytes, Head.stored, Elements.element-bytes}
-use Rattle.stored_form.specs.{Fields.degree-field, Fields.drawing-field, Fields.count-field, Fields.count-limit, Classes.curve-field, Classes.curve-first-fields, Classes.class-field, Passing.ClassPasses}
+use Rattle.jacobian.specs.{Curves.coefficients, declared.Curve.Curve}
+use Rattle.stored_form.specs.{Number.bytes-of, Number.Bytes, Reading.found, Head.degree-length, Head.curve-length, Head.head-bytes, Head.stored, Elements.element-bytes}
+use Rattle.stored_form.specs.{Fields.degree-field, Fields.drawing-field, Fields.count-field, Fields.count-limit}
+use Rattle.stored_form.specs.Classes.{curve-field, curve-first-fields, class-field, operation-fields}
 use Rattle.stored_form.proofs.Lengths.{length-stored, length-count}
-use Rattle.stored_form_theorems.proofs.ClassRoundTrips.{class-short}
+use Rattle.stored_form_theorems.proofs.{ClassRoundTrips.class-short, Operations.operations-short}
 use Rattle.archive.specs.Archive.{Archive, read-archive}
-use Rattle.archive_theorems.specs.Written.{operation-fields, archive-bytes, Storable}
+use Rattle.archive_theorems.specs.Written.{archive-bytes, Storable}
 use Rattle.archive_theorems.proofs.ArchiveRoundTrips.{archive-written}
 
-operations-short : (c : Curve) (ops : List Class) → All (ClassPasses c) ops → length (operation-fields ops) ≤ class-room * length ops
-unfolding operation-fields
-operations-short c [] none = omega arith
-operations-short c (a ∷ older) (more h hs) =
-    omega (arith, length-append (class-field 0x44 a) (operation-fields older), class-short 0x44 c a (h .none), operations-short c older hs)
-
-first-length : (c : Curve) → length (curve-first-fields c) ≡ first-fields-length
+first-length : (c : Curve) → length (curve-first-fields c) ≡ 3 + degree-length + (3 + curve-length)
 unfolding curve-first-fields degree-field curve-field coefficients stored head-bytes element-bytes bytes-of
 first-length c = refl
 

@@ -1,59 +1,25 @@
 -- An archive's bytes and its values determine each other.
 -- `archive-read-back`: what is written of values that no check refuses is read so. `archive-written`: what is read was written so, and no check refuses it.
-use Prim.Native.Nat.{ℕ, zero, suc}
-use mathlib.Core.Path.{_≡_, refl, sym, ap, _∙_, subst, subst₂}
-use mathlib.Core.List.{List, [], _∷_, _++_}
+use Prim.Native.Nat.{ℕ}
+use mathlib.Core.Path.{_≡_, refl, sym, ap, _∙_, subst}
+use mathlib.Core.List.{List, [], _++_}
 use native.Mathlib.Nat.{le-refl}
-use native.Mathlib.Omega.{arith}
 use lib.ListN.{length}
-use Rattle.class_group.specs.Walk.{All, none, more}
+use Rattle.class_group.specs.Walk.{All}
 use Rattle.jacobian.specs.declared.{Curve.Curve, Class.Class}
-use Rattle.stored_form.specs.{Number.Bytes, Reading.found, Fields.drawing-field, Fields.count-field, Classes.curve-first-fields, Classes.class-field, Passing.CurvePasses, Passing.DrawingPasses, Passing.CountPasses, Passing.ClassPasses}
-use Rattle.stored_form.specs.{Held.drawing-said, Held.drawing-name, Held.nothing-held, Held.with-curve, Held.with-drawing, Held.with-count, Held.with-class, Held.read-fields, Held.archive-opening, declared.Held.Held}
-use Rattle.stored_form.proofs.{Readings.then-found, Readings.checked-none, Readings.same-found, FieldReadings.name-said}
+use Rattle.stored_form.specs.{Number.Bytes, Reading.found, Fields.drawing-field, Fields.count-field, Classes.curve-first-fields, Classes.class-field, Classes.operation-fields}
+use Rattle.stored_form.specs.{Passing.CurvePasses, Passing.DrawingPasses, Passing.CountPasses, Passing.ClassPasses, Records.read-fields, Records.archive-opening, declared.Held.Held}
+use Rattle.stored_form.specs.Held.{drawing-said, drawing-name, nothing-held, with-curve, with-drawing, with-count, with-class}
+use Rattle.stored_form.proofs.{Readings.then-found, DrawingBytes.name-said}
 use Rattle.stored_form_theorems.specs.{Fields.Field, Records.Leads}
 use Rattle.stored_form_theorems.specs.Records as records
-use Rattle.stored_form_theorems.proofs.{Places.behind, Places.apart, Places.up-to, Places.whole, Places.is-whole, Places.end-written, Places.end-read-back, RoundTrips.operation-written, RoundTrips.operation-read-back}
-use Rattle.stored_form_theorems.proofs.{RecordRoundTrips.begin-written, RecordRoundTrips.begin-read-back, FieldLaws.first-value, FieldLaws.no-more, FieldValues.drawing-law, FieldValues.count-law, FieldValues.class-law, FieldValues.curve-more, FieldValues.first-curve}
+use Rattle.stored_form_theorems.proofs.{Places.behind, Places.apart, Places.whole, Places.is-whole, Operations.operations-counted, Operations.operations-sound, Operations.operations-written, Operations.operations-read-back}
+use Rattle.stored_form_theorems.proofs.{RecordRoundTrips.begin-written, RecordRoundTrips.begin-read-back, FieldLaws.first-value, FieldLaws.no-more}
+use Rattle.stored_form_theorems.proofs.FieldValues.{drawing-law, count-law, class-law, curve-more, first-curve}
 use Rattle.stored_form_theorems.proofs.FieldLaws as fields
-use Rattle.archive.specs.{Archive.Archive, Archive.operations-at, Archive.read-archive, Reader.read-opened, Reader.archive-of}
-use Rattle.archive.proofs.Agreement.{archive-is}
-use Rattle.archive_theorems.specs.Written.{operation-fields, archive-bytes, Storable}
-use Rattle.archive_theorems.proofs.Operations.{newest, opening-of}
-
--- ---- the operations
-
-module _ (c : Curve) (s : List ℕ) where
-  operations-read-back : (at : ℕ) (ops : List Class) {end : ℕ} → All (ClassPasses c) ops → Field s at (operation-fields ops) end →
-      operations-at (length ops) c s at ≡ found ops end
-  unfolding operations-at operation-fields
-  operations-read-back at [] none h = ap (found []) (let e = h .ends in omega arith)
-  operations-read-back at (a ∷ older) (more p ps) h =
-      let f = apart (class-field 0x44 a) (operation-fields older) h in
-      then-found _ (up-to (f .1) (operation-read-back s at c a p))
-      ∙ then-found _ (operations-read-back (f .0) older ps (f .2))
-
-  -- operations that stand at a place
-  record Listed (n at : ℕ) (ops : List Class) (end : ℕ) : Type 0 where
-    counted : length ops ≡ n
-    each : All (ClassPasses c) ops
-    field : Field s at (operation-fields ops) end
-
-  operations-written : (n at : ℕ) {ops : List Class} {end : ℕ} → Bytes s → operations-at n c s at ≡ found ops end → Listed n at ops end
-  unfolding operation-fields operations-at
-  operations-written zero at b h =
-      let e = same-found h in
-      subst₂ (Listed 0 at) (e .0) (e .1) (record { counted = refl; each = none; field = record { stands = refl; ends = omega arith } })
-  operations-written (suc n) at {end = end} b h =
-      let m = newest c s at n h in
-      let rest = operations-written n (m .next) b (m .rest) in
-      let this = operation-written s at c b (m .this) in
-      subst (λ (ops : List Class). Listed (suc n) at ops end) (sym (m .all))
-      (record {
-        counted = ap suc (rest .counted);
-        each = more (this .0) (rest .each);
-        field = behind (class-field 0x44 (m .class)) (operation-fields (m .older)) (this .1) (rest .field);
-      })
+use Rattle.archive.specs.Archive.{Archive, archive-of, read-archive}
+use Rattle.archive_theorems.specs.Written.{archive-bytes, Storable}
+use Rattle.archive_theorems.proofs.{Parts.parts-of, Tail.tail-written, Tail.tail-read-back}
 
 -- ---- the opening
 
@@ -105,7 +71,7 @@ opening-written s {first = first} b e =
 -- ---- the archive
 
 pub archive-read-back : (a : Archive) → Storable a → read-archive (archive-bytes a) ≡ found a (length (archive-bytes a))
-unfolding archive-bytes read-opened archive-of
+unfolding archive-bytes read-archive archive-of
 archive-read-back a ok =
     let s : List ℕ = archive-bytes a in
     let c : Curve = a .curve in
@@ -117,34 +83,34 @@ archive-read-back a ok =
     (fields.more (drawing-law (with-curve c nothing-held)) name (ok .drawing-printable, ok .drawing-short)
     (fields.more (count-law (named c name)) n (ok .count-within)
     (fields.more (class-law (counted c name n)) (a .seal) (ok .seal-allowed) records.none))) in
-    archive-is s
-    ∙ then-found _
-    (then-found _ (begin-read-back s leads (parts .1))
-    ∙ then-found _ (operations-read-back c s (parts .0) (a .operations) (ok .operations-allowed) (parts .2))
-    ∙ checked-none _ _ (end-read-back s (length s) (le-refl _)))
+    then-found _ (begin-read-back s leads (parts .1))
+    ∙ then-found _ (operations-read-back _ s (parts .0) (a .operations) (ok .operations-allowed) (parts .2))
+    ∙ then-found _ (tail-read-back s (length s) (le-refl _))
     ∙ ap (λ (x : List ℕ). found (record { curve = c; drawing = x; seal = a .seal; operations = a .operations }) (length s)) (name-said name)
 
 pub archive-written : (s : List ℕ) {a : Archive} {end : ℕ} → Bytes s → read-archive s ≡ found a end →
     (s ≡ archive-bytes a) × (end ≡ length s) × Storable a
-unfolding archive-bytes
+unfolding archive-bytes archive-of
 archive-written s {a} {end} b h =
-    let p = opening-of s h in
+    let p = parts-of s h in
     let o = opening-written s b (p .opening-read) in
-    let read = subst (λ (k : Held). operations-at (k .count) (k .curve) s (p .first) ≡ found (p .operations) end) (o .held) (p .operations-read) in
-    let ops = operations-written (o .curve) s (o .count) (p .first) b read in
-    let ends = is-whole s (behind _ _ (o .field) (ops .field)) (end-written s end (p .end-found)) in
-    let bytes = ap (λ (n : ℕ). opening-bytes (o .curve) (o .drawing) n (o .seal) ++ operation-fields (p .operations)) (sym (ops .counted)) in
+    let t = tail-written s (p .last) (p .tail-read) in
+    let field = operations-written s (p .held .count) (p .held) (p .first) b (p .operations-read) in
+    let number : length (p .operations) ≡ o .count = operations-counted s (p .held .count) (p .held) (p .first) (p .operations-read) ∙ ap (λ (k : Held). k .count) (o .held) in
+    let sound = subst (λ (k : Held). All (ClassPasses (k .curve)) (p .operations)) (o .held) (operations-sound s (p .held .count) (p .held) (p .first) (p .operations-read)) in
+    let ends = is-whole s (behind _ _ (o .field) field) (t .1) in
+    let bytes = ap (λ (n : ℕ). opening-bytes (o .curve) (o .drawing) n (o .seal) ++ operation-fields (p .operations)) (sym number) in
     let value : Archive = record { curve = o .curve; drawing = o .drawing; seal = o .seal; operations = p .operations } in
     let is : a ≡ value =
     p .archive
-    ∙ ap (λ (k : Held). record { curve = k .curve; drawing = drawing-name (k .drawing); seal = k .class; operations = p .operations }) (o .held)
+    ∙ ap (λ (k : Held). archive-of k (p .operations)) (o .held)
     ∙ ap (λ (x : List ℕ). record { curve = o .curve; drawing = x; seal = o .seal; operations = p .operations }) (name-said (o .drawing)) in
     let storable : Storable value = record {
       curve-allowed = o .curve-passes;
       drawing-printable = o .drawing-passes .0;
       drawing-short = o .drawing-passes .1;
-      count-within = subst CountPasses (sym (ops .counted)) (o .count-passes);
+      count-within = subst CountPasses (sym number) (o .count-passes);
       seal-allowed = o .seal-passes;
-      operations-allowed = ops .each;
+      operations-allowed = sound;
     } in
-    subst (λ (x : Archive). (s ≡ archive-bytes x) × (end ≡ length s) × Storable x) (sym is) (ends .0 ∙ bytes, ends .1, storable)
+    subst (λ (x : Archive). (s ≡ archive-bytes x) × (end ≡ length s) × Storable x) (sym is) (ends .0 ∙ bytes, sym (t .0) ∙ ends .1, storable)

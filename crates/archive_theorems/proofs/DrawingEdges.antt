@@ -5,46 +5,46 @@
 use Prim.Native.Nat.{ℕ, _+_, _≤_, _<_}
 use mathlib.Core.Path.{_≡_, refl, ap, _∙_}
 use mathlib.Core.Bool.{true, false}
-use mathlib.Core.List.{List}
+use mathlib.Core.List.{List, [], _∷_}
 use lib.ListN.{length, getD}
 use borrow.Author.Tests.{le-leb, lt-leb}
-use Rattle.jacobian.specs.{Checks.unless, declared.Curve.Curve}
-use Rattle.stored_form.specs.{Number.part, Reading.found, Reading.refused, Reading.checked, Reading.reading-refusal, Classes.curve-first, Fields.printable, Fields.drawing-refusal, Fields.drawing-at}
-use Rattle.stored_form.specs.Head.{drawing-limit, allowed, body-length, head-at, body-at}
-use Rattle.stored_form.proofs.{Heads.head-104, Heads.head-105, Heads.head-whole, Readings.then-found, Readings.then-refused}
+use Rattle.jacobian.specs.Checks.{unless}
+use Rattle.stored_form.specs.{Number.part, Reading.found, Reading.refused, Reading.checked, Reading.reading-refusal, Fields.printable, Fields.drawing-refusal}
+use Rattle.stored_form.specs.{Head.drawing-limit, Head.body-length, Held.drawing-said, Held.nothing-held, Held.with-drawing, Tags.rules}
+use Rattle.stored_form.specs.{Records.curve-fields, Records.head-at, Records.body-at, Records.read-field, Records.read-fields, declared.Held.Held}
+use Rattle.stored_form.proofs.{DrawingBytes.name-said, Heads.head-104, Heads.head-105, Heads.head-whole, Readings.then-found, Readings.then-refused, Readers.field-refused, Readers.fields-append}
 use Rattle.archive.specs.Archive.{read-archive, archive-refusal}
 
-module _ (s : List ℕ) {c : Curve} {at : ℕ} (first : curve-first s 0 ≡ found c at) (fits : at + 3 ≤ length s) (due : getD s at 0 ≡ 0x46) where
+module _ (s : List ℕ) {h : Held} {at : ℕ} (first : read-fields curve-fields nothing-held s 0 ≡ found h at) (fits : at + 3 ≤ length s) (due : getD s at 0 ≡ 0x46) where
   -- what refuses the drawing number refuses the archive
-  archive-refused : {n : ℕ} → drawing-at s at ≡ refused n → archive-refusal s ≡ n
-  unfolding archive-refusal read-archive
-  archive-refused e = ap reading-refusal (then-found _ first ∙ then-refused _ e)
-
-  head-refused : {n : ℕ} → head-at 0x46 s at ≡ refused n → archive-refusal s ≡ n
-  unfolding drawing-at body-at
-  head-refused e = archive-refused (then-refused _ (then-refused _ e))
+  archive-refused : {n : ℕ} → read-field 0x46 h s at ≡ refused n → archive-refusal s ≡ n
+  unfolding archive-refusal read-archive read-fields
+  archive-refused e = ap reading-refusal (then-refused _ (fields-append curve-fields (0x46 ∷ 0x42 ∷ 0x43 ∷ []) nothing-held s 0 ∙ then-found _ first ∙ then-refused _ e))
 
   pub drawing-above-limit : drawing-limit < body-length s at → archive-refusal s ≡ 104
-  unfolding allowed
-  drawing-above-limit h = head-refused (head-104 0x46 s at refl fits due (lt-leb _ _ h))
+  unfolding rules
+  drawing-above-limit e = archive-refused (field-refused 0x46 h s at (head-104 0x46 h s at refl fits due (lt-leb _ _ e)))
 
   module _ (short : body-length s at ≤ drawing-limit) where
     pub drawing-cut : length s < at + 3 + body-length s at → archive-refusal s ≡ 105
-    unfolding allowed
-    drawing-cut h = head-refused (head-105 0x46 s at refl fits due (le-leb _ _ short) h)
+    unfolding rules
+    drawing-cut e = archive-refused (field-refused 0x46 h s at (head-105 0x46 h s at refl fits due (le-leb _ _ short) e))
 
     module _ (whole : at + 3 + body-length s at ≤ length s) where
-      -- the body, and the check of its bytes
-      body-checked : drawing-at s at
-          ≡ checked (drawing-refusal (part s (at + 3) (body-length s at))) (found (part s (at + 3) (body-length s at)) (at + 3 + body-length s at))
-      unfolding drawing-at body-at allowed
-      body-checked = then-found _ (then-found _ (head-whole 0x46 s at refl fits due (le-leb _ _ short) whole))
+      -- the body, what is held with it, and the check of its bytes
+      body-checked : let body = part s (at + 3) (body-length s at) in
+          read-field 0x46 h s at ≡ checked (drawing-refusal body) (found (with-drawing (drawing-said body) h) (at + 3 + body-length s at))
+      unfolding read-field body-at rules
+      body-checked =
+          let body = part s (at + 3) (body-length s at) in
+          then-found _ (then-found _ (head-whole 0x46 h s at refl fits due (le-leb _ _ short) whole))
+          ∙ ap (λ (x : List ℕ). checked (drawing-refusal x) (found (with-drawing (drawing-said body) h) (at + 3 + body-length s at))) (name-said body)
 
       pub drawing-unprintable : printable (part s (at + 3) (body-length s at)) ≡ false → archive-refusal s ≡ 108
       unfolding drawing-refusal unless checked
       drawing-unprintable e = archive-refused (body-checked ∙ rw e refl)
 
-      pub drawing-within-limit : printable (part s (at + 3) (body-length s at)) ≡ true →
-          drawing-at s at ≡ found (part s (at + 3) (body-length s at)) (at + 3 + body-length s at)
+      pub drawing-within-limit : let body = part s (at + 3) (body-length s at) in
+          printable body ≡ true → read-field 0x46 h s at ≡ found (with-drawing (drawing-said body) h) (at + 3 + body-length s at)
       unfolding drawing-refusal unless checked
       drawing-within-limit e = body-checked ∙ rw e refl

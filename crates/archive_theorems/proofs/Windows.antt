@@ -1,7 +1,7 @@
--- A step looks only at the bytes of its own field, so the input can be read through a part of it that moves on: over m bytes from a place k on a step finds what it finds
--- over the whole input, and refuses what it refuses there, with every place counted from k on, where the longest field has room (`step-through`) or the m bytes are all
--- that is left (`step-last`).
-use Prim.Native.Nat.{ℕ, zero, suc, _+_, _-_, _≤_, _<_}
+-- A step looks only at the bytes of its own field, so the input can be read through a part of it that moves on: over m bytes from a place k on a step
+-- finds what it finds over the whole input, and refuses what it refuses there, with every place counted from k on, where the longest field has room
+-- (`step-through`) or the m bytes are all that is left (`step-last`).
+use Prim.Native.Nat.{ℕ, _+_, _-_, _≤_, _<_}
 use mathlib.Core.Path.{_≡_, refl, sym, ap, _∙_}
 use mathlib.Core.Bool.{Bool, true, false, not}
 use mathlib.Core.List.{List}
@@ -9,37 +9,16 @@ use native.Mathlib.Omega.{arith}
 use lib.Dec.{eqb, ltb}
 use lib.ListN.{length, getD, take, drop, length-take, length-drop}
 use lib.Seq.{take-take, take-all, drop-drop, getD-take, getD-drop}
-use borrow.Author.Tests.{lt-ltb, le-ltb, ltb-true, ltb-false}
-use Rattle.stored_form.specs.{Number.part, Reading.Reading, Reading.found, Reading.refused, Reading.refuse, Reading.checked, Reading._then_, Head.longest-body, Head.allowed, Head.head-at, Head.body-at, Head.body-length, Fields.end-refusal}
-use Rattle.stored_form.specs.Held.{field-refusal, hold, read-field, archive-opening}
-use Rattle.stored_form.specs.declared.Held.{Held}
-use Rattle.stored_form.proofs.{Parts.drop-take, Heads.head-found, Lengths.allowed-short}
-use Rattle.archive.specs.declared.{Due.Due, Reader.Reader}
+use Rattle.stored_form.specs.{Number.part, Reading.Reading, Reading.found, Reading.refused, Reading.refuse, Reading._then_, Head.body-length, Tags.rules, Tags.longest-body}
+use Rattle.stored_form.specs.{Records.head-at, Records.body-at, Records.read-field, Records.archive-opening, declared.Held.Held}
+use Rattle.stored_form.proofs.{Parts.drop-take, Heads.head-found, Lengths.allows-short}
+use Rattle.archive.specs.{Archive.read-tail, declared.Due.Due, declared.Reader.Reader}
 use Rattle.archive.specs.declared.Due.the-variants.{Opening, Operations, End, Nothing}
 use Rattle.archive.specs.Reader.{reader, read-opening, read-operation, read-end, read-due, step}
 use Rattle.archive_theorems.specs.Places.{after}
+use Rattle.archive_theorems.proofs.{Shifted.checked-after, Shifted.then-after, Shifted.same-test, Tail.tail-after, Tail.tail-within}
 
 -- ---- places counted from k bytes before
-
-checked-after : {A : Type 0} (k n : ℕ) (a : A) (next : ℕ) → checked n (found a (k + next)) ≡ after k (checked n (found a next))
-unfolding after checked
-checked-after k zero a next = refl
-checked-after k (suc n) a next = refl
-
-then-after : {A B : Type 0} (k : ℕ) (x : Reading A) {y : Reading A} (F G : A → ℕ → Reading B) → y ≡ after k x →
-    ((a : A) (n : ℕ) → G a (k + n) ≡ after k (F a n)) → (y then G) ≡ after k (x then F)
-unfolding after _then_
-then-after k (found a n) F G e h = rw e (h a n)
-then-after k (refused n) F G e h = rw e
-
--- ---- the fields
-
-same-test : (a b c d : ℕ) → (c < d → a < b) → (d ≤ c → b ≤ a) → ltb a b ≡ ltb c d
-same-test a b c d less most = go (ltb c d) refl
-  where
-    go : (t : Bool) → ltb c d ≡ t → ltb a b ≡ t
-    go true h = lt-ltb a b (less (ltb-true c d h))
-    go false h = le-ltb a b (most (ltb-false c d h))
 
 module _ (k : ℕ) (s : List ℕ) where
   part-there : (i n : ℕ) {j : ℕ} → j ≡ k + i → part s j n ≡ part (drop k s) i n
@@ -47,9 +26,6 @@ module _ (k : ℕ) (s : List ℕ) where
 
   ends-there : (i : ℕ) {j : ℕ} → j ≡ k + i → 0 < i → ltb (length s) j ≡ ltb (length (drop k s)) i
   ends-there i {j} e some = same-test (length s) j (length (drop k s)) i (λ h. omega (arith, length-drop k s)) (λ h. omega (arith, length-drop k s))
-
-  remains-there : (i : ℕ) → ltb (k + i) (length s) ≡ ltb i (length (drop k s))
-  remains-there i = same-test (k + i) (length s) i (length (drop k s)) (λ h. omega (arith, length-drop k s)) (λ h. omega (arith, length-drop k s))
 
   four-checks : (a b c d : Bool) (n i : ℕ) {j : ℕ} → j ≡ k + i →
       refuse 102 a (refuse 103 b (refuse 104 c (refuse 105 d (found n j)))) ≡ after k (refuse 102 a (refuse 103 b (refuse 104 c (refuse 105 d (found n i)))))
@@ -61,29 +37,26 @@ module _ (k : ℕ) (s : List ℕ) where
   four-checks false false false false n i e = ap (found n) e
 
   module _ (at : ℕ) where
-    head-after : (tag : ℕ) → head-at tag s (k + at) ≡ after k (head-at tag (drop k s) at)
+    head-after : (tag : ℕ) (h : Held) → head-at tag h s (k + at) ≡ after k (head-at tag h (drop k s) at)
     unfolding head-at body-length
-    head-after tag =
+    head-after tag h =
         let said = part-there (at + 1) 2 {j = k + at + 1} (omega arith) in
         let n = body-length (drop k s) at in
         let whole = ends-there (at + 3 + n) {j = k + at + 3 + n} (omega arith) (omega arith) in
         rw (ends-there (at + 3) {j = k + at + 3} (omega arith) (omega arith), sym (getD-drop k s at 0), said, whole)
-        (four-checks (ltb (length (drop k s)) (at + 3)) (not (eqb (getD (drop k s) at 0) tag)) (not (allowed tag n)) (ltb (length (drop k s)) (at + 3 + n)) n (at + 3 + n) (omega arith))
+        (four-checks (ltb (length (drop k s)) (at + 3)) (not (eqb (getD (drop k s) at 0) tag)) (not (rules tag .allows h n)) (ltb (length (drop k s)) (at + 3 + n)) n (at + 3 + n) (omega arith))
 
-    body-after : (tag : ℕ) → body-at tag s (k + at) ≡ after k (body-at tag (drop k s) at)
+    body-after : (tag : ℕ) (h : Held) → body-at tag h s (k + at) ≡ after k (body-at tag h (drop k s) at)
     unfolding body-at after
-    body-after tag =
-        then-after k (head-at tag (drop k s) at) _ _ (head-after tag)
+    body-after tag h =
+        then-after k (head-at tag h (drop k s) at) _ _ (head-after tag h)
         (λ n next. ap (λ (l : List ℕ). found l (k + next)) (part-there (at + 3) n {j = k + at + 3} (omega arith)))
 
     field-after : (tag : ℕ) (h : Held) → read-field tag h s (k + at) ≡ after k (read-field tag h (drop k s) at)
     unfolding read-field
     field-after tag h =
-        then-after k (body-at tag (drop k s) at) _ _ (body-after tag) (λ body next. checked-after k (field-refusal tag (hold tag body h)) (hold tag body h) next)
-
-    end-after : end-refusal s (k + at) ≡ end-refusal (drop k s) at
-    unfolding end-refusal
-    end-after = rw (remains-there at)
+        then-after k (body-at tag h (drop k s) at) _ _ (body-after tag h)
+        (λ body next. checked-after k (rules tag .check (length body) (rules tag .hold body h)) (rules tag .hold body h) next)
 
     -- ---- the step
 
@@ -91,7 +64,7 @@ module _ (k : ℕ) (s : List ℕ) where
     unfolding read-opening read-operation read-end after
     due-after (Opening i) h = then-after k (read-field (getD archive-opening i 0) h (drop k s) at) _ _ (field-after (getD archive-opening i 0) h) (λ more next. refl)
     due-after (Operations n) h = then-after k (read-field 0x44 h (drop k s) at) _ _ (field-after 0x44 h) (λ more next. refl)
-    due-after End h = rw end-after (checked-after k (end-refusal (drop k s) at) (reader Nothing h) at)
+    due-after End h = then-after k (read-tail (drop k s) at) _ _ (tail-after s at k) (λ tail end. refl)
     due-after Nothing h = refl
 
     step-after : (r : Reader) → step r s (k + at) ≡ after k (step r (drop k s) at)
@@ -118,45 +91,44 @@ module _ (m : ℕ) (s : List ℕ) where
   last-checks i n true h = rw (ends-within (i + n) (h refl))
 
   module _ (at : ℕ) (room : at + (3 + longest-body) ≤ m) where
-    head-within : (tag : ℕ) → head-at tag (take m s) at ≡ head-at tag s at
+    head-within : (tag : ℕ) (h : Held) → head-at tag h (take m s) at ≡ head-at tag h s at
     unfolding head-at body-length
-    head-within tag =
+    head-within tag h =
         let n = body-length s at in
         rw (ends-within (at + 3) (omega arith), getD-take m s at 0 (omega arith), part-within (at + 1) 2 (omega arith))
         (ap (λ (r : Reading ℕ). refuse 102 (ltb (length s) (at + 3)) (refuse 103 (not (eqb (getD s at 0) tag)) r))
-        (last-checks (at + 3) n (allowed tag n) (λ e. omega (arith, allowed-short tag n e))))
+        (last-checks (at + 3) n (rules tag .allows h n) (λ e. omega (arith, allows-short h tag n e))))
 
-    body-within : (tag : ℕ) → body-at tag (take m s) at ≡ body-at tag s at
+    body-within : (tag : ℕ) (h : Held) → body-at tag h (take m s) at ≡ body-at tag h s at
     unfolding body-at
-    body-within tag =
-        rw (head-within tag)
-        (then-where (head-at tag s at) _ _
+    body-within tag h =
+        rw (head-within tag h)
+        (then-where (head-at tag h s at) _ _
         (λ n next e.
-        let whole = head-found tag s at e in
-        ap (λ (l : List ℕ). found l next) (part-within (at + 3) n (omega (arith, allowed-short tag n (whole .allows))))))
+        let whole = head-found tag h s at e in
+        ap (λ (l : List ℕ). found l next) (part-within (at + 3) n (omega (arith, allows-short h tag n (whole .allows))))))
 
     field-within : (tag : ℕ) (h : Held) → read-field tag h (take m s) at ≡ read-field tag h s at
     unfolding read-field
-    field-within tag h = rw (body-within tag)
+    field-within tag h = rw (body-within tag h)
 
-    due-within : (d : Due) (h : Held) → (d ≡ End → ⊥) → read-due d h (take m s) at ≡ read-due d h s at
-    unfolding read-opening read-operation
-    due-within (Opening i) h none = rw (field-within (getD archive-opening i 0) h)
-    due-within (Operations n) h none = rw (field-within 0x44 h)
-    due-within End h none = absurd (none refl)
-    due-within Nothing h none = refl
+    due-within : (d : Due) (h : Held) → read-due d h (take m s) at ≡ read-due d h s at
+    unfolding read-opening read-operation read-end
+    due-within (Opening i) h = rw (field-within (getD archive-opening i 0) h)
+    due-within (Operations n) h = rw (field-within 0x44 h)
+    due-within End h = rw (tail-within s at m room)
+    due-within Nothing h = refl
 
-    -- but for the end of the input
-    step-within : (r : Reader) → (r .due ≡ End → ⊥) → step r (take m s) at ≡ step r s at
+    step-within : (r : Reader) → step r (take m s) at ≡ step r s at
     unfolding step
-    step-within r none = due-within (r .due) (r .held) none
+    step-within r = due-within (r .due) (r .held)
 
 -- ---- a step over m bytes of the input from a place k on
 
 module _ (k m : ℕ) (s : List ℕ) (at : ℕ) (r : Reader) where
-  -- the longest field has room, and the end is not due
-  pub step-through : at + (3 + longest-body) ≤ m → (r .due ≡ End → ⊥) → step r s (k + at) ≡ after k (step r (part s k m) at)
-  step-through room h = step-after k s at r ∙ ap (after k) (sym (step-within m (drop k s) at room r h))
+  -- the longest field has room
+  pub step-through : at + (3 + longest-body) ≤ m → step r s (k + at) ≡ after k (step r (part s k m) at)
+  step-through room = step-after k s at r ∙ ap (after k) (sym (step-within m (drop k s) at room r))
 
   -- they are all that is left of the input
   pub step-last : length s ≤ k + m → step r s (k + at) ≡ after k (step r (part s k m) at)

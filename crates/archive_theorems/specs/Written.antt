@@ -2,17 +2,12 @@
 use Prim.Native.Nat.{ℕ, _≤_}
 use mathlib.Core.Path.{_≡_}
 use mathlib.Core.Bool.{true}
-use mathlib.Core.List.{List, [], _∷_, _++_}
+use mathlib.Core.List.{List, _++_}
 use lib.ListN.{length}
 use Rattle.class_group.specs.Walk.{All}
-use Rattle.jacobian.specs.declared.Class.{Class}
-use Rattle.stored_form.specs.{Head.drawing-limit, Fields.drawing-field, Fields.count-field, Fields.printable, Classes.curve-first-fields, Classes.class-field, Passing.CurvePasses, Passing.CountPasses, Passing.ClassPasses}
+use Rattle.stored_form.specs.{Head.drawing-limit, Fields.drawing-field, Fields.count-field, Fields.printable}
+use Rattle.stored_form.specs.{Classes.curve-first-fields, Classes.class-field, Classes.operation-fields, Passing.CurvePasses, Passing.CountPasses, Passing.ClassPasses}
 use Rattle.archive.specs.Archive.{Archive}
-
--- one 0x44 for each operation, newest first
-unfoldable pub operation-fields : List Class → List ℕ
-operation-fields [] = []
-operation-fields (a ∷ older) = class-field 0x44 a ++ operation-fields older
 
 -- 0x40, 0x41, 0x46, 0x42, 0x43 and as many 0x44 as the count says
 unfoldable pub archive-bytes : Archive → List ℕ

@@ -5,11 +5,15 @@ use mathlib.Core.Bool.{true, false}
 use mathlib.Core.List.{List, [], _∷_, _++_}
 use native.Mathlib.Omega.{arith}
 use lib.ListN.{length, getD, take, drop, set, replicate}
-use lib.Seq.{sets, drop-cons}
+use lib.Seq.{sets, drop-cons, take-append-seam}
 use borrow.Author.Tests.{lt-leb, le-leb}
-use Rattle.stored_form.specs.{Number.part, Head.drawing-limit, Fields.printable, Held.drawing-said}
+use Rattle.stored_form.specs.{Number.part, Head.drawing-limit, Fields.printable, Held.drawing-said, Held.drawing-name}
 use Rattle.stored_form.specs.declared.Drawing.{Drawing}
 use Rattle.stored_form.proofs.{Parts.length-part, Parts.part-more, Stores.store-next, Stores.filled}
+
+pub name-said : (xs : List ℕ) → drawing-name (drawing-said xs) ≡ xs
+unfolding drawing-name drawing-said
+name-said xs = take-append-seam xs _
 
 -- the bytes that are left decide whether all are printable
 module _ (bs : List ℕ) (k i : ℕ) (within : k ≤ length bs) (lt : i < k) where

@@ -7,51 +7,51 @@ use lib.Dec.{eqb, ltb}
 use lib.ListN.{length, getD}
 use borrow.Author.Tests.{lt-ltb, le-ltb, eq-eqb, ne-eqb, ltb-false, eqb-true, not-false}
 use Rattle.stored_form.specs.Reading.{Reading, found, refused, refuse}
-use Rattle.stored_form.specs.Head.{allowed, body-length, head-at}
+use Rattle.stored_form.specs.{Head.body-length, Tags.rules, Records.head-at, declared.Held.Held}
 use Rattle.stored_form.proofs.Readings.{refuse-found, same-found}
 
-module _ (tag : ℕ) (s : List ℕ) (at : ℕ) where
-  pub head-102 : length s < at + 3 → head-at tag s at ≡ refused 102
+module _ (tag : ℕ) (h : Held) (s : List ℕ) (at : ℕ) where
+  pub head-102 : length s < at + 3 → head-at tag h s at ≡ refused 102
   unfolding head-at
-  head-102 h = rw (lt-ltb (length s) (at + 3) h)
+  head-102 short = rw (lt-ltb (length s) (at + 3) short)
 
-  pub head-103 : at + 3 ≤ length s → (getD s at 0 ≡ tag → ⊥) → head-at tag s at ≡ refused 103
+  pub head-103 : at + 3 ≤ length s → (getD s at 0 ≡ tag → ⊥) → head-at tag h s at ≡ refused 103
   unfolding head-at
-  head-103 h t = rw (le-ltb (length s) (at + 3) h, ne-eqb (getD s at 0) tag t)
+  head-103 fits other = rw (le-ltb (length s) (at + 3) fits, ne-eqb (getD s at 0) tag other)
 
   -- the checks of a length n that was read from the head
   module _ {n : ℕ} (read : n ≡ body-length s at) (fits : at + 3 ≤ length s) (due : getD s at 0 ≡ tag) where
-    pub head-104 : allowed tag n ≡ false → head-at tag s at ≡ refused 104
+    pub head-104 : rules tag .allows h n ≡ false → head-at tag h s at ≡ refused 104
     unfolding head-at
     head-104 a = rw (le-ltb (length s) (at + 3) fits, eq-eqb (getD s at 0) tag due, ← read, a)
 
-    pub head-105 : allowed tag n ≡ true → length s < at + 3 + n → head-at tag s at ≡ refused 105
+    pub head-105 : rules tag .allows h n ≡ true → length s < at + 3 + n → head-at tag h s at ≡ refused 105
     unfolding head-at
     head-105 a b = rw (le-ltb (length s) (at + 3) fits, eq-eqb (getD s at 0) tag due, ← read, a, lt-ltb (length s) (at + 3 + n) b)
 
-    pub head-whole : allowed tag n ≡ true → at + 3 + n ≤ length s → head-at tag s at ≡ found n (at + 3 + n)
+    pub head-whole : rules tag .allows h n ≡ true → at + 3 + n ≤ length s → head-at tag h s at ≡ found n (at + 3 + n)
     unfolding head-at
     head-whole a b = rw (le-ltb (length s) (at + 3) fits, eq-eqb (getD s at 0) tag due, ← read, a, le-ltb (length s) (at + 3 + n) b)
 
 -- what holds of a head that was found
-pub record Whole (tag : ℕ) (s : List ℕ) (at n next : ℕ) : Type 0 where
+pub record Whole (tag : ℕ) (h : Held) (s : List ℕ) (at n next : ℕ) : Type 0 where
   pub due : getD s at 0 ≡ tag
   pub said : n ≡ body-length s at
-  pub allows : allowed tag n ≡ true
+  pub allows : rules tag .allows h n ≡ true
   pub ends : next ≡ at + 3 + n
   pub fits : next ≤ length s
 
-pub head-found : (tag : ℕ) (s : List ℕ) (at : ℕ) {n next : ℕ} → head-at tag s at ≡ found n next → Whole tag s at n next
+pub head-found : (tag : ℕ) (h : Held) (s : List ℕ) (at : ℕ) {n next : ℕ} → head-at tag h s at ≡ found n next → Whole tag h s at n next
 unfolding head-at
-head-found tag s at {n} {next} h =
+head-found tag h s at {n} {next} e₀ =
     let len = body-length s at in
     let whole : Reading ℕ = found len (at + 3 + len) in
     let r₄ : Reading ℕ = refuse 105 (ltb (length s) (at + 3 + len)) whole in
-    let r₃ : Reading ℕ = refuse 104 (not (allowed tag len)) r₄ in
+    let r₃ : Reading ℕ = refuse 104 (not (rules tag .allows h len)) r₄ in
     let r₂ : Reading ℕ = refuse 103 (not (eqb (getD s at 0) tag)) r₃ in
-    let p₁ = refuse-found 102 (ltb (length s) (at + 3)) r₂ h in
+    let p₁ = refuse-found 102 (ltb (length s) (at + 3)) r₂ e₀ in
     let p₂ = refuse-found 103 (not (eqb (getD s at 0) tag)) r₃ (p₁ .1) in
-    let p₃ = refuse-found 104 (not (allowed tag len)) r₄ (p₂ .1) in
+    let p₃ = refuse-found 104 (not (rules tag .allows h len)) r₄ (p₂ .1) in
     let p₄ = refuse-found 105 (ltb (length s) (at + 3 + len)) whole (p₃ .1) in
     let e = same-found (p₄ .1) in
     record {

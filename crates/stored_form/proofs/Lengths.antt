@@ -1,4 +1,4 @@
--- The lengths that a tag allows, where no test before the last one held, and the length of a field.
+-- The lengths that each tag allows, and the length of a field.
 use Prim.Native.Nat.{ℕ, _+_, _*_, _/_, _≤_}
 use mathlib.Core.Path.{_≡_, refl, sym, subst, _∙_}
 use native.Mathlib.Decide.{ℕ-discrete}
@@ -8,44 +8,45 @@ use native.Mathlib.Omega.{arith}
 use lib.Dec.{eqb, lit≤}
 use lib.ListN.{length}
 use borrow.Author.Tests.{ne-eqb, eqb-true, leb-true}
-use Rattle.stored_form.specs.Head.{degree-length, curve-length, count-length, drawing-limit, class-length, class-limit, longest-body, allowed, head-bytes, stored}
-use Rattle.stored_form.specs.{Number.bytes-of, Fields.count-field}
+use Rattle.stored_form.specs.{Number.bytes-of, Fields.count-field, Tags.rules, Tags.longest-body, declared.Held.Held}
+use Rattle.stored_form.specs.Head.{degree-length, curve-length, count-length, drawing-limit, class-length, class-limit, head-bytes, stored}
 
 pub class-length-last : (n : ℕ) → (n ≡ 0 → ⊥) → (n ≡ 16 → ⊥) → (n ≡ 32 → ⊥) → class-length n ≡ eqb n 48
 unfolding class-length
 class-length-last n h₀ h₁ h₂ = rw (ne-eqb n 0 h₀, ne-eqb n 16 h₁, ne-eqb n 32 h₂)
 
-pub allowed-none : (t n : ℕ) → (t ≡ 0x40 → ⊥) → (t ≡ 0x41 → ⊥) → (t ≡ 0x46 → ⊥) → (t ≡ 0x42 → ⊥) → (t ≡ 0x43 → ⊥) → (t ≡ 0x44 → ⊥) →
-    allowed t n ≡ false
-unfolding allowed
-allowed-none t n h₀ h₁ h₆ h₂ h₃ h₄ =
-    rw (ne-eqb t 0x40 h₀, ne-eqb t 0x41 h₁, ne-eqb t 0x46 h₆, ne-eqb t 0x42 h₂, ne-eqb t 0x43 h₃, ne-eqb t 0x44 h₄)
-
 -- ---- what a length that is allowed is
 
-pub is-degree-length : {n : ℕ} → allowed 0x40 n ≡ true → n ≡ degree-length
-unfolding allowed
-is-degree-length h = eqb-true _ _ h
+module _ (h : Held) where
+  pub allows-none : (t n : ℕ) → (t ≡ 0x40 → ⊥) → (t ≡ 0x41 → ⊥) → (t ≡ 0x46 → ⊥) → (t ≡ 0x42 → ⊥) → (t ≡ 0x43 → ⊥) → (t ≡ 0x44 → ⊥) →
+      rules t .allows h n ≡ false
+  unfolding rules
+  allows-none t n h₀ h₁ h₆ h₂ h₃ h₄ =
+      rw (ne-eqb t 0x40 h₀, ne-eqb t 0x41 h₁, ne-eqb t 0x46 h₆, ne-eqb t 0x42 h₂, ne-eqb t 0x43 h₃, ne-eqb t 0x44 h₄)
 
-pub is-count-length : {n : ℕ} → allowed 0x42 n ≡ true → n ≡ count-length
-unfolding allowed
-is-count-length h = eqb-true _ _ h
+  pub is-degree-length : {n : ℕ} → rules 0x40 .allows h n ≡ true → n ≡ degree-length
+  unfolding rules
+  is-degree-length e = eqb-true _ _ e
 
-pub is-drawing-length : {n : ℕ} → allowed 0x46 n ≡ true → n ≤ drawing-limit
-unfolding allowed
-is-drawing-length h = leb-true _ _ h
+  pub is-count-length : {n : ℕ} → rules 0x42 .allows h n ≡ true → n ≡ count-length
+  unfolding rules
+  is-count-length e = eqb-true _ _ e
 
-pub is-curve-length : {n : ℕ} → allowed 0x41 n ≡ true → n ≡ curve-length
-unfolding allowed
-is-curve-length h = eqb-true _ _ h
+  pub is-drawing-length : {n : ℕ} → rules 0x46 .allows h n ≡ true → n ≤ drawing-limit
+  unfolding rules
+  is-drawing-length e = leb-true _ _ e
 
-pub class-lengths : (n : ℕ) → allowed 0x43 n ≡ class-length n
-unfolding allowed
-class-lengths n = refl
+  pub is-curve-length : {n : ℕ} → rules 0x41 .allows h n ≡ true → n ≡ curve-length
+  unfolding rules
+  is-curve-length e = eqb-true _ _ e
 
-pub operation-lengths : (n : ℕ) → allowed 0x44 n ≡ class-length n
-unfolding allowed
-operation-lengths n = refl
+  pub class-lengths : (n : ℕ) → rules 0x43 .allows h n ≡ class-length n
+  unfolding rules
+  class-lengths n = refl
+
+  pub operation-lengths : (n : ℕ) → rules 0x44 .allows h n ≡ class-length n
+  unfolding rules
+  operation-lengths n = refl
 
 -- a number is k, or another
 by-case : (P : ℕ → Type 0) (n k : ℕ) → P k → ((n ≡ k → ⊥) → P n) → P n
@@ -66,32 +67,32 @@ class-length-le = by-class-length (λ n. n ≤ class-limit) (lit≤ tt) (lit≤ 
 pub class-length-even : (n : ℕ) → class-length n ≡ true → 16 * (n / 16) ≡ n
 class-length-even = by-class-length (λ n. 16 * (n / 16) ≡ n) refl refl refl refl
 
--- a length that is allowed where no tag but those of a class is left is a class's
-pub class-left : (t n : ℕ) → (t ≡ 0x40 → ⊥) → (t ≡ 0x41 → ⊥) → (t ≡ 0x46 → ⊥) → (t ≡ 0x42 → ⊥) → allowed t n ≡ true → class-length n ≡ true
-unfolding allowed
-class-left t n h₀ h₁ h₆ h₂ a = go (eqb t 0x43 || eqb t 0x44) (sym (rw (ne-eqb t 0x40 h₀, ne-eqb t 0x41 h₁, ne-eqb t 0x46 h₆, ne-eqb t 0x42 h₂)) ∙ a)
-  where
-    go : (b : Bool) → cond b (class-length n) false ≡ true → class-length n ≡ true
-    go true e = e
-    go false e = absurd (false≢true e)
+module _ (h : Held) where
+  -- the tags that allow a length
+  pub by-tag : (P : ℕ → Type 0) → P 0x40 → P 0x41 → P 0x46 → P 0x42 → P 0x43 → P 0x44 → (t n : ℕ) → rules t .allows h n ≡ true → P t
+  by-tag P p₀ p₁ p₆ p₂ p₃ p₄ t n e =
+      by-case P t 0x40 p₀ (λ a₀. by-case P t 0x41 p₁ (λ a₁. by-case P t 0x46 p₆ (λ a₆. by-case P t 0x42 p₂ (λ a₂. by-case P t 0x43 p₃ (λ a₃. by-case P t 0x44 p₄
+      (λ a₄. absurd (false≢true (sym (allows-none h t n a₀ a₁ a₆ a₂ a₃ a₄) ∙ e))))))))
 
--- the tags that allow a length
-pub by-tag : (P : ℕ → Type 0) → P 0x40 → P 0x41 → P 0x46 → P 0x42 → P 0x43 → P 0x44 → (t n : ℕ) → allowed t n ≡ true → P t
-by-tag P p₀ p₁ p₆ p₂ p₃ p₄ t n h =
-    by-case P t 0x40 p₀ (λ a₀. by-case P t 0x41 p₁ (λ a₁. by-case P t 0x46 p₆ (λ a₆. by-case P t 0x42 p₂ (λ a₂. by-case P t 0x43 p₃ (λ a₃. by-case P t 0x44 p₄
-    (λ a₄. absurd (false≢true (sym (allowed-none t n a₀ a₁ a₆ a₂ a₃ a₄) ∙ h))))))))
+  -- where no tag but those of a class is left
+  pub class-left : (t n : ℕ) → (t ≡ 0x40 → ⊥) → (t ≡ 0x41 → ⊥) → (t ≡ 0x46 → ⊥) → (t ≡ 0x42 → ⊥) → rules t .allows h n ≡ true → class-length n ≡ true
+  class-left t n h₀ h₁ h₆ h₂ a =
+      by-tag (λ k. (k ≡ 0x40 → ⊥) → (k ≡ 0x41 → ⊥) → (k ≡ 0x46 → ⊥) → (k ≡ 0x42 → ⊥) → rules k .allows h n ≡ true → class-length n ≡ true)
+      (λ o _ _ _ _. absurd (o refl)) (λ _ o _ _ _. absurd (o refl)) (λ _ _ o _ _. absurd (o refl)) (λ _ _ _ o _. absurd (o refl))
+      (λ _ _ _ _ e. sym (class-lengths h n) ∙ e) (λ _ _ _ _ e. sym (operation-lengths h n) ∙ e)
+      t n a h₀ h₁ h₆ h₂ a
 
--- no body is longer than the longest
-pub allowed-short : (t n : ℕ) → allowed t n ≡ true → n ≤ longest-body
-allowed-short t n h =
-    by-tag (λ t. allowed t n ≡ true → n ≤ longest-body)
-    (λ e. omega (arith, is-degree-length e))
-    (λ e. omega (arith, is-curve-length e))
-    (λ e. omega (arith, is-drawing-length e))
-    (λ e. omega (arith, is-count-length e))
-    (λ e. omega (arith, class-length-le n (sym (class-lengths n) ∙ e)))
-    (λ e. omega (arith, class-length-le n (sym (operation-lengths n) ∙ e)))
-    t n h h
+  -- no body is longer than the longest
+  pub allows-short : (t n : ℕ) → rules t .allows h n ≡ true → n ≤ longest-body
+  allows-short t n a =
+      by-tag (λ t. rules t .allows h n ≡ true → n ≤ longest-body)
+      (λ e. omega (arith, is-degree-length h e))
+      (λ e. omega (arith, is-curve-length h e))
+      (λ e. omega (arith, is-drawing-length h e))
+      (λ e. omega (arith, is-count-length h e))
+      (λ e. omega (arith, class-length-le n (sym (class-lengths h n) ∙ e)))
+      (λ e. omega (arith, class-length-le n (sym (operation-lengths h n) ∙ e)))
+      t n a a
 
 -- ---- the length of a field
 

@@ -7,7 +7,6 @@ pub mod Parts
 pub mod Stores
 pub mod DrawingBytes
 pub mod Readers
-pub mod FieldReadings
 pub mod Items
 pub mod ElementBytes
 pub mod ClassBytes

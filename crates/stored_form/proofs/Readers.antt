@@ -1,59 +1,97 @@
--- What is held: as the code makes it by tags, as a reader answers it, and as a record's fields give it one after the other.
+-- What is held: as the code makes it by tags, as a field that was found says it, as a reader answers it, and as a record's fields give it one after the other.
 use Prim.Native.Nat.{ℕ, suc, _+_, _≤_, _<_}
 use mathlib.Core.Path.{_≡_, refl, sym, ap, _∙_}
 use mathlib.Core.Bool.{true}
-use mathlib.Core.List.{List, [], _∷_}
+use mathlib.Core.List.{List, [], _∷_, _++_}
 use native.Mathlib.Omega.{arith}
 use lib.ListN.{length, getD, drop, drop-of-length-le}
 use lib.Seq.{drop-cons}
 use borrow.Author.Tests.{ne-eqb}
-use Rattle.jacobian.specs.Answer.{refusal}
-use Rattle.stored_form.specs.{Number.part, Reading.Reading, Reading.found, Reading.refused, Reading.checked, Reading._then_, Reading.reading-refusal, Classes.class-said}
-use Rattle.stored_form.specs.Head.{drawing-limit, allowed, head-at, body-at}
-use Rattle.stored_form.specs.Held.{drawing-said, with-operation, hold, field-refusal, read-field, read-fields, read-of, place-refusal}
+use Rattle.stored_form.specs.{Number.part, Reading.Reading, Reading.found, Reading.refused, Reading.checked, Reading._then_, Reading.reading-refusal}
+use Rattle.stored_form.specs.{Head.drawing-limit, Classes.class-said, Held.drawing-said, Held.with-operation, Tags.rules}
+use Rattle.stored_form.specs.Records.{head-at, body-at, read-field, read-fields, read-of, place-refusal}
 use Rattle.stored_form.specs.declared.{Held.Held, Read.Read, Place.Place, Cursor.Cursor}
 use Rattle.stored_form.specs.declared.Place.the-variants.{Next, Refused}
-use Rattle.stored_form.proofs.Readings.{then-found, then-refused}
-use Rattle.stored_form.proofs.{Heads.head-found, Lengths.is-drawing-length, Parts.length-part}
+use Rattle.stored_form.proofs.Readings.{then-found, then-refused, then-same, then-assoc, both-found, checked-found, same-found}
+use Rattle.stored_form.proofs.{Heads.head-found, Lengths.is-drawing-length, Lengths.by-tag, Parts.length-part}
 
--- where no tag but the operation's is left
-module _ (t : ℕ) (h₀ : t ≡ 0x40 → ⊥) (h₁ : t ≡ 0x41 → ⊥) (h₆ : t ≡ 0x46 → ⊥) (h₂ : t ≡ 0x42 → ⊥) (h₃ : t ≡ 0x43 → ⊥) where
-  pub operation-held : (body : List ℕ) (h : Held) → hold t body h ≡ with-operation (class-said body) h
-  unfolding hold
-  operation-held body h = rw (ne-eqb t 0x40 h₀, ne-eqb t 0x41 h₁, ne-eqb t 0x46 h₆, ne-eqb t 0x42 h₂, ne-eqb t 0x43 h₃)
+-- where a length is allowed and no tag but the operation's is left
+pub operation-left : (h : Held) (t n : ℕ) → rules t .allows h n ≡ true → (t ≡ 0x40 → ⊥) → (t ≡ 0x41 → ⊥) → (t ≡ 0x46 → ⊥) → (t ≡ 0x42 → ⊥) → (t ≡ 0x43 → ⊥) → t ≡ 0x44
+operation-left h t n a h₀ h₁ h₆ h₂ h₃ =
+    by-tag h (λ k. (k ≡ 0x40 → ⊥) → (k ≡ 0x41 → ⊥) → (k ≡ 0x46 → ⊥) → (k ≡ 0x42 → ⊥) → (k ≡ 0x43 → ⊥) → k ≡ 0x44)
+    (λ o _ _ _ _. absurd (o refl)) (λ _ o _ _ _. absurd (o refl)) (λ _ _ o _ _. absurd (o refl)) (λ _ _ _ o _. absurd (o refl)) (λ _ _ _ _ o. absurd (o refl))
+    (λ _ _ _ _ _. refl) t n a h₀ h₁ h₆ h₂ h₃
 
-  pub operation-refusal : (h : Held) → field-refusal t h ≡ refusal (h .curve) (h .operation)
-  unfolding field-refusal
-  operation-refusal h = rw (ne-eqb t 0x40 h₀, ne-eqb t 0x41 h₁, ne-eqb t 0x46 h₆, ne-eqb t 0x42 h₂, ne-eqb t 0x43 h₃)
+-- a byte that is no tag is not checked
+pub no-check : (t n : ℕ) (h : Held) → (t ≡ 0x40 → ⊥) → (t ≡ 0x41 → ⊥) → (t ≡ 0x46 → ⊥) → (t ≡ 0x42 → ⊥) → (t ≡ 0x43 → ⊥) → (t ≡ 0x44 → ⊥) → rules t .check n h ≡ 0
+unfolding rules
+no-check t n h h₀ h₁ h₆ h₂ h₃ h₄ = rw (ne-eqb t 0x40 h₀, ne-eqb t 0x41 h₁, ne-eqb t 0x46 h₆, ne-eqb t 0x42 h₂, ne-eqb t 0x43 h₃, ne-eqb t 0x44 h₄)
 
 -- ---- one field
 
 module _ (tag : ℕ) (h : Held) (s : List ℕ) (at : ℕ) where
-  pub field-refused : {k : ℕ} → head-at tag s at ≡ refused k → read-field tag h s at ≡ refused k
+  pub field-refused : {k : ℕ} → head-at tag h s at ≡ refused k → read-field tag h s at ≡ refused k
   unfolding read-field body-at
   field-refused e = then-refused _ (then-refused _ e)
 
-  module _ {n next : ℕ} (e : head-at tag s at ≡ found n next) where
-    pub field-asks : (allowed tag n ≡ true) × (at + 3 + n ≤ length s)
-    field-asks = let w = head-found tag s at e in (w .allows, omega arith)
+  -- a field that was found: its body, what is held with it, and that no check refuses it
+  pub record FieldFound (more : Held) (next : ℕ) : Type 0 where
+    pub body : List ℕ
+    pub body-read : body-at tag h s at ≡ found body next
+    pub held : more ≡ rules tag .hold body h
+    pub passes : rules tag .check (length body) more ≡ 0
 
-    module _ {more : Held} (f : more ≡ hold tag (part s (at + 3) n) h) where
-      pub field-read : {k : ℕ} → k ≡ field-refusal tag more → checked k (found more next) ≡ read-field tag h s at
+  pub field-found : {more : Held} {next : ℕ} → read-field tag h s at ≡ found more next → FieldFound more next
+  unfolding read-field
+  field-found {more} {next} e =
+      let p = both-found _ (body-at tag h s at) e in
+      let c = checked-found (rules tag .check (length (p .0)) (rules tag .hold (p .0) h)) _ (p .3) in
+      let same = same-found (c .1) in
+      record {
+        body = p .0;
+        body-read = p .2 ∙ ap (found (p .0)) (same .1);
+        held = sym (same .0);
+        passes = ap (rules tag .check (length (p .0))) (sym (same .0)) ∙ c .0;
+      }
+
+  -- it lies within the input
+  pub field-within : {more : Held} {next : ℕ} → read-field tag h s at ≡ found more next → (at + 3 ≤ next) × (next ≤ length s)
+  unfolding body-at
+  field-within e =
+      let q = both-found _ (head-at tag h s at) (field-found e .body-read) in
+      let w = head-found tag h s at (q .2) in
+      let m = same-found (q .3) .1 in
+      omega (arith, w .ends, w .fits, m)
+
+  module _ {n next : ℕ} (e : head-at tag h s at ≡ found n next) where
+    pub field-asks : (rules tag .allows h n ≡ true) × (at + 3 + n ≤ length s)
+    field-asks = let w = head-found tag h s at e in (w .allows, omega arith)
+
+    length-body : length (part s (at + 3) n) ≡ n
+    length-body = length-part s (at + 3) n (field-asks .1)
+
+    module _ {more : Held} (f : more ≡ rules tag .hold (part s (at + 3) n) h) where
+      pub field-read : {k : ℕ} → k ≡ rules tag .check n more → checked k (found more next) ≡ read-field tag h s at
       unfolding read-field body-at
       field-read g =
-          ap (λ (j : ℕ). checked j (found more next)) g
-          ∙ ap (λ (m : Held). checked (field-refusal tag m) (found m next)) f
+          ap (λ (j : ℕ). checked j (found more next)) (g ∙ ap (λ (l : ℕ). rules tag .check l more) (sym length-body))
+          ∙ ap (λ (m : Held). checked (rules tag .check (length (part s (at + 3) n)) m) (found m next)) f
           ∙ sym (then-found _ (then-found _ e))
 
       -- a drawing number that was read has room
       pub drawing-held : tag ≡ 0x46 → more .drawing .len ≤ drawing-limit
-      unfolding hold drawing-said
+      unfolding rules drawing-said
       drawing-held q =
-          let w = head-found tag s at e in
-          let len : length (part s (at + 3) n) ≡ n = length-part s (at + 3) n (omega arith) in
           let said : more .drawing .len ≡ length (part s (at + 3) n) =
-          ap (λ (m : Held). m .drawing .len) (f ∙ ap (λ (t : ℕ). hold t (part s (at + 3) n) h) q) in
-          omega (arith, is-drawing-length (ap (λ (t : ℕ). allowed t n) (sym q) ∙ w .allows))
+          ap (λ (m : Held). m .drawing .len) (f ∙ ap (λ (t : ℕ). rules t .hold (part s (at + 3) n) h) q) in
+          omega (arith, length-body, is-drawing-length h {n = n} (ap (λ (t : ℕ). rules t .allows h n) (sym q) ∙ field-asks .0))
+
+-- an operation that was read changes nothing else that is held
+pub operation-held : (h : Held) (s : List ℕ) (at : ℕ) {more : Held} {next : ℕ} → read-field 0x44 h s at ≡ found more next → more ≡ with-operation (more .operation) h
+unfolding rules
+operation-held h s at e =
+    let is = field-found 0x44 h s at e .held in
+    is ∙ ap (λ (m : Held). with-operation (m .operation) h) (sym is)
 
 -- ---- what a reader's answer says of the reading
 
@@ -122,3 +160,20 @@ module _ (tags s : List ℕ) (h : Held) (at i : ℕ) where
   pub fields-ended : length tags ≤ i → read-fields (drop i tags) h s at ≡ found h at
   unfolding read-fields
   fields-ended le = ap (λ (l : List ℕ). read-fields l h s at) (drop-of-length-le tags le)
+
+-- fields behind others
+pub fields-append : (xs ys : List ℕ) (h : Held) (s : List ℕ) (at : ℕ) → read-fields (xs ++ ys) h s at ≡ (read-fields xs h s at then λ more next. read-fields ys more s next)
+unfolding read-fields _then_
+fields-append [] ys h s at = refl
+fields-append (tag ∷ xs) ys h s at =
+    then-same _ (read-field tag h s at) (λ more next. fields-append xs ys more s next) ∙ sym (then-assoc (read-field tag h s at) _ _)
+
+-- what is held after the last field passes that field's check
+pub last-passes : (tags : List ℕ) (tag : ℕ) (h : Held) (s : List ℕ) (at : ℕ) {m : Held} {end : ℕ} → read-fields (tags ++ tag ∷ []) h s at ≡ found m end →
+    (n : ℕ) × (rules tag .check n m ≡ 0)
+unfolding read-fields
+last-passes tags tag h s at e =
+    let p = both-found _ (read-fields tags h s at) (sym (fields-append tags (tag ∷ []) h s at) ∙ e) in
+    let q = both-found _ (read-field tag (p .0) s (p .1)) (p .3) in
+    let f = field-found tag (p .0) s (p .1) (q .2) in
+    (length (f .body), ap (rules tag .check (length (f .body))) (sym (same-found (q .3) .0)) ∙ f .passes)

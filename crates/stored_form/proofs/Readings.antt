@@ -74,3 +74,16 @@ then-assoc (refused k) f g = refl
 -- a refusal and its number
 pub refused-number : {A : Type 0} {x : Reading A} {n k : ℕ} → x ≡ refused n → k ≡ reading-refusal x → x ≡ refused k
 refused-number e q = e ∙ sym (ap refused (q ∙ ap reading-refusal e))
+
+-- what is made of a reading is refused as the reading is
+pub found-refusal : {A B : Type 0} (x : Reading A) (f : A → B) → reading-refusal (x then λ a n. found (f a) n) ≡ reading-refusal x
+unfolding _then_
+found-refusal (found a n) f = refl
+found-refusal (refused n) f = refl
+
+-- and so are two that are refused alike after it
+pub same-refusal : {A B C : Type 0} (x : Reading A) (f : A → ℕ → Reading B) (g : A → ℕ → Reading C) →
+    ((a : A) (n : ℕ) → reading-refusal (f a n) ≡ reading-refusal (g a n)) → reading-refusal (x then f) ≡ reading-refusal (x then g)
+unfolding _then_
+same-refusal (found a n) f g h = h a n
+same-refusal (refused n) f g h = refl

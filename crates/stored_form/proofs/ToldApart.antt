@@ -7,9 +7,9 @@ use native.Mathlib.Omega.{arith}
 use lib.{Dec.eqb, Dec.ltb, ListN.length, ListN.getD}
 use Rattle.jacobian.specs.{Refusals.refusals, Refusals.listed, Refusals.IsRefusal, Refusals.Told, Curves.degree-refusal, declared.Curve.Curve}
 use Rattle.jacobian.proofs.{Refusals.told-unless, Refusals.above-100, Told.curve-refusal-told, Told.refusal-told}
-use Rattle.stored_form.specs.{Reading.Reading, Reading.found, Reading.refused, Reading.refuse, Reading.checked, Reading._then_, Reading.reading-refusal, Head.allowed, Head.body-length, Head.head-at, Head.body-at}
-use Rattle.stored_form.specs.{Fields.count-refusal, Fields.drawing-refusal, Fields.end-refusal}
-use Rattle.stored_form.specs.Held.{nothing-held, field-refusal, read-field, read-fields, ended, read-record}
+use Rattle.stored_form.specs.{Reading.Reading, Reading.found, Reading.refused, Reading.refuse, Reading.checked, Reading._then_, Reading.reading-refusal}
+use Rattle.stored_form.specs.{Head.body-length, Fields.count-refusal, Fields.drawing-refusal, Fields.end-refusal, Fields.ended, Held.nothing-held, Tags.Rules, Tags.rules}
+use Rattle.stored_form.specs.Records.{head-at, body-at, read-field, read-fields, read-record, read-operations}
 use Rattle.stored_form.specs.declared.Held.{Held}
 
 -- ---- what the checks say
@@ -34,15 +34,17 @@ pub told-end : (s : List ℕ) (at : ℕ) → Told (end-refusal s at)
 unfolding end-refusal Told IsRefusal refusals listed
 told-end s at = either Told (ltb at (length s)) (inr refl) (inl refl)
 
-told-field : (tag : ℕ) (h : Held) → Told (field-refusal tag h)
-unfolding field-refusal
-told-field tag h =
-    either Told (eqb tag 0x40) (told-degree _)
-    (either Told (eqb tag 0x41) (curve-refusal-told _)
-    (either Told (eqb tag 0x46) (told-drawing _)
-    (either Told (eqb tag 0x42) (told-count _)
-    (either Told (eqb tag 0x43) (refusal-told _ _)
-    (refusal-told _ _)))))
+told-field : (tag n : ℕ) (h : Held) → Told (rules tag .check n h)
+unfolding rules Told
+told-field tag n h =
+    let P : Rules → Type 0 = λ r. Told (r .check n h) in
+    either P (eqb tag 0x40) (told-degree _)
+    (either P (eqb tag 0x41) (curve-refusal-told _)
+    (either P (eqb tag 0x46) (told-drawing _)
+    (either P (eqb tag 0x42) (told-count _)
+    (either P (eqb tag 0x43) (refusal-told _ _)
+    (either P (eqb tag 0x44) (refusal-told _ _)
+    (inl refl))))))
 
 -- ---- readings that refuse with the number of a refusal
 
@@ -85,27 +87,38 @@ module _ {A : Type 0} where
   pub found-reading : (x : Reading A) {a : A} {next : ℕ} → x ≡ found a next → reading-refusal x ≡ 0
   found-reading x e = ap reading-refusal e
 
-pub body-tells : (tag : ℕ) (s : List ℕ) (at : ℕ) → Tells (body-at tag s at)
+  pub end-tells : (s : List ℕ) (a : A) (at : ℕ) → Tells (ended s a at)
+  unfolding ended
+  end-tells s a at = checked-tells _ _ (told-end s at) (found-tells a at)
+
+body-tells : (tag : ℕ) (h : Held) (s : List ℕ) (at : ℕ) → Tells (body-at tag h s at)
 unfolding body-at head-at IsRefusal refusals listed
-body-tells tag s at =
+body-tells tag h s at =
     let n = body-length s at in
-    then-tells (head-at tag s at) _
+    then-tells (head-at tag h s at) _
     (refuse-tells 102 (ltb (length s) (at + 3)) _ refl
     (refuse-tells 103 (not (eqb (getD s at 0) tag)) _ refl
-    (refuse-tells 104 (not (allowed tag n)) _ refl
+    (refuse-tells 104 (not (rules tag .allows h n)) _ refl
     (refuse-tells 105 (ltb (length s) (at + 3 + n)) _ refl
     (found-tells n (at + 3 + n))))))
     (λ n next. found-tells _ _)
 
 field-tells : (tag : ℕ) (h : Held) (s : List ℕ) (at : ℕ) → Tells (read-field tag h s at)
 unfolding read-field
-field-tells tag h s at = then-tells (body-at tag s at) _ (body-tells tag s at) (λ body next. checked-tells _ _ (told-field tag _) (found-tells _ _))
+field-tells tag h s at = then-tells (body-at tag h s at) _ (body-tells tag h s at) (λ body next. checked-tells _ _ (told-field tag _ _) (found-tells _ _))
 
-fields-tell : (tags : List ℕ) (h : Held) (s : List ℕ) (at : ℕ) → Tells (read-fields tags h s at)
+pub fields-tell : (tags : List ℕ) (h : Held) (s : List ℕ) (at : ℕ) → Tells (read-fields tags h s at)
 unfolding read-fields
 fields-tell [] h s at = found-tells h at
 fields-tell (tag ∷ tags) h s at = then-tells (read-field tag h s at) _ (field-tells tag h s at) (λ more next. fields-tell tags more s next)
 
+pub operations-tell : (n : ℕ) (h : Held) (s : List ℕ) (at : ℕ) → Tells (read-operations n h s at)
+unfolding read-operations
+operations-tell zero h s at = found-tells _ at
+operations-tell (suc n) h s at =
+    then-tells (read-field 0x44 h s at) _ (field-tells 0x44 h s at)
+    (λ more next. then-tells (read-operations n more s next) _ (operations-tell n more s next) (λ older end. found-tells _ end))
+
 pub record-tells : (tags s : List ℕ) → Tells (read-record tags s)
-unfolding read-record ended
-record-tells tags s = then-tells (read-fields tags nothing-held s 0) _ (fields-tell tags nothing-held s 0) (λ h end. checked-tells _ _ (told-end s end) (found-tells h end))
+unfolding read-record
+record-tells tags s = then-tells (read-fields tags nothing-held s 0) _ (fields-tell tags nothing-held s 0) (λ h end. end-tells s h end)

@@ -1,21 +1,14 @@
--- The fields that hold no class, as they are read and as they are written, and the end (docs/SPECIFICATION.md, 5 and 6).
+-- The fields that hold no class, as they are written, their checks, and the end (docs/SPECIFICATION.md, 5 and 6).
 use Prim.Native.Nat.{ℕ}
-use mathlib.Core.Bool.{Bool, true, cond, _||_, _&&_}
+use mathlib.Core.Bool.{Bool, true, cond, _&&_}
 use mathlib.Core.List.{List, [], _∷_}
 use lib.ListN.{length}
-use lib.Dec.{eqb, leb, ltb}
+use lib.Dec.{leb, ltb}
 use Rattle.jacobian.specs.Checks.{unless}
-use Rattle.stored_form.specs.Number.{number-of, bytes-of}
-use Rattle.stored_form.specs.Reading.{Reading, found, checked, _then_}
-use Rattle.stored_form.specs.Head.{degree-length, count-length, body-at, stored}
+use Rattle.stored_form.specs.{Number.bytes-of, Reading.Reading, Reading.found, Reading.checked}
+use Rattle.stored_form.specs.Head.{degree-length, count-length, stored}
 
--- ---- the degree, 5 or 61
-
-unfoldable pub degree-at : List ℕ → ℕ → Reading ℕ
-degree-at s at =
-    body-at 0x40 s at then λ body next.
-    let d = number-of body in
-    checked (unless (eqb d 5 || eqb d 61) 106) (found d next)
+-- ---- the degree
 
 unfoldable pub degree-field : ℕ → List ℕ
 degree-field d = stored 0x40 (bytes-of degree-length d)
@@ -29,12 +22,6 @@ count-limit = 1024
 -- 109 for a count above it
 unfoldable pub count-refusal : ℕ → ℕ
 count-refusal n = unless (leb n count-limit) 109
-
-unfoldable pub count-at : List ℕ → ℕ → Reading ℕ
-count-at s at =
-    body-at 0x42 s at then λ body next.
-    let n = number-of body in
-    checked (count-refusal n) (found n next)
 
 unfoldable pub count-field : ℕ → List ℕ
 count-field n = stored 0x42 (bytes-of count-length n)
@@ -50,11 +37,6 @@ printable (b ∷ bs) = leb 0x20 b && leb b 0x7E && printable bs
 unfoldable pub drawing-refusal : List ℕ → ℕ
 drawing-refusal bytes = unless (printable bytes) 108
 
-unfoldable pub drawing-at : List ℕ → ℕ → Reading (List ℕ)
-drawing-at s at =
-    body-at 0x46 s at then λ body next.
-    checked (drawing-refusal body) (found body next)
-
 unfoldable pub drawing-field : List ℕ → List ℕ
 drawing-field bytes = stored 0x46 bytes
 
@@ -63,3 +45,7 @@ drawing-field bytes = stored 0x46 bytes
 -- 112 where bytes remain after the last field, and 0 where none do
 unfoldable pub end-refusal : List ℕ → ℕ → ℕ
 end-refusal s at = cond (ltb at (length s)) 112 0
+
+-- a value, where nothing follows the last field
+unfoldable pub ended : {A : Type 0} → List ℕ → A → ℕ → Reading A
+ended s a at = checked (end-refusal s at) (found a at)

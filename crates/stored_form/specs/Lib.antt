@@ -1,4 +1,4 @@
--- The stored form: numbers as bytes, fields, what reading a field finds and the bytes that writing it gives.
+-- The stored form: numbers as bytes, what each tag is, what reading fields finds and the bytes that writing them gives.
 pub mod Number
 pub mod Reading
 pub mod Head
@@ -6,4 +6,6 @@ pub mod Fields
 pub mod Elements
 pub mod Classes
 pub mod Held
+pub mod Tags
+pub mod Records
 pub mod Passing

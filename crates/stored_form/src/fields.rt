@@ -4,10 +4,7 @@ ghost use mathlib.Core.Bool.{true};
 ghost use Prim.Native.Nat.{_+_, _≤_};
 ghost use lib.ListN.{length};
 ghost use Rattle.jacobian.specs.Curves.{degree-refusal};
-ghost use Rattle.stored_form.specs.Number.{part};
-ghost use Rattle.stored_form.specs.Head.{allowed, drawing-limit};
-ghost use Rattle.stored_form.specs.Fields.{count-refusal};
-ghost use Rattle.stored_form.specs.Held.{curve-of-degree, hold, field-refusal};
+ghost use Rattle.stored_form.specs.{Number.part, Head.drawing-limit, Fields.count-refusal, Held.curve-of-degree, Tags.rules};
 use crate::Held;
 use crate::classes;
 use crate::drawings;
@@ -47,8 +44,8 @@ fn curve_of_degree(d: u8) -> Curve
 
 // What is held once the body of len bytes from a place on is read, where a tag was due.
 pub(crate) fn hold(tag: u8, h: Held, s: &[u8], at: usize, len: usize) -> Held
-    requires { ⌜ (allowed tag len ≡ true) × (at + len ≤ length (now s)) ⌝ }
-    ensures { λ r. ⌜ r ≡ hold tag (part (now (s .entry)) at len) h ⌝ }
+    requires { ⌜ (rules tag .allows h len ≡ true) × (at + len ≤ length (now s)) ⌝ }
+    ensures { λ r. ⌜ r ≡ rules tag .hold (part (now (s .entry)) at len) h ⌝ }
 {
     let mut more = h;
     if tag == crate::DEGREE {
@@ -83,10 +80,10 @@ pub(crate) fn hold(tag: u8, h: Held, s: &[u8], at: usize, len: usize) -> Held
     more
 }
 
-// The refusal that is due to the field that was just read, and 0 where none is.
-pub(crate) fn field_refusal(tag: u8, h: Held) -> u32
+// The refusal of what is held once a body of len bytes is read, and 0 where there is none.
+pub(crate) fn field_refusal(tag: u8, len: usize, h: Held) -> u32
     requires { ⌜ (tag ≡ 0x46 → h .drawing .len ≤ drawing-limit) ⌝ }
-    ensures { λ r. ⌜ r ≡ field-refusal tag h ⌝ }
+    ensures { λ r. ⌜ r ≡ rules tag .check len h ⌝ }
 {
     let curve = h.curve;
     if tag == crate::DEGREE {
@@ -106,6 +103,9 @@ pub(crate) fn field_refusal(tag: u8, h: Held) -> u32
         let class = h.class;
         return jacobian::class_refusal(curve, class);
     }
-    let operation = h.operation;
-    jacobian::class_refusal(curve, operation)
+    if tag == crate::OPERATION {
+        let operation = h.operation;
+        return jacobian::class_refusal(curve, operation);
+    }
+    0
 }

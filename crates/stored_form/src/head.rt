@@ -3,8 +3,9 @@ ghost use mathlib.Core.Path.{_≡_};
 ghost use Prim.Native.Nat.{_-_};
 ghost use lib.ListN.{length};
 ghost use Rattle.stored_form.specs.Reading.{reading-refusal};
-ghost use Rattle.stored_form.specs.Head.{head-at, head-read, class-length, allowed};
+ghost use Rattle.stored_form.specs.{Head.class-length, Tags.rules, Records.head-at, Records.head-read};
 use crate::Cursor;
+use crate::Held;
 use crate::numbers;
 
 // What reading a field's head finds: the body's length and the place after the body.
@@ -29,9 +30,9 @@ fn class_allows(len: usize) -> bool
     len == 48
 }
 
-// Does a tag allow this length?
-fn allows(tag: u8, len: usize) -> bool
-    ensures { λ r. ⌜ r ≡ allowed tag len ⌝ }
+// Does a tag allow this length, after what was read?
+fn allows(tag: u8, h: Held, len: usize) -> bool
+    ensures { λ r. ⌜ r ≡ rules tag .allows h len ⌝ }
 {
     if tag == crate::DEGREE {
         return len == crate::DEGREE_LENGTH;
@@ -64,9 +65,9 @@ fn left(s: &[u8], at: usize) -> usize
     s.len() - at
 }
 
-// The head of the field at a place, where a tag is due.
-pub(crate) fn head_at(s: &[u8], at: Cursor, tag: u8) -> Head
-    ensures { λ r. ⌜ head-read r ≡ head-at tag (now (s .entry)) (at .at) ⌝ }
+// The head of the field at a place, where a tag is due after what was read.
+pub(crate) fn head_at(tag: u8, h: Held, s: &[u8], at: Cursor) -> Head
+    ensures { λ r. ⌜ head-read r ≡ head-at tag h (now (s .entry)) (at .at) ⌝ }
 {
     let i = at.at;
     let n = left(s, i);
@@ -77,7 +78,7 @@ pub(crate) fn head_at(s: &[u8], at: Cursor, tag: u8) -> Head
         return Head::Refused(103);
     }
     let len = numbers::number_at(s, i + 1, 2) as usize;
-    if !allows(tag, len) {
+    if !allows(tag, h, len) {
         return Head::Refused(104);
     }
     if n - 3 < len {

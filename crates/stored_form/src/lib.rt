@@ -2,8 +2,8 @@
 // A reader answers what the fields say beside the place where the next field begins, or the number of the refusal with nothing held.
 ghost use mathlib.Core.Path.{_≡_};
 ghost use Rattle.stored_form.specs.Reading.{found, refused, checked};
-ghost use Rattle.stored_form.specs.Fields.{end-refusal};
-ghost use Rattle.stored_form.specs.Held.{nothing-held, read-field, read-fields, read-record, read-of, place-refusal};
+ghost use Rattle.stored_form.specs.{Fields.end-refusal, Held.nothing-held};
+ghost use Rattle.stored_form.specs.Records.{read-field, read-fields, read-record, read-of, place-refusal};
 
 pub mod classes;
 mod drawings;
@@ -163,12 +163,12 @@ pub fn read_field(tag: u8, h: Held, s: &[u8], at: Cursor) -> Read
     ensures { λ r. ⌜ r ≡ read-of (read-field tag h (now (s .entry)) (at .at)) ⌝ }
 {
     let i = at.at;
-    let f = head::head_at(s, at, tag);
+    let f = head::head_at(tag, h, s, at);
     let Head::Body { len, next } = f else {
         return refused(head::head_refusal(f));
     };
     let more = fields::hold(tag, h, s, i + 3, len);
-    settled(fields::field_refusal(tag, more), more, next)
+    settled(fields::field_refusal(tag, len, more), more, next)
 }
 
 // Reads the fields with these tags, one after the other, from a place on.

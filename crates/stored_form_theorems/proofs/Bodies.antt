@@ -6,61 +6,61 @@ use mathlib.Core.List.{List, _∷_, _++_}
 use native.Mathlib.Omega.{arith}
 use lib.ListN.{length, getD}
 use lib.Seq.{take-length}
-use Rattle.stored_form.specs.{Number.number-of, Number.bytes-of, Number.Bytes, Number.part, Reading.found, Head.allowed, Head.body-length}
-use Rattle.stored_form.specs.{Head.head-at, Head.body-at, Head.head-bytes, Head.stored, Head.StandsAt}
+use Rattle.stored_form.specs.{Number.number-of, Number.bytes-of, Number.Bytes, Number.part, Reading.found, Head.body-length, Head.head-bytes, Head.stored, Head.StandsAt}
+use Rattle.stored_form.specs.{Tags.rules, Records.head-at, Records.body-at, declared.Held.Held}
 use Rattle.stored_form.proofs.{Digits.part-bytes, Parts.length-part, Readings.then-found, Readings.both-found, Readings.same-found, Lengths.length-stored, Heads.Whole, Heads.head-found, Heads.head-whole}
 use Rattle.stored_form_theorems.specs.Fields.{Field}
 use Rattle.stored_form_theorems.proofs.{Numbers.bytes-number, Numbers.number-bytes-small, Places.part-part, Places.part-add, Places.part-cons, Places.getD-part, Places.stands-within}
 
 -- ---- what was read was written so
 
-pub record Written (tag : ℕ) (s : List ℕ) (at : ℕ) (body : List ℕ) (next : ℕ) : Type 0 where
+pub record Written (tag : ℕ) (h : Held) (s : List ℕ) (at : ℕ) (body : List ℕ) (next : ℕ) : Type 0 where
   pub field : Field s at (stored tag body) next
-  pub allows : allowed tag (length body) ≡ true
+  pub allows : rules tag .allows h (length body) ≡ true
   pub bytes : Bytes body
 
 -- the three bytes of a head that was found
-head-stands : (tag : ℕ) (s : List ℕ) (at n next : ℕ) → Bytes s → at + 3 ≤ length s → Whole tag s at n next → part s at 3 ≡ head-bytes tag n
+head-stands : (tag : ℕ) (h : Held) (s : List ℕ) (at n next : ℕ) → Bytes s → at + 3 ≤ length s → Whole tag h s at n next → part s at 3 ≡ head-bytes tag n
 unfolding head-bytes body-length
-head-stands tag s at n next b fits w =
+head-stands tag h s at n next b fits w =
     let p : List ℕ = part s (at + 1) 2 in
     let len : length p ≡ 2 = length-part s (at + 1) 2 (omega arith) in
     let two : bytes-of 2 n ≡ p =
     ap (bytes-of 2) (w .said) ∙ ap (λ (k : ℕ). bytes-of k (number-of p)) (sym len) ∙ bytes-number p (part-bytes s b (at + 1) 2) in
     part-cons s at 2 (omega arith) ∙ ap₂ (λ (x : ℕ) (xs : List ℕ). x ∷ xs) (w .due) (sym two)
 
-whole-written : (tag : ℕ) (s : List ℕ) (at n next : ℕ) → Bytes s → Whole tag s at n next → Written tag s at (part s (at + 3) n) next
+whole-written : (tag : ℕ) (h : Held) (s : List ℕ) (at n next : ℕ) → Bytes s → Whole tag h s at n next → Written tag h s at (part s (at + 3) n) next
 unfolding stored
-whole-written tag s at n next b w =
+whole-written tag h s at n next b w =
     let fits : at + 3 + n ≤ length s = omega arith in
     let len : length (part s (at + 3) n) ≡ n = length-part s (at + 3) n fits in
     let long : length (stored tag (part s (at + 3) n)) ≡ 3 + n = length-stored tag (part s (at + 3) n) ∙ ap (λ (k : ℕ). 3 + k) len in
     let stands = ap (part s at) long ∙ part-add s at 3 n
-    ∙ ap (λ (h : List ℕ). h ++ part s (at + 3) n) (head-stands tag s at n next b (omega arith) w ∙ ap (head-bytes tag) (sym len)) in
+    ∙ ap (λ (l : List ℕ). l ++ part s (at + 3) n) (head-stands tag h s at n next b (omega arith) w ∙ ap (head-bytes tag) (sym len)) in
     record {
       field = record { stands = stands; ends = omega arith };
       allows = rw len (w .allows);
       bytes = part-bytes s b (at + 3) n;
     }
 
-pub body-written : (tag : ℕ) (s : List ℕ) (at : ℕ) {body : List ℕ} {next : ℕ} → Bytes s → body-at tag s at ≡ found body next → Written tag s at body next
+pub body-written : (tag : ℕ) (h : Held) (s : List ℕ) (at : ℕ) {body : List ℕ} {next : ℕ} → Bytes s → body-at tag h s at ≡ found body next → Written tag h s at body next
 unfolding body-at
-body-written tag s at {body} {next} b h =
-    let p = both-found (λ n next. found (part s (at + 3) n) next) (head-at tag s at) h in
+body-written tag h s at {body} {next} b e₀ =
+    let p = both-found (λ n next. found (part s (at + 3) n) next) (head-at tag h s at) e₀ in
     let e = same-found (p .3) in
-    subst₂ (λ (x : List ℕ) (y : ℕ). Written tag s at x y) (e .0) (e .1) (whole-written tag s at (p .0) (p .1) b (head-found tag s at (p .2)))
+    subst₂ (λ (x : List ℕ) (y : ℕ). Written tag h s at x y) (e .0) (e .1) (whole-written tag h s at (p .0) (p .1) b (head-found tag h s at (p .2)))
 
 -- ---- what was written is read so
 
-pub body-read : (tag : ℕ) (s : List ℕ) (at : ℕ) (body : List ℕ) → allowed tag (length body) ≡ true → length body < 256 ^ 2 → StandsAt s at (stored tag body) →
-    body-at tag s at ≡ found body (at + length (stored tag body))
+pub body-read : (tag : ℕ) (h : Held) (s : List ℕ) (at : ℕ) (body : List ℕ) → rules tag .allows h (length body) ≡ true → length body < 256 ^ 2 → StandsAt s at (stored tag body) →
+    body-at tag h s at ≡ found body (at + length (stored tag body))
 unfolding stored head-bytes bytes-of body-at body-length
-body-read tag s at body a small h =
+body-read tag h s at body a small stands =
     let n : ℕ = length body in
     let long : length (stored tag body) ≡ 3 + n = length-stored tag body in
-    let within : at + length (stored tag body) ≤ length s = stands-within s at tag (bytes-of 2 n ++ body) h in
+    let within : at + length (stored tag body) ≤ length s = stands-within s at tag (bytes-of 2 n ++ body) stands in
     let fits : at + 3 + n ≤ length s = omega arith in
-    let all : part s at (3 + n) ≡ stored tag body = ap (part s at) (sym long) ∙ h in
+    let all : part s at (3 + n) ≡ stored tag body = ap (part s at) (sym long) ∙ stands in
     let e : at + 0 ≡ at = omega arith in
     let first : getD s at 0 ≡ tag =
     ap (λ (i : ℕ). getD s i 0) (sym e) ∙ sym (getD-part s at (3 + n) 0 (omega arith)) ∙ ap (λ (l : List ℕ). getD l 0 0) all in
@@ -68,4 +68,4 @@ body-read tag s at body a small h =
     let said : n ≡ number-of (part s (at + 1) 2) = sym (ap number-of two ∙ number-bytes-small 2 n small) in
     let rest : part s (at + 3) n ≡ body = sym (part-part s at (3 + n) 3 n (omega arith)) ∙ ap (λ (l : List ℕ). part l 3 n) all ∙ take-length body in
     let ends : at + 3 + n ≡ at + length (stored tag body) = omega arith in
-    then-found _ (head-whole tag s at said (omega arith) first a fits) ∙ ap₂ (λ (x : List ℕ) (y : ℕ). found x y) rest ends
+    then-found _ (head-whole tag h s at said (omega arith) first a fits) ∙ ap₂ (λ (x : List ℕ) (y : ℕ). found x y) rest ends

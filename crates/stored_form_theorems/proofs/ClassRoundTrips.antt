@@ -10,11 +10,10 @@ use lib.ListN.{length, getD, take, drop, length-append, length-take, length-drop
 use lib.Seq.{take-at, drop-at}
 use Rattle.jacobian.specs.{Answer.refusal, declared.Curve.Curve, declared.Class.Class}
 use Rattle.jacobian.proofs.{ByValue.Degrees.by-degree, ByValue.Threes.by-three, ByValue.Answers.passes}
-use Rattle.stored_form.specs.{Number.Bytes, Reading.found, Head.class-room, Head.class-limit, Head.class-length, Head.body-at, Head.stored, Elements.elements, Elements.element-bytes}
-use Rattle.stored_form.specs.Classes.{row-said, class-said, class-at, row-written, class-field}
-use Rattle.stored_form.proofs.{Readings.both-found, Readings.checked-found, Readings.same-found, Lengths.class-length-le, Lengths.class-length-even, Lengths.length-stored, Items.length-elements, ElementBytes.length-element-bytes, ElementBytes.element-bytes-append}
+use Rattle.stored_form.specs.{Number.Bytes, Head.class-room, Head.class-limit, Head.class-length, Head.stored, Elements.elements, Elements.element-bytes}
+use Rattle.stored_form.specs.Classes.{row-said, class-said, row-written, class-body, class-field}
+use Rattle.stored_form.proofs.{Lengths.class-length-le, Lengths.class-length-even, Lengths.length-stored, Items.length-elements, ElementBytes.length-element-bytes, ElementBytes.element-bytes-append}
 use Rattle.stored_form.proofs.ClassBytes.{length-row}
-use Rattle.stored_form_theorems.specs.Fields.{class-body}
 use Rattle.stored_form_theorems.proofs.Elements.{Small, small-of, small-take, small-append, small-reversed, elements-bytes, bytes-elements, fits}
 
 -- ---- rows and the order in which they are stored

@@ -10,15 +10,15 @@ use lib.ListN.{length}
 use borrow.Author.Tests.{eqb-true, leb-true, le-leb}
 use Rattle.jacobian.specs.{Checks.unless, Curves.coefficients, Curves.curve-with, Curves.f-row, Curves.degree-refusal, Curves.curve-refusal, declared.Curve.Curve}
 use Rattle.jacobian.proofs.ByValue.{Degrees.by-degree, Checks.curve-passes, Checks.then-zero}
-use Rattle.stored_form.specs.{Number.number-of, Number.bytes-of, Head.degree-length, Head.count-length, Head.drawing-limit, Head.allowed, Elements.element-bytes, Passing.DegreePasses, Passing.CurvePasses, Passing.CountPasses, Passing.DrawingPasses, Passing.ClassPasses}
+use Rattle.stored_form.specs.{Number.number-of, Number.bytes-of, Head.degree-length, Head.count-length, Head.drawing-limit, Elements.element-bytes, Passing.DegreePasses, Passing.CurvePasses, Passing.CountPasses, Passing.DrawingPasses, Passing.ClassPasses}
 use Rattle.stored_form.specs.Fields.{degree-field, count-field, count-limit, count-refusal, drawing-field, drawing-refusal}
-use Rattle.stored_form.specs.Classes.{curve-said, curve-field, curve-first-fields, class-said, class-field}
-use Rattle.stored_form.specs.Held.{drawing-said, drawing-name, nothing-held, curve-of-degree, with-curve, with-drawing, with-count, with-class, with-operation, hold, field-refusal}
-use Rattle.stored_form.specs.declared.Held.{Held}
-use Rattle.stored_form.proofs.{Digits.length-bytes, ElementBytes.length-element-bytes, Readings.test-passed, FieldReadings.name-said, Lengths.class-lengths, Lengths.operation-lengths, Lengths.is-drawing-length}
-use Rattle.stored_form_theorems.specs.{Fields.class-body, Fields.field-body, Records.Leads}
+use Rattle.stored_form.specs.Classes.{curve-said, curve-field, curve-first-fields, class-said, class-body, class-field}
+use Rattle.stored_form.specs.Held.{drawing-said, drawing-name, nothing-held, curve-of-degree, with-curve, with-drawing, with-count, with-class, with-operation}
+use Rattle.stored_form.specs.{Tags.rules, declared.Held.Held}
+use Rattle.stored_form.proofs.{Digits.length-bytes, ElementBytes.length-element-bytes, Readings.test-passed, DrawingBytes.name-said, Lengths.class-lengths, Lengths.operation-lengths, Lengths.is-drawing-length}
+use Rattle.stored_form_theorems.specs.{Fields.FieldLaw, Records.Leads}
 use Rattle.stored_form_theorems.proofs.{Numbers.number-bytes-small, Elements.Small, Elements.elements-bytes, Elements.fits, ClassRoundTrips.body-said, ClassRoundTrips.body-allowed}
-use Rattle.stored_form_theorems.proofs.FieldLaws.{FieldLaw, field-law, more, first-value}
+use Rattle.stored_form_theorems.proofs.FieldLaws.{field-law, more, first-value}
 
 -- ---- values that pass fit
 
@@ -53,7 +53,7 @@ degree-passes c ok = test-passed _ (lit< tt) (then-zero _ _ ok .0)
 
 module _ (h : Held) where
   pub degree-law : FieldLaw 0x40 h DegreePasses degree-field (λ d. with-curve (curve-of-degree d) h) (λ m. m .curve .degree)
-  unfolding field-body hold field-refusal curve-of-degree curve-with degree-refusal degree-field unless allowed
+  unfolding rules curve-of-degree curve-with degree-refusal degree-field unless
   degree-law =
       field-law 0x40 h DegreePasses (bytes-of degree-length) number-of (λ d. with-curve (curve-of-degree d) h) (λ m. m .curve .degree)
       (λ m. refl) (λ d. refl) (λ b. refl)
@@ -61,7 +61,7 @@ module _ (h : Held) where
       (λ b none fits. test-passed _ (lit< tt) none)
 
   pub curve-law : FieldLaw 0x41 h (λ c. (c .degree ≡ h .curve .degree) × CurvePasses c) curve-field (λ c. with-curve c h) (λ m. m .curve)
-  unfolding field-body hold field-refusal curve-field curve-said curve-with coefficients allowed
+  unfolding rules curve-field curve-said curve-with coefficients
   curve-law =
       field-law 0x41 h _ (λ c. element-bytes (coefficients c)) (curve-said (h .curve .degree)) (λ c. with-curve c h) (λ m. m .curve)
       (λ m. refl) (λ c. refl) (λ b. refl)
@@ -71,15 +71,15 @@ module _ (h : Held) where
       (λ b none fits. (refl, none))
 
   pub drawing-law : FieldLaw 0x46 h DrawingPasses drawing-field (λ xs. with-drawing (drawing-said xs) h) (λ m. drawing-name (m .drawing))
-  unfolding field-body hold field-refusal drawing-field drawing-refusal unless allowed
+  unfolding rules drawing-field drawing-refusal unless
   drawing-law =
       field-law 0x46 h DrawingPasses (λ xs. xs) (λ b. b) (λ xs. with-drawing (drawing-said xs) h) (λ m. drawing-name (m .drawing))
       (λ m. refl) name-said (λ b. refl)
       (λ xs ok. (refl, rw (name-said xs, ok .0), le-leb (length xs) drawing-limit (ok .1)))
-      (λ b none fits. (test-passed _ (lit< tt) (ap drawing-refusal (sym (name-said b)) ∙ none), is-drawing-length fits))
+      (λ b none fits. (test-passed _ (lit< tt) (ap drawing-refusal (sym (name-said b)) ∙ none), is-drawing-length h {n = length b} fits))
 
   pub count-law : FieldLaw 0x42 h CountPasses count-field (λ n. with-count n h) (λ m. m .count)
-  unfolding field-body hold field-refusal count-field count-refusal unless allowed
+  unfolding rules count-field count-refusal unless
   count-law =
       field-law 0x42 h CountPasses (bytes-of count-length) number-of (λ n. with-count n h) (λ m. m .count)
       (λ m. refl) (λ n. refl) (λ b. refl)
@@ -87,17 +87,17 @@ module _ (h : Held) where
       (λ b none fits. leb-true _ _ (test-passed _ (lit< tt) none))
 
   pub class-law : FieldLaw 0x43 h (ClassPasses (h .curve)) (class-field 0x43) (λ a. with-class a h) (λ m. m .class)
-  unfolding field-body hold field-refusal class-field
+  unfolding rules class-field
   class-law =
       field-law 0x43 h (ClassPasses (h .curve)) class-body class-said (λ a. with-class a h) (λ m. m .class) (λ m. refl) (λ a. refl) (λ b. refl)
-      (λ a ok. (body-said (h .curve) a (ok .none), ok .none, class-lengths (length (class-body a)) ∙ body-allowed (h .curve) a (ok .none)))
+      (λ a ok. (body-said (h .curve) a (ok .none), ok .none, class-lengths h (length (class-body a)) ∙ body-allowed (h .curve) a (ok .none)))
       (λ b none fits. record { none = none })
 
   pub operation-law : FieldLaw 0x44 h (ClassPasses (h .curve)) (class-field 0x44) (λ a. with-operation a h) (λ m. m .operation)
-  unfolding field-body hold field-refusal class-field
+  unfolding rules class-field
   operation-law =
       field-law 0x44 h (ClassPasses (h .curve)) class-body class-said (λ a. with-operation a h) (λ m. m .operation) (λ m. refl) (λ a. refl) (λ b. refl)
-      (λ a ok. (body-said (h .curve) a (ok .none), ok .none, operation-lengths (length (class-body a)) ∙ body-allowed (h .curve) a (ok .none)))
+      (λ a ok. (body-said (h .curve) a (ok .none), ok .none, operation-lengths h (length (class-body a)) ∙ body-allowed (h .curve) a (ok .none)))
       (λ b none fits. record { none = none })
 
 -- ---- the degree and the curve, with which every record begins

@@ -10,5 +10,6 @@ pub mod RecordRoundTrips
 -- and, tag by tag, a field and its value
 pub mod FieldLaws
 pub mod FieldValues
-pub mod RoundTrips
 pub mod Written
+-- and so do operations one behind the other
+pub mod Operations

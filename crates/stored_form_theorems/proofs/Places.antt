@@ -1,4 +1,4 @@
--- Bytes that stand at a place: parts of a list, one behind the other (`behind`, `apart`), and all of the input (`whole`, `is-whole`, `end-written`, `end-read-back`).
+-- Bytes that stand at a place: parts of a list, one behind the other (`behind`, `apart`), and all of the input (`whole`, `is-whole`, `end-found`, `end-read-back`).
 use Prim.Native.Nat.{ℕ, suc, _+_, _-_, _≤_, _<_}
 use mathlib.Core.Path.{_≡_, refl, sym, ap, ap₂, _∙_}
 use mathlib.Core.Bool.{Bool, true, false, cond}
@@ -9,8 +9,8 @@ use lib.Dec.{ltb}
 use lib.ListN.{length, getD, take, drop, length-append, length-take, length-drop}
 use lib.Seq.{take-take, take-length, take-all, take-append-seam, drop-append-seam, drop-drop, take-add, drop-cons, getD-take, getD-drop}
 use borrow.Author.Tests.{ltb-false, le-ltb}
-use Rattle.stored_form.specs.{Number.part, Reading.Reading, Reading.found, Head.StandsAt, Fields.end-refusal}
-use Rattle.stored_form.proofs.Parts.{drop-take}
+use Rattle.stored_form.specs.{Number.part, Reading.Reading, Reading.found, Head.StandsAt, Fields.end-refusal, Fields.ended}
+use Rattle.stored_form.proofs.{Parts.drop-take, Readings.checked-found, Readings.checked-none, Readings.same-found}
 use Rattle.stored_form_theorems.specs.Fields.{Field}
 
 -- a part of a part
@@ -82,15 +82,19 @@ module _ (s : List ℕ) where
       let e : s ≡ bytes = sym (take-all (length bytes) s (omega (arith, h .ends))) ∙ h .stands in
       (e, h .ends ∙ zero-add (length bytes) ∙ ap length (sym e))
 
-  module _ (at : ℕ) where
-    pub end-written : end-refusal s at ≡ 0 → length s ≤ at
-    unfolding end-refusal
-    end-written h = go (ltb at (length s)) refl h
+  module _ {A : Type 0} (a : A) (at : ℕ) where
+    -- what was found at the end, where nothing remains
+    pub end-found : {b : A} {end : ℕ} → ended s a at ≡ found b end → (a ≡ b) × (at ≡ end) × (length s ≤ at)
+    unfolding ended end-refusal
+    end-found e =
+        let c = checked-found (end-refusal s at) (found a at) e in
+        let same = same-found (c .1) in
+        (same .0, same .1, go (ltb at (length s)) refl (c .0))
       where
         go : (b : Bool) → ltb at (length s) ≡ b → _≡_ {A = ℕ} (cond b 112 0) 0 → length s ≤ at
         go true e f = absurd (omega arith)
         go false e f = ltb-false _ _ e
 
-    pub end-read-back : length s ≤ at → end-refusal s at ≡ 0
-    unfolding end-refusal
-    end-read-back h = simp (le-ltb at (length s) h)
+    pub end-read-back : length s ≤ at → ended s a at ≡ found a at
+    unfolding ended end-refusal
+    end-read-back h = checked-none (end-refusal s at) (found a at) (simp (le-ltb at (length s) h))

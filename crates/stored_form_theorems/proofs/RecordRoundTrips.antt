@@ -5,11 +5,11 @@ use mathlib.Core.Path.{_≡_, refl, sym, _∙_, subst, subst₂}
 use mathlib.Core.List.{List, [], _∷_, _++_}
 use native.Mathlib.Nat.{le-refl}
 use lib.ListN.{length}
-use Rattle.stored_form.specs.{Number.Bytes, Reading.found, Fields.end-refusal, Held.nothing-held, Held.read-field, Held.read-fields, Held.ended, Held.read-record, declared.Held.Held}
-use Rattle.stored_form.proofs.Readings.{then-found, both-found, checked-found, checked-none, same-found}
-use Rattle.stored_form_theorems.specs.{Fields.Field, Fields.field-bytes, Records.Leads, Records.none, Records.field, Records.Stored}
+use Rattle.stored_form.specs.{Number.Bytes, Reading.found, Held.nothing-held, Tags.field-bytes, Records.read-field, Records.read-fields, Records.read-record, declared.Held.Held}
+use Rattle.stored_form.proofs.Readings.{then-found, both-found, same-found}
+use Rattle.stored_form_theorems.specs.{Fields.Field, Records.Leads, Records.none, Records.field, Records.Stored}
 use Rattle.stored_form_theorems.proofs.{FieldRoundTrips.field-written, FieldRoundTrips.field-read-back}
-use Rattle.stored_form_theorems.proofs.Places.{behind, apart, up-to, whole, is-whole, end-written, end-read-back}
+use Rattle.stored_form_theorems.proofs.Places.{behind, apart, up-to, whole, is-whole, end-found, end-read-back}
 
 -- ---- fields behind bytes with which the input begins
 
@@ -48,15 +48,14 @@ module _ (s : List ℕ) where
 -- ---- a whole record
 
 pub record-written : (tags s : List ℕ) {h : Held} {end : ℕ} → Bytes s → read-record tags s ≡ found h end → Stored tags h s × (end ≡ length s)
-unfolding read-record ended
+unfolding read-record
 record-written tags s b e =
     let p = both-found _ (read-fields tags nothing-held s 0) e in
-    let q = checked-found (end-refusal s (p .1)) (found (p .0) (p .1)) (p .3) in
-    let same = same-found (q .1) in
+    let q = end-found s (p .0) (p .1) (p .3) in
     let w = begin-written s tags b (p .2) in
-    let all = is-whole s (w .2) (end-written s (p .1) (q .0)) in
-    (subst₂ (λ (l : Held) (x : List ℕ). Leads tags nothing-held [] l x) (same .0) (sym (all .0)) (w .1), sym (same .1) ∙ all .1)
+    let all = is-whole s (w .2) (q .2) in
+    (subst₂ (λ (l : Held) (x : List ℕ). Leads tags nothing-held [] l x) (q .0) (sym (all .0)) (w .1), sym (q .1) ∙ all .1)
 
 pub record-read-back : (tags s : List ℕ) {h : Held} → Stored tags h s → read-record tags s ≡ found h (length s)
-unfolding read-record ended
-record-read-back tags s l = then-found _ (begin-read-back s l (whole s)) ∙ checked-none _ _ (end-read-back s (length s) (le-refl _))
+unfolding read-record
+record-read-back tags s {h} l = then-found _ (begin-read-back s l (whole s)) ∙ end-read-back s h (length s) (le-refl _)

@@ -1,3 +1,3 @@
--- What a field's bytes say of what is held, and records as such fields one behind the other.
+-- What a field's bytes say of what is held, the law of a tag, and records as such fields one behind the other.
 pub mod Fields
 pub mod Records

@@ -1,8 +1,8 @@
 -- Records as fields one behind the other (docs/SPECIFICATION.md, 5).
 use Prim.Native.Nat.{ℕ}
 use mathlib.Core.List.{List, [], _∷_, _++_}
-use Rattle.stored_form.specs.{Held.nothing-held, declared.Held.Held}
-use Rattle.stored_form_theorems.specs.Fields.{field-bytes, Says}
+use Rattle.stored_form.specs.{Held.nothing-held, Tags.field-bytes, declared.Held.Held}
+use Rattle.stored_form_theorems.specs.Fields.{Says}
 
 -- fields with these tags lead from what is held and the bytes before them to what is held and all bytes behind them
 pub data Leads : List ℕ → Held → List ℕ → Held → List ℕ → Type 0 where

@@ -2,7 +2,7 @@
 use borrow.Author.Needs.{needs}
 use mathlib.Core.Path.{_≡_, sym, ap, _∙_}
 use Rattle.stored_form.specs.Reading.{found}
-use Rattle.stored_form.specs.Held.{nothing-held, archive-opening, read-fields, read-of}
+use Rattle.stored_form.specs.{Held.nothing-held, Records.archive-opening, Records.read-fields, Records.read-of}
 use Rattle.stored_form.specs.declared.Held.{Held}
 use Rattle.stored_form.proofs.{Readings.then-found, Readings.then-refused, Readers.place-found, Readers.place-refused-as}
 use Rattle.archive.specs.declared.Due.{Due}

@@ -2,7 +2,7 @@
 use borrow.Author.Needs.{needs}
 use mathlib.Core.Path.{sym}
 use lib.ListN.{List·getD-eq-default}
-use Rattle.stored_form.specs.Held.{archive-opening}
+use Rattle.stored_form.specs.Records.{archive-opening}
 use Rattle.archive.proofs.opening_tag.Statement.{statement}
 use Rattle.archive.proofs.opening_tag.Tie as tie
 

@@ -3,7 +3,7 @@ use borrow.Author.Needs.{needs}
 use Prim.Native.Nat.{ℕ}
 use mathlib.Core.Path.{_≡_, ap, _∙_}
 use lib.ListN.{getD}
-use Rattle.stored_form.specs.Held.{archive-opening, read-field, read-of}
+use Rattle.stored_form.specs.Records.{archive-opening, read-field, read-of}
 use Rattle.stored_form.proofs.Readers.{place-found, place-refused-as}
 use Rattle.archive.specs.Reader.{read-opening, advance-of}
 use Rattle.archive.proofs.ReaderSteps.{step-refused, step-found}

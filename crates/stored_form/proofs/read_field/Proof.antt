@@ -2,7 +2,7 @@
 use borrow.Author.Needs.{needs}
 use mathlib.Core.Path.{_≡_, sym, ap, _∙_}
 use native.Mathlib.Omega.{arith}
-use Rattle.stored_form.specs.{Reading.found, Reading.reading-refusal, Head.head-at, Head.head-read, Held.read-of}
+use Rattle.stored_form.specs.{Reading.found, Reading.reading-refusal, Records.head-at, Records.head-read, Records.read-of}
 use Rattle.stored_form.proofs.{Readings.refused-number, Readers.field-refused, Readers.field-asks, Readers.field-read, Readers.drawing-held}
 use Rattle.stored_form.proofs.read_field.Statement.{statement}
 use Rattle.stored_form.proofs.read_field.Tie as tie
@@ -18,7 +18,7 @@ returns c =
 -- the head that was found
 head : (c : tie.After-known-told) →
     let a = c .before .before .before .before .before .args in
-    head-at (a .tag) (a .s .now) (a .at .at) ≡ found (c .before .f .given .0 .0) (c .before .f .given .0 .1 .0 .at)
+    head-at (a .tag) (a .h) (a .s .now) (a .at .at) ≡ found (c .before .f .given .0 .0) (c .before .f .given .0 .1 .0 .at)
 head c = sym (c .before .before .before .head-at .ensures) ∙ ap head-read (c .before .f .given .1)
 
 add-hold : tie.Need-add-hold

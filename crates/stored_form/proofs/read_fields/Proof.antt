@@ -3,7 +3,7 @@ use borrow.Author.Needs.{needs}
 use Prim.Native.Nat.{_-_}
 use mathlib.Core.Path.{_≡_, refl, sym, ap, _∙_}
 use lib.ListN.{length, drop}
-use Rattle.stored_form.specs.Held.{read-fields, read-of}
+use Rattle.stored_form.specs.Records.{read-fields, read-of}
 use Rattle.stored_form.proofs.Readers.{place-found, place-refused, fields-more, fields-refused, fields-ended}
 use Rattle.stored_form.proofs.read_fields.Statement.{statement}
 use Rattle.stored_form.proofs.read_fields.Tie as tie

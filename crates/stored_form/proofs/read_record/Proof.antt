@@ -2,8 +2,7 @@
 use borrow.Author.Needs.{needs}
 use Prim.Native.Nat.{ℕ}
 use mathlib.Core.Path.{_≡_, sym, ap, _∙_}
-use Rattle.stored_form.specs.Reading.{found, checked}
-use Rattle.stored_form.specs.Held.{nothing-held, read-fields, ended, read-record, read-of}
+use Rattle.stored_form.specs.{Reading.found, Reading.checked, Fields.ended, Held.nothing-held, Records.read-fields, Records.read-record, Records.read-of}
 use Rattle.stored_form.specs.declared.Held.{Held}
 use Rattle.stored_form.proofs.{Readings.then-found, Readings.then-refused, Readers.place-found, Readers.place-refused}
 use Rattle.stored_form.proofs.read_record.Statement.{statement}

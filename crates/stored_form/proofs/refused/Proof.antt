@@ -2,7 +2,7 @@
 use borrow.Author.Needs.{needs}
 use mathlib.Core.Path.{ap}
 use Rattle.stored_form.specs.declared.{Held.Held, Place.the-variants.Refused}
-use Rattle.stored_form.specs.Held.{read-of}
+use Rattle.stored_form.specs.Records.{read-of}
 use Rattle.stored_form.proofs.refused.Statement.{statement}
 use Rattle.stored_form.proofs.refused.Tie as tie
 

@@ -1,7 +1,7 @@
 -- `settled` meets its contract.
 use borrow.Author.Needs.{needs}
 use mathlib.Core.Path.{sym, ap, _∙_}
-use Rattle.stored_form.specs.Held.{read-of}
+use Rattle.stored_form.specs.Records.{read-of}
 use Rattle.stored_form.proofs.Readings.{checked-some, checked-none}
 use Rattle.stored_form.proofs.settled.Statement.{statement}
 use Rattle.stored_form.proofs.settled.Tie as tie

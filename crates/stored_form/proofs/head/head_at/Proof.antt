@@ -9,29 +9,29 @@ use Rattle.stored_form.proofs.head.head_at.Statement.{statement}
 use Rattle.stored_form.proofs.head.head_at.Tie as tie
 
 returns : tie.Need-returns
-returns c = sym (head-102 _ _ _ (omega arith))
+returns c = sym (head-102 _ _ _ _ (omega arith))
 
 returns-2 : tie.Need-returns-2
-returns-2 c = sym (head-103 _ _ _ (omega arith) (c .if2 .taken))
+returns-2 c = sym (head-103 _ _ _ _ (omega arith) (c .if2 .taken))
 
 returns-3 : tie.Need-returns-3
 unfolding body-length
 returns-3 c =
     let len = c .before .before .number-at in
-    sym (head-104 _ _ _ (len .ensures) (omega arith) (c .before .before .before .if2 .left) (sym (c .before .allows .ensures) ∙ not-true _ (c .if3 .taken)))
+    sym (head-104 _ _ _ _ (len .ensures) (omega arith) (c .before .before .before .if2 .left) (sym (c .before .allows .ensures) ∙ not-true _ (c .if3 .taken)))
 
 returns-4 : tie.Need-returns-4
 unfolding body-length
 returns-4 c =
     let len = c .before .before .before .number-at in
-    sym (head-105 _ _ _ (len .ensures) (omega arith) (c .before .before .before .before .if2 .left)
+    sym (head-105 _ _ _ _ (len .ensures) (omega arith) (c .before .before .before .before .if2 .left)
     (sym (c .before .before .allows .ensures) ∙ not-false _ (c .before .if3 .left)) (omega arith))
 
 returns-5 : tie.Need-returns-5
 unfolding body-length
 returns-5 c =
     let len = c .before .before .before .number-at in
-    sym (head-whole _ _ _ (len .ensures) (omega arith) (c .before .before .before .before .if2 .left)
+    sym (head-whole _ _ _ _ (len .ensures) (omega arith) (c .before .before .before .before .if2 .left)
     (sym (c .before .before .allows .ensures) ∙ not-false _ (c .before .if3 .left)) (omega arith))
 
 pub head-at-spec : {M : Type 1} → statement M

@@ -1,0 +1,17 @@
+-- What follows the operations: a reading that tells its refusals (`tail-tells`) and goes onward (`tail-onward`).
+use Prim.Native.Nat.{ℕ, _≤_}
+use mathlib.Core.Path.{_≡_}
+use mathlib.Core.List.{List}
+use native.Mathlib.Omega.{arith}
+use Rattle.stored_form.specs.{Reading.found, Fields.ended}
+use Rattle.stored_form.proofs.{Readings.checked-found, Readings.same-found, ToldApart.Tells, ToldApart.end-tells}
+use Rattle.archive.specs.Archive.{Tail, read-tail}
+
+module _ (s : List ℕ) (at : ℕ) where
+  pub tail-tells : Tells (read-tail s at)
+  unfolding read-tail
+  tail-tells = end-tells s tt at
+
+  pub tail-onward : {t : Tail} {end : ℕ} → read-tail s at ≡ found t end → at ≤ end
+  unfolding read-tail ended
+  tail-onward e = let n = same-found (checked-found _ _ e .1) .1 in omega (arith, n)

@@ -1,0 +1,56 @@
+-- An archive that was read: what stands before its operations, its operations and what follows them (`parts-of`). Its seal and its operations are
+-- classes of its curve (`seal-sound`, `operations-accepted`).
+use Prim.Native.Nat.{ℕ}
+use mathlib.Core.Path.{_≡_, sym, ap, _∙_, subst}
+use mathlib.Core.List.{List, [], _∷_, _++_}
+use Rattle.class_group.specs.Walk.{All}
+use Rattle.jacobian.specs.declared.Class.{Class}
+use Rattle.jacobian.specs.Answer.{Accepts}
+use Rattle.stored_form.specs.{Reading.found, Held.nothing-held, Tags.rules, Records.curve-fields, Records.read-fields, Records.read-operations, Records.archive-opening, declared.Held.Held}
+use Rattle.stored_form.proofs.{Readings.both-found, Readings.same-found, Readers.last-passes}
+use Rattle.stored_form_theorems.proofs.Operations.{operations-sound}
+use Rattle.archive.specs.Archive.{Archive, Tail, read-tail, archive-of, read-archive}
+
+pub record Parts (s : List ℕ) (a : Archive) (end : ℕ) : Type 0 where
+  pub held : Held
+  pub first : ℕ
+  pub operations : List Class
+  pub last : ℕ
+  pub tail : Tail
+  pub opening-read : read-fields archive-opening nothing-held s 0 ≡ found held first
+  pub operations-read : read-operations (held .count) held s first ≡ found operations last
+  pub tail-read : read-tail s last ≡ found tail end
+  pub archive : a ≡ archive-of held operations
+
+module _ (s : List ℕ) {a : Archive} {end : ℕ} (e : read-archive s ≡ found a end) where
+  pub parts-of : Parts s a end
+  unfolding read-archive
+  parts-of =
+      let h = both-found _ (read-fields archive-opening nothing-held s 0) e in
+      let ops = both-found _ (read-operations (h .0 .count) (h .0) s (h .1)) (h .3) in
+      let t = both-found _ (read-tail s (ops .1)) (ops .3) in
+      let same = same-found (t .3) in
+      record {
+        held = h .0;
+        first = h .1;
+        operations = ops .0;
+        last = ops .1;
+        tail = t .0;
+        opening-read = h .2;
+        operations-read = ops .2;
+        tail-read = t .2 ∙ ap (found (t .0)) (same .1);
+        archive = sym (same .0);
+      }
+
+  pub seal-sound : Accepts (a .curve) (a .seal)
+  unfolding rules archive-of
+  seal-sound =
+      let p = parts-of in
+      subst (λ (x : Archive). Accepts (x .curve) (x .seal)) (sym (p .archive))
+      (record { none = last-passes (curve-fields ++ 0x46 ∷ 0x42 ∷ []) 0x43 nothing-held s 0 (p .opening-read) .1 })
+
+  pub operations-accepted : All (Accepts (a .curve)) (a .operations)
+  unfolding archive-of
+  operations-accepted =
+      let p = parts-of in
+      subst (λ (x : Archive). All (Accepts (x .curve)) (x .operations)) (sym (p .archive)) (operations-sound s (p .held .count) (p .held) (p .first) (p .operations-read))

@@ -1,0 +1,33 @@
+-- What follows the operations: what is read of it was written so (`tail-written`), what is written of it is read so (`tail-read-back`), and it is read
+-- through a part of the input that moves on (`tail-after`, `tail-within`).
+use Prim.Native.Nat.{ℕ, _+_, _≤_}
+use mathlib.Core.Path.{_≡_, ap}
+use mathlib.Core.List.{List}
+use native.Mathlib.Omega.{arith}
+use lib.ListN.{length, take, drop, length-take, length-drop}
+use Rattle.stored_form.specs.{Reading.found, Reading.checked, Fields.end-refusal, Fields.ended, Tags.longest-body}
+use Rattle.stored_form_theorems.proofs.Places.{end-found, end-read-back}
+use Rattle.archive.specs.Archive.{Tail, read-tail}
+use Rattle.archive_theorems.specs.Places.{after}
+use Rattle.archive_theorems.proofs.Shifted.{checked-after, same-test}
+
+module _ (s : List ℕ) (at : ℕ) where
+  pub tail-written : {t : Tail} {end : ℕ} → read-tail s at ≡ found t end → (at ≡ end) × (length s ≤ at)
+  unfolding read-tail
+  tail-written e = let f = end-found s tt at e in (f .1, f .2)
+
+  pub tail-read-back : length s ≤ at → read-tail s at ≡ found tt at
+  unfolding read-tail
+  tail-read-back h = end-read-back s tt at h
+
+  -- counted from k bytes before
+  pub tail-after : (k : ℕ) → read-tail s (k + at) ≡ after k (read-tail (drop k s) at)
+  unfolding read-tail ended end-refusal
+  tail-after k =
+      rw (same-test (k + at) (length s) at (length (drop k s)) (λ h. omega (arith, length-drop k s)) (λ h. omega (arith, length-drop k s)))
+      (checked-after k (end-refusal (drop k s) at) tt at)
+
+  -- over m bytes, where a field has room
+  pub tail-within : (m : ℕ) → at + (3 + longest-body) ≤ m → read-tail (take m s) at ≡ read-tail s at
+  unfolding read-tail ended end-refusal
+  tail-within m room = rw (same-test at (length (take m s)) at (length s) (λ h. omega (arith, length-take m s)) (λ h. omega (arith, length-take m s)))

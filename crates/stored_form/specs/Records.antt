@@ -1,0 +1,87 @@
+-- Records as lists of the tags that are due, and how they are read (docs/SPECIFICATION.md, 5 and 6).
+use Prim.Native.Nat.{ℕ, zero, suc, _+_}
+use mathlib.Core.Bool.{not}
+use mathlib.Core.List.{List, [], _∷_, _++_}
+use lib.Dec.{eqb, ltb}
+use lib.ListN.{length, getD}
+use Rattle.jacobian.specs.declared.Class.{Class}
+use Rattle.stored_form.specs.{Number.part, Reading.Reading, Reading.found, Reading.refused, Reading.refuse, Reading.checked, Reading._then_}
+use Rattle.stored_form.specs.{Head.body-length, Fields.ended, Held.nothing-held, Tags.rules}
+use Rattle.stored_form.specs.declared.{Held.Held, Read.Read, Place.Place, head.Head.Head}
+use Rattle.stored_form.specs.declared.Place.the-variants.{Next, Refused}
+use Rattle.stored_form.specs.declared.head.Head.the-variants as head
+
+-- ---- one field
+
+-- the head at a place where a tag is due, after what was read: the body's length and the place after the body
+unfoldable pub head-at : ℕ → Held → List ℕ → ℕ → Reading ℕ
+head-at tag h s at =
+    let n = body-length s at in
+    refuse 102 (ltb (length s) (at + 3))
+    (refuse 103 (not (eqb (getD s at 0) tag))
+    (refuse 104 (not (rules tag .allows h n))
+    (refuse 105 (ltb (length s) (at + 3 + n))
+    (found n (at + 3 + n)))))
+
+-- the body of the field at a place
+unfoldable pub body-at : ℕ → Held → List ℕ → ℕ → Reading (List ℕ)
+body-at tag h s at = head-at tag h s at then λ n next. found (part s (at + 3) n) next
+
+-- the field at a place: what is held with it
+unfoldable pub read-field : ℕ → Held → List ℕ → ℕ → Reading Held
+read-field tag h s at =
+    body-at tag h s at then λ body next.
+    let more = rules tag .hold body h in
+    checked (rules tag .check (length body) more) (found more next)
+
+-- ---- a record: the fields with these tags, one after the other, and nothing after them
+
+unfoldable pub read-fields : List ℕ → Held → List ℕ → ℕ → Reading Held
+read-fields [] h s at = found h at
+read-fields (tag ∷ tags) h s at = read-field tag h s at then λ more next. read-fields tags more s next
+
+unfoldable pub read-record : List ℕ → List ℕ → Reading Held
+read-record tags s = read-fields tags nothing-held s 0 then ended s
+
+-- with which every record begins; a stamp's record has no other
+abbrev pub curve-fields : List ℕ
+curve-fields = 0x40 ∷ 0x41 ∷ []
+
+abbrev pub class-record : List ℕ
+class-record = curve-fields ++ 0x43 ∷ []
+
+abbrev pub sum-record : List ℕ
+sum-record = curve-fields ++ 0x43 ∷ 0x43 ∷ []
+
+abbrev pub register-record : List ℕ
+register-record = curve-fields ++ 0x42 ∷ 0x43 ∷ 0x44 ∷ []
+
+-- what an archive holds before its operations
+abbrev pub archive-opening : List ℕ
+archive-opening = curve-fields ++ 0x46 ∷ 0x42 ∷ 0x43 ∷ []
+
+-- ---- operations: so many 0x44, one after the other, newest first
+
+unfoldable pub read-operations : ℕ → Held → List ℕ → ℕ → Reading (List Class)
+read-operations zero h s at = found [] at
+read-operations (suc n) h s at =
+    read-field 0x44 h s at then λ more next.
+    read-operations n more s next then λ older end.
+    found (more .operation ∷ older) end
+
+-- ---- the answers of the code
+
+-- what each case of a head says
+abbrev pub head-read : Head → Reading ℕ
+head-read (head.Body n next) = found n (next .at)
+head-read (head.Refused n) = refused n
+
+-- what is held, with the place of the next field; nothing on a refusal
+unfoldable pub read-of : Reading Held → Read
+read-of (found h next) = record { place = Next (record { at = next }); held = h }
+read-of (refused n) = record { place = Refused n; held = nothing-held }
+
+-- the number of a refusal, and 0 where there is none
+abbrev pub place-refusal : Place → ℕ
+place-refusal (Next next) = 0
+place-refusal (Refused n) = n

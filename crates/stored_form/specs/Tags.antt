@@ -1,0 +1,90 @@
+-- What each tag is: the lengths of its body, what its body says, its body as it is written, and its check (docs/SPECIFICATION.md, 5 and 6).
+use Prim.Native.Nat.{ℕ, max}
+use mathlib.Core.Bool.{Bool, false, cond}
+use mathlib.Core.List.{List, []}
+use lib.Dec.{eqb, leb}
+use Rattle.jacobian.specs.{Curves.coefficients, Curves.degree-refusal, Curves.curve-refusal, Answer.refusal}
+use Rattle.jacobian.specs.declared.Class.{Class}
+use Rattle.stored_form.specs.{Number.number-of, Number.bytes-of, Elements.element-bytes, Fields.count-refusal, Fields.drawing-refusal}
+use Rattle.stored_form.specs.Head.{degree-length, curve-length, count-length, drawing-limit, class-length, class-limit, stored}
+use Rattle.stored_form.specs.Classes.{curve-said, class-said, class-body}
+use Rattle.stored_form.specs.Held.{drawing-said, drawing-name, curve-of-degree, with-curve, with-drawing, with-count, with-class, with-operation}
+use Rattle.stored_form.specs.declared.Held.{Held}
+
+-- the rules of a tag
+pub record Rules : Type 0 where
+  -- may its body have this length, after what was read?
+  pub allows : Held → ℕ → Bool
+  -- what is held once its body is read
+  pub hold : List ℕ → Held → Held
+  -- its body, by what is held
+  pub body : Held → List ℕ
+  -- the refusal of what is held once a body of this length is read, and 0 where there is none
+  pub check : ℕ → Held → ℕ
+
+-- the degree, 5 or 61
+abbrev pub degree-rules : Rules
+degree-rules = record {
+  allows = λ h n. eqb n degree-length;
+  hold = λ body h. with-curve (curve-of-degree (number-of body)) h;
+  body = λ h. bytes-of degree-length (h .curve .degree);
+  check = λ n h. degree-refusal (h .curve);
+}
+
+-- the curve, over the field whose degree was read
+abbrev pub curve-rules : Rules
+curve-rules = record {
+  allows = λ h n. eqb n curve-length;
+  hold = λ body h. with-curve (curve-said (h .curve .degree) body) h;
+  body = λ h. element-bytes (coefficients (h .curve));
+  check = λ n h. curve-refusal (h .curve);
+}
+
+-- the drawing number
+abbrev pub drawing-rules : Rules
+drawing-rules = record {
+  allows = λ h n. leb n drawing-limit;
+  hold = λ body h. with-drawing (drawing-said body) h;
+  body = λ h. drawing-name (h .drawing);
+  check = λ n h. drawing-refusal (drawing-name (h .drawing));
+}
+
+-- the count of operations
+abbrev pub count-rules : Rules
+count-rules = record {
+  allows = λ h n. eqb n count-length;
+  hold = λ body h. with-count (number-of body) h;
+  body = λ h. bytes-of count-length (h .count);
+  check = λ n h. count-refusal (h .count);
+}
+
+-- a class on the curve that was read, which is held as one value
+abbrev pub class-rules : (Class → Held → Held) → (Held → Class) → Rules
+class-rules with value = record {
+  allows = λ h n. class-length n;
+  hold = λ body h. with (class-said body) h;
+  body = λ h. class-body (value h);
+  check = λ n h. refusal (h .curve) (value h);
+}
+
+-- a byte that is no tag
+abbrev pub no-rules : Rules
+no-rules = record { allows = λ h n. false; hold = λ body h. h; body = λ h. []; check = λ n h. 0 }
+
+unfoldable pub rules : ℕ → Rules
+rules tag =
+    cond (eqb tag 0x40) degree-rules
+    (cond (eqb tag 0x41) curve-rules
+    (cond (eqb tag 0x46) drawing-rules
+    (cond (eqb tag 0x42) count-rules
+    (cond (eqb tag 0x43) (class-rules with-class (λ h. h .class))
+    (cond (eqb tag 0x44) (class-rules with-operation (λ h. h .operation))
+    no-rules)))))
+
+-- the longest body that any tag allows
+abbrev pub longest-body : ℕ
+longest-body = max drawing-limit class-limit
+
+-- the field of a tag, by what is held
+unfoldable pub field-bytes : ℕ → Held → List ℕ
+field-bytes tag h = stored tag (rules tag .body h)
