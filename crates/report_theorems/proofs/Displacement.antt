@@ -11,7 +11,7 @@ use Rattle.stored_form.specs.Reading.{found}
 use Rattle.history.specs.Calls.{walk-back, displaced}
 use Rattle.history.proofs.Displacement.{walk-displacement, walk-moves}
 use Rattle.archive.specs.Archive.{Archive, read-archive}
-use Rattle.report_theorems.proofs.ArchiveWalk.{seal-sound, operations-accepted}
+use Rattle.archive_theorems.proofs.Parts.{seal-sound, operations-accepted}
 
 module _ (s t : List ℕ) {x y : Archive} {end end' : ℕ} (reads : read-archive s ≡ found x end) (reads' : read-archive t ≡ found y end') (curve : y .curve ≡ x .curve)
     (earliest : walk-back (x .curve) (x .seal) (x .operations) ≡ walk-back (y .curve) (y .seal) (y .operations))

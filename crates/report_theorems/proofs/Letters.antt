@@ -18,7 +18,8 @@ use Rattle.history.specs.Register.{undo-seal}
 use Rattle.archive.specs.Archive.{Archive, read-archive}
 use Rattle.walk_report.specs.{Lines.line, Lines.first-line, Walk.seals, Walk.opposed, Walk.neutral, Walk.next-older, Walk.mark, Walk.letter, Walk.letters}
 use Rattle.walk_report.specs.Report.{seal-lines, walk-lines, lines-of, report-lines}
-use Rattle.report_theorems.proofs.{ArchiveWalk.operations-accepted, ReportMade.later-lines, ReportMade.lines-from}
+use Rattle.archive_theorems.proofs.Parts.{operations-accepted}
+use Rattle.report_theorems.proofs.ReportMade.{later-lines, lines-from}
 
 -- ---- the lines, one by one
 

@@ -5,29 +5,24 @@ use mathlib.Core.List.{List, [], _∷_}
 use native.Mathlib.Omega.{arith}
 use lib.ListN.{length}
 use Rattle.jacobian.specs.{Answer.Accepts, Answer.Result, Answer.neutral-class, Answer.subtract-and-halve-answer, declared.Curve.Curve, declared.Class.Class}
-use Rattle.stored_form.specs.{Reading.Reading, Reading.found, Reading.refused, Reading._then_, Reading.reading-refusal, Classes.class-at}
-use Rattle.stored_form.specs.{Held.drawing-name, Held.nothing-held, Held.with-operation, Held.read-fields, Held.archive-opening, declared.Held.Held}
-use Rattle.stored_form.proofs.{Readings.found-not-refused, Readings.then-found, FieldReadings.read-operation}
+use Rattle.stored_form.specs.{Reading.Reading, Reading.found, Reading.refused, Reading._then_, Reading.reading-refusal, Held.drawing-name, Held.nothing-held, Held.with-operation}
+use Rattle.stored_form.specs.{Records.read-field, Records.read-fields, Records.read-operations, Records.archive-opening, declared.Held.Held}
+use Rattle.stored_form.proofs.{Readings.found-not-refused, Readings.then-found, Readers.operation-held}
+use Rattle.stored_form_theorems.proofs.Operations.{newest, no-operations, operation-sound, operations-counted}
 use Rattle.history.specs.Register.{undo-seal}
 use Rattle.history.proofs.Seals.{undo-sound}
-use Rattle.archive.specs.{Archive.Archive, Archive.operations-at, Archive.read-archive, Archive.archive-refusal, Reader.reader, Reader.operations-due, Reader.step, Reader.opening, declared.Reader.Reader}
+use Rattle.archive.specs.{Archive.Archive, Archive.archive-of, Archive.read-archive, Archive.archive-refusal, Reader.reader, Reader.operations-due, Reader.step, Reader.opening, declared.Reader.Reader}
 use Rattle.archive.specs.Reader as reading
 use Rattle.archive.specs.declared.Due.the-variants as due
 use Rattle.archive.proofs.ToldApart.{archive-found}
-use Rattle.archive_theorems.proofs.Operations.{newest, no-operations, opening-of}
+use Rattle.archive_theorems.proofs.Parts.{parts-of, seal-sound}
 use Rattle.class_group.specs.Walk.{walk}
 use Rattle.walk_report.specs.{Lines.line, Lines.first-line, Lines.refusal-line, Walk.seals, Walk.next-older, Walk.letter, Walk.letters, Report.seal-lines, Report.walk-lines, Report.lines-of, Report.report-lines}
 use Rattle.walk_report.specs.Steps.{report-at, with-stage, with-seal, moved, older, held-next, advanced-by, advanced, letter-before, undone, next-of, next-line, refused-report, first-report, opened-by, opened, lines-left, texts}
 use Rattle.walk_report.proofs.LinesLeft.{due-older}
-use Rattle.report_theorems.proofs.ArchiveWalk.{class-sound, step-is, seal-sound}
+use Rattle.report_theorems.proofs.ArchiveWalk.{step-is}
 use Rattle.walk_report.specs.declared.{Stage.Stage, Report.Report, Moved.Moved}
 use Rattle.walk_report.specs.declared.Stage.the-variants.{First, Last, Undo, Over}
-
-operations-counted : (n : ℕ) (c : Curve) (s : List ℕ) (at : ℕ) {ops : List Class} {end : ℕ} → operations-at n c s at ≡ found ops end → length ops ≡ n
-operations-counted zero c s at e = ap length (no-operations c s at e)
-operations-counted (suc n) c s at e =
-    let m = newest c s at n e in
-    ap length (m .all) ∙ ap suc (operations-counted n c s (m .next) (m .rest))
 
 -- ---- the report's lines, behind the one of a seal
 
@@ -48,14 +43,14 @@ module _ (s : List ℕ) where
   unfolding advanced advanced-by operations-due
   advanced-none stage h seal b at = refl
 
-  advanced-more : (n : ℕ) (stage : Stage) (h : Held) (seal b : Class) (at : ℕ) {a : Class} {next : ℕ} → class-at 0x44 (h .curve) s at ≡ found a next →
-      advanced (report-at stage (reader (operations-due (suc n)) h) seal b) s at ≡ moved (report-at Undo (reader (operations-due n) (with-operation a h)) seal a) next
+  advanced-more : (n : ℕ) (stage : Stage) (h : Held) (seal b : Class) (at : ℕ) {more : Held} {next : ℕ} → read-field 0x44 h s at ≡ found more next →
+      advanced (report-at stage (reader (operations-due (suc n)) h) seal b) s at ≡ moved (report-at Undo (reader (operations-due n) more) seal (more .operation)) next
   unfolding advanced advanced-by operations-due step reading.read-operation held-next _then_
-  advanced-more n stage h seal b at {a} {next} e =
+  advanced-more n stage h seal b at {more} {next} e =
       let r : Report = report-at stage (reader (due.Operations (suc n)) h) seal b in
       let less : suc n - 1 ≡ n = omega arith in
-      ap (λ (x : Reading Held). held-next r at (x then λ more next. found (reader (operations-due (suc n - 1)) more) next)) (read-operation h s at ∙ then-found _ e)
-      ∙ ap (λ (k : ℕ). moved (report-at Undo (reader (operations-due k) (with-operation a h)) seal a) next) less
+      ap (λ (x : Reading Held). held-next r at (x then λ more next. found (reader (operations-due (suc n - 1)) more) next)) e
+      ∙ ap (λ (k : ℕ). moved (report-at Undo (reader (operations-due k) more) seal (more .operation)) next) less
 
   -- another seal is carried along
   held-seal : (seal : Class) (r : Report) (at : ℕ) (x : Reading Reader) →
@@ -74,19 +69,19 @@ module _ (s : List ℕ) where
       go (suc n) = held-seal seal r at (step (r .reader) s at)
 
   -- the letter of an operation, by those that are still to be read
-  letter-is : (n : ℕ) (h : Held) (seal a b : Class) (stage : Stage) (at : ℕ) {ops : List Class} {end : ℕ} → operations-at n (h .curve) s at ≡ found ops end →
+  letter-is : (n : ℕ) (h : Held) (seal a b : Class) (stage : Stage) (at : ℕ) {ops : List Class} {end : ℕ} → read-operations n h s at ≡ found ops end →
       letter-before (h .curve) a (advanced (report-at stage (reader (operations-due n) h) seal b) s at .report) ≡ letter (h .curve) a ops
   unfolding letter next-older
   letter-is zero h seal a b stage at e =
       ap (λ (m : Moved). letter-before (h .curve) a (m .report)) (advanced-none stage h seal b at)
-      ∙ ap (letter (h .curve) a) (sym (no-operations (h .curve) s at e))
+      ∙ ap (letter (h .curve) a) (sym (no-operations h s at e))
   letter-is (suc n) h seal a b stage at e =
-      let m = newest (h .curve) s at n e in
+      let m = newest h s at n e in
       ap (λ (m : Moved). letter-before (h .curve) a (m .report)) (advanced-more n stage h seal b at (m .this))
       ∙ ap (letter (h .curve) a) (sym (m .all))
 
   -- an undo's line, and those behind it
-  undo-made : (n : ℕ) (h : Held) (seal a : Class) (at k : ℕ) {before : Class} {ops : List Class} {end : ℕ} → operations-at n (h .curve) s at ≡ found ops end →
+  undo-made : (n : ℕ) (h : Held) (seal a : Class) (at k : ℕ) {before : Class} {ops : List Class} {end : ℕ} → read-operations n h s at ≡ found ops end →
       h .count ≡ k + suc n → subtract-and-halve-answer (h .curve) seal a .class ≡ before →
       let m = advanced (report-at Undo (reader (operations-due n) h) before a) s at in
       texts (suc n) (report-at Undo (reader (operations-due n) h) seal a) s at ≡ line (k + 1) (letter (h .curve) a ops) before ∷ texts n (m .report) s (m .next .at)
@@ -104,24 +99,27 @@ module _ (s : List ℕ) where
 
   -- all lines behind the one of a seal
 
-  walk-made : (n : ℕ) (stage : Stage) (h : Held) (seal b : Class) (at k : ℕ) {ops : List Class} {end : ℕ} → operations-at n (h .curve) s at ≡ found ops end →
+  walk-made : (n : ℕ) (stage : Stage) (h : Held) (seal b : Class) (at k : ℕ) {ops : List Class} {end : ℕ} → read-operations n h s at ≡ found ops end →
       h .count ≡ k + n → Accepts (h .curve) seal →
       let m = advanced (report-at stage (reader (operations-due n) h) seal b) s at in texts n (m .report) s (m .next .at) ≡ later-lines (h .curve) k seal ops
   unfolding texts later-lines letters
-  walk-made zero stage h seal b at k e counted hs = ap (later-lines (h .curve) k seal) (sym (no-operations (h .curve) s at e))
+  walk-made zero stage h seal b at k e counted hs = ap (later-lines (h .curve) k seal) (sym (no-operations h s at e))
   walk-made (suc n) stage h seal b at k e counted hs =
       let c : Curve = h .curve in
-      let m = newest c s at n e in
-      let a : Class = m .class in
+      let m = newest h s at n e in
+      let a : Class = m .held .operation in
       let ops : List Class = m .older in
       let next : ℕ = m .next in
-      let ha = class-sound 0x44 c s at (m .this) in
+      let ha : Accepts c a = operation-sound h s at (m .this) in
       let before : Class = undo-seal c seal a in
       let more : Held = with-operation a h in
-      ap (λ (x : Moved). texts (suc n) (x .report) s (x .next .at)) (advanced-more n stage h seal b at (m .this))
-      ∙ undo-made n more seal a next k (m .rest) counted (ap (λ (x : Result). x .class) (step-is hs ha))
+      let is : m .held ≡ more = operation-held h s at (m .this) in
+      let rest : read-operations n more s next ≡ found ops _ = ap (λ (x : Held). read-operations n x s next) (sym is) ∙ m .rest in
+      ap (λ (x : Moved). texts (suc n) (x .report) s (x .next .at))
+      (advanced-more n stage h seal b at (m .this) ∙ ap (λ (x : Held). moved (report-at Undo (reader (operations-due n) x) seal a) next) is)
+      ∙ undo-made n more seal a next k rest counted (ap (λ (x : Result). x .class) (step-is hs ha))
       ∙ ap (λ (l : List (List ℕ)). line (k + 1) (letter c a ops) before ∷ l)
-      (walk-made n Undo more before a next (k + 1) (m .rest) (omega (arith, counted)) (undo-sound hs ha))
+      (walk-made n Undo more before a next (k + 1) rest (omega (arith, counted)) (undo-sound hs ha))
       ∙ sym (lines-from c (k + 1) (letter c a ops) before ops)
       ∙ ap (later-lines c k seal) (sym (m .all))
 
@@ -144,14 +142,14 @@ module _ (s : List ℕ) where
       ap (λ (j : ℕ). first-line (h .count) (drawing-name (h .drawing)) ∷ line 0 0x2E seal ∷ texts j (m .report) s (m .next .at)) (due-older n)
 
   accepted-made : {a : Archive} {end : ℕ} → read-archive s ≡ found a end → texts (lines-left (opened s .report)) (opened s .report) s (opened s .next .at) ≡ walk-lines a
-  unfolding walk-lines archive-refusal
+  unfolding walk-lines archive-refusal archive-of
   accepted-made {a} e =
-      let p = opening-of s e in
+      let p = parts-of s e in
       let h : Held = p .held in
       let c : Curve = h .curve in
       let ops : List Class = p .operations in
       let hs : Accepts c (h .class) = subst (λ (x : Archive). Accepts (x .curve) (x .seal)) (p .archive) (seal-sound s e) in
-      let counted = operations-counted (h .count) c s (p .first) (p .operations-read) in
+      let counted = operations-counted s (h .count) h (p .first) (p .operations-read) in
       ap (λ (m : Moved). texts (lines-left (m .report)) (m .report) s (m .next .at)) (opened-first (ap reading-refusal e) (p .opening-read))
       ∙ first-made (h .count) h (h .class) neutral-class (p .first)
       ∙ ap (λ (l : List (List ℕ)). first-line (h .count) (drawing-name (h .drawing)) ∷ line 0 0x2E (h .class) ∷ l)

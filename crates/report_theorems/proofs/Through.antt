@@ -3,12 +3,10 @@
 use Prim.Native.Nat.{ℕ, zero, suc, _+_, _-_, _≤_}
 use mathlib.Core.Path.{_≡_, refl, sym, ap, _∙_}
 use mathlib.Core.List.{List}
-use native.Mathlib.Omega.{arith}
 use lib.ListN.{length}
-use Rattle.stored_form.specs.{Number.part, Head.longest-body, Reading.Reading, Reading.found, Reading.refused}
+use Rattle.stored_form.specs.{Number.part, Tags.longest-body, Reading.Reading, Reading.found, Reading.refused}
 use Rattle.jacobian.specs.Answer.{subtract-and-halve-answer}
-use Rattle.archive.specs.{Reader.step, declared.Due.Due, declared.Reader.Reader}
-use Rattle.archive.specs.declared.Due.the-variants.{End}
+use Rattle.archive.specs.{Reader.step, declared.Reader.Reader}
 use Rattle.archive_theorems.specs.Places.{after}
 use Rattle.archive_theorems.proofs.Windows.{step-through, step-last}
 use Rattle.walk_report.specs.declared.{Stage.Stage, Report.Report, Moved.Moved}
@@ -21,20 +19,17 @@ unfolding held-next after
 held-after k at r (found reader next) = refl
 held-after k at r (refused n) = refl
 
-none-at-end : (d : Due) (n : ℕ) → older d ≡ suc n → d ≡ End → ⊥
-none-at-end d n e f = omega (arith, sym e ∙ ap older f)
-
 module _ (k : ℕ) (s t : List ℕ) (at : ℕ) where
   -- where a step over the part is the step over the whole input
-  module _ (r : Report) (same : (r .reader .due ≡ End → ⊥) → step (r .reader) s (k + at) ≡ after k (step (r .reader) t at)) where
-    by-after : (n : ℕ) → older (r .reader .due) ≡ n → advanced-by n r s (k + at) ≡ moved-after k (advanced-by n r t at)
+  module _ (r : Report) (same : step (r .reader) s (k + at) ≡ after k (step (r .reader) t at)) where
+    by-after : (n : ℕ) → advanced-by n r s (k + at) ≡ moved-after k (advanced-by n r t at)
     unfolding advanced-by
-    by-after zero e = refl
-    by-after (suc n) e = ap (held-next r (k + at)) (same (none-at-end (r .reader .due) n e)) ∙ held-after k at r (step (r .reader) t at)
+    by-after zero = refl
+    by-after (suc n) = ap (held-next r (k + at)) same ∙ held-after k at r (step (r .reader) t at)
 
     advanced-after : advanced r s (k + at) ≡ moved-after k (advanced r t at)
     unfolding advanced
-    advanced-after = by-after (older (r .reader .due)) refl
+    advanced-after = by-after (older (r .reader .due))
 
     stage-after : (g : Stage) → next-of g r s (k + at) ≡ next-after k (next-of g r t at)
     unfolding next-of undone
@@ -56,7 +51,7 @@ module _ (k : ℕ) (s t : List ℕ) (at : ℕ) where
 
 module _ (k m : ℕ) (s : List ℕ) (at : ℕ) (r : Report) where
   pub line-through : at + (3 + longest-body) ≤ m → next-line r s (k + at) ≡ next-after k (next-line r (part s k m) at)
-  line-through room = line-after k s (part s k m) at r (λ none. step-through k m s at (r .reader) room none)
+  line-through room = line-after k s (part s k m) at r (step-through k m s at (r .reader) room)
 
   pub line-last : length s ≤ k + m → next-line r s (k + at) ≡ next-after k (next-line r (part s k m) at)
-  line-last h = line-after k s (part s k m) at r (λ none. step-last k m s at (r .reader) h)
+  line-last h = line-after k s (part s k m) at r (step-last k m s at (r .reader) h)

@@ -5,7 +5,7 @@ use mathlib.Core.Bool.{true, true≢false}
 use mathlib.Core.List.{List}
 use native.Mathlib.Omega.{arith}
 use Rattle.jacobian.specs.declared.Class.{Class}
-use Rattle.stored_form.specs.{Reading.Reading, Reading.found, Reading.refused, Reading._then_, Held.read-field, declared.Held.Held}
+use Rattle.stored_form.specs.{Reading.Reading, Reading.found, Reading.refused, Reading._then_, Records.read-field, declared.Held.Held}
 use Rattle.archive.specs.{Reader.reader, Reader.operations-due, Reader.step, declared.Due.Due, declared.Reader.Reader}
 use Rattle.archive.specs.Reader as reading
 use Rattle.archive.specs.declared.Due.the-variants as due

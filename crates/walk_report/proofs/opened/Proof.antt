@@ -5,7 +5,7 @@ use Prim.Native.Nat.{ℕ}
 use Rattle.jacobian.specs.declared.Class.{Class}
 use Rattle.archive.specs.Reader.{opening}
 use Rattle.archive.proofs.ReaderSteps.{advance-found, advance-refused}
-use Rattle.stored_form.specs.Held.{place-refusal}
+use Rattle.stored_form.specs.Records.{place-refusal}
 use Rattle.walk_report.specs.Steps.{report-at, moved, refused-report, first-report, opened-by, opened}
 use Rattle.walk_report.specs.declared.Stage.the-variants.{First}
 use Rattle.walk_report.proofs.Advances.{opened-first, opened-refused}
