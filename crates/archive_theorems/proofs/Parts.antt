@@ -2,12 +2,12 @@
 -- classes of its curve (`seal-sound`, `operations-accepted`).
 use Prim.Native.Nat.{ℕ}
 use mathlib.Core.Path.{_≡_, sym, ap, _∙_, subst}
-use mathlib.Core.List.{List, [], _∷_, _++_}
+use mathlib.Core.List.{List}
 use Rattle.class_group.specs.Walk.{All}
 use Rattle.jacobian.specs.declared.Class.{Class}
 use Rattle.jacobian.specs.Answer.{Accepts}
-use Rattle.stored_form.specs.{Reading.found, Held.nothing-held, Tags.rules, Records.curve-fields, Records.read-fields, Records.read-operations, Records.archive-opening, declared.Held.Held}
-use Rattle.stored_form.proofs.{Readings.both-found, Readings.same-found, Readers.last-passes}
+use Rattle.stored_form.specs.{Reading.found, Held.nothing-held, Tags.rules, Records.read-fields, Records.read-operations, Records.archive-opening, declared.Held.Held}
+use Rattle.stored_form.proofs.{Readings.both-found, Readings.same-found, Passing.Holds, Passing.fields-hold}
 use Rattle.stored_form_theorems.proofs.Operations.{operations-sound}
 use Rattle.archive.specs.Archive.{Archive, Tail, read-tail, archive-of, read-archive}
 
@@ -43,11 +43,11 @@ module _ (s : List ℕ) {a : Archive} {end : ℕ} (e : read-archive s ≡ found 
       }
 
   pub seal-sound : Accepts (a .curve) (a .seal)
-  unfolding rules archive-of
+  unfolding Holds rules archive-of
   seal-sound =
       let p = parts-of in
       subst (λ (x : Archive). Accepts (x .curve) (x .seal)) (sym (p .archive))
-      (record { none = last-passes (curve-fields ++ 0x46 ∷ 0x42 ∷ []) 0x43 nothing-held s 0 (p .opening-read) .1 })
+      (fields-hold (λ h. Accepts (h .curve) (h .class)) s archive-opening nothing-held 0 (λ d _ c _ name _ n _ a e. record { none = e }) (p .opening-read))
 
   pub operations-accepted : All (Accepts (a .curve)) (a .operations)
   unfolding archive-of

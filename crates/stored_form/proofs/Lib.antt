@@ -7,6 +7,7 @@ pub mod Parts
 pub mod Stores
 pub mod DrawingBytes
 pub mod Readers
+pub mod Passing
 pub mod Items
 pub mod ElementBytes
 pub mod ClassBytes

@@ -167,13 +167,3 @@ unfolding read-fields _then_
 fields-append [] ys h s at = refl
 fields-append (tag ∷ xs) ys h s at =
     then-same _ (read-field tag h s at) (λ more next. fields-append xs ys more s next) ∙ sym (then-assoc (read-field tag h s at) _ _)
-
--- what is held after the last field passes that field's check
-pub last-passes : (tags : List ℕ) (tag : ℕ) (h : Held) (s : List ℕ) (at : ℕ) {m : Held} {end : ℕ} → read-fields (tags ++ tag ∷ []) h s at ≡ found m end →
-    (n : ℕ) × (rules tag .check n m ≡ 0)
-unfolding read-fields
-last-passes tags tag h s at e =
-    let p = both-found _ (read-fields tags h s at) (sym (fields-append tags (tag ∷ []) h s at) ∙ e) in
-    let q = both-found _ (read-field tag (p .0) s (p .1)) (p .3) in
-    let f = field-found tag (p .0) s (p .1) (q .2) in
-    (length (f .body), ap (rules tag .check (length (f .body))) (sym (same-found (q .3) .0)) ∙ f .passes)

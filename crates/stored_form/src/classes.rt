@@ -39,11 +39,11 @@ fn row_at(s: &[u8], at: usize, n: usize) -> [u64; 3]
     if n == 1 {
         return [a, 0, 0];
     }
-    let b = numbers::number_at(s, at + 8, ELEMENT_LENGTH);
+    let b = numbers::number_at(s, at + ELEMENT_LENGTH, ELEMENT_LENGTH);
     if n == 2 {
         return [b, a, 0];
     }
-    let c = numbers::number_at(s, at + 16, ELEMENT_LENGTH);
+    let c = numbers::number_at(s, at + 2 * ELEMENT_LENGTH, ELEMENT_LENGTH);
     [c, b, a]
 }
 
@@ -52,9 +52,9 @@ pub(crate) fn class_of(s: &[u8], at: usize, len: usize) -> Class
     requires { ⌜ (class-length len ≡ true) × (at + len ≤ length (now s)) ⌝ }
     ensures { λ r. ⌜ r ≡ class-said (part (now (s .entry)) at len) ⌝ }
 {
-    let n = len / 16;
+    let n = len / (2 * ELEMENT_LENGTH);
     let u = row_at(s, at, n);
-    let v = row_at(s, at + 8 * n, n);
+    let v = row_at(s, at + ELEMENT_LENGTH * n, n);
     Class {
         degree: n as u64,
         u,

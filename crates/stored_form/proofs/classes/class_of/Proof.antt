@@ -19,4 +19,4 @@ returns c =
     (c .before .row-at .ensures) (c .row-at2 .ensures)
 
 pub class-of-spec : {M : Type 1} → statement M
-class-of-spec = tie.close (tie.spec row-at-requires (λ c. search needs) (λ c. search needs) row-at-requires-2 returns)
+class-of-spec = tie.close (tie.spec (λ c. search needs) (λ c. search needs) row-at-requires (λ c. search needs) (λ c. search needs) row-at-requires-2 returns)

@@ -41,5 +41,6 @@ row-at-spec =
     (λ c κs. search needs)
     returns-3
     (λ c. search needs)
+    (λ c. search needs)
     (λ c κs. search needs)
     returns-4)
