@@ -15,7 +15,6 @@ ghost use Prim.Native.Nat.{_≤_};
 use history::Register;
 use history::RegisterAnswer;
 use jacobian::Class;
-use jacobian::Curve;
 use jacobian::Outcome;
 use text::Line;
 
@@ -38,12 +37,7 @@ fn class(record: &[u8; 146], place: u8) -> Class
 
 // The register that a record starts.
 fn started(record: &[u8; 146]) -> Register {
-    let curve = Curve {
-        degree: record[1],
-        f3: trial_text::number(record, 0),
-        f1: trial_text::number(record, 1),
-        f0: trial_text::number(record, 2),
-    };
+    let curve = jacobian::curves::curve_with(record[1], trial_text::row(record, 0));
     Register {
         curve,
         count: trial_text::number(record, 3),
@@ -89,11 +83,8 @@ fn register_text(register: Register) -> Line {
     let curve = register.curve;
     let seal = register.seal;
     let degree = text::with_decimal(text::empty(), curve.degree as u64);
-    let row = text::with_row(
-        text::with_byte(degree, b' '),
-        3,
-        [curve.f0, curve.f1, curve.f3],
-    );
+    let cs = jacobian::curves::coefficients(curve);
+    let row = text::with_row(text::with_byte(degree, b' '), 3, [cs[2], cs[1], cs[0]]);
     let count = text::with_decimal(text::with_byte(row, b' '), register.count);
     with_class(text::with_byte(count, b' '), seal, 3)
 }
@@ -132,12 +123,7 @@ fn next_record(register: Register) -> Turn {
 
 // The register before the first start; its degree is none, so that every call refuses it.
 fn unset() -> Register {
-    let curve = Curve {
-        degree: 0,
-        f3: 0,
-        f1: 0,
-        f0: 0,
-    };
+    let curve = jacobian::curves::curve_with(0, [0; jacobian::curves::COEFFICIENTS]);
     Register {
         curve,
         count: 0,
