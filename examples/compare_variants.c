@@ -10,9 +10,9 @@
  * is y^2 + y = x^7 + 1 over GF(2^61), and three of the operations are those of examples/seal_model.c. What it prints is
  * in examples/compare_variants.txt.
  */
+#include "example.h"
 #include "seal.h"
 
-#include <inttypes.h>
 #include <stdio.h>
 #include <stdlib.h>
 #include <string.h>
@@ -24,13 +24,6 @@
 struct stored {
     uint8_t bytes[SEAL_REGISTER_OUTPUT];
     size_t length;
-};
-
-static const uint8_t curve[] = {
-    SEAL_TAG_DEGREE, 0, 1,  61,                      /* GF(2^61) */
-    SEAL_TAG_CURVE,  0, 24, 0, 0, 0, 0, 0, 0, 0, 0,  /* f3 = 0 */
-    0,               0, 0,  0, 0, 0, 0, 0,           /* f1 = 0 */
-    0,               0, 0,  0, 0, 0, 0, 1,           /* f0 = 1 */
 };
 
 static const struct stored nothing = {{0}, 0};
@@ -74,8 +67,9 @@ static struct stored sealed(const struct stored operations[OPERATIONS]) {
         operation.bytes[0] = SEAL_TAG_OPERATION;
         model = made(seal_commit, &model, &operation);
     }
-    seal.length = model.length - 5;
-    memcpy(seal.bytes, model.bytes + 5, seal.length);
+    const uint8_t *seal_at = next_field(model.bytes);
+    seal.length = HEAD + body_length(seal_at);
+    memcpy(seal.bytes, seal_at, seal.length);
     return seal;
 }
 
@@ -84,17 +78,9 @@ static int same(const struct stored *first, const struct stored *second) {
     return first->length == second->length && memcmp(first->bytes, second->bytes, first->length) == 0;
 }
 
-/* A class as the walk report writes it: the degree, u below its leading term and v, highest power first. */
-static void print_class(const char *what, const struct stored *field) {
-    unsigned degree = field->bytes[2] / 16;
-    printf("%-16s %u", what, degree);
-    for (unsigned i = 0; i < 2 * degree; i++) {
-        uint64_t coefficient = 0;
-        for (unsigned j = 0; j < 8; j++)
-            coefficient = coefficient << 8 | field->bytes[3 + 8 * i + j];
-        printf("%c%" PRIx64, i % degree == 0 ? ':' : ',', coefficient);
-    }
-    puts(degree == 0 ? "::" : "");
+static void print(const char *what, const struct stored *field) {
+    printf("%-16s ", what);
+    print_stored_class(field->bytes);
 }
 
 static int say_same(const char *what, const struct stored *first, const struct stored *second) {
@@ -113,15 +99,15 @@ int main(void) {
     second[CHANGED - 1] = wider_bend;
 
     struct stored first_seal = sealed(first), second_seal = sealed(second);
-    print_class("first variant", &first_seal);
-    print_class("second variant", &second_seal);
+    print("first variant", &first_seal);
+    print("second variant", &second_seal);
 
     /* How far the change moves the seal. */
     struct stored minus_bend = made(seal_opposite, &bend, &nothing), by = sum(&wider_bend, &minus_bend);
-    print_class("the change", &by);
+    print("the change", &by);
     for (int i = CHANGED; i < OPERATIONS; i++) {
         by = made(seal_double, &by, &nothing);
-        print_class("doubled", &by);
+        print("doubled", &by);
     }
     struct stored moved = sum(&first_seal, &by);
     int all = say_same("the first variant's seal plus that, and the second's seal", &moved, &second_seal);

@@ -8,41 +8,23 @@
  * The curve is y^2 + y = x^7 + 1 over GF(2^61), the class that of the first operation of examples/seal_model.c. What it
  * prints without numbers of its own is in examples/licence_numbers.txt.
  */
+#include "example.h"
 #include "seal_licence.h"
 
-#include <inttypes.h>
-#include <stdio.h>
 #include <stdlib.h>
 #include <string.h>
 
 /* How often the class is doubled and halved again. */
 #define TIMES 40
 
-/* The curve takes the first 31 bytes of a record, the class the rest. */
-#define CURVE 31
-
-static const uint8_t record[] = {
-    SEAL_TAG_DEGREE, 0, 1, 61,                       /* GF(2^61) */
-    SEAL_TAG_CURVE, 0, 24, 0, 0, 0, 0, 0, 0, 0, 0,   /* f3 = 0 */
-    0, 0, 0, 0, 0, 0, 0, 0,                          /* f1 = 0 */
-    0, 0, 0, 0, 0, 0, 0, 1,                          /* f0 = 1 */
+static const uint8_t class_field[] = {
     SEAL_TAG_CLASS, 0, 16,                           /* of degree 1 */
     0x16, 0xbb, 0x3a, 0x04, 0x12, 0x5e, 0x49, 0x06,  /* u = x + u0 */
     0x15, 0x8e, 0x92, 0xd5, 0x9d, 0xfa, 0x96, 0xf6,  /* v = v0 */
 };
 
-/* A class as the walk report writes it: the degree, u below its leading term and v, highest power first. */
-static void print_class(const uint8_t *field) {
-    unsigned degree = field[2] / 16;
-    printf("%u", degree);
-    for (unsigned i = 0; i < 2 * degree; i++) {
-        uint64_t coefficient = 0;
-        for (unsigned j = 0; j < 8; j++)
-            coefficient = coefficient << 8 | field[3 + 8 * i + j];
-        printf("%c%" PRIx64, i % degree == 0 ? ':' : ',', coefficient);
-    }
-    puts(degree == 0 ? "::" : "");
-}
+/* The record of a call: the curve, then the class. */
+static uint8_t record[sizeof curve + sizeof class_field];
 
 static void print_multiple(uint64_t n) {
     uint8_t field[SEAL_LICENCE_OUTPUT];
@@ -51,23 +33,26 @@ static void print_multiple(uint64_t n) {
     if (SEAL_IS_REFUSAL(answer))
         printf("refused %u\n", (unsigned)answer);
     else
-        print_class(field);
+        print_stored_class(field);
 }
 
-/* Is the class found again where 2^TIMES times it is halved TIMES times? The field that a call writes is, with the curve
- * before it, the record of the next call. */
+/* Is the class found again where 2^TIMES times it is halved TIMES times? The field that a call writes is, with the
+ * curve before it, the record of the next call. */
 static int comes_back(void) {
-    uint8_t there[CURVE + SEAL_LICENCE_OUTPUT], back[SEAL_LICENCE_OUTPUT];
-    memcpy(there, record, CURVE);
-    uint32_t answer = seal_multiple(record, sizeof record, (uint64_t)1 << TIMES, there + CURVE, SEAL_LICENCE_OUTPUT);
+    uint8_t there[sizeof curve + SEAL_LICENCE_OUTPUT], back[SEAL_LICENCE_OUTPUT];
+    memcpy(there, curve, sizeof curve);
+    uint32_t answer =
+        seal_multiple(record, sizeof record, (uint64_t)1 << TIMES, there + sizeof curve, SEAL_LICENCE_OUTPUT);
     if (SEAL_IS_REFUSAL(answer))
         return 0;
-    answer = seal_halvings(there, CURVE + answer, TIMES, back, sizeof back);
-    return answer == sizeof record - CURVE && memcmp(back, record + CURVE, answer) == 0;
+    answer = seal_halvings(there, sizeof curve + answer, TIMES, back, sizeof back);
+    return answer == sizeof class_field && memcmp(back, class_field, answer) == 0;
 }
 
 int main(int words, char **word) {
     static const uint64_t numbers[] = {0, 1, 2, 3, 5, SEAL_MULTIPLE_LIMIT - 1, SEAL_MULTIPLE_LIMIT};
+    memcpy(record, curve, sizeof curve);
+    memcpy(record + sizeof curve, class_field, sizeof class_field);
     if (words > 1)
         for (int i = 1; i < words; i++)
             print_multiple(strtoull(word[i], NULL, 10));

@@ -8,10 +8,8 @@
  * The curve is y^2 + y = x^7 + 1 over GF(2^61); the operations are those of examples/seal_model.c. What it prints is
  * in examples/register_session.txt.
  */
+#include "example.h"
 #include "seal_register.h"
-
-#include <inttypes.h>
-#include <stdio.h>
 
 #define OPERATIONS 3
 
@@ -22,19 +20,9 @@ static const struct seal_class operations[OPERATIONS] = {
     {1, {UINT64_C(0x11715c663bf5481c), 0, 0}, {UINT64_C(0x7e39414516309a0), 0, 0}},
 };
 
-/* A class as the walk report writes it: the degree, u below its leading term and v, highest power first. */
-static void print_class(const struct seal_class *a) {
-    printf("%" PRIu64, a->degree);
-    for (uint64_t i = a->degree; i-- > 0;)
-        printf("%c%" PRIx64, i + 1 == a->degree ? ':' : ',', a->u[i]);
-    for (uint64_t i = a->degree; i-- > 0;)
-        printf("%c%" PRIx64, i + 1 == a->degree ? ':' : ',', a->v[i]);
-    puts(a->degree == 0 ? "::" : "");
-}
-
 static void print_register(const char *what, uint32_t answer, const struct seal_register *model) {
     printf("%-10s %3" PRIu32 " %2" PRIu64 " ", what, answer, model->count);
-    print_class(&model->seal);
+    print_class(model->seal.degree, model->seal.u, model->seal.v);
 }
 
 int main(void) {
@@ -63,7 +51,7 @@ int main(void) {
         if (walk.refusal != 0)
             return 1;
         printf("walk %zu        ", k);
-        print_class(&walk.seal);
+        print_class(walk.seal.degree, walk.seal.u, walk.seal.v);
     }
 
     for (int i = 0; i < OPERATIONS; i++) {

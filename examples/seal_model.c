@@ -9,9 +9,9 @@
  * leading term and v, coefficients in hexadecimal from the highest power down. An operation's class is the modeller's
  * choice; here the three are fixed.
  */
+#include "example.h"
 #include "seal.h"
 
-#include <stdio.h>
 #include <stdlib.h>
 #include <string.h>
 
@@ -25,13 +25,6 @@ struct stored_register {
 struct stored_class {
     uint8_t bytes[SEAL_CLASS_OUTPUT];
     size_t length;
-};
-
-static const uint8_t curve[] = {
-    SEAL_TAG_DEGREE, 0, 1,  61,                      /* GF(2^61) */
-    SEAL_TAG_CURVE,  0, 24, 0, 0, 0, 0, 0, 0, 0, 0,  /* f3 = 0 */
-    0,               0, 0,  0, 0, 0, 0, 0,           /* f1 = 0 */
-    0,               0, 0,  0, 0, 0, 0, 1,           /* f0 = 1 */
 };
 
 /* The field of a class that is written as in the walk report; ends the program where it is not. */
@@ -52,18 +45,9 @@ static struct stored_class class_field(uint8_t tag, const char *text) {
     return field;
 }
 
-/* Prints the count and the seal, as a line of the walk report has them. */
 static void print(const char *what, const struct stored_register *model) {
-    const uint8_t *count = model->bytes + 3, *seal = model->bytes + 5;
-    unsigned degree = seal[2] / 16;
-    printf("%-16s %u %u", what, count[0] << 8 | count[1], degree);
-    for (unsigned i = 0; i < 2 * degree; i++) {
-        unsigned long long coefficient = 0;
-        for (unsigned j = 0; j < 8; j++)
-            coefficient = coefficient << 8 | seal[3 + 8 * i + j];
-        printf("%c%llx", i % degree == 0 ? ':' : ',', coefficient);
-    }
-    puts(degree == 0 ? "::" : "");
+    printf("%-16s ", what);
+    print_stored_register(model->bytes);
 }
 
 /* Commits or undoes: the record is the curve, the register and the operation. */

@@ -10,10 +10,9 @@
  * the operation then takes the next number as its stamp, for which a tool leaves room between its stamps. What it
  * prints without stamps is in examples/stamped_model.txt.
  */
+#include "example.h"
 #include "seal.h"
 
-#include <inttypes.h>
-#include <stdio.h>
 #include <stdlib.h>
 #include <string.h>
 
@@ -30,13 +29,6 @@ struct operation {
     uint64_t stamp;
     uint8_t field[SEAL_CLASS_OUTPUT];
     size_t length;
-};
-
-static const uint8_t curve[] = {
-    SEAL_TAG_DEGREE, 0, 1,  61,                      /* GF(2^61) */
-    SEAL_TAG_CURVE,  0, 24, 0, 0, 0, 0, 0, 0, 0, 0,  /* f3 = 0 */
-    0,               0, 0,  0, 0, 0, 0, 0,           /* f1 = 0 */
-    0,               0, 0,  0, 0, 0, 0, 1,           /* f0 = 1 */
 };
 
 /* The number of bytes that a call wrote; ends the program where it was refused. */
@@ -64,20 +56,6 @@ static void make_class(struct operation *operation) {
     operation->field[0] = SEAL_TAG_OPERATION;
 }
 
-/* Ends a line with the count and the seal, as the walk report has them. */
-static void print(const struct stored_register *model) {
-    const uint8_t *count = model->bytes + 3, *seal = model->bytes + 5;
-    unsigned degree = seal[2] / 16;
-    printf(" %u %u", count[0] << 8 | count[1], degree);
-    for (unsigned i = 0; i < 2 * degree; i++) {
-        uint64_t coefficient = 0;
-        for (unsigned j = 0; j < 8; j++)
-            coefficient = coefficient << 8 | seal[3 + 8 * i + j];
-        printf("%c%" PRIx64, i % degree == 0 ? ':' : ',', coefficient);
-    }
-    puts(degree == 0 ? "::" : "");
-}
-
 /* Commits or undoes: the record is the curve, the register and the operation. */
 static void change(struct stored_register *model, const struct operation *operation,
                    uint32_t (*call)(const uint8_t *, size_t, uint8_t *, size_t)) {
@@ -103,17 +81,17 @@ int main(int words, char **word) {
         make_class(&operations[i]);
     }
 
-    printf("%-15s", "first");
-    print(&model);
+    printf("%-15s ", "first");
+    print_stored_register(model.bytes);
     for (int i = 0; i < number; i++) {
         change(&model, &operations[i], seal_commit);
-        printf("commit %-8" PRIu64, operations[i].stamp);
-        print(&model);
+        printf("commit %-8" PRIu64 " ", operations[i].stamp);
+        print_stored_register(model.bytes);
     }
     for (int i = number; i-- > 0;) {
         change(&model, &operations[i], seal_undo);
-        printf("undo %-10" PRIu64, operations[i].stamp);
-        print(&model);
+        printf("undo %-10" PRIu64 " ", operations[i].stamp);
+        print_stored_register(model.bytes);
     }
     return 0;
 }
