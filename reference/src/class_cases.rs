@@ -46,8 +46,8 @@ pub const CALLS: std::ops::RangeInclusive<u8> = 1..=11;
 pub const CALLS_ON_TWO: [u8; 4] = [SUM, SUM_IN_STEPS, DOUBLE_AND_ADD, SUBTRACT_AND_HALVE];
 pub const CALLS_WITH_NUMBER: [u8; 2] = [MULTIPLE, HALVINGS];
 
-/// The calls that every class of a curve is taken through, in this order. tests/run looks into the lines by it: the fourth of
-/// seven is the half, and the sixth the class itself.
+/// The calls that every class of a curve is taken through, in this order. tests/conformance looks into the lines by it:
+/// the fourth of seven is the half, and the sixth the class itself.
 pub const SEVEN: [u8; 7] = [MEMBERSHIP, OPPOSITE, DOUBLE, HALF, HALF_OF_DOUBLE, DOUBLE_OF_HALF, SUM];
 
 /// Degree and coefficients as a caller hands them over; they need not be those of a curve.

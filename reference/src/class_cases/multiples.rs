@@ -111,7 +111,7 @@ mod tests {
         cases.iter().map(|case| case.a.degree).collect()
     }
 
-    /// As many cases as tests/run counts, with every degree. What is known of them without multiplying is what multiplying
+    /// As many cases as tests/conformance counts, with every degree. What is known of them without multiplying is what multiplying
     /// and halving give.
     #[test]
     fn multiples_of_bench_curves() {

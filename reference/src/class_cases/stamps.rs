@@ -53,7 +53,7 @@ mod tests {
         assert_eq!(count(&cases, "refused 116\n"), 1);
     }
 
-    /// The numbers that tests/run counts; the classes of one curve are all different.
+    /// The numbers that tests/conformance counts; the classes of one curve are all different.
     #[test]
     fn stamps_of_many_curves() {
         for (cases, on_a_curve, too_large) in [(bench(), 4, 0), (wide(), 250, 2)] {

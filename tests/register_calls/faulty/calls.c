@@ -1,4 +1,4 @@
-/* Faulty calls on a register, for tests/lent_calls. Linked with --wrap=seal_register_commit and
+/* Faulty calls on a register, for tests/register_calls. Linked with --wrap=seal_register_commit and
  * --wrap=seal_register_undo.
  * - only-count: an acceptance leaves the seal as it was.
  * - count-kept: an acceptance leaves the count as it was.

@@ -1,50 +1,41 @@
 /* Tests the calls on a register of include/seal_register.h.
  *
- *     lent_calls            the edges and a changed commit, a line for each test, then 'N passed, M failed'
- *     lent_calls trial      answers calls that it reads from standard input, one line for each, on one register
+ *     register_calls            the edges and a changed commit, a line for each test, then 'N passed, M failed'
+ *     register_calls trial      answers calls that it reads from standard input, one line for each, on one register
  *
  * The records and the lines of a trial are those of the program history_trial (crates/history_trial/src/main.rt),
  * where the register goes by value; so what it writes is held to what the second implementation owes (reference/,
  * `history_vectors`). The status is 0 where there was no fault.
  */
 #include "count.h"
+#include "example.h"
 #include "lent.h"
 #include "trial.h"
 
-#include <inttypes.h>
-#include <stdio.h>
 #include <string.h>
-
-/* The coefficients below x^n, from the highest power down. */
-static void print_row(uint64_t n, const uint64_t row[3]) {
-    for (int i = n > 3 ? 2 : (int)n - 1; i >= 0; i--)
-        printf("%" PRIx64 "%s", row[i], i > 0 ? "," : "");
-}
-
-static void print_class(struct seal_class a, uint64_t n) {
-    printf("%" PRIu64 ":", a.degree);
-    print_row(n, a.u);
-    putchar(':');
-    print_row(n, a.v);
-    putchar('\n');
-}
 
 static void answer(enum call call, struct seal_register *r, struct seal_class a, int at_end) {
     uint32_t refused = lend(call, r, a, at_end);
-    if (refused != 0) {
+    if (refused != 0)
         printf("refused %" PRIu32 "\n", refused);
-        return;
+    else if (r->seal.degree > 3)
+        puts("a seal of a degree above 3");
+    else {
+        printf("%" PRIu64 " ", r->count);
+        print_class(r->seal.degree, r->seal.u, r->seal.v);
     }
-    printf("%" PRIu64 " ", r->count);
-    print_class(r->seal, r->seal.degree);
 }
 
+/* The register, with all three numbers of u and of v, whatever the degree. */
 static void show(const struct seal_register *r) {
     uint64_t f[3] = {r->curve.f0, r->curve.f1, r->curve.f3};
     printf("%u ", r->curve.degree);
-    print_row(3, f);
-    printf(" %" PRIu64 " ", r->count);
-    print_class(r->seal, 3);
+    print_coefficients(3, f);
+    printf(" %" PRIu64 " %" PRIu64 ":", r->count, r->seal.degree);
+    print_coefficients(3, r->seal.u);
+    putchar(':');
+    print_coefficients(3, r->seal.v);
+    putchar('\n');
 }
 
 static void trial(void) {

@@ -1,4 +1,4 @@
-/* A faulty walk, for tests/lent_walk. Linked with --wrap=seal_walk_row.
+/* A faulty walk, for tests/row_walk. Linked with --wrap=seal_walk_row.
  * - oldest-first: the row is walked from its other end.
  * - one-early: the walk stops one class early.
  * - one-step: the walk makes one step and stays at its seal.

@@ -1,9 +1,19 @@
-"""Reads Rattle's files of definitions and proofs as far as tests/claims needs it: what a file imports, what each of its declarations says, and which
-names of a statement lead to a definition that stands under proofs/."""
+"""Reads Rattle's files as far as tests/claims and tests/documents/cited need it: which names a file declares, what it imports, what each of its
+declarations says, and which names of a statement lead to a definition that stands under proofs/."""
 import os
 import re
 
-DECLARED = re.compile(r"((?:abbrev |unfoldable |pub )*)(data |record )?([^\s(){}:,=]+)((?: [({][^)}]*[)}])*) : (.*)")
+PARAMETER = r"(?:\((?:[^()]|\((?:[^()]|\([^()]*\))*\))*\)|\{[^{}]*\})"
+DECLARED = re.compile(r"((?:abbrev |unfoldable |pub )*)(data |record )?([^\s(){}:,=]+)((?: " + PARAMETER + r")*) :(?: (.*)|$)")
+
+
+def declared(path):
+    """The names that a file declares: functions and types of code, definitions, theorems and fields of records; of another file every word."""
+    if path.endswith(".antt"):
+        return set(declarations(read(path)))
+    if path.endswith(".rt"):
+        return set(re.findall(r"\b(?:fn|struct|enum|const|mod) (\w+)", read(path)))
+    return set(re.findall(r"[\w-]+", read(path)))
 
 
 def imports(text):
@@ -41,7 +51,7 @@ def declarations(text):
                 i += 1
             sections.append((indent, body[len("module "):-len("where")]))
         elif m := DECLARED.match(body):
-            said = " ".join([s for _, s in sections] + [m[4], m[5]] + [l.strip() for l in lines[i:more]])
+            said = " ".join([s for _, s in sections] + [m[4], m[5] or ""] + [l.strip() for l in lines[i:more]])
             definition = bool(m[2]) or "abbrev" in m[1] or "unfoldable" in m[1]
             found.setdefault(m[3], (said, definition))
     return found
