@@ -51,7 +51,7 @@ static struct seal_class operation(const struct seal_class pool[POOL], int n, in
 }
 
 /* The seal after n commits, of which operation k is the class given; where k is 0, none is changed. Refused commits
- * stand between them, at places that hang on k. */
+ * stand between them, at places that depend on k. */
 static struct seal_class last_seal(struct seal_curve curve, const struct seal_class pool[POOL], int n, int k,
                                    struct seal_class changed) {
     struct seal_register r = {curve, (uint64_t)n, pool[n % POOL]};

@@ -16,7 +16,7 @@ static void refuses(enum call call, struct seal_register r, struct seal_class a,
         struct seal_register lent = r;
         uint32_t got = lend(call, &lent, a, end);
         if (got != number)
-            fault("%s: owed %u, got %u", names[call], number, got);
+            fault("%s: expected %u, got %u", names[call], number, got);
     }
 }
 
@@ -27,9 +27,9 @@ static void leaves(enum call call, struct seal_register r, struct seal_class a, 
         struct seal_register lent = r;
         uint32_t got = lend(call, &lent, a, end);
         if (got != 0)
-            fault("%s: owed 0, got %u", names[call], got);
+            fault("%s: expected 0, got %u", names[call], got);
         else if (lent.count != count || !same_class(lent.seal, seal))
-            fault("%s: another count or seal than owed", names[call]);
+            fault("%s: another count or seal than expected", names[call]);
     }
 }
 

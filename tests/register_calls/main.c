@@ -4,7 +4,7 @@
  *     register_calls trial      answers calls that it reads from standard input, one line for each, on one register
  *
  * The records and the lines of a trial are those of the program history_trial (crates/history_trial/src/main.rt),
- * where the register goes by value; so what it writes is held to what the second implementation owes (reference/,
+ * where the register goes by value; so what it writes has to be what the second implementation writes (reference/,
  * `history_vectors`). The status is 0 where there was no fault.
  */
 #include "count.h"

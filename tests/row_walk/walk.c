@@ -34,7 +34,7 @@ void answers(struct seal_curve curve, struct seal_class last, const struct seal_
     for (int end = 0; end < 2; end++) {
         struct seal_row_walk got = walked(curve, last, row, classes, end);
         if (got.refusal != 0)
-            fault("over %zu classes: owed 0, got %u", classes, got.refusal);
+            fault("over %zu classes: expected 0, got %u", classes, got.refusal);
         else if (!same_class(got.seal, seal))
             fault("over %zu classes: another seal than the earliest", classes);
     }
@@ -45,6 +45,6 @@ void refuses(struct seal_curve curve, struct seal_class last, const struct seal_
     for (int end = 0; end < 2; end++) {
         struct seal_row_walk got = walked(curve, last, row, classes, end);
         if (got.refusal != number)
-            fault("over %zu classes: owed %u, got %u", classes, number, got.refusal);
+            fault("over %zu classes: expected %u, got %u", classes, number, got.refusal);
     }
 }

@@ -1,4 +1,4 @@
-/* Calls that are accepted, and the one refusal, 101, that hangs on the output alone. */
+/* Calls that are accepted, and the one refusal, 101, that depends on the output alone. */
 #include "edges.h"
 #include "records.h"
 #include "seal.h"
@@ -7,7 +7,7 @@ static void examples(void) {
     struct {
         enum call call;
         int f0;
-        struct seal_class first, second, owed;
+        struct seal_class first, second, expected;
     } cases[] = {
         {DOUBLE, 0, x_0, neutral, xx_0}, /* 1 */
         {DOUBLE, 0, xx_0, neutral, xxx_1},
@@ -38,7 +38,7 @@ static void examples(void) {
             expect(MEMBERSHIP, in.at, in.length, 0, 0, NULL);
             if (cases[i].call == SUM)
                 put_class(&in, SEAL_TAG_CLASS, cases[i].second);
-            put_class(&out, SEAL_TAG_CLASS, cases[i].owed);
+            put_class(&out, SEAL_TAG_CLASS, cases[i].expected);
             expect(cases[i].call, in.at, in.length, 51, (uint32_t)out.length, out.at);
             expect(cases[i].call, in.at, in.length, 200, (uint32_t)out.length, out.at);
         }
@@ -58,7 +58,7 @@ static void accepted_records(void) {
     for (int call = 0; call < CALLS; call++)
         for (int d = 0; d < 2; d++) {
             struct record r = accepted(call, degrees[d]);
-            struct bytes in = {0}, out = owed_of_accepted(call);
+            struct bytes in = {0}, out = expected_of_accepted(call);
             append_fields(&in, &r, 0, r.fields);
             for (size_t more = 0; more < 40; more++)
                 expect(call, in.at, in.length, call == MEMBERSHIP ? 0 : output_bound(call) + more,

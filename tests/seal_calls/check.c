@@ -1,7 +1,7 @@
 /* The areas and the calls of check.h.
  *
  * Every call is made on areas of exactly the length said, each next to a page that cannot be touched, the input in
- * memory that cannot be written. After a call the whole output area is compared: the bytes owed, then the bytes as
+ * memory that cannot be written. After a call the whole output area is compared: the bytes expected, then the bytes as
  * they were before.
  */
 #include "check.h"
@@ -54,16 +54,16 @@ size_t output_bound(enum call call) {
 static unsigned long met[CALLS][LAST_REFUSAL - 99];
 
 void complain(enum call call, const uint8_t *in, size_t in_len, uint64_t number, size_t out_len, const char *what,
-              uint32_t owed, uint32_t got) {
-    if (!fault("%s, number %" PRIu64 ", output of %zu bytes: %s: owed %u, got %u; input of %zu bytes:",
-               call_names[call], number, out_len, what, owed, got, in_len))
+              uint32_t expected, uint32_t got) {
+    if (!fault("%s, number %" PRIu64 ", output of %zu bytes: %s: expected %u, got %u; input of %zu bytes:",
+               call_names[call], number, out_len, what, expected, got, in_len))
         return;
     for (size_t i = 0; i < in_len && i < 200; i++)
         fprintf(stderr, " %02x", in[i]);
     fputc('\n', stderr);
 }
 
-void expect_at(enum call call, const uint8_t *in, size_t in_len, uint64_t number, size_t out_len, uint32_t owed,
+void expect_at(enum call call, const uint8_t *in, size_t in_len, uint64_t number, size_t out_len, uint32_t expected,
                const uint8_t *written, int at_end) {
     static uint8_t before[AREA];
     size_t in_at = at_end ? AREA - in_len : 0, out_at = at_end ? AREA - out_len : 0;
@@ -83,12 +83,12 @@ void expect_at(enum call call, const uint8_t *in, size_t in_len, uint64_t number
         met[call][got - 100]++;
     else
         met[call][0]++;
-    if (got != owed) {
-        complain(call, in, in_len, number, out_len, "answer", owed, got);
+    if (got != expected) {
+        complain(call, in, in_len, number, out_len, "answer", expected, got);
         return;
     }
-    if (owed <= 100 && owed > 0)
-        memcpy(before + out_at, written, owed);
+    if (expected <= 100 && expected > 0)
+        memcpy(before + out_at, written, expected);
     if (memcmp(output_area.write, before, AREA) == 0)
         return;
     size_t i = 0;
@@ -99,14 +99,15 @@ void expect_at(enum call call, const uint8_t *in, size_t in_len, uint64_t number
     complain(call, in, in_len, number, out_len, what, before[i], output_area.write[i]);
 }
 
-void expect(enum call call, const uint8_t *in, size_t in_len, size_t out_len, uint32_t owed, const uint8_t *written) {
-    expect_number(call, in, in_len, 0, out_len, owed, written);
+void expect(enum call call, const uint8_t *in, size_t in_len, size_t out_len, uint32_t expected,
+            const uint8_t *written) {
+    expect_number(call, in, in_len, 0, out_len, expected, written);
 }
 
-void expect_number(enum call call, const uint8_t *in, size_t in_len, uint64_t number, size_t out_len, uint32_t owed,
+void expect_number(enum call call, const uint8_t *in, size_t in_len, uint64_t number, size_t out_len, uint32_t expected,
                    const uint8_t *written) {
-    expect_at(call, in, in_len, number, out_len, owed, written, 1);
-    expect_at(call, in, in_len, number, out_len, owed, written, 0);
+    expect_at(call, in, in_len, number, out_len, expected, written, 1);
+    expect_at(call, in, in_len, number, out_len, expected, written, 0);
 }
 
 void print_met(void) {

@@ -1,4 +1,4 @@
-/* One call of the libraries made and held to what it owes. */
+/* One call of the libraries, and whether it does what is expected. */
 #ifndef CHECK_H
 #define CHECK_H
 
@@ -22,21 +22,22 @@ size_t output_bound(enum call call);
 /* Makes the areas; once, before any case. */
 void make_areas(void);
 
-/* One case: an input with a number beside it, the length of the output, the answer owed and, where it is no refusal,
- * the bytes owed. The areas lie against the page after them or against the page before them. */
-void expect_at(enum call call, const uint8_t *in, size_t in_len, uint64_t number, size_t out_len, uint32_t owed,
+/* One case: an input with a number beside it, the length of the output, the answer expected and, where it is no
+ * refusal, the bytes expected. The areas lie against the page after them or against the page before them. */
+void expect_at(enum call call, const uint8_t *in, size_t in_len, uint64_t number, size_t out_len, uint32_t expected,
                const uint8_t *written, int at_end);
 
 /* The same at both ends, with the number 0. */
-void expect(enum call call, const uint8_t *in, size_t in_len, size_t out_len, uint32_t owed, const uint8_t *written);
+void expect(enum call call, const uint8_t *in, size_t in_len, size_t out_len, uint32_t expected,
+            const uint8_t *written);
 
 /* The same with any number. */
-void expect_number(enum call call, const uint8_t *in, size_t in_len, uint64_t number, size_t out_len, uint32_t owed,
+void expect_number(enum call call, const uint8_t *in, size_t in_len, uint64_t number, size_t out_len, uint32_t expected,
                    const uint8_t *written);
 
 /* A fault of a call. */
 void complain(enum call call, const uint8_t *in, size_t in_len, uint64_t number, size_t out_len, const char *what,
-              uint32_t owed, uint32_t got);
+              uint32_t expected, uint32_t got);
 
 /* Prints how often each call gave each answer. */
 void print_met(void);

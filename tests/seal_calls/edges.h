@@ -9,7 +9,7 @@ void test_ends(void);
 void test_stamps(void);
 void test_licence(void);
 
-/* The laws of the group: what the calls owe for each other's answers. */
+/* The laws of the group: what the calls have to make of each other's answers. */
 void test_group(void);
 
 #endif

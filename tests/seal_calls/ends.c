@@ -78,7 +78,7 @@ static void long_areas(void) {
     uint8_t *out = wide_area(four_gigabytes + AREA);
     for (int call = 0; call < CALLS; call++) {
         struct record r = accepted(call, 61);
-        struct bytes b = {0}, owed = owed_of_accepted(call);
+        struct bytes b = {0}, expected = expected_of_accepted(call);
         append_fields(&b, &r, 0, r.fields);
         memcpy(in, b.at, b.length);
         uint32_t long_input = call_library(call, in, four_gigabytes + b.length, 0, out, 100);
@@ -86,8 +86,8 @@ static void long_areas(void) {
             complain(call, b.at, b.length, 0, 100, "4 GB more of input", 112, long_input);
         memset(out, 0, AREA);
         uint32_t long_output = call_library(call, in, b.length, 0, out, four_gigabytes + 1);
-        if (long_output != owed.length || memcmp(out, owed.at, owed.length) != 0)
-            complain(call, b.at, b.length, 0, 1, "4 GB more of output", (uint32_t)owed.length, long_output);
+        if (long_output != expected.length || memcmp(out, expected.at, expected.length) != 0)
+            complain(call, b.at, b.length, 0, 1, "4 GB more of output", (uint32_t)expected.length, long_output);
         count_call();
         count_call();
     }

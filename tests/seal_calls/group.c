@@ -1,6 +1,6 @@
 /* The laws of the group (document 02, request 7): sums in either order and in either grouping, the neutral class and
- * opposites; and how far the last seal of a list of commits moves where one operation is changed. All that is owed is
- * made by the byte calls themselves. */
+ * opposites; and how far the last seal of a list of commits moves where one operation is changed. All that is
+ * expected is made by the byte calls themselves. */
 #include "edges.h"
 #include "samples.h"
 #include "seal.h"
@@ -45,11 +45,11 @@ static void make_pools(void) {
     end_test("classes of every degree on six curves, no two of a curve the same");
 }
 
-/* The sum owes the field given. */
+/* The sum has to write the field given. */
 static void sum_is(const struct sample *s, const struct bytes *first, const struct bytes *second,
-                   const struct bytes *owed) {
+                   const struct bytes *expected) {
     struct bytes in = record_of(s, first, second);
-    expect_at(SUM, in.at, in.length, 0, SEAL_CLASS_OUTPUT, (uint32_t)owed->length, owed->at, calls() % 2 == 0);
+    expect_at(SUM, in.at, in.length, 0, SEAL_CLASS_OUTPUT, (uint32_t)expected->length, expected->at, calls() % 2 == 0);
 }
 
 static void either_order(void) {
@@ -125,7 +125,7 @@ static const struct bytes *operation(const struct pool *p, int n, int i) {
 }
 
 /* The seal after n commits, of which operation k is the class given; where k is 0, none is changed. Refused commits
- * stand between them, at places that hang on k. */
+ * stand between them, at places that depend on k. */
 static struct bytes last_seal(const struct pool *p, int n, int k, const struct bytes *changed) {
     struct bytes written = {0}, seal = {0};
     put_count(&written, n);

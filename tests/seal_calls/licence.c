@@ -15,10 +15,12 @@ static struct bytes class_record(int d, uint64_t f0, struct seal_class class) {
     return b;
 }
 
-/* The call with a number owes a class, on f = x^7 + f0. Its areas lie at the one end or at the other, by turns. */
-static void gives(enum call call, int d, uint64_t f0, struct seal_class class, uint64_t number, struct seal_class owed) {
+/* The call with a number has to write a class, on f = x^7 + f0. Its areas lie at the one end or at the other, by
+ * turns. */
+static void gives(enum call call, int d, uint64_t f0, struct seal_class class, uint64_t number,
+                  struct seal_class expected) {
     struct bytes in = class_record(d, f0, class), out = {0};
-    put_class(&out, SEAL_TAG_CLASS, owed);
+    put_class(&out, SEAL_TAG_CLASS, expected);
     expect_at(call, in.at, in.length, number, 51, (uint32_t)out.length, out.at, number % 2 == 0);
 }
 
@@ -123,15 +125,15 @@ static void too_many_halvings(void) {
 #define SAMPLES 4
 static const int which_sample[SAMPLES] = {0, 1, 3, 4};
 
-/* The call on a class with a number owes the field given. */
+/* The call on a class with a number has to write the field given. */
 static void is(enum call call, const struct sample *s, const struct bytes *class, uint64_t number,
-               const struct bytes *owed) {
+               const struct bytes *expected) {
     struct bytes in = record_of(s, class, NULL);
-    expect_at(call, in.at, in.length, number, 51, (uint32_t)owed->length, owed->at, number % 2 == 0);
+    expect_at(call, in.at, in.length, number, 51, (uint32_t)expected->length, expected->at, number % 2 == 0);
 }
 
-/* (m + n) times a class is the sum of m times and n times it; m n times it is m times n times it, where that is a number
- * below 2^61. */
+/* (m + n) times a class is the sum of m times and n times it; m n times it is m times n times it, where that is a
+ * number below 2^61. */
 static void adds_up(const struct sample *s, const struct bytes *class, uint64_t m, uint64_t n) {
     struct bytes times_m = on_one(MULTIPLE, s, class, m), times_n = on_one(MULTIPLE, s, class, n);
     struct bytes sum = sum_of(s, &times_m, &times_n);

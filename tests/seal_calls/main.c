@@ -20,20 +20,20 @@ static uint32_t number_of(const uint8_t *b) {
 }
 
 /* The cases on standard input, which have to be as many as said: the call in one byte; the number beside the input, 0
- * where the call takes none, in eight, high byte first; the lengths of output and input, and the answer owed, in four
- * each; the input; the bytes owed where the answer is no refusal. */
+ * where the call takes none, in eight, high byte first; the lengths of output and input, and the answer expected, in
+ * four each; the input; the bytes expected where the answer is no refusal. */
 static void test_file(unsigned long number) {
     static uint8_t in[AREA];
-    uint8_t head[21], owed[100];
+    uint8_t head[21], expected[100];
     unsigned long read = 0;
     while (fread(head, 1, sizeof head, stdin) == sizeof head) {
         uint64_t beside = (uint64_t)number_of(head + 1) << 32 | number_of(head + 5);
         uint32_t out_len = number_of(head + 9), in_len = number_of(head + 13), answer = number_of(head + 17);
         size_t written = answer <= 100 ? answer : 0;
         if (head[0] >= CALLS || out_len > AREA || in_len > AREA || written > out_len
-            || fread(in, 1, in_len, stdin) != in_len || fread(owed, 1, written, stdin) != written)
+            || fread(in, 1, in_len, stdin) != in_len || fread(expected, 1, written, stdin) != written)
             break;
-        expect_at(head[0], in, in_len, beside, out_len, answer, owed, read % 4 != 0);
+        expect_at(head[0], in, in_len, beside, out_len, answer, expected, read % 4 != 0);
         read++;
     }
     if (read != number || !feof(stdin))

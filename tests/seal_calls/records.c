@@ -81,7 +81,7 @@ void append_fields(struct bytes *b, const struct record *r, int from, int to) {
         append(b, &r->field[i]);
 }
 
-struct bytes owed_of_accepted(enum call call) {
+struct bytes expected_of_accepted(enum call call) {
     struct bytes b = {0};
     switch (call) {
     case OPPOSITE: put_class(&b, SEAL_TAG_CLASS, x_1); break;

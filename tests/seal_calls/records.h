@@ -37,7 +37,7 @@ void append_fields(struct bytes *b, const struct record *r, int from, int to);
 
 /* What the call on an accepted record writes, with the number 0 where it takes one: examples 1 and 3 of document 01,
  * and the definitions. */
-struct bytes owed_of_accepted(enum call call);
+struct bytes expected_of_accepted(enum call call);
 
 /* An accepted record up to a field, and that field with another row of numbers as its body. */
 struct bytes with_row(const struct record *r, int f, const uint64_t *row, int numbers);

@@ -18,15 +18,15 @@ static struct bytes curve_record(int d, uint64_t f3, uint64_t f1, uint64_t f0) {
 /* The class is one of the curve, and a commit takes it as an operation, after which it is the seal: the double of the
  * neutral class is neutral. */
 static void class_is_of_use(const struct bytes *curve, struct seal_class class) {
-    struct bytes alone = *curve, commit = *curve, owed = {0};
+    struct bytes alone = *curve, commit = *curve, expected = {0};
     put_class(&alone, SEAL_TAG_CLASS, class);
     expect(MEMBERSHIP, alone.at, alone.length, 0, 0, NULL);
     put_count(&commit, 0);
     put_class(&commit, SEAL_TAG_CLASS, neutral);
     put_class(&commit, SEAL_TAG_OPERATION, class);
-    put_count(&owed, 1);
-    put_class(&owed, SEAL_TAG_CLASS, class);
-    expect(COMMIT, commit.at, commit.length, 56, (uint32_t)owed.length, owed.at);
+    put_count(&expected, 1);
+    put_class(&expected, SEAL_TAG_CLASS, class);
+    expect(COMMIT, commit.at, commit.length, 56, (uint32_t)expected.length, expected.at);
 }
 
 /* Over both fields f(0) = 0 on x^7, with the root 0. On x^7 + 1 f(0) = 1 has no root, since the degrees are odd, and

@@ -1,7 +1,9 @@
-/* Makes products of elements, for tests/timing, which looks at what is executed between the entry of element_product and the
- * return to `calls`: every pair of the bench field, then 1,000 pairs over GF(2^61), edges and single bits among them.
+/* Makes products of elements, for tests/timing, which looks at what is executed between the entry of element_product
+ * and the return to `calls`: every pair of the bench field, then 1,000 pairs over GF(2^61), edges and single bits
+ * among them.
  *
- * Prints the number of pairs over each field, and ends with 1 where a product is not what a loop over single bits gives. */
+ * Prints the number of pairs over each field, and ends with 1 where a product is not what a loop over single bits
+ * gives. */
 #include <inttypes.h>
 #include <stddef.h>
 #include <stdint.h>
@@ -39,7 +41,8 @@ static uint64_t drawn(void) {
     return state >> 3;
 }
 
-/* 0, 1, t, the highest power of t, all bits but the lowest, and all bits; each with each, then single bits, then drawn ones. */
+/* 0, 1, t, the highest power of t, all bits but the lowest, and all bits; each with each, then single bits, then
+ * drawn ones. */
 static void draw_pairs(struct pair *p) {
     static const uint64_t edges[] = {0, 1, 2, UINT64_C(1) << 60, (UINT64_C(1) << 61) - 2, (UINT64_C(1) << 61) - 1};
     const size_t n = sizeof edges / sizeof *edges;

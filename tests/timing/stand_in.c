@@ -1,7 +1,8 @@
-/* A product of elements in C that stands in for the proved one, so that tests/timing can be tested: without a fault its timing
- * hangs on no element, and with one of the faults below the test has to fail, while every product stays the same number.
+/* A product of elements in C that stands in for the proved one, so that tests/timing can be tested: without a fault its
+ * timing depends on no element, and with one of the faults below the test has to fail, while every product stays the
+ * same number.
  *
- *   NOUGHTS    a product with 0 is not made
+ *   ZEROS      a product with 0 is not made
  *   SKIPS      a multiple of the modulus is left out where its bits are all 0
  *   ENDS       a loop over the highest bits ends at the last that is 1
  *   TABLE      the highest bits are folded by a table
@@ -79,7 +80,7 @@ static uint64_t product_61(uint64_t a, uint64_t b) {
 /* Of two elements; not inlined, so that tests/straight finds it. */
 __attribute__((noinline)) uint64_t product_of(uint8_t d, uint64_t a, uint64_t b) {
     uint64_t product;
-#ifdef NOUGHTS
+#ifdef ZEROS
     if (a == 0 || b == 0)
         return 0;
 #endif
