@@ -1,5 +1,6 @@
-"""Reads Rattle's files as far as tests/claims and tests/documents/cited need it: which names a file declares, what it imports, what each of its
-declarations says, and which names of a statement lead to a definition that stands under proofs/."""
+"""Reads Rattle's files as far as tests/claims and tests/documents/cited need it: which names a file declares, what it
+imports, what each of its declarations says, and which names of a statement lead to a definition that stands under
+proofs/."""
 import os
 import re
 
@@ -8,7 +9,8 @@ DECLARED = re.compile(r"((?:abbrev |unfoldable |pub )*)(data |record )?([^\s(){}
 
 
 def declared(path):
-    """The names that a file declares: functions and types of code, definitions, theorems and fields of records; of another file every word."""
+    """The names that a file declares: functions and types of code, definitions, theorems and fields of records; of
+    another file every word."""
     if path.endswith(".antt"):
         return set(declarations(read(path)))
     if path.endswith(".rt"):
@@ -31,8 +33,8 @@ def imports(text):
 
 
 def declarations(text):
-    """Of each name that a file declares: what it says, with the parameters of the sections around it, and whether it is a definition, which is marked as
-    one that unfolds or is a type, and not a lemma."""
+    """Of each name that a file declares: what it says, with the parameters of the sections around it, and whether it
+    is a definition, which is marked as one that unfolds or is a type, and not a lemma."""
     found, sections, lines, i = {}, [], text.split("\n"), 0
     while i < len(lines):
         body = lines[i].strip()
@@ -67,7 +69,8 @@ def read(path):
 
 
 def place(full, kind):
-    """The file of some crate's folder (`specs` or `proofs`) that an import leads to, and the name that it takes from there."""
+    """The file of some crate's folder (`specs` or `proofs`) that an import leads to, and the name that it takes from
+    there."""
     m = re.match(rf"Rattle·([^.·]+)(?:·{kind}\.{kind}|\.{kind})\.(.+)$", full)
     parts = m[2].split(".") if m else []
     for n in range(len(parts), 0, -1):
@@ -78,7 +81,8 @@ def place(full, kind):
 
 
 def hidden(name, text):
-    """The words of the statement of a theorem that lead to a declaration under proofs/: imported from there, or another one of its own file."""
+    """The words of the statement of a theorem that lead to a declaration under proofs/: imported from there, or
+    another one of its own file."""
     names, own, found = imports(text), declarations(text), set()
     for word in words(own[name][0]):
         for w in (word, word.split(".")[0], f"_{word}_"):
@@ -113,8 +117,8 @@ def meaning(name, held):
 
 
 def conditions(ensures, text):
-    """What an `ensures` promises under a condition: an arrow of its own, or a record of specs/ with an arrow in a field, which it names, or which
-    is named by a type that it names."""
+    """What an `ensures` promises under a condition: an arrow of its own, or a record of specs/ with an arrow in a
+    field, which it names, or which is named by a type that it names."""
     found = {"→"} if "→" in ensures else set()
     names = imports(text)
     for word in words(ensures):
