@@ -1,19 +1,18 @@
 -- What a call on byte areas answers by its checks, and the copy of what it hands over.
 use Prim.Native.Nat.{ℕ, _+_, _≤_, _<_, min}
-use mathlib.Core.Path.{_≡_, sym, ap, _∙_}
-use mathlib.Core.List.{List, _++_}
-use native.Mathlib.Nat.{zero-add}
+use mathlib.Core.Path.{_≡_, refl, sym, ap, ap₂, _∙_}
+use mathlib.Core.{Bool.Bool, Bool.true, Bool.false, List.List, List._++_}
 use native.Mathlib.Omega.{arith}
-use lib.ListN.{length, getD, take, drop, set, length-take}
-use lib.Seq.{sets, sets-eq, take-all, getD-take}
-use borrow.Author.Tests.{lt-ltb, le-ltb}
+use lib.{Dec.ltb, ListN.length, ListN.take, ListN.drop, ListN.length-take, Seq.take-take, Seq.take-length}
+use borrow.Author.Tests.{lt-ltb, le-ltb, ltb-true, ltb-false}
 use Rattle.stored_form.specs.Reading.{Reading, found, refused, reading-refusal}
 use Rattle.written_form.specs.Effect.{Effect, Handed, effect, refuse, write, lent, hand, refusal, written, for, put, byte-call, room}
 use Rattle.stored_form.specs.Held.{read-record, read-of, place-refusal}
 use Rattle.stored_form.specs.declared.{Held.Held, Read.Read, Cursor.Cursor}
 use Rattle.stored_form.specs.declared.Place.the-variants.{Next, Refused}
 use Rattle.stored_form.proofs.Readers.{place-found, place-refused, read-refusal}
-use Rattle.stored_form.proofs.Stores.{store-more}
+use Rattle.written_form.specs.Ranges.{append}
+use Rattle.written_form.proofs.Appending.{front-fits, front-outside}
 
 -- ---- the output's length
 
@@ -38,32 +37,52 @@ put-refusal n out = lent-long 0 out _ (omega arith)
 
 -- ---- the copy
 
--- the first bytes of a row, by the number of them that it has
-module _ (answer len : ℕ) (row out : List ℕ) (long : length row ≡ room) {n : ℕ} (e : n ≡ min len room) where
-  pub first-length : length (take len row) ≡ n
+-- the first bytes of a row, appended at the start of the output: the output afterwards, and whether there was room for them
+module _ (answer len : ℕ) (row out : List ℕ) (long : length row ≡ room) {n r : ℕ} {after : List ℕ} (e : n ≡ min len room)
+    (f : effect r after ≡ append row 0 n (effect 0 out)) (same : length after ≡ length out) where
+  abbrev xs : List ℕ
+  xs = take len row
+
+  first-length : length xs ≡ n
   first-length = length-take len row ∙ ap (min len) long ∙ sym e
 
-  pub put-short : length out < n → effect 101 out ≡ put (hand answer (take len row)) out
-  unfolding put
-  put-short h = lent-short _ out _ (let l : length (take len row) ≡ n = first-length in omega arith)
+  ends : n ≤ length out → (r ≡ n) × (after ≡ xs ++ drop (length xs) out)
+  ends h =
+      let l = first-length in
+      let all : take n row ≡ xs = sym (take-take n len row (omega arith)) ∙ ap (λ (k : ℕ). take k xs) (sym l) ∙ take-length xs in
+      let g : effect r after ≡ effect n (xs ++ drop (length xs) out) =
+      f ∙ front-fits row n out (omega arith) h ∙ ap₂ (λ (ys : List ℕ) (k : ℕ). effect n (ys ++ drop k out)) all (sym l) in
+      (ap (λ (x : Effect). x .answer) g, ap (λ (x : Effect). x .after) g)
 
-  pub put-more : {i : ℕ} {after : List ℕ} → i < n → after ≡ sets out 0 (take i (take len row)) → set after i (getD row i 0) ≡ sets out 0 (take (i + 1) (take len row))
-  put-more {i} {after} h f =
-      let l : length (take len row) ≡ n = first-length in
-      ap (λ (k : ℕ). set after k (getD row i 0)) (sym (zero-add i))
-      ∙ store-more out 0 (take len row) i (omega arith) (sym (getD-take len row i 0 (omega arith))) f
+  ends-past : length out < n → (r ≡ length out + 1) × (after ≡ out)
+  ends-past h =
+      let g = f ∙ front-outside row n out (omega arith) h in
+      (ap (λ (x : Effect). x .answer) g, ap (λ (x : Effect). x .after) g)
 
-  pub put-all : n ≤ length out → {i : ℕ} {after : List ℕ} → n ≤ i → after ≡ sets out 0 (take i (take len row)) → effect answer after ≡ put (hand answer (take len row)) out
+  pub put-short : length after < r → effect 101 after ≡ put (hand answer xs) out
   unfolding put
-  put-all fits {i} h f =
-      let xs = take len row in
-      let l : length xs ≡ n = first-length in
-      ap (effect answer)
-      (f
-      ∙ ap (sets out 0) (take-all i xs (omega arith))
-      ∙ sets-eq xs out 0 (omega arith)
-      ∙ ap (λ (k : ℕ). xs ++ drop k out) (zero-add (length xs)))
-      ∙ sym (lent-long _ out _ (omega arith))
+  put-short h = go (ltb (length out) n) refl
+    where
+      go : (b : Bool) → ltb (length out) n ≡ b → effect 101 after ≡ put (hand answer xs) out
+      go true t =
+          let l = first-length in
+          let k : length out < n = ltb-true _ _ t in
+          ap (effect 101) (ends-past k .1) ∙ lent-short _ out _ (omega arith)
+      go false t =
+          let m : n ≤ length out = ltb-false _ _ t in
+          let k : r ≡ n = ends m .0 in
+          absurd (omega arith)
+
+  pub put-all : r ≤ length after → effect answer after ≡ put (hand answer xs) out
+  unfolding put
+  put-all h = go (ltb (length out) n) refl
+    where
+      go : (b : Bool) → ltb (length out) n ≡ b → effect answer after ≡ put (hand answer xs) out
+      go true t = let k = ends-past (ltb-true _ _ t) .0 in absurd (omega arith)
+      go false t =
+          let l = first-length in
+          let k : n ≤ length out = ltb-false _ _ t in
+          ap (effect answer) (ends k .1) ∙ sym (lent-long _ out _ (omega arith))
 
 -- ---- a call
 

@@ -3,6 +3,7 @@ ghost use mathlib.Core.Path.{_≡_};
 ghost use Rattle.written_form.specs.Effect.{room, effect, hand, refusal, handed, put};
 ghost use Prim.Native.Nat.{min};
 ghost use lib.ListN.{take};
+use crate::ranges;
 
 // A count's field, and the seal's behind it.
 pub const COUNT_ROOM: usize = 3 + stored_form::COUNT_LENGTH;
@@ -44,14 +45,9 @@ fn within(len: usize) -> usize
 fn put_row(answer: u32, len: usize, row: [u8; ROOM], output: &mut [u8]) -> u32
     ensures { λ r. ⌜ effect r (now (output .exit)) ≡ put (hand answer (take len row)) (now (output .entry)) ⌝ }
 {
-    let n = within(len);
-    if output.len() < n {
+    let end = ranges::append(&row, 0, within(len), output, 0);
+    if output.len() < end {
         return 101;
-    }
-    let mut i = 0;
-    while i < n {
-        output[i] = row[i];
-        i += 1;
     }
     answer
 }
