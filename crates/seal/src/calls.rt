@@ -74,10 +74,7 @@ fn answered(call: Call, h: Held) -> Output
 fn byte_call(call: Call, room: usize, tags: &[u8], input: &[u8], output: &mut [u8]) -> u32
     ensures { λ r. ⌜ effect r (now (output .exit)) ≡ byte-call room (now (tags .entry)) (answered call) (now (input .entry)) (now (output .entry)) ⌝ }
 {
-    if output.len() < room {
-        return 101;
-    }
-    let r = stored_form::read_record(tags, input);
+    let r = effect::read_call(output.len(), room, tags, input);
     let place = r.place;
     let held = r.held;
     let Place::Next(_) = place else {

@@ -48,11 +48,8 @@ fn answered(call: Call, h: Held) -> Output
 fn class_call(call: Call, input: &[u8], output: &mut [u8]) -> u32
     ensures { λ r. ⌜ effect r (now (output .exit)) ≡ called call (now (input .entry)) (now (output .entry)) ⌝ }
 {
-    if output.len() < stored_form::CLASS_ROOM {
-        return 101;
-    }
     let tags = stored_form::CLASS_RECORD;
-    let r = stored_form::read_record(&tags, input);
+    let r = effect::read_call(output.len(), stored_form::CLASS_ROOM, &tags, input);
     let place = r.place;
     let held = r.held;
     let Place::Next(_) = place else {

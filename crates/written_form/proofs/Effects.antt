@@ -4,36 +4,38 @@ use mathlib.Core.Path.{_≡_, refl, sym, ap, ap₂, _∙_}
 use mathlib.Core.{Bool.Bool, Bool.true, Bool.false, List.List, List._++_}
 use native.Mathlib.Omega.{arith}
 use lib.{Dec.ltb, ListN.length, ListN.take, ListN.drop, ListN.length-take, Seq.take-take, Seq.take-length}
-use borrow.Author.Tests.{lt-ltb, le-ltb, ltb-true, ltb-false}
-use Rattle.stored_form.specs.Reading.{Reading, found, refused, reading-refusal}
-use Rattle.written_form.specs.Effect.{Effect, Handed, effect, refuse, write, lent, hand, refusal, written, for, put, byte-call, room}
+use borrow.Author.Tests.{lt-ltb, le-ltb, ltb-true, ltb-false, le-leb, lt-leb}
+use Rattle.jacobian.specs.Checks.{unless}
+use Rattle.stored_form.specs.Reading.{Reading, found, refused, checked}
+use Rattle.written_form.specs.Effect.{Effect, Handed, effect, refuse, write, hand, refusal, written, for, put, read-call, room-refusal, byte-call, room}
 use Rattle.stored_form.specs.Held.{read-record, read-of, place-refusal}
 use Rattle.stored_form.specs.declared.{Held.Held, Read.Read, Cursor.Cursor}
 use Rattle.stored_form.specs.declared.Place.the-variants.{Next, Refused}
-use Rattle.stored_form.proofs.Readers.{place-found, place-refused, read-refusal}
+use Rattle.stored_form.proofs.Readers.{place-found, place-refused-as}
 use Rattle.written_form.specs.Ranges.{append}
 use Rattle.written_form.proofs.Appending.{front-fits, front-outside}
 
--- ---- the output's length
+-- ---- what is put
 
-module _ (least : ℕ) (out : List ℕ) (e : Effect) where
-  pub lent-short : length out < least → effect 101 out ≡ lent least out e
-  unfolding lent refuse
-  lent-short h = simp (lt-ltb _ _ h)
+-- where the output is too short for it, and where it is not
+module _ (o : Handed) (out : List ℕ) where
+  put-over : length out < length (o .bytes) → effect 101 out ≡ put o out
+  unfolding put refuse
+  put-over h = simp (lt-ltb _ _ h)
 
-  pub lent-long : least ≤ length out → lent least out e ≡ e
-  unfolding lent
-  lent-long h = simp (le-ltb _ _ h)
+  put-in : length (o .bytes) ≤ length out → put o out ≡ effect (o .answer) (o .bytes ++ drop (length (o .bytes)) out)
+  unfolding put
+  put-in h = simp (le-ltb _ _ h)
 
 -- bytes for which there is room
 pub put-written : (bytes out : List ℕ) → length bytes ≤ length out → put (written bytes) out ≡ write bytes out
-unfolding put write
-put-written bytes out h = lent-long _ out _ h
+unfolding write
+put-written bytes out h = put-in (written bytes) out h
 
 -- a refusal writes nothing
 pub put-refusal : (n : ℕ) (out : List ℕ) → put (refusal n) out ≡ refuse n out
-unfolding put refuse
-put-refusal n out = lent-long 0 out _ (omega arith)
+unfolding refuse
+put-refusal n out = put-in (refusal n) out (omega arith)
 
 -- ---- the copy
 
@@ -60,21 +62,19 @@ module _ (answer len : ℕ) (row out : List ℕ) (long : length row ≡ room) {n
       (ap (λ (x : Effect). x .answer) g, ap (λ (x : Effect). x .after) g)
 
   pub put-short : length after < r → effect 101 after ≡ put (hand answer xs) out
-  unfolding put
   put-short h = go (ltb (length out) n) refl
     where
       go : (b : Bool) → ltb (length out) n ≡ b → effect 101 after ≡ put (hand answer xs) out
       go true t =
           let l = first-length in
           let k : length out < n = ltb-true _ _ t in
-          ap (effect 101) (ends-past k .1) ∙ lent-short _ out _ (omega arith)
+          ap (effect 101) (ends-past k .1) ∙ put-over _ out (omega arith)
       go false t =
           let m : n ≤ length out = ltb-false _ _ t in
           let k : r ≡ n = ends m .0 in
           absurd (omega arith)
 
   pub put-all : r ≤ length after → effect answer after ≡ put (hand answer xs) out
-  unfolding put
   put-all h = go (ltb (length out) n) refl
     where
       go : (b : Bool) → ltb (length out) n ≡ b → effect answer after ≡ put (hand answer xs) out
@@ -82,36 +82,49 @@ module _ (answer len : ℕ) (row out : List ℕ) (long : length row ≡ room) {n
       go false t =
           let l = first-length in
           let k : n ≤ length out = ltb-false _ _ t in
-          ap (effect answer) (ends k .1) ∙ sym (lent-long _ out _ (omega arith))
+          ap (effect answer) (ends k .1) ∙ sym (put-in _ out (omega arith))
 
 -- ---- a call
 
+-- the record that it reads, by the output's room
+module _ (has least : ℕ) (tags s : List ℕ) where
+  pub room-refused : has < least → read-call has least tags s ≡ refused 101
+  unfolding read-call room-refusal unless checked
+  room-refused h = rw (lt-leb least has h)
+
+  pub room-read : least ≤ has → read-call has least tags s ≡ read-record tags s
+  unfolding read-call room-refusal unless checked
+  room-read h = rw (le-leb least has h)
+
+-- what it does, by what is read
 module _ (least : ℕ) (tags : List ℕ) (answer : Held → Handed) (s out : List ℕ) where
-  pub call-short : length out < least → effect 101 out ≡ byte-call least tags answer s out
-  unfolding byte-call
-  call-short h = lent-short _ out _ h
-
-  module _ (fits : least ≤ length out) where
-    answered-for : {x : Reading Held} → read-record tags s ≡ x → byte-call least tags answer s out ≡ put (for x answer) out
+  module _ {x : Reading Held} (e : read-call (length out) least tags s ≡ x) where
+    does : byte-call least tags answer s out ≡ put (for x answer) out
     unfolding byte-call
-    answered-for e = lent-long _ out _ fits ∙ ap (λ (r : Reading Held). put (for r answer) out) e
+    does = ap (λ (r : Reading Held). put (for r answer) out) e
 
-    pub call-refused : {n : ℕ} → read-record tags s ≡ refused n → byte-call least tags answer s out ≡ refuse n out
-    unfolding for
-    call-refused {n} e = answered-for e ∙ put-refusal n out
+  refuses-call : {n : ℕ} → read-call (length out) least tags s ≡ refused n → byte-call least tags answer s out ≡ refuse n out
+  unfolding for
+  refuses-call {n} e = does e ∙ put-refusal n out
 
-    pub call-found : {h : Held} {end : ℕ} → read-record tags s ≡ found h end → byte-call least tags answer s out ≡ put (answer h) out
-    unfolding for
-    call-found e = answered-for e
+  answers-call : {h : Held} {end : ℕ} → read-call (length out) least tags s ≡ found h end → byte-call least tags answer s out ≡ put (answer h) out
+  unfolding for
+  answers-call e = does e
 
-    -- as the code tells them apart
-    module _ (r : Read) (e : r ≡ read-of (read-record tags s)) where
-      pub call-unread : {n k : ℕ} → r .place ≡ Refused n → k ≡ place-refusal (r .place) → effect k out ≡ byte-call least tags answer s out
-      unfolding refuse
-      call-unread f h = ap (λ (m : ℕ). effect m out) (h ∙ ap place-refusal f) ∙ sym (call-refused (place-refused r e f))
+  pub call-short : length out < least → byte-call least tags answer s out ≡ refuse 101 out
+  call-short h = refuses-call (room-refused _ _ _ _ h)
 
-      pub call-read : {next : Cursor} {x : Handed} {y : Effect} → r .place ≡ Next next → x ≡ answer (r .held) → y ≡ put x out → y ≡ byte-call least tags answer s out
-      call-read f g h = h ∙ ap (λ (z : Handed). put z out) g ∙ sym (call-found (place-found r e f))
+  pub call-refused : least ≤ length out → {n : ℕ} → read-record tags s ≡ refused n → byte-call least tags answer s out ≡ refuse n out
+  call-refused fits e = refuses-call (room-read _ _ _ _ fits ∙ e)
 
-pub unread-number : (r : Read) (x : Reading Held) → r ≡ read-of x → place-refusal (r .place) ≡ reading-refusal x
-unread-number = read-refusal
+  pub call-found : least ≤ length out → {h : Held} {end : ℕ} → read-record tags s ≡ found h end → byte-call least tags answer s out ≡ put (answer h) out
+  call-found fits e = answers-call (room-read _ _ _ _ fits ∙ e)
+
+  -- as the code takes it apart: the reader's answer, then the refusal or what is put
+  module _ (r : Read) (e : r ≡ read-of (read-call (length out) least tags s)) where
+    pub call-unread : {n k : ℕ} → r .place ≡ Refused n → k ≡ place-refusal (r .place) → effect k out ≡ byte-call least tags answer s out
+    unfolding refuse
+    call-unread f h = sym (refuses-call (place-refused-as r e f h))
+
+    pub call-read : {next : Cursor} {x : Handed} {y : Effect} → r .place ≡ Next next → x ≡ answer (r .held) → y ≡ put x out → y ≡ byte-call least tags answer s out
+    call-read f g h = h ∙ ap (λ (z : Handed). put z out) g ∙ sym (answers-call (place-found r e f))

@@ -42,7 +42,7 @@ module _ (most : ℕ) (tags : List ℕ) (answer : Held → Handed) (s out : List
   call-told-apart apart = go (ltb (length out) most) refl
     where
       go : (b : Bool) → ltb (length out) most ≡ b → ToldApart most out (byte-call most tags answer s out)
-      go true e = kept 101 refl (sym (call-short most tags answer s out (ltb-true _ _ e)))
+      go true e = kept 101 refl (call-short most tags answer s out (ltb-true _ _ e))
       go false e = long-apart (ltb-false _ _ e) apart
 
 -- the answer alone says which of the two

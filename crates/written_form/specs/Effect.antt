@@ -4,9 +4,9 @@ use mathlib.Core.Path.{_≡_}
 use mathlib.Core.Bool.{cond}
 use mathlib.Core.List.{List, [], _++_}
 use lib.ListN.{length, take, drop}
-use lib.Dec.{ltb}
-use Rattle.jacobian.specs.{Refusals.IsRefusal, Answer.Verdict, Answer.Result, Answer.accepted, Answer.refused as said-no}
-use Rattle.stored_form.specs.Reading.{Reading, found, refused}
+use lib.Dec.{leb, ltb}
+use Rattle.jacobian.specs.{Checks.unless, Refusals.IsRefusal, Answer.Verdict, Answer.Result, Answer.accepted, Answer.refused as said-no}
+use Rattle.stored_form.specs.Reading.{Reading, found, refused, checked}
 use Rattle.stored_form.specs.Head.{count-length, class-room}
 use Rattle.stored_form.specs.Classes.{class-field}
 use Rattle.stored_form.specs.Held.{read-record}
@@ -29,10 +29,6 @@ refuse n out = effect n out
 -- the answer is the length written; bytes after that are untouched
 unfoldable pub write : List ℕ → List ℕ → Effect
 write bytes out = effect (length bytes) (bytes ++ drop (length bytes) out)
-
--- 101 where the output is shorter than it must be, before any byte of the input is looked at
-unfoldable pub lent : ℕ → List ℕ → Effect → Effect
-lent least out e = cond (ltb (length out) least) (refuse 101 out) e
 
 -- ---- what a call hands over to be written
 
@@ -68,11 +64,21 @@ for (refused n) answer = refusal n
 
 -- bytes after those written are untouched; an output shorter than them is left as it is, and the answer is 101
 unfoldable pub put : Handed → List ℕ → Effect
-put o out = let n = length (o .bytes) in lent n out (effect (o .answer) (o .bytes ++ drop n out))
+put o out =
+    let n = length (o .bytes) in
+    cond (ltb (length out) n) (refuse 101 out) (effect (o .answer) (o .bytes ++ drop n out))
+
+-- 101 where the output has less room than it must have
+unfoldable pub room-refusal : ℕ → ℕ → ℕ
+room-refusal has least = unless (leb least has) 101
+
+-- the record of a call is read once the output's room was asked for, and no byte of the input before that
+unfoldable pub read-call : ℕ → ℕ → List ℕ → List ℕ → Reading Held
+read-call has least tags s = checked (room-refusal has least) (read-record tags s)
 
 -- a call: the record of these tags is read and answered into an output of at least that length
 unfoldable pub byte-call : ℕ → List ℕ → (Held → Handed) → List ℕ → List ℕ → Effect
-byte-call least tags answer s out = lent least out (put (for (read-record tags s) answer) out)
+byte-call least tags answer s out = put (for (read-call (length out) least tags s) answer) out
 
 -- ---- the room
 

@@ -1,9 +1,11 @@
 // What a call on byte areas hands over to be written, and the one place that writes it.
 ghost use mathlib.Core.Path.{_≡_};
-ghost use Rattle.written_form.specs.Effect.{room, effect, hand, refusal, handed, put};
+ghost use Rattle.written_form.specs.Effect.{room, read-call, effect, hand, refusal, handed, put};
+ghost use Rattle.stored_form.specs.Held.{read-of};
 ghost use Prim.Native.Nat.{min};
 ghost use lib.ListN.{take};
 use crate::ranges;
+use stored_form::Read;
 
 // A count's field, and the seal's behind it.
 pub const COUNT_ROOM: usize = 3 + stored_form::COUNT_LENGTH;
@@ -18,6 +20,16 @@ pub struct Output {
     pub answer: u32,
     pub len: usize,
     pub bytes: [u8; ROOM],
+}
+
+// The record of a call: 101 where the output has less room than it must have, before any byte of the input is looked at.
+pub fn read_call(has: usize, least: usize, tags: &[u8], input: &[u8]) -> Read
+    ensures { λ r. ⌜ r ≡ read-of (read-call has least (now (tags .entry)) (now (input .entry))) ⌝ }
+{
+    if has < least {
+        return stored_form::refused(101);
+    }
+    stored_form::read_record(tags, input)
 }
 
 // A refusal's number, and nothing to write.

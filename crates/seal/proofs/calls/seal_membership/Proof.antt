@@ -1,6 +1,6 @@
 -- `calls::seal_membership` meets its contract.
 use mathlib.Core.Path.{_∙_}
-use Rattle.written_form.proofs.Effects.{unread-number}
+use Rattle.stored_form.proofs.Readers.{read-refusal}
 use Rattle.seal.specs.Calls.{membership-call}
 use borrow.Author.Needs.{needs}
 use Rattle.seal.proofs.calls.seal_membership.Statement.{statement}
@@ -10,7 +10,7 @@ returns : tie.Need-returns
 unfolding membership-call
 returns c =
     let read = c .before .read-record in
-    c .place-refusal .ensures ∙ unread-number (read .result) _ (read .ensures)
+    c .place-refusal .ensures ∙ read-refusal (read .result) _ (read .ensures)
 
 pub seal-membership-spec : {M : Type 1} → statement M
 seal-membership-spec =
