@@ -9,21 +9,18 @@ use Prim.Native.Nat.{ℕ, zero, suc, _+_, _*_, _^_, _≤_, _<_}
 use mathlib.Core.Path.{_≡_, refl, sym, ap, _∙_}
 use mathlib.Core.List.{List, _++_}
 use native.Mathlib.Omega.{arith}
-use lib.{Dec.lit<, ListN.length, ListN.take-append-drop, Pow.pow-lt}
+use lib.{Dec.lit<, ListN.length, Pow.pow-lt}
 use Rattle.class_group.specs.Multiples.{repeat}
 use Rattle.jacobian.specs.{Answer.Result, Answer.result, Answer.neutral-class, Answer.double-answer, Answer.half-answer, Group.doublings, declared.Curve.Curve, declared.Class.Class}
-use Rattle.stored_form.specs.{Number.Bytes, Reading.found, Head.class-room, Head.first-fields-length, Classes.class-field, Passing.ClassPasses, Held.read-record, Held.class-record, declared.Held.Held}
+use Rattle.stored_form.specs.{Number.Bytes, Reading.found, Head.class-room, Classes.class-field, Passing.ClassPasses, Held.read-record, Held.class-record, declared.Held.Held}
 use Rattle.written_form.specs.Effect.{write}
-use Rattle.seal.specs.Records.{class-record-bytes}
-use Rattle.seal.specs.Rebuilt.{last-field, class-rebuilt}
-use Rattle.seal.specs.Calls.{half-call, sum-call}
+use Rattle.stored_form_theorems.proofs.Cuts.{cut-whole}
+use Rattle.seal.specs.{Records.class-record-bytes, Rebuilt.last-field, Rebuilt.class-rebuilt, Calls.half-call, Calls.sum-call, Group.sum-record-of}
 use Rattle.seal.specs.Calls as seal
-use Rattle.seal.specs.Group.{sum-record-of}
 use Rattle.seal.proofs.{Passing.class-holds, Passing.Given, Passing.double-given, Passing.half-given, ByteGroup.sum-record-writes, ByteGroup.sum-record-is}
 use Rattle.seal.proofs.ClassCalls.{class-call, call-writes, rebuilt-write, first-is, last-is, stored-writes, stored-rebuilt, is-stored, follow-writes}
 use Rattle.jacobian.proofs.Group.{doublings-accept}
-use Rattle.seal_licence.specs.Multiples.{multiple-limit, halvings-limit, multiple-answer, halvings-answer, halves}
-use Rattle.seal_licence.specs.Calls.{answered, multiple-call, halvings-call}
+use Rattle.seal_licence.specs.{Multiples.multiple-limit, Multiples.halvings-limit, Multiples.multiple-answer, Multiples.halvings-answer, Multiples.halves, Calls.answered, Calls.multiple-call, Calls.halvings-call}
 use Rattle.seal_licence.proofs.Theorems.{multiple-of-sum, multiple-of-product, multiple-of-zero, multiple-of-one, halves-accept, doublings-are-multiple, halvings-are-halves, halvings-of-doublings, doublings-of-halvings}
 use Rattle.licence_theorems.specs.Rebuilt.{doubled-record, halved-record}
 use Rattle.licence_theorems.proofs.Passing.{multiple-given, halvings-given}
@@ -181,4 +178,4 @@ module _ (s : List ℕ) (bytes : Bytes s) {h : Held} {end : ℕ} (read : read-re
           ∙ ap (class-rebuilt (doubled-record mid k s)) (halvings-of-doublings-bytes k l)
           ∙ rebuilt-write (doubled-record mid k s) (last-field s) out
           ∙ ap (λ (f : List ℕ). f ++ last-field s) (first-is c (doublings c k a) (doubled-at k) ∙ sym (first-is c a stored-bytes))
-          ∙ take-append-drop first-fields-length s)
+          ∙ cut-whole 2 s)

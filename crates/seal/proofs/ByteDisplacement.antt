@@ -5,25 +5,22 @@
 -- other list's last seal (`displacement-writes`). The records of the two last seals, of the two operations and of their difference are read (`last-read`, `changed-read`,
 -- `operations-read`, `difference-read`), so that the opposite, the difference's sum and the doublings write the fields of classes too (`opposite-writes`, `sum-writes`, `doublings-write`
 -- of ByteGroup).
-use Prim.Native.Nat.{ℕ, _+_, _-_, _≤_}
+use Prim.Native.Nat.{ℕ, _-_, _≤_}
 use mathlib.Core.Path.{_≡_, refl, sym, ap, ap₂, _∙_, subst}
 use mathlib.Core.List.{List, [], _∷_, _++_, map, reverse, reverse-reverse}
-use lib.ListN.{length, drop, length-map, length-reverse}
-use lib.Seq.{drop-at, drop-append-seam}
+use lib.{ListN.length, ListN.drop, ListN.length-map, ListN.length-reverse, Seq.drop-append-seam}
 use Rattle.class_group.specs.{Walk.All, Walk.none, Walk.more, Walk.after, Walk.forward, Multiples.repeat}
 use Rattle.class_group.proofs.{All.all-reverse, All.changed-members, Walk.changed-map}
 use Rattle.class_group.proofs.Displacement as group
 use Rattle.jacobian.specs.{Answer.Verdict, Answer.accepted, Answer.refused, Answer.Accepts, Group.sum-of, Group.double-of, declared.Class.Class}
-use Rattle.history.specs.Register.{RegisterReply, moved, stepped, step-answer}
-use Rattle.history.specs.Calls.{answer}
+use Rattle.history.specs.{Register.RegisterReply, Register.moved, Register.stepped, Register.step-answer, Calls.answer}
 use Rattle.history.specs.Machine.{Event, accepted-of, event, run, last, newest}
 use Rattle.history.specs.declared.{Register.Register, Step.the-variants.Commit, Step.Step}
 use Rattle.history.proofs.{Seals.commit-sum, OneStep.step-taken, Preserved.accepted-class}
-use Rattle.stored_form.specs.{Number.Bytes, Number.bytes-of, Head.class-room, Head.stored, Head.head-bytes, Head.count-length, Fields.count-field, Classes.curve-first-fields, Classes.class-field}
-use Rattle.stored_form.proofs.Lengths.{length-count}
+use Rattle.stored_form.specs.{Number.Bytes, Number.bytes-of, Head.class-room, Head.stored, Head.head-bytes, Cuts.drop-fields, Fields.count-field, Classes.curve-first-fields, Classes.class-field}
+use Rattle.stored_form_theorems.proofs.Cuts.{drop-cut, count-cut}
 use Rattle.written_form.specs.Effect.{write}
-use Rattle.seal.specs.{Records.register-fields, Records.class-record-bytes}
-use Rattle.seal.specs.{Rebuilt.last-field, Calls.sum-call}
+use Rattle.seal.specs.{Records.register-fields, Records.class-record-bytes, Rebuilt.last-field, Calls.sum-call}
 use Rattle.seal.specs.Group.{ReadWith, sum-record-of, record-sum, record-double, record-difference}
 use Rattle.seal.specs.Steps.{Kept, ByteStep, made, outcome, byte-steps, InStoredForm, seal-record, operation-record, OnlyCommits, operations, ByteVariants}
 use Rattle.seal.proofs.ByteGroup.{Holds, read-again, sum-holds, double-holds, byte-doubling, opposite-read, sum-read, sum-writes, sum-field, doublings-read}
@@ -31,14 +28,14 @@ use Rattle.seal.proofs.ByteSteps.{refused-stays, Done, done, kept-store
 
 -- ---- the records of the seal and of an operation
 
-register-seal : (g : Register) → drop (3 + count-length) (register-fields g) ≡ class-field 0x43 (g .seal)
-register-seal g = drop-at (count-field (g .count)) (class-field 0x43 (g .seal)) (3 + count-length) (length-count (g .count))
+register-seal : (g : Register) → drop-fields 1 (register-fields g) ≡ class-field 0x43 (g .seal)
+register-seal g = let field = class-field 0x43 (g .seal) in drop-cut 1 (count-field (g .count)) field (count-cut field (g .count))
 
 seal-holds : (k : Kept) (stored : InStoredForm k) → Holds (stored .register .curve) (stored .register .seal) (k .curve) (seal-record k)
 unfolding class-record-bytes
 seal-holds k stored = record {
   passes = stored .seal-passes;
-  bytes = ap₂ (λ (xs ys : List ℕ). xs ++ ys) (stored .curve-bytes) (ap (drop (3 + count-length)) (stored .register-bytes) ∙ register-seal (stored .register));
+  bytes = ap₂ (λ (xs ys : List ℕ). xs ++ ys) (stored .curve-bytes) (ap (drop-fields 1) (stored .register-bytes) ∙ register-seal (stored .register));
   begins = stored .curve-bytes;
 }
 

@@ -5,15 +5,14 @@
 use Prim.Native.Nat.{ℕ, _≤_}
 use mathlib.Core.Path.{_≡_, sym, ap, _∙_}
 use mathlib.Core.List.{List, _++_}
-use lib.ListN.{length, take-append-drop}
+use lib.ListN.{length}
 use Rattle.jacobian.specs.{Answer.Result, Answer.result, Answer.double-answer, Answer.half-answer, declared.Curve.Curve, declared.Class.Class}
 use Rattle.jacobian.proofs.Calls.{double-of-half, half-of-double}
-use Rattle.stored_form.specs.{Number.Bytes, Reading.found, Head.class-room, Head.first-fields-length, Classes.class-field, Held.read-record, Held.class-record, declared.Held.Held}
+use Rattle.stored_form.specs.{Number.Bytes, Reading.found, Head.class-room, Classes.class-field, Held.read-record, Held.class-record, declared.Held.Held}
 use Rattle.written_form.specs.Effect.{write}
-use Rattle.seal.specs.Rebuilt.{first-fields, last-field, class-rebuilt}
-use Rattle.seal.specs.Calls.{answered, double-call, half-call}
-use Rattle.seal.proofs.Passing.{class-holds, double-given, half-given}
-use Rattle.seal.proofs.ClassCalls.{call-writes, rebuilt-write, is-stored, taken-back}
+use Rattle.stored_form_theorems.proofs.Cuts.{cut-whole}
+use Rattle.seal.specs.{Rebuilt.first-fields, Rebuilt.last-field, Rebuilt.class-rebuilt, Calls.answered, Calls.double-call, Calls.half-call}
+use Rattle.seal.proofs.{Passing.class-holds, Passing.double-given, Passing.half-given, ClassCalls.call-writes, ClassCalls.rebuilt-write, ClassCalls.is-stored, ClassCalls.taken-back}
 
 doubled : Curve → Class → Result
 doubled c a = result (double-answer c a)
@@ -52,9 +51,9 @@ module _ (s : List ℕ) (bytes : Bytes s) {h : Held} {end : ℕ} (read : read-re
   pub only-half-bytes : (t : List ℕ) → first-fields t ≡ first-fields s → double-call s out ≡ write (last-field t) out → s ≡ class-rebuilt t (half-call t last)
   only-half-bytes t same double =
       let back : class-rebuilt s (double-call s out) ≡ t =
-      ap (class-rebuilt s) double ∙ rebuilt-write s (last-field t) out ∙ ap (λ (l : List ℕ). l ++ last-field t) (sym same) ∙ take-append-drop first-fields-length t in
+      ap (class-rebuilt s) double ∙ rebuilt-write s (last-field t) out ∙ ap (λ (l : List ℕ). l ++ last-field t) (sym same) ∙ cut-whole 2 t in
       sym
       (ap (class-rebuilt t) (ap (λ (l : List ℕ). half-call l last) (sym back) ∙ half-of-double-bytes)
       ∙ rebuilt-write t (last-field s) last
       ∙ ap (λ (l : List ℕ). l ++ last-field s) same
-      ∙ take-append-drop first-fields-length s)
+      ∙ cut-whole 2 s)

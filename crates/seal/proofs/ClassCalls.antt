@@ -5,19 +5,14 @@ use Prim.Native.Nat.{ℕ, _≤_}
 use mathlib.Core.Path.{_≡_, refl, sym, ap, _∙_}
 use mathlib.Core.List.{List, _++_}
 use native.Mathlib.Omega.{arith}
-use lib.ListN.{length, take, drop}
-use lib.Seq.{take-append-seam, take-at, drop-at}
-use Rattle.jacobian.specs.{Curves.coefficients, Answer.Result, Answer.gives, declared.Curve.Curve, declared.Class.Class}
-use Rattle.stored_form.specs.{Number.Bytes, Number.bytes-of, Reading.found, Head.class-room, Head.first-fields-length, Head.stored, Head.head-bytes, Elements.element-bytes, Fields.degree-field}
-use Rattle.stored_form.specs.{Classes.curve-field, Classes.curve-first-fields, Classes.class-field, Passing.ClassPasses, Held.read-record, Held.class-record}
-use Rattle.stored_form.specs.declared.Held.{Held}
+use lib.{ListN.length, Seq.take-append-seam}
+use Rattle.jacobian.specs.{Answer.Result, Answer.gives, declared.Curve.Curve, declared.Class.Class}
+use Rattle.stored_form.specs.{Number.Bytes, Reading.found, Head.class-room, Classes.curve-first-fields, Classes.class-field, Passing.ClassPasses, Held.read-record, Held.class-record, declared.Held.Held}
 use Rattle.written_form.specs.Effect.{Effect, write, on, class-handed, put, byte-call}
-use Rattle.stored_form_theorems.proofs.ClassRoundTrips.{class-short}
-use Rattle.written_form.proofs.{Effects.call-found, Effects.put-written}
-use Rattle.seal.specs.Records.{class-held, class-record-bytes, ClassStored}
-use Rattle.seal.specs.Rebuilt.{first-fields, last-field, wrote, class-rebuilt}
-use Rattle.seal.proofs.Written.{class-record-written, class-record-back}
-use Rattle.seal.proofs.Passing.{Given}
+use Rattle.stored_form_theorems.proofs.{ClassRoundTrips.class-short, Cuts.take-cut, Cuts.drop-cut, Cuts.curve-cut}
+use Rattle.written_form.proofs.Effects.{call-found, put-written}
+use Rattle.seal.specs.{Records.class-held, Records.class-record-bytes, Records.ClassStored, Rebuilt.first-fields, Rebuilt.last-field, Rebuilt.wrote, Rebuilt.class-rebuilt}
+use Rattle.seal.proofs.{Written.class-record-written, Written.class-record-back, Passing.Given}
 
 -- a call that answers for the curve and the class of its record
 abbrev pub class-call : (Curve → Class → Result) → List ℕ → List ℕ → Effect
@@ -43,18 +38,14 @@ pub rebuilt-write : (s bytes out : List ℕ) → class-rebuilt s (write bytes ou
 unfolding class-rebuilt
 rebuilt-write s bytes out = ap (λ (l : List ℕ). first-fields s ++ l) (wrote-write bytes out)
 
-first-length : (c : Curve) → length (curve-first-fields c) ≡ first-fields-length
-unfolding curve-first-fields degree-field curve-field stored head-bytes coefficients element-bytes bytes-of
-first-length c = refl
-
 module _ {s : List ℕ} (c : Curve) (a : Class) (bytes : s ≡ class-record-bytes c a) where
   pub first-is : first-fields s ≡ curve-first-fields c
   unfolding class-record-bytes
-  first-is = ap (take first-fields-length) bytes ∙ take-at (curve-first-fields c) _ first-fields-length (first-length c)
+  first-is = ap (λ (l : List ℕ). first-fields l) bytes ∙ take-cut 2 (curve-first-fields c) (class-field 0x43 a) (curve-cut (class-field 0x43 a) c)
 
   pub last-is : last-field s ≡ class-field 0x43 a
   unfolding class-record-bytes
-  last-is = ap (drop first-fields-length) bytes ∙ drop-at (curve-first-fields c) _ first-fields-length (first-length c)
+  last-is = ap (λ (l : List ℕ). last-field l) bytes ∙ drop-cut 2 (curve-first-fields c) (class-field 0x43 a) (curve-cut (class-field 0x43 a) c)
 
   pub rebuilt-bytes : (x : Class) (out : List ℕ) → class-rebuilt s (write (class-field 0x43 x) out) ≡ class-record-bytes c x
   unfolding class-record-bytes

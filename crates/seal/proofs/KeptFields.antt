@@ -8,8 +8,8 @@ use lib.ListN.{length, drop}
 use lib.Seq.{drop-append-seam}
 use Rattle.jacobian.specs.declared.Class.{Class}
 use Rattle.history.specs.declared.Register.{Register}
-use Rattle.stored_form.specs.{Number.Bytes, Reading.found, Classes.curve-first-fields, Classes.class-field, Fields.count-field, Passing.CountPasses, Passing.ClassPasses}
-use Rattle.stored_form.specs.Held.{nothing-held, with-curve, with-count, with-class, read-fields, read-record, register-record}
+use Rattle.stored_form.specs.{Number.Bytes, Reading.found, Head.count-length, Classes.curve-first-fields, Classes.class-field, Fields.count-field, Passing.CountPasses, Passing.ClassPasses}
+use Rattle.stored_form.specs.Held.{nothing-held, with-curve, with-count, with-class, read-fields, read-record, curve-fields, register-record}
 use Rattle.stored_form.specs.declared.Held.{Held}
 use Rattle.stored_form.proofs.Readings.{same-found}
 use Rattle.stored_form_theorems.specs.Records.{none, Stored}
@@ -18,7 +18,10 @@ use Rattle.stored_form_theorems.proofs.{Places.apart, Places.whole, RecordRound
 use Rattle.seal.specs.{Records.register-held, Records.register-fields, Records.register-record-bytes, Calls.register, Steps.Kept, Steps.InStoredForm}
 use Rattle.seal.proofs.{Written.curve-passes, Written.register-record-written}
 
--- the fields before the operation
+-- the fields before the operation, and their tags
+abbrev before-tags : List ℕ
+before-tags = curve-fields ++ 0x42 ∷ 0x43 ∷ []
+
 abbrev pub before : Register → List ℕ
 before g = curve-first-fields (g .curve) ++ register-fields g
 
@@ -29,20 +32,20 @@ before-bytes : (g : Register) → Bytes (before g)
 unfolding count-field
 before-bytes g =
     bytes-append (curve-first-fields (g .curve)) (register-fields g) (first-bytes (g .curve))
-    (bytes-append (count-field (g .count)) (class-field 0x43 (g .seal)) (field-bytes 0x42 _ (lit< tt) (number-bytes 2 (g .count))) (class-bytes 0x43 (g .seal) (lit< tt)))
+    (bytes-append (count-field (g .count)) (class-field 0x43 (g .seal)) (field-bytes 0x42 _ (lit< tt) (number-bytes count-length (g .count))) (class-bytes 0x43 (g .seal) (lit< tt)))
 
 -- values that no check refuses
 pub record Passes (g : Register) : Type 0 where
   pub count : CountPasses (g .count)
   pub seal : ClassPasses (g .curve) (g .seal)
 
-before-stored : (g : Register) → Passes g → Stored (0x40 ∷ 0x41 ∷ 0x42 ∷ 0x43 ∷ []) (before-held g) ((curve-first-fields (g .curve) ++ count-field (g .count)) ++ class-field 0x43 (g .seal))
+before-stored : (g : Register) → Passes g → Stored before-tags (before-held g) ((curve-first-fields (g .curve) ++ count-field (g .count)) ++ class-field 0x43 (g .seal))
 before-stored g p =
     let begun = with-curve (g .curve) nothing-held in
     curve-more (g .curve) (curve-passes (p .seal))
     (more (count-law begun) (g .count) (p .count) (more (class-law (with-count (g .count) begun)) (g .seal) (p .seal) none))
 
-before-read : (g : Register) (rest : List ℕ) → Passes g → (at : ℕ) × (read-fields (0x40 ∷ 0x41 ∷ 0x42 ∷ 0x43 ∷ []) nothing-held (before g ++ rest) 0 ≡ found (before-held g) at)
+before-read : (g : Register) (rest : List ℕ) → Passes g → (at : ℕ) × (read-fields before-tags nothing-held (before g ++ rest) 0 ≡ found (before-held g) at)
 before-read g rest p =
     let f = apart (before g) rest (whole (before g ++ rest)) in
     let stored = subst (Stored _ (before-held g)) (append-assoc (curve-first-fields (g .curve)) (count-field (g .count)) (class-field 0x43 (g .seal))) (before-stored g p) in
@@ -53,7 +56,7 @@ same-register : (g k : Register) (xs ys : List ℕ) → Passes g → Passes k �
 same-register g k xs ys p q e =
     let here = before-read g xs p in
     let there = before-read k ys q in
-    ap register (same-found (sym (here .1) ∙ ap (λ (s : List ℕ). read-fields (0x40 ∷ 0x41 ∷ 0x42 ∷ 0x43 ∷ []) nothing-held s 0) e ∙ there .1) .0)
+    ap register (same-found (sym (here .1) ∙ ap (λ (s : List ℕ). read-fields before-tags nothing-held s 0) e ∙ there .1) .0)
 
 -- and the operation's class has its field at the end
 pub record Operation (g : Register) (op : List ℕ) (h : Held) : Type 0 where

@@ -1,18 +1,18 @@
 -- A record rebuilt from what a call wrote for it (docs/SPECIFICATION.md, 11).
 use Prim.Native.Nat.{ℕ}
 use mathlib.Core.List.{List, _++_}
-use lib.ListN.{take, drop}
-use Rattle.stored_form.specs.{Head.first-fields-length, Classes.curve-first-fields, Classes.class-field}
+use lib.ListN.{take}
+use Rattle.stored_form.specs.{Cuts.take-fields, Cuts.drop-fields, Classes.curve-first-fields, Classes.class-field}
 use Rattle.written_form.specs.Effect.{Effect}
 use Rattle.history.specs.declared.Register.{Register}
 use Rattle.jacobian.specs.declared.Class.{Class}
 
--- a class's record: the fields of degree and curve, and the class field
+-- a class's record: the two fields of degree and curve, and the class field behind them
 abbrev pub first-fields : List ℕ → List ℕ
-first-fields s = take first-fields-length s
+first-fields s = take-fields 2 s
 
 abbrev pub last-field : List ℕ → List ℕ
-last-field s = drop first-fields-length s
+last-field s = drop-fields 2 s
 
 -- what a call wrote
 abbrev pub wrote : Effect → List ℕ

@@ -1,12 +1,12 @@
 -- Lists of byte commits and undos, each on the record made of what the last accepted one wrote, and one changed operation in them (docs/SPECIFICATION.md, 11).
-use Prim.Native.Nat.{ℕ, _+_}
+use Prim.Native.Nat.{ℕ}
 use mathlib.Core.{Path._≡_, Bool.cond, List.List, List._∷_, List._++_, List.map, List.reverse}
 use lib.Dec.{ltb}
 use lib.ListN.{drop}
 use Rattle.class_group.specs.Walk.{All, ChangedAt}
 use Rattle.jacobian.specs.Answer.{Verdict, accepted, refused}
 use Rattle.history.specs.{Machine.Machine, Machine.Event, Register.other, declared.Register.Register, declared.Step.Step, declared.Step.the-variants.Commit}
-use Rattle.stored_form.specs.{Head.count-length, Passing.CountPasses, Passing.ClassPasses, Classes.curve-first-fields}
+use Rattle.stored_form.specs.{Cuts.drop-fields, Passing.CountPasses, Passing.ClassPasses, Classes.curve-first-fields}
 use Rattle.written_form.specs.Effect.{Effect, longest-answer}
 use Rattle.seal.specs.{Records.register-fields, Rebuilt.wrote, Calls.step-call}
 
@@ -54,7 +54,7 @@ pub record InStoredForm (k : Kept) : Type 0 where
 
 -- the record of the seal that is kept: degree and curve, and the class field behind the count's
 abbrev pub seal-record : Kept → List ℕ
-seal-record k = k .curve ++ drop (3 + count-length) (k .register)
+seal-record k = k .curve ++ drop-fields 1 (k .register)
 
 -- the record of the class of an operation: its field with the tag of a class
 abbrev pub operation-record : List ℕ → List ℕ → List ℕ

@@ -2,6 +2,7 @@
 pub mod Number
 pub mod Reading
 pub mod Head
+pub mod Cuts
 pub mod Fields
 pub mod Elements
 pub mod Classes

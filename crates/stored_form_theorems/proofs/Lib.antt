@@ -1,6 +1,7 @@
 -- What is proved of the stored form: numbers, elements and classes and their bytes determine each other;
 pub mod Numbers
 pub mod Places
+pub mod Cuts
 pub mod Elements
 pub mod Bodies
 pub mod ClassRoundTrips

@@ -1,0 +1,62 @@
+-- Bytes that begin with k stored fields are cut behind them (`take-cut`, `drop-cut`): the fields of degree and curve (`curve-cut`), that of a count (`count-cut`).
+-- What is cut makes the whole (`cut-whole`).
+use Prim.Native.Nat.{ℕ, zero, suc, _+_, _^_, _<_}
+use mathlib.Core.Path.{_≡_, refl, sym, ap, _∙_, subst}
+use mathlib.Core.List.{List, _++_}
+use native.Mathlib.{Nat.zero-add, Omega.arith}
+use lib.{Dec.lit<, ListN.length, ListN.take-append-drop, Seq.take-at, Seq.drop-at}
+use Rattle.jacobian.specs.{Curves.coefficients, declared.Curve.Curve}
+use Rattle.stored_form.specs.{Number.number-of, Number.bytes-of, Number.part, Head.degree-length, Head.count-length, Head.body-length, Head.head-bytes, Head.stored, Elements.element-bytes, Fields.degree-field, Fields.count-field}
+use Rattle.stored_form.specs.{Classes.curve-field, Classes.curve-first-fields, Cuts.fields-end, Cuts.take-fields, Cuts.drop-fields}
+use Rattle.stored_form.proofs.{Digits.length-bytes, ElementBytes.length-element-bytes, Lengths.length-stored}
+use Rattle.stored_form_theorems.specs.Fields.{Field}
+use Rattle.stored_form_theorems.proofs.{Numbers.number-bytes-small, Places.part-part, Places.apart, Places.whole}
+
+-- k stored fields, from a place to the next
+pub data FieldsAt (s : List ℕ) : ℕ → ℕ → ℕ → Type 0 where
+  none : {at : ℕ} → FieldsAt s 0 at at
+  field : {k at middle next : ℕ} (tag : ℕ) (body : List ℕ) → length body < 256 ^ 2 → Field s at (stored tag body) middle → FieldsAt s k middle next → FieldsAt s (suc k) at next
+
+-- the head of a field says its body's length
+head-says : {s : List ℕ} {at next : ℕ} (tag : ℕ) (body : List ℕ) → length body < 256 ^ 2 → Field s at (stored tag body) next → at + 3 + body-length s at ≡ next
+unfolding stored head-bytes bytes-of body-length
+head-says {s} {at} {next} tag body small f =
+    let n : ℕ = length body in
+    let long : length (stored tag body) ≡ 3 + n = length-stored tag body in
+    let all : part s at (3 + n) ≡ stored tag body = ap (part s at) (sym long) ∙ f .stands in
+    let two : part s (at + 1) 2 ≡ bytes-of 2 n = sym (part-part s at (3 + n) 1 2 (omega arith)) ∙ ap (λ (l : List ℕ). part l 1 2) all in
+    let said : number-of (part s (at + 1) 2) ≡ n = ap number-of two ∙ number-bytes-small 2 n small in
+    omega (arith, f .ends)
+
+pub fields-at-end : {s : List ℕ} {k at next : ℕ} → FieldsAt s k at next → fields-end k s at ≡ next
+unfolding fields-end
+fields-at-end none = refl
+fields-at-end {s} (field {k} tag body small f rest) = ap (fields-end k s) (head-says tag body small f) ∙ fields-at-end rest
+
+-- ---- bytes that begin with such fields
+
+module _ (k : ℕ) (xs rest : List ℕ) (f : FieldsAt (xs ++ rest) k 0 (length xs)) where
+  pub take-cut : take-fields k (xs ++ rest) ≡ xs
+  take-cut = take-at xs rest (fields-end k (xs ++ rest) 0) (sym (fields-at-end f))
+
+  pub drop-cut : drop-fields k (xs ++ rest) ≡ rest
+  drop-cut = drop-at xs rest (fields-end k (xs ++ rest) 0) (sym (fields-at-end f))
+
+pub cut-whole : (k : ℕ) (s : List ℕ) → take-fields k s ++ drop-fields k s ≡ s
+cut-whole k s = take-append-drop (fields-end k s 0) s
+
+module _ (rest : List ℕ) where
+  -- they stand at the start
+  front : (xs : List ℕ) → Field (xs ++ rest) 0 xs (length xs)
+  front xs = let f = apart xs rest (whole (xs ++ rest)) in subst (Field (xs ++ rest) 0 xs) (f .1 .ends ∙ zero-add (length xs)) (f .1)
+
+  pub count-cut : (n : ℕ) → FieldsAt (count-field n ++ rest) 1 0 (length (count-field n))
+  unfolding count-field
+  count-cut n = field 0x42 (bytes-of count-length n) (omega (arith, length-bytes count-length n)) (front (count-field n)) none
+
+  pub curve-cut : (c : Curve) → FieldsAt (curve-first-fields c ++ rest) 2 0 (length (curve-first-fields c))
+  unfolding curve-first-fields degree-field curve-field coefficients
+  curve-cut c =
+      let f = apart (degree-field (c .degree)) (curve-field c) (front (curve-first-fields c)) in
+      field 0x40 (bytes-of degree-length (c .degree)) (omega (arith, length-bytes degree-length (c .degree))) (f .1)
+      (field 0x41 (element-bytes (coefficients c)) (omega (arith, length-element-bytes (coefficients c))) (f .2) none)
