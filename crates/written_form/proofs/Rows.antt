@@ -1,11 +1,11 @@
 -- Fields laid out in a row of bytes, as the code fills it, and what the row hands over.
-use Prim.Native.Nat.{ℕ, suc, _+_, _*_, _/_, _%_, _≤_, min}
-use mathlib.Core.Path.{_≡_, sym, ap, ap₂, _∙_}
-use mathlib.Core.List.{List, [], _∷_, _++_}
-use native.Mathlib.Nat.{zero-add}
-use native.Mathlib.Omega.{arith}
-use lib.ListN.{length, take, drop, set, replicate, length-append, length-replicate}
-use lib.Seq.{sets, sets-eq, take-append-seam}
+use Prim.Native.Nat.{ℕ, zero, suc, _+_, _*_, _-_, _/_, _%_, _^_, _≤_, _<_, min}
+use mathlib.Core.Path.{_≡_, refl, sym, ap, ap₂, _∙_}
+use mathlib.Core.List.{List, [], _∷_, _++_, append-nil, reverse, reverse-cons}
+use native.Mathlib.{Nat.zero-add, Nat.pow-suc, Omega.arith}
+use lib.Pow.{pow-add}
+use lib.ListN.{length, getD, take, drop, set, replicate, length-append, length-replicate, length-take, length-drop, length-reverse, drop-of-length-le}
+use lib.Seq.{sets, sets-eq, take-all, take-append-seam, drop-cons, getD-take}
 use Rattle.jacobian.specs.Answer.{verdict}
 use Rattle.jacobian.specs.declared.Class.{Class}
 use Rattle.jacobian.specs.declared.Outcome.{Outcome}
@@ -13,33 +13,90 @@ use Rattle.jacobian.specs.declared.Outcome.the-variants.{Accepted, Refused}
 use Rattle.stored_form.specs.{Number.bytes-of, Head.head-bytes, Head.stored, Elements.element-bytes, Classes.row-written, Classes.class-field}
 use Rattle.stored_form.specs.{Head.class-room, Head.count-length}
 use Rattle.written_form.specs.{Effect.Handed, Effect.hand, Effect.written, Effect.refusal, Effect.on, Effect.handed, Effect.room, internal.Rows.filled, declared.effect.Output.Output}
-use Rattle.stored_form.proofs.{Digits.two-bytes-small, ElementBytes.length-element-bytes, Stores.sets-append, Lengths.length-stored}
+use Rattle.stored_form.proofs.{Digits.length-bytes, ElementBytes.length-element-bytes, ElementBytes.element-bytes-append, Stores.sets-append, Stores.store-more, Lengths.length-stored}
 use Rattle.stored_form.proofs.ClassBytes.{length-row, below-three}
 
--- three bytes stored one after the other
-three-set : (d : List ℕ) (at x y z : ℕ) → set (set (set d at x) (at + 1) y) (at + 2) z ≡ sets d at (x ∷ y ∷ z ∷ [])
-three-set d at x y z =
-    let one : at + 1 ≡ suc at = omega arith in
-    let two : at + 2 ≡ suc (suc at) = omega arith in
-    rw (one, two)
+-- ---- the bytes of a number
 
--- ---- the field of a count
+pow-256 : (i : ℕ) → 2 ^ (8 * i) ≡ 256 ^ i
+pow-256 zero = refl
+pow-256 (suc i) =
+    let e : 8 * suc i ≡ 8 * i + 8 = omega arith in
+    ap (λ (j : ℕ). 2 ^ j) e ∙ pow-add 2 (8 * i) 8 ∙ ap (λ (k : ℕ). k * 256) (pow-256 i) ∙ sym (pow-suc 256 i)
 
-module _ (d : List ℕ) (at tag n : ℕ) where
-  pub count-filled : set (set (set (set (set d at tag) (at + 1) 0) (at + 2) 2) (at + 3) (n / 256 % 256)) (at + 4) (n % 256) ≡ sets d at (stored tag (bytes-of count-length n))
-  unfolding stored head-bytes bytes-of
-  count-filled =
-      let one : at + 1 ≡ suc at = omega arith in
-      let two : at + 2 ≡ suc (suc at) = omega arith in
-      let three : at + 3 ≡ suc (suc (suc at)) = omega arith in
-      let four : at + 4 ≡ suc (suc (suc (suc at))) = omega arith in
-      let low : n / 1 % 256 ≡ n % 256 = omega arith in
-      rw (one, two, three, four, low)
+pub shifted : (x i : ℕ) → x / 2 ^ (8 * i) % 256 ≡ x / 256 ^ i % 256
+shifted x i = ap (λ (p : ℕ). x / p % 256) (pow-256 i)
+
+-- the i-th of the k lowest, high byte first
+byte-at : (k x i : ℕ) → i < k → x / 256 ^ (k - 1 - i) % 256 ≡ getD (bytes-of k x) i 0
+unfolding bytes-of
+byte-at zero x i h = absurd (omega arith)
+byte-at (suc k) x zero h = let e : suc k - 1 - 0 ≡ k = omega arith in rw e
+byte-at (suc k) x (suc i) h = let e : suc k - 1 - suc i ≡ k - 1 - i = omega arith in rw e (byte-at k x i (omega arith))
+
+-- a turn of the loop that stores them, and its end
+module _ (d : List ℕ) (at k x i : ℕ) {r : List ℕ} (e : r ≡ sets d at (take i (bytes-of k x))) where
+  pub byte-more : {b : ℕ} → i < k → b ≡ x / 256 ^ (k - 1 - i) % 256 → set r (at + i) b ≡ sets d at (take (i + 1) (bytes-of k x))
+  byte-more h f = store-more d at (bytes-of k x) i (omega (arith, length-bytes k x)) (f ∙ byte-at k x i h) e
+
+  pub bytes-all : k ≤ i → r ≡ sets d at (bytes-of k x)
+  bytes-all h = e ∙ ap (sets d at) (take-all i (bytes-of k x) (omega (arith, length-bytes k x)))
+
+-- ---- a field
+
+-- the tag, and the two bytes of the body's length
+pub head-filled : (d : List ℕ) (at tag n : ℕ) → sets (set d at tag) (at + 1) (bytes-of 2 n) ≡ sets d at (head-bytes tag n)
+unfolding head-bytes
+head-filled d at tag n = let e : at + 1 ≡ suc at = omega arith in rw e
+
+-- the head, and the body behind it
+pub field-filled : (d : List ℕ) (at tag : ℕ) (body : List ℕ) {n : ℕ} {headed r : List ℕ} → n ≡ length body → headed ≡ sets d at (head-bytes tag n) → r ≡ sets headed (at + 3) body →
+    r ≡ sets d at (stored tag body)
+unfolding stored head-bytes bytes-of
+field-filled d at tag body l e f =
+    f
+    ∙ ap (λ (h : List ℕ). sets h (at + 3) body) (e ∙ ap (λ (n : ℕ). sets d at (head-bytes tag n)) l)
+    ∙ sets-append d at (head-bytes tag (length body)) body
+
+-- ---- the coefficients of a class: those from the i-th on, highest power first
+
+module _ (d : List ℕ) (at n : ℕ) (r : List ℕ) (long : length r ≡ 3) (le : n ≤ 3) where
+  abbrev from : ℕ → List ℕ
+  from i = reverse (drop i (take n r))
+
+  length-first : length (take n r) ≡ n
+  length-first = length-take n r ∙ omega arith
+
+  pub none-stored : d ≡ sets d at (element-bytes (from n))
+  unfolding element-bytes
+  none-stored = let l = length-first in let e : drop n (take n r) ≡ [] = drop-of-length-le (take n r) {i = n} (omega arith) in rw e
+
+  pub one-stored : {i : ℕ} {t u : List ℕ} → 0 < i → i ≤ n → t ≡ sets d at (element-bytes (from i)) → u ≡ sets t (at + 8 * (n - i)) (bytes-of 8 (getD r (i - 1) 0)) →
+      u ≡ sets d at (element-bytes (from (i - 1)))
+  unfolding element-bytes
+  one-stored {i} some h e f =
+      let xs = from i in
+      let x = getD r (i - 1) 0 in
+      let l = length-first in
+      let s : suc (i - 1) ≡ i = omega arith in
+      let next : from (i - 1) ≡ xs ++ x ∷ [] =
+      ap reverse (drop-cons (take n r) (i - 1) 0 (omega arith) ∙ ap₂ (λ (y j : ℕ). y ∷ drop j (take n r)) (getD-take n r (i - 1) 0 (omega arith)) s) ∙ reverse-cons x (drop i (take n r)) in
+      let many : length xs ≡ n - i = length-reverse (drop i (take n r)) ∙ length-drop i (take n r) ∙ ap (λ (k : ℕ). k - i) l in
+      let place : at + 8 * (n - i) ≡ at + length (element-bytes xs) = omega (arith, length-element-bytes xs) in
+      f
+      ∙ ap₂ (λ (l : List ℕ) (k : ℕ). sets l k (bytes-of 8 x)) e place
+      ∙ sets-append d at (element-bytes xs) (bytes-of 8 x)
+      ∙ ap (sets d at) (sym (ap element-bytes next ∙ element-bytes-append xs (x ∷ []) ∙ ap (λ (l : List ℕ). element-bytes xs ++ l) (append-nil (bytes-of 8 x))))
+
+  pub all-stored : {i : ℕ} {t : List ℕ} → i ≤ 0 → t ≡ sets d at (element-bytes (from i)) → t ≡ sets d at (element-bytes (row-written n r))
+  unfolding row-written
+  all-stored {i} h e = let z : i ≡ 0 = omega arith in e ∙ ap (λ (j : ℕ). sets d at (element-bytes (from j))) z
 
 -- ---- the field of a class
 
-module _ (row : List ℕ) (at : ℕ) (a : Class) (n : ℕ) (low : n ≡ min (a .degree) 3) {first both : List ℕ}
-    (f : (first ≡ sets (set (set (set row at 0x43) (at + 1) 0) (at + 2) (16 * n)) (at + 3) (element-bytes (row-written n (a .u)))) × (length (a .u) ≡ 3))
+module _ (row : List ℕ) (at : ℕ) (a : Class) (n : ℕ) (low : n ≡ min (a .degree) 3) {headed first both : List ℕ}
+    (e : headed ≡ sets row at (head-bytes 0x43 (8 * n + 8 * n)))
+    (f : (first ≡ sets headed (at + 3) (element-bytes (row-written n (a .u)))) × (length (a .u) ≡ 3))
     (g : (both ≡ sets first (at + 3 + 8 * n) (element-bytes (row-written n (a .v)))) × (length (a .v) ≡ 3)) where
   abbrev X : List ℕ
   X = element-bytes (row-written n (a .u))
@@ -47,14 +104,11 @@ module _ (row : List ℕ) (at : ℕ) (a : Class) (n : ℕ) (low : n ≡ min (a .
   abbrev Y : List ℕ
   Y = element-bytes (row-written n (a .v))
 
-  length-X : length X ≡ 8 * n
-  length-X = length-element-bytes (row-written n (a .u)) ∙ ap (λ (k : ℕ). 8 * k) (length-row n (a .u) (f .1) (omega arith))
+  length-half : (r : List ℕ) → length r ≡ 3 → length (element-bytes (row-written n r)) ≡ 8 * n
+  length-half r l = length-element-bytes (row-written n r) ∙ ap (λ (k : ℕ). 8 * k) (length-row n r l (omega arith))
 
-  length-body : length (X ++ Y) ≡ 16 * n
-  length-body =
-      let y : length Y ≡ 8 * n = length-element-bytes (row-written n (a .v)) ∙ ap (λ (k : ℕ). 8 * k) (length-row n (a .v) (g .1) (omega arith)) in
-      let x = length-X in
-      length-append X Y ∙ omega arith
+  length-body : length (X ++ Y) ≡ 8 * n + 8 * n
+  length-body = length-append X Y ∙ ap₂ (λ (i j : ℕ). i + j) (length-half (a .u) (f .1)) (length-half (a .v) (g .1))
 
   said : stored 0x43 (X ++ Y) ≡ class-field 0x43 a
   unfolding class-field
@@ -63,27 +117,22 @@ module _ (row : List ℕ) (at : ℕ) (a : Class) (n : ℕ) (low : n ≡ min (a .
       (ap (λ (k : ℕ). row-written k (a .u)) low ∙ below-three (a .u) (a .degree) (f .1))
       (ap (λ (k : ℕ). row-written k (a .v)) low ∙ below-three (a .v) (a .degree) (g .1))
 
-  length-class : length (class-field 0x43 a) ≡ 3 + 16 * n
+  length-class : length (class-field 0x43 a) ≡ 3 + (8 * n + 8 * n)
   length-class = ap length (sym said) ∙ length-stored 0x43 (X ++ Y) ∙ ap (λ (k : ℕ). 3 + k) length-body
 
   stores : both ≡ sets row at (class-field 0x43 a)
-  unfolding stored head-bytes
   stores =
-      let x = length-X in
-      let H : List ℕ = 0x43 ∷ 0 ∷ 16 * n ∷ [] in
-      let place : at + 3 + 8 * n ≡ at + 3 + length X = omega arith in
+      let body : both ≡ sets headed (at + 3) (X ++ Y) =
       g .0
-      ∙ ap₂ (λ (l : List ℕ) (k : ℕ). sets l k Y) (f .0 ∙ ap (λ (l : List ℕ). sets l (at + 3) X) (three-set row at _ _ _)) place
-      ∙ sets-append (sets row at H) (at + 3) X Y
-      ∙ sets-append row at H (X ++ Y)
-      ∙ ap (λ (l : List ℕ). sets row at ((0x43 ∷ l) ++ (X ++ Y))) (two-bytes-small (16 * n) (omega arith) ∙ ap (bytes-of 2) (sym length-body))
-      ∙ ap (sets row at) said
+      ∙ ap₂ (λ (l : List ℕ) (k : ℕ). sets l (at + 3 + k) Y) (f .0) (sym (length-half (a .u) (f .1)))
+      ∙ sets-append headed (at + 3) X Y in
+      field-filled row at 0x43 (X ++ Y) (sym length-body) e body ∙ ap (sets row at) said
 
-  pub class-filled : (_≡_ {A = Output} (record { answer = at + 3 + 16 * n; len = at + 3 + 16 * n; bytes = both }) (filled row at (class-field 0x43 a))) × (length (class-field 0x43 a) ≤ class-room)
+  pub class-filled : (_≡_ {A = Output} (record { answer = at + 3 + 8 * n + 8 * n; len = at + 3 + 8 * n + 8 * n; bytes = both }) (filled row at (class-field 0x43 a))) × (length (class-field 0x43 a) ≤ class-room)
   class-filled =
       let l = length-class in
-      let e : at + 3 + 16 * n ≡ at + length (class-field 0x43 a) = omega arith in
-      (ap₂ (λ (k : ℕ) (b : List ℕ). record { answer = k; len = k; bytes = b }) e stores, omega arith)
+      let s : at + 3 + 8 * n + 8 * n ≡ at + length (class-field 0x43 a) = omega arith in
+      (ap₂ (λ (k : ℕ) (b : List ℕ). record { answer = k; len = k; bytes = b }) s stores, omega arith)
 
 -- ---- what a filled row hands over
 

@@ -1,12 +1,12 @@
 // The fields that calls on byte areas write, laid out in a row of bytes.
 ghost use mathlib.Core.Path.{_≡_};
 ghost use mathlib.Core.List.{_++_};
-ghost use Prim.Native.Nat.{_+_, _*_, _≤_, _<_, min};
-ghost use lib.ListN.{length, getD};
+ghost use Prim.Native.Nat.{_+_, _*_, _/_, _%_, _^_, _≤_, _<_, min};
+ghost use lib.ListN.{length};
 ghost use lib.Seq.{sets};
 ghost use Rattle.jacobian.specs.Answer.{verdict, reply, result};
 ghost use Rattle.stored_form.specs.Number.{bytes-of};
-ghost use Rattle.stored_form.specs.Head.{class-room, count-length, stored};
+ghost use Rattle.stored_form.specs.Head.{class-room, count-length, head-bytes, stored};
 ghost use Rattle.stored_form.specs.Elements.{element-length, element-bytes};
 ghost use Rattle.stored_form.specs.Fields.{count-field};
 ghost use Rattle.stored_form.specs.Classes.{row-written, class-field};
@@ -19,28 +19,39 @@ use crate::effect::refusal;
 use jacobian::Class;
 use jacobian::ClassAnswer;
 use jacobian::Outcome;
+use stored_form::COUNT_LENGTH;
 use stored_form::ELEMENT_LENGTH;
 
-// The byte of an element at a place of its eight, high byte first.
+// The byte of a number at a place from its lowest byte on.
 fn byte_of(x: u64, i: usize) -> u8
     requires { ⌜ i < element-length ⌝ }
-    ensures { λ r. ⌜ r ≡ getD (bytes-of element-length x) i 0 ⌝ }
+    ensures { λ r. ⌜ r ≡ x / 256 ^ i % 256 ⌝ }
 {
-    ((x >> (8 * (7 - i))) % 256) as u8
+    ((x >> (8 * i)) % 256) as u8
 }
 
-// A row with an element stored from a place on.
-fn with_element(row: [u8; ROOM], at: usize, x: u64) -> [u8; ROOM]
-    requires { ⌜ at + element-length ≤ room ⌝ }
-    ensures { λ r. ⌜ r ≡ sets row at (bytes-of element-length x) ⌝ }
+// A row with the k lowest bytes of a number stored from a place on, high byte first.
+fn with_number(row: [u8; ROOM], at: usize, k: usize, x: u64) -> [u8; ROOM]
+    requires { ⌜ (k ≤ element-length) × (at + k ≤ room) ⌝ }
+    ensures { λ r. ⌜ r ≡ sets row at (bytes-of k x) ⌝ }
 {
     let mut r = row;
     let mut i = 0;
-    while i < ELEMENT_LENGTH {
-        r[at + i] = byte_of(x, i);
+    while i < k {
+        r[at + i] = byte_of(x, k - 1 - i);
         i += 1;
     }
     r
+}
+
+// A row with the head of a field stored from a place on.
+fn with_head(row: [u8; ROOM], at: usize, tag: u8, len: usize) -> [u8; ROOM]
+    requires { ⌜ at + 3 ≤ room ⌝ }
+    ensures { λ r. ⌜ r ≡ sets row at (head-bytes tag len) ⌝ }
+{
+    let mut r = row;
+    r[at] = tag;
+    with_number(r, at + 1, 2, len as u64)
 }
 
 // A row with the coefficients below the degree n stored from a place on, highest power first.
@@ -48,18 +59,14 @@ fn with_coefficients(row: [u8; ROOM], at: usize, n: usize, r: [u64; 3]) -> [u8; 
     requires { ⌜ (n ≤ 3) × (at + element-length * n ≤ room) ⌝ }
     ensures { λ t. ⌜ (t ≡ sets row at (element-bytes (row-written n r))) × (length r ≡ 3) ⌝ }
 {
-    if n == 0 {
-        return row;
+    let mut t = row;
+    let mut i = n;
+    while 0 < i {
+        let more = with_number(t, at + ELEMENT_LENGTH * (n - i), ELEMENT_LENGTH, r[i - 1]);
+        t = more;
+        i -= 1;
     }
-    let a = with_element(row, at, r[n - 1]);
-    if n == 1 {
-        return a;
-    }
-    let b = with_element(a, at + 8, r[n - 2]);
-    if n == 2 {
-        return b;
-    }
-    with_element(b, at + 16, r[0])
+    t
 }
 
 // How many coefficients a row has below a degree.
@@ -78,15 +85,13 @@ fn with_class(row: [u8; ROOM], at: usize, a: Class) -> Output
     ensures { λ r. ⌜ (r ≡ filled row at (class-field 0x43 a)) × (length (class-field 0x43 a) ≤ class-room) ⌝ }
 {
     let n = places_of(a.degree);
-    let mut d = row;
-    d[at] = stored_form::CLASS;
-    d[at + 1] = 0;
-    d[at + 2] = (16 * n) as u8;
+    let each = ELEMENT_LENGTH * n;
+    let headed = with_head(row, at, stored_form::CLASS, each + each);
     let u = a.u;
     let v = a.v;
-    let first = with_coefficients(d, at + 3, n, u);
-    let both = with_coefficients(first, at + 3 + 8 * n, n, v);
-    let len = at + 3 + 16 * n;
+    let first = with_coefficients(headed, at + 3, n, u);
+    let both = with_coefficients(first, at + 3 + each, n, v);
+    let len = at + 3 + each + each;
     Output {
         answer: len as u32,
         len: len,
@@ -99,13 +104,8 @@ fn with_count(row: [u8; ROOM], at: usize, tag: u8, n: u64) -> [u8; ROOM]
     requires { ⌜ at + count-room ≤ room ⌝ }
     ensures { λ r. ⌜ r ≡ sets row at (stored tag (bytes-of count-length n)) ⌝ }
 {
-    let mut r = row;
-    r[at] = tag;
-    r[at + 1] = 0;
-    r[at + 2] = 2;
-    r[at + 3] = (n / 256 % 256) as u8;
-    r[at + 4] = (n % 256) as u8;
-    r
+    let headed = with_head(row, at, tag, COUNT_LENGTH);
+    with_number(headed, at + 3, COUNT_LENGTH, n)
 }
 
 // The field of a class, unless the call refused.

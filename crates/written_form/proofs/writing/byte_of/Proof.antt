@@ -1,11 +1,11 @@
 -- `writing::byte_of` meets its contract.
 use borrow.Author.Needs.{needs}
-use Rattle.stored_form.proofs.Stores.{byte-is}
+use Rattle.written_form.proofs.Rows.{shifted}
 use Rattle.written_form.proofs.writing.byte_of.Statement.{statement}
 use Rattle.written_form.proofs.writing.byte_of.Tie as tie
 
 returns : tie.Need-returns
-returns c = byte-is _ _ (c .pre)
+returns c = shifted _ _
 
 pub byte-of-spec : {M : Type 1} → statement M
-byte-of-spec = tie.close (tie.spec (λ c. search needs) (λ c. search needs) (λ c. search needs) (λ c. search needs) returns)
+byte-of-spec = tie.close (tie.spec (λ c. search needs) (λ c. search needs) (λ c. search needs) returns)

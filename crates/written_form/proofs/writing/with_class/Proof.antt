@@ -6,9 +6,11 @@ use Rattle.written_form.proofs.writing.with_class.Tie as tie
 
 returns : tie.Need-returns
 returns c =
-    let counted = c .before .before .before .before in
+    let first = c .before in
+    let headed = first .before .before .before in
+    let counted = headed .before in
     let start = counted .before in
-    class-filled (start .args .row) (start .args .at) (start .args .a) (counted .places-of .result) (counted .places-of .ensures) (c .before .with-coefficients .ensures) (c .with-coefficients2 .ensures)
+    class-filled (start .args .row) (start .args .at) (start .args .a) (counted .places-of .result) (counted .places-of .ensures) (headed .with-head .ensures) (first .with-coefficients .ensures) (c .with-coefficients2 .ensures)
 
 pub with-class-spec : {M : Type 1} → statement M
 with-class-spec =
@@ -17,14 +19,9 @@ with-class-spec =
     (λ c κs. search needs)
     (λ c. search needs)
     (λ c. search needs)
-    (λ c. search needs)
-    (λ c. search needs)
-    (λ c. search needs)
-    (λ c. search needs)
-    (λ c. search needs)
-    (λ c. search needs)
     (λ c κs. search needs)
     (λ c. search needs)
+    (λ c κs. search needs)
     (λ c. search needs)
     (λ c. search needs)
     (λ c κs. search needs)

@@ -1,58 +1,52 @@
--- `writing::with_coefficients` meets its contract.
+-- `writing::with_coefficients` meets its contract: those from the i-th on are stored.
 use borrow.Author.Needs.{needs}
+use Prim.Native.Nat.{_≤_}
 use mathlib.Core.Path.{_≡_}
+use mathlib.Core.List.{reverse}
 use native.Mathlib.Omega.{arith}
-use Rattle.stored_form.proofs.ClassBytes.{put-0, put-1, put-2, put-3}
+use lib.ListN.{take, drop}
+use lib.Seq.{sets}
+use Rattle.stored_form.specs.Elements.{element-bytes}
+use Rattle.written_form.proofs.Rows.{none-stored, one-stored, all-stored}
 use Rattle.written_form.proofs.writing.with_coefficients.Statement.{statement}
 use Rattle.written_form.proofs.writing.with_coefficients.Tie as tie
 
-returns : tie.Need-returns
+abbrev Inv-loop : tie.InvT-loop
+Inv-loop at n r t₀ i₀ t i = (i ≤ n) × (t ≡ sets t₀ at (element-bytes (reverse (drop i (take n r)))))
+
+abbrev μ-loop : tie.MeasureT-loop
+μ-loop at n r t₀ i₀ t i = i
+
+loop-holds : tie.Need-loop-holds Inv-loop μ-loop
+loop-holds c = (search needs, none-stored _ _ (c .args .n) (c .args .t4) (c .good .1 .1 .1 .0 .1 .0 .1) (c .pre .0))
+
+loop-again : tie.Need-loop-again Inv-loop μ-loop
+loop-again c =
+    let turn = c .before .before in
+    let start = turn .before in
+    (search needs, one-stored _ _ _ (start .args .t4) (start .good .1 .1 .1 .0 .1 .0 .1) (start .pre .0) (c .before .loop-test .taken) (turn .loop .inv .0) (turn .loop .inv .1) (c .with-number .ensures))
+
+returns : tie.Need-returns Inv-loop μ-loop
 returns c =
-    let start = c .before in
+    let start = c .before .before in
     let long = start .good .1 .1 .1 .0 .1 .0 .1 in
-    (put-0 (start .args .row) (start .args .at) (start .args .t4) long (c .if1 .taken), long)
-
-returns-2 : tie.Need-returns-2
-returns-2 c =
-    let one = c .before in
-    let start = one .before .before in
-    let long = start .good .1 .1 .1 .0 .1 .0 .1 in
-    (put-1 (start .args .row) (start .args .at) (start .args .t4) long (c .if2 .taken) (one .with-element .ensures), long)
-
-returns-3 : tie.Need-returns-3
-returns-3 c =
-    let two = c .before in
-    let one = two .before .before in
-    let start = one .before .before in
-    let long = start .good .1 .1 .1 .0 .1 .0 .1 in
-    (put-2 (start .args .row) (start .args .at) (start .args .t4) long (c .if3 .taken) (one .with-element .ensures) (two .with-element2 .ensures), long)
-
-returns-4 : tie.Need-returns-4
-returns-4 c =
-    let two = c .before .before in
-    let one = two .before .before in
-    let start = one .before .before in
-    let long = start .good .1 .1 .1 .0 .1 .0 .1 in
-    let e : start .args .n ≡ 3 = omega arith in
-    (put-3 (start .args .row) (start .args .at) (start .args .t4) long e (one .with-element .ensures) (two .with-element2 .ensures) (c .with-element3 .ensures), long)
+    (all-stored _ _ _ (start .args .t4) long (start .pre .0) (c .loop-test .left) (c .before .loop .inv .1), long)
 
 pub with-coefficients-spec : {M : Type 1} → statement M
 with-coefficients-spec =
     tie.close
     (tie.spec
-    returns
+    Inv-loop
+    μ-loop
+    loop-holds
+    (λ c. search needs)
+    (λ c. search needs)
+    (λ c. search needs)
     (λ c. search needs)
     (λ c. search needs)
     (λ c. search needs)
     (λ c κs. search needs)
-    returns-2
     (λ c. search needs)
     (λ c. search needs)
-    (λ c. search needs)
-    (λ c. search needs)
-    (λ c κs. search needs)
-    returns-3
-    (λ c. search needs)
-    (λ c. search needs)
-    (λ c κs. search needs)
-    returns-4)
+    loop-again
+    returns)
