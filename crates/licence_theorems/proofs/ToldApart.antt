@@ -3,13 +3,13 @@
 -- `halvings-tells`). A record that is not read is refused with its own number, whatever n or k is (`multiple-unread`, `halvings-unread`), and one that is read with 118 for n of 2^61 or more and
 -- with 119 for k above 64 (`too-large-bytes`, `too-many-bytes`).
 use Prim.Native.Nat.{ℕ, _≤_, _<_}
-use mathlib.Core.{Path._≡_, Path.refl, Path.ap, Path._∙_, Bool.Bool, Bool.true, Bool.false, List.List}
+use mathlib.Core.{Path._≡_, Path.refl, Path.ap, Bool.Bool, Bool.true, Bool.false, List.List}
 use lib.{Dec.ltb, Dec.leb, Dec.lit≤, ListN.length}
 use borrow.Author.Tests.{ltb-true, ltb-false, leb-true, leb-false}
 use Rattle.jacobian.specs.{Refusals.refusals, Refusals.listed, Refusals.IsRefusal, Answer.Result, declared.Curve.Curve, declared.Class.Class}
 use Rattle.stored_form.specs.{Reading.found, Reading.refused as unread, Head.class-room, Held.read-record, Held.class-record, declared.Held.Held}
-use Rattle.written_form.specs.Effect.{refuse, on, class-handed, put, HandedApart, number, ToldApart, AnswerTells}
-use Rattle.written_form.proofs.{Effects.call-refused, Effects.call-found, Effects.put-refusal, ToldApart.call-told-apart, ToldApart.answer-tells}
+use Rattle.written_form.specs.Effect.{refuse, on, class-handed, HandedApart, number, ToldApart, AnswerTells}
+use Rattle.written_form.proofs.{Effects.call-refused, Effects.answer-refused, ToldApart.call-told-apart, ToldApart.answer-tells}
 use Rattle.seal.proofs.{Passing.class-holds, ClassCalls.class-call, ToldApart.class-apart}
 use Rattle.seal_licence.specs.Multiples.{multiple-limit, halvings-limit, refuses, multiple-answer, halvings-answer}
 use Rattle.seal_licence.specs.Calls.{answered, multiple-call, halvings-call}
@@ -68,9 +68,8 @@ module _ (s out : List ℕ) (room : class-room ≤ length out) where
 
   module _ {h : Held} {end : ℕ} (read : read-record class-record s ≡ found h end) where
     refused-call : {m : ℕ} (f : Curve → Class → Result) → f (h .curve) (h .class) ≡ refuses m → class-call f s out ≡ refuse m out
-    unfolding class-handed on
-    refused-call {m} f e =
-        call-found class-room class-record _ s out room read ∙ ap (λ (r : Result). put (class-handed r) out) e ∙ put-refusal m out
+    unfolding class-handed
+    refused-call f e = answer-refused class-room class-record _ s out room read _ _ refl (ap (λ (r : Result). r .outcome) e)
 
     pub too-large-bytes : (n : ℕ) → multiple-limit ≤ n → multiple-call n s out ≡ refuse 118 out
     unfolding answered

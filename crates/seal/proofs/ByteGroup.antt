@@ -7,11 +7,10 @@
 use Prim.Native.Nat.{ℕ, zero, suc, _≤_}
 use mathlib.Core.Path.{_≡_, refl, sym, ap, _∙_, subst}
 use mathlib.Core.List.{List}
-use native.Mathlib.Omega.{arith}
 use lib.Dec.{lit<}
 use lib.ListN.{length}
 use Rattle.class_group.specs.{Group.CommutativeGroup, Group.Doubling, Multiples.repeat}
-use Rattle.jacobian.specs.{Curves.curve-refusal, Answer.Result, Answer.result, Answer.neutral-class, Answer.opposite-answer, Answer.double-answer}
+use Rattle.jacobian.specs.{Curves.curve-refusal, Answer.result, Answer.neutral-class, Answer.opposite-answer, Answer.double-answer}
 use Rattle.jacobian.specs.Group.{sum-of, opposite-of, double-of, doublings}
 use Rattle.jacobian.specs.declared.{Curve.Curve, Class.Class}
 use Rattle.jacobian.proofs.{Calls.neutral-accepts, Group.group, Group.doubling}
@@ -20,17 +19,12 @@ use Rattle.stored_form.specs.Held.{read-record, curve-fields, class-record, sum
 use Rattle.stored_form.specs.declared.Held.{Held}
 use Rattle.stored_form.proofs.Readings.{same-found}
 use Rattle.stored_form_theorems.specs.Records.{none}
-use Rattle.stored_form_theorems.proofs.{ClassRoundTrips.class-short, RecordRoundTrips.record-read-back, FieldValues.curve-more}
-use Rattle.stored_form_theorems.proofs.Written.{bytes-append, class-bytes, first-bytes}
-use Rattle.written_form.specs.Effect.{write, on, class-handed, put}
-use Rattle.written_form.proofs.Effects.{call-found, put-written}
-use Rattle.seal.specs.Records.{class-held, class-record-bytes, sum-held, sum-record-bytes, SumStored}
-use Rattle.seal.specs.Rebuilt.{last-field, class-rebuilt}
-use Rattle.seal.specs.Calls.{answered, opposite-call, double-call, sum-call}
+use Rattle.stored_form_theorems.proofs.{RecordRoundTrips.record-read-back, FieldValues.curve-more, Written.bytes-append, Written.class-bytes, Written.first-bytes}
+use Rattle.written_form.specs.Effect.{write}
+use Rattle.seal.specs.{Records.class-held, Records.class-record-bytes, Records.sum-held, Records.sum-record-bytes, Records.SumStored, Rebuilt.last-field, Rebuilt.class-rebuilt, Calls.answered, Calls.opposite-call, Calls.double-call, Calls.sum-call}
 use Rattle.seal.specs.Group.{ReadWith, sum-record-of, record-sum, record-opposite, record-double, neutral-record}
-use Rattle.seal.proofs.Written.{curve-passes, sum-record-back, sum-record-written}
-use Rattle.seal.proofs.Passing.{class-holds, opposite-given, double-given, sum-given}
-use Rattle.seal.proofs.ClassCalls.{first-is, last-is, rebuilt-bytes, stored-read, stored-writes, stored-rebuilt, is-stored}
+use Rattle.seal.proofs.{Written.curve-passes, Written.sum-record-back, Written.sum-record-written, Passing.class-holds, Passing.opposite-given, Passing.double-given, Passing.sum-given}
+use Rattle.seal.proofs.ClassCalls.{class-written, first-is, last-is, rebuilt-bytes, stored-read, stored-writes, stored-rebuilt, is-stored}
 
 -- ---- a class's record and its values
 
@@ -77,15 +71,10 @@ read-again {c} {a} {s = s} x = record {
 -- ---- the byte sum of two classes that pass
 pub sum-record-writes : {c : Curve} {a b : Class} → ClassPasses c a → ClassPasses c b → {s : List ℕ} → s ≡ sum-record-bytes c a b → (out : List ℕ) → class-room ≤ length out
     → sum-call s out ≡ write (class-field 0x43 (sum-of c a b)) out
-unfolding answered class-handed on
+unfolding answered
 sum-record-writes {c} {a} {b} p q {s} bytes out room =
-    let x = sum-of c a b in
-    let g = sum-given p q in
     let stored : SumStored s (sum-held c a b) = record { curve = c; first = a; second = b; held = refl; bytes = bytes; first-passes = p; second-passes = q } in
-    let short : length (class-field 0x43 x) ≤ class-room = class-short 0x43 c x (g .passes .none) in
-    call-found class-room sum-record _ s out room (sum-record-back stored)
-    ∙ ap (λ (r : Result). put (class-handed r) out) (g .gives-class)
-    ∙ put-written (class-field 0x43 x) out (omega arith)
+    class-written sum-record _ s out room (sum-record-back stored) (sum-given p q) refl
 
 pub sum-record-is : (c : Curve) (a b : Class) {s t : List ℕ} → s ≡ class-record-bytes c a → t ≡ class-record-bytes c b → sum-record-of s t ≡ sum-record-bytes c a b
 unfolding sum-record-bytes

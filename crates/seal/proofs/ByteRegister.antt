@@ -15,11 +15,11 @@ use Rattle.history.specs.Register.{RegisterReply, step-refusal, stepped, other,
 use Rattle.history.proofs.Registers.{Passes, step-passes, follows-accepted}
 use Rattle.history.proofs.OneStep.{taken, step-taken, stepped-curve, stepped-passes, step-taken-back}
 use Rattle.stored_form.specs.{Reading.found, Fields.count-field, Classes.class-field, Held.read-record, Held.register-record}
-use Rattle.written_form.specs.Effect.{Effect, refuse, write, on, put, register-room}
+use Rattle.written_form.specs.Effect.{Effect, refuse, write, put, register-room}
 use Rattle.stored_form.specs.declared.Held.{Held}
 use Rattle.stored_form_theorems.proofs.ClassRoundTrips.{class-short}
 use Rattle.stored_form.proofs.Lengths.{length-count}
-use Rattle.written_form.proofs.{Effects.call-found, Effects.put-written, Effects.put-refusal}
+use Rattle.written_form.proofs.{Effects.call-found, Effects.put-accepted, Effects.put-refused}
 use Rattle.seal.specs.Records.{register-held, register-fields, register-record-bytes, RegisterStored}
 use Rattle.seal.specs.Rebuilt.{register-rebuilt}
 use Rattle.seal.specs.Calls.{register, register-handed, answered, commit-call, undo-call, step-call}
@@ -29,12 +29,12 @@ use Rattle.seal.proofs.Written.{register-record-back}
 
 module _ (out : List ℕ) (x : RegisterReply) where
   pub unwritten : {n : ℕ} → x .outcome ≡ refused n → put (register-handed x) out ≡ refuse n out
-  unfolding register-handed on
-  unwritten e = ap (λ v. put (on v (register-fields (x .register))) out) e ∙ put-refusal _ out
+  unfolding register-handed
+  unwritten e = put-refused (x .outcome) _ out e
 
   pub written : x .outcome ≡ accepted → length (register-fields (x .register)) ≤ length out → put (register-handed x) out ≡ write (register-fields (x .register)) out
-  unfolding register-handed on
-  written e fits = ap (λ v. put (on v (register-fields (x .register))) out) e ∙ put-written _ out fits
+  unfolding register-handed
+  written e fits = put-accepted (x .outcome) _ out e fits
 
 -- ---- a record that is read
 

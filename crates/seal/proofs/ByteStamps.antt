@@ -12,28 +12,20 @@ use Rattle.stamps.specs.Stamps.{stamp-answer, Rootless}
 use Rattle.stamps.proofs.Theorems.{stamp-accepts, stamp-refuses, stamp-too-large, stamp-rootless, stamp-injective}
 use Rattle.stored_form.specs.{Number.bytes-of, Reading.found, Head.class-room, Head.stored, Head.head-bytes, Classes.class-said, Classes.class-field, Held.read-record, Held.curve-fields, declared.Held.Held}
 use Rattle.stored_form_theorems.proofs.ClassRoundTrips.{body-said, class-short}
-use Rattle.written_form.specs.Effect.{Effect, write, refuse, on, class-handed, put, longest-answer}
-use Rattle.written_form.proofs.{Effects.call-found, Effects.put-written, Effects.put-refusal, ToldApart.never-both}
+use Rattle.written_form.specs.Effect.{Effect, write, refuse, class-handed, longest-answer}
+use Rattle.written_form.proofs.{Effects.answer-written, Effects.answer-refused, ToldApart.never-both}
 use Rattle.seal.specs.{Calls.answered, Calls.stamp-call, Rebuilt.wrote}
 use Rattle.seal.specs.declared.calls.Call.the-variants.{Stamp}
 use Rattle.seal.proofs.{Passing.curve-holds, ToldApart.length-read}
 
 module _ (s out : List ℕ) (room : class-room ≤ length out) {h : Held} {end : ℕ} (read : read-record curve-fields s ≡ found h end) (n : ℕ) where
-  handed-out : stamp-call n s out ≡ put (on (stamp-answer (h .curve) n .outcome) (class-field 0x43 (stamp-answer (h .curve) n .class))) out
-  unfolding answered class-handed
-  handed-out = call-found class-room curve-fields _ s out room read
-
   pub stamp-writes : stamp-answer (h .curve) n .outcome ≡ accepted → stamp-call n s out ≡ write (class-field 0x43 (stamp-answer (h .curve) n .class)) out
-  unfolding on
-  stamp-writes e =
-      let x = stamp-answer (h .curve) n .class in
-      let short : length (class-field 0x43 x) ≤ class-room = class-short 0x43 (h .curve) x (stamp-accepts (h .curve) n e .0 .none) in
-      handed-out ∙ ap (λ (v : Verdict). put (on v (class-field 0x43 x)) out) e ∙ put-written (class-field 0x43 x) out (omega arith)
+  unfolding answered class-handed
+  stamp-writes e = answer-written class-room curve-fields _ s out room read _ _ refl e (class-short 0x43 (h .curve) _ (stamp-accepts (h .curve) n e .0 .none))
 
   pub stamp-refused : {k : ℕ} → stamp-answer (h .curve) n .outcome ≡ refused k → stamp-call n s out ≡ refuse k out
-  unfolding on
-  stamp-refused {k} e =
-      handed-out ∙ ap (λ (v : Verdict). put (on v (class-field 0x43 (stamp-answer (h .curve) n .class))) out) e ∙ put-refusal k out
+  unfolding answered class-handed
+  stamp-refused e = answer-refused class-room curve-fields _ s out room read _ _ refl e
 
   pub too-large-bytes : 2 ^ (h .curve .degree - 3) ≤ n → stamp-call n s out ≡ refuse 115 out
   too-large-bytes l = stamp-refused (stamp-too-large (h .curve) n (curve-holds s read) l)

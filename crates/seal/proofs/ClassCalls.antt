@@ -1,18 +1,25 @@
--- Calls on the record of one class that answer a class. Where the record is read and the output has room for a class field, such a call writes the field of what its answer by value
+-- Calls that answer a class (`class-written`), and those on the record of one class. Where the record is read and the output has room for a class field, such a call writes the field of what its answer by value
 -- gives (`call-writes`); the record rebuilt from that is the record of that class (`rebuilt-bytes`), and a further call on it writes what its answer gives for that class
 -- (`follow-writes`), where one takes the other back the field of the record given (`taken-back`).
 use Prim.Native.Nat.{ℕ, _≤_}
 use mathlib.Core.Path.{_≡_, refl, sym, ap, _∙_}
 use mathlib.Core.List.{List, _++_}
-use native.Mathlib.Omega.{arith}
 use lib.{ListN.length, Seq.take-append-seam}
 use Rattle.jacobian.specs.{Answer.Result, Answer.gives, declared.Curve.Curve, declared.Class.Class}
 use Rattle.stored_form.specs.{Number.Bytes, Reading.found, Head.class-room, Classes.curve-first-fields, Classes.class-field, Passing.ClassPasses, Held.read-record, Held.class-record, declared.Held.Held}
-use Rattle.written_form.specs.Effect.{Effect, write, on, class-handed, put, byte-call}
+use Rattle.written_form.specs.Effect.{Effect, Handed, write, class-handed, byte-call}
 use Rattle.stored_form_theorems.proofs.{ClassRoundTrips.class-short, Cuts.take-cut, Cuts.drop-cut, Cuts.curve-cut}
-use Rattle.written_form.proofs.Effects.{call-found, put-written}
+use Rattle.written_form.proofs.Effects.{answer-written}
 use Rattle.seal.specs.{Records.class-held, Records.class-record-bytes, Records.ClassStored, Rebuilt.first-fields, Rebuilt.last-field, Rebuilt.wrote, Rebuilt.class-rebuilt}
 use Rattle.seal.proofs.{Written.class-record-written, Written.class-record-back, Passing.Given}
+
+-- a call that answers a class which passes for what its record holds writes its field
+pub class-written : (tags : List ℕ) (answer : Held → Handed) (s out : List ℕ) → class-room ≤ length out → {h : Held} {end : ℕ} → read-record tags s ≡ found h end →
+    {c : Curve} {r : Result} → Given c r → answer h ≡ class-handed r → byte-call class-room tags answer s out ≡ write (class-field 0x43 (r .class)) out
+unfolding class-handed
+class-written tags answer s out room read {c} {r} given is =
+    answer-written class-room tags answer s out room read (r .outcome) (class-field 0x43 (r .class)) is (ap (λ (x : Result). x .outcome) (given .gives-class))
+    (class-short 0x43 c (r .class) (given .passes .none))
 
 -- a call that answers for the curve and the class of its record
 abbrev pub class-call : (Curve → Class → Result) → List ℕ → List ℕ → Effect
@@ -20,13 +27,7 @@ class-call f s out = byte-call class-room class-record (λ h. class-handed (f (h
 
 pub call-writes : (s out : List ℕ) → class-room ≤ length out → {h : Held} {end : ℕ} → read-record class-record s ≡ found h end → (f : Curve → Class → Result)
     → Given (h .curve) (f (h .curve) (h .class)) → class-call f s out ≡ write (class-field 0x43 (f (h .curve) (h .class) .class)) out
-unfolding class-handed on
-call-writes s out room {h} read f given =
-    let x = f (h .curve) (h .class) .class in
-    let short : length (class-field 0x43 x) ≤ class-room = class-short 0x43 (h .curve) x (given .passes .none) in
-    call-found class-room class-record _ s out room read
-    ∙ ap (λ (r : Result). put (class-handed r) out) (given .gives-class)
-    ∙ put-written (class-field 0x43 x) out (omega arith)
+call-writes s out room {h} read f given = class-written class-record _ s out room read given refl
 
 -- ---- the record rebuilt from what was written
 

@@ -1,10 +1,10 @@
 -- Bytes that begin with k stored fields are cut behind them (`take-cut`, `drop-cut`): the fields of degree and curve (`curve-cut`), that of a count (`count-cut`).
 -- What is cut makes the whole (`cut-whole`).
-use Prim.Native.Nat.{ℕ, zero, suc, _+_, _^_, _<_}
+use Prim.Native.Nat.{ℕ, suc, _+_, _^_, _<_}
 use mathlib.Core.Path.{_≡_, refl, sym, ap, _∙_, subst}
 use mathlib.Core.List.{List, _++_}
 use native.Mathlib.{Nat.zero-add, Omega.arith}
-use lib.{Dec.lit<, ListN.length, ListN.take-append-drop, Seq.take-at, Seq.drop-at}
+use lib.{ListN.length, ListN.take-append-drop, Seq.take-at, Seq.drop-at}
 use Rattle.jacobian.specs.{Curves.coefficients, declared.Curve.Curve}
 use Rattle.stored_form.specs.{Number.number-of, Number.bytes-of, Number.part, Head.degree-length, Head.count-length, Head.body-length, Head.head-bytes, Head.stored, Elements.element-bytes, Fields.degree-field, Fields.count-field}
 use Rattle.stored_form.specs.{Classes.curve-field, Classes.curve-first-fields, Cuts.fields-end, Cuts.take-fields, Cuts.drop-fields}

@@ -1,17 +1,16 @@
--- A range appended where it fits (`append-fits`) and where it does not (`append-outside`).
+-- A range appended where it fits (`append-fits`) and where it does not (`append-outside`); the first bytes, at the start of the output (`front-fits`, `front-outside`).
 use Prim.Native.Nat.{ℕ, _+_, _-_, _≤_, _<_}
-use mathlib.Core.Path.{_≡_, sym, ap, ap₂, _∙_}
+use mathlib.Core.Path.{_≡_, sym, _∙_}
 use mathlib.Core.{Bool.true, Bool.false, List.List, List.[], List._++_, List.append-nil}
 use native.Mathlib.Omega.{arith}
-use lib.ListN.{length, take, drop, drop-of-length-le}
-use lib.Seq.{take-length, drop-drop}
+use lib.{ListN.length, ListN.take, ListN.drop, ListN.drop-of-length-le, Seq.take-length, Seq.drop-drop}
 use borrow.Author.Tests.{le-leb, lt-leb}
 use Rattle.stored_form.specs.Number.{part}
 use Rattle.stored_form.proofs.Parts.{length-part}
 use Rattle.written_form.specs.{Effect.effect, Ranges.fits, Ranges.append}
 
 module _ (source start end output at : ℕ) where
-  -- the range ends before it begins, or ends behind the source, or the output's end is before its end
+  -- it does not fit: it ends before it begins, behind the source's end, or behind the output's
   pub ends-first : end < start → fits source start end output at ≡ false
   unfolding fits
   ends-first h = rw (lt-leb start end h)
@@ -24,7 +23,7 @@ module _ (source start end output at : ℕ) where
   unfolding fits
   output-short h k l = rw (le-leb start end h, le-leb end source k, lt-leb (at + (end - start)) output l)
 
-  pub all-fits : start ≤ end → end ≤ source → at + (end - start) ≤ output → fits source start end output at ≡ true
+  all-fits : start ≤ end → end ≤ source → at + (end - start) ≤ output → fits source start end output at ≡ true
   unfolding fits
   all-fits h k l = rw (le-leb start end h, le-leb end source k, le-leb (at + (end - start)) output l)
 

@@ -1,16 +1,14 @@
--- What a call on byte areas answers by its checks, and the copy of what it hands over.
+-- What is put into the lent output, the copy of it, and what a call on byte areas does by what it reads.
 use Prim.Native.Nat.{ℕ, _+_, _≤_, _<_, min}
 use mathlib.Core.Path.{_≡_, refl, sym, ap, ap₂, _∙_}
 use mathlib.Core.{Bool.Bool, Bool.true, Bool.false, List.List, List._++_}
 use native.Mathlib.Omega.{arith}
 use lib.{Dec.ltb, ListN.length, ListN.take, ListN.drop, ListN.length-take, Seq.take-take, Seq.take-length}
 use borrow.Author.Tests.{lt-ltb, le-ltb, ltb-true, ltb-false, le-leb, lt-leb}
-use Rattle.jacobian.specs.Checks.{unless}
-use Rattle.stored_form.specs.Reading.{Reading, found, refused, checked}
-use Rattle.written_form.specs.Effect.{Effect, Handed, effect, refuse, write, hand, refusal, written, for, put, read-call, room-refusal, byte-call, room}
-use Rattle.stored_form.specs.Held.{read-record, read-of, place-refusal}
-use Rattle.stored_form.specs.declared.{Held.Held, Read.Read, Cursor.Cursor}
-use Rattle.stored_form.specs.declared.Place.the-variants.{Next, Refused}
+use Rattle.jacobian.specs.{Checks.unless, Answer.Verdict, Answer.accepted, Answer.refused as said-no}
+use Rattle.stored_form.specs.{Reading.Reading, Reading.found, Reading.refused, Reading.checked, Held.read-record, Held.read-of, Held.place-refusal}
+use Rattle.stored_form.specs.declared.{Held.Held, Read.Read, Cursor.Cursor, Place.the-variants.Next, Place.the-variants.Refused}
+use Rattle.written_form.specs.Effect.{Effect, Handed, effect, refuse, write, hand, refusal, written, on, for, put, read-call, room-refusal, byte-call, room}
 use Rattle.stored_form.proofs.Readers.{place-found, place-refused-as}
 use Rattle.written_form.specs.Ranges.{append}
 use Rattle.written_form.proofs.Appending.{front-fits, front-outside}
@@ -36,6 +34,16 @@ put-written bytes out h = put-in (written bytes) out h
 pub put-refusal : (n : ℕ) (out : List ℕ) → put (refusal n) out ≡ refuse n out
 unfolding refuse
 put-refusal n out = put-in (refusal n) out (omega arith)
+
+-- after a verdict
+module _ (v : Verdict) (xs out : List ℕ) where
+  pub put-accepted : v ≡ accepted → length xs ≤ length out → put (on v xs) out ≡ write xs out
+  unfolding on
+  put-accepted e h = ap (λ (w : Verdict). put (on w xs) out) e ∙ put-written xs out h
+
+  pub put-refused : {n : ℕ} → v ≡ said-no n → put (on v xs) out ≡ refuse n out
+  unfolding on
+  put-refused {n} e = ap (λ (w : Verdict). put (on w xs) out) e ∙ put-refusal n out
 
 -- ---- the copy
 
@@ -119,6 +127,17 @@ module _ (least : ℕ) (tags : List ℕ) (answer : Held → Handed) (s out : Lis
 
   pub call-found : least ≤ length out → {h : Held} {end : ℕ} → read-record tags s ≡ found h end → byte-call least tags answer s out ≡ put (answer h) out
   call-found fits e = answers-call (room-read _ _ _ _ fits ∙ e)
+
+  -- a record that is read and answered by a verdict and bytes
+  module _ (fits : least ≤ length out) {h : Held} {end : ℕ} (read : read-record tags s ≡ found h end) (v : Verdict) (xs : List ℕ) (is : answer h ≡ on v xs) where
+    handed-over : byte-call least tags answer s out ≡ put (on v xs) out
+    handed-over = call-found fits read ∙ ap (λ (o : Handed). put o out) is
+
+    pub answer-written : v ≡ accepted → length xs ≤ least → byte-call least tags answer s out ≡ write xs out
+    answer-written e short = handed-over ∙ put-accepted v xs out e (omega arith)
+
+    pub answer-refused : {n : ℕ} → v ≡ said-no n → byte-call least tags answer s out ≡ refuse n out
+    answer-refused e = handed-over ∙ put-refused v xs out e
 
   -- as the code takes it apart: the reader's answer, then the refusal or what is put
   module _ (r : Read) (e : r ≡ read-of (read-call (length out) least tags s)) where

@@ -1,20 +1,14 @@
--- Fields laid out in a row of bytes, as the code fills it, and what the row hands over.
+-- Numbers and fields stored in a row of bytes, as the code stores them, and what the row hands over.
 use Prim.Native.Nat.{ℕ, zero, suc, _+_, _*_, _-_, _/_, _%_, _^_, _≤_, _<_, min}
 use mathlib.Core.Path.{_≡_, refl, sym, ap, ap₂, _∙_}
 use mathlib.Core.List.{List, [], _∷_, _++_, append-nil, reverse, reverse-cons}
 use native.Mathlib.{Nat.zero-add, Nat.pow-suc, Omega.arith}
-use lib.Pow.{pow-add}
+use lib.{Pow.pow-add, Seq.sets, Seq.sets-eq, Seq.take-all, Seq.take-append-seam, Seq.drop-cons, Seq.getD-take}
 use lib.ListN.{length, getD, take, drop, set, replicate, length-append, length-replicate, length-take, length-drop, length-reverse, drop-of-length-le}
-use lib.Seq.{sets, sets-eq, take-all, take-append-seam, drop-cons, getD-take}
-use Rattle.jacobian.specs.Answer.{verdict}
-use Rattle.jacobian.specs.declared.Class.{Class}
-use Rattle.jacobian.specs.declared.Outcome.{Outcome}
-use Rattle.jacobian.specs.declared.Outcome.the-variants.{Accepted, Refused}
-use Rattle.stored_form.specs.{Number.bytes-of, Head.head-bytes, Head.stored, Elements.element-bytes, Classes.row-written, Classes.class-field}
-use Rattle.stored_form.specs.{Head.class-room, Head.count-length}
+use Rattle.jacobian.specs.{Answer.verdict, declared.Class.Class, declared.Outcome.Outcome, declared.Outcome.the-variants.Accepted, declared.Outcome.the-variants.Refused}
+use Rattle.stored_form.specs.{Number.bytes-of, Head.class-room, Head.head-bytes, Head.stored, Elements.element-bytes, Classes.row-written, Classes.class-field}
 use Rattle.written_form.specs.{Effect.Handed, Effect.hand, Effect.written, Effect.refusal, Effect.on, Effect.handed, Effect.room, internal.Rows.filled, declared.effect.Output.Output}
-use Rattle.stored_form.proofs.{Digits.length-bytes, ElementBytes.length-element-bytes, ElementBytes.element-bytes-append, Stores.sets-append, Stores.store-more, Lengths.length-stored}
-use Rattle.stored_form.proofs.ClassBytes.{length-row, below-three}
+use Rattle.stored_form.proofs.{Digits.length-bytes, ElementBytes.length-element-bytes, ElementBytes.element-bytes-append, Stores.sets-append, Stores.store-more, Lengths.length-stored, ClassBytes.length-row, ClassBytes.below-three}
 
 -- ---- the bytes of a number
 

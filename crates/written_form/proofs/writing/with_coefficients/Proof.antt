@@ -3,7 +3,6 @@ use borrow.Author.Needs.{needs}
 use Prim.Native.Nat.{_≤_}
 use mathlib.Core.Path.{_≡_}
 use mathlib.Core.List.{reverse}
-use native.Mathlib.Omega.{arith}
 use lib.ListN.{take, drop}
 use lib.Seq.{sets}
 use Rattle.stored_form.specs.Elements.{element-bytes}
