@@ -5,22 +5,22 @@ use mathlib.Core.Path.{_≡_, refl, sym, _∙_, ap, ap₂}
 use native.Mathlib.{Omega.arith, Decide.decLe}
 use Rattle.field_laws.specs.{Ring.Ring2, Field.Field2}
 use Rattle.char2_algebra.specs.{Polynomials.Polynomials, Square.tail}
-use Rattle.char2_algebra.proofs.Ring.{+-comm, +-𝟘, 𝟘-+, +-self, ·-comm, ·-𝟙, ·-𝟘}
+use Rattle.char2_algebra.proofs.Ring.{⊞-comm, ⊞-𝟘, 𝟘-⊞, ⊞-self, ·-comm, ·-𝟙, ·-𝟘}
 
 module _ {K P : Type 0} {F : Field2 K} (A : Polynomials F P) where
   open Polynomials A using (ring as R, coeff, con, x, len, quot, rem)
-  open Ring2 (A .ring) using (add as _+_, mul as _·_, nought as 𝟘, one as 𝟙)
-  open Ring2 (F .ring) using (add as _⊕_, mul as _⊙_, nought as 𝟎, one as 𝟏)
+  open Ring2 (A .ring) using (add as _⊞_, mul as _·_, nought as 𝟘, one as 𝟙)
+  open Ring2 (F .ring) using (add as _⊞ₖ_, mul as _·ₖ_, nought as 𝟘ₖ, one as 𝟙ₖ)
 
-  infixl 60 _+_
+  infixl 60 _⊞_
   infixl 70 _·_
-  infixl 60 _⊕_
-  infixl 70 _⊙_
-  pub coeff-nought : (i : ℕ) → coeff 𝟘 i ≡ 𝟎
-  coeff-nought i = ap (λ z. coeff z i) (sym (+-self R 𝟘)) ∙ A .coeff-add 𝟘 𝟘 i ∙ +-self (F .ring) (coeff 𝟘 i)
+  infixl 60 _⊞ₖ_
+  infixl 70 _·ₖ_
+  pub coeff-nought : (i : ℕ) → coeff 𝟘 i ≡ 𝟘ₖ
+  coeff-nought i = ap (λ z. coeff z i) (sym (⊞-self R 𝟘)) ∙ A .coeff-add 𝟘 𝟘 i ∙ ⊞-self (F .ring) (coeff 𝟘 i)
 
   -- a polynomial is no longer than the place from which on its coefficients are nought
-  pub len-bound : (p : P) (n : ℕ) → ((i : ℕ) → n ≤ i → coeff p i ≡ 𝟎) → len p ≤ n
+  pub len-bound : (p : P) (n : ℕ) → ((i : ℕ) → n ≤ i → coeff p i ≡ 𝟘ₖ) → len p ≤ n
   len-bound p n h = go (len p) refl
     where
       go : (k : ℕ) → len p ≡ k → len p ≤ n
@@ -40,36 +40,36 @@ module _ {K P : Type 0} {F : Field2 K} (A : Polynomials F P) where
   nonzero-of-len p h e = let k : len p ≡ 0 = ap len e ∙ len-nought in omega arith
 
   -- the length is fixed by the highest coefficient that is not nought
-  pub len-is : (p : P) (n : ℕ) → len p ≤ suc n → ¬ (coeff p n ≡ 𝟎) → len p ≡ suc n
+  pub len-is : (p : P) (n : ℕ) → len p ≤ suc n → ¬ (coeff p n ≡ 𝟘ₖ) → len p ≡ suc n
   len-is p n h t = elim (decLe (len p) n) [ yes l ↦ absurd (t (A .len-past p n l)) | no m ↦ omega arith ]
 
   -- sums
-  pub len-add : (p q : P) (n : ℕ) → len p ≤ n → len q ≤ n → len (p + q) ≤ n
+  pub len-add : (p q : P) (n : ℕ) → len p ≤ n → len q ≤ n → len (p ⊞ q) ≤ n
   len-add p q n h k =
-      len-bound (p + q) n (λ i l. A .coeff-add p q i ∙ ap₂ _⊕_ (A .len-past p i (omega arith)) (A .len-past q i (omega arith)) ∙ +-self (F .ring) 𝟎)
+      len-bound (p ⊞ q) n (λ i l. A .coeff-add p q i ∙ ap₂ _⊞ₖ_ (A .len-past p i (omega arith)) (A .len-past q i (omega arith)) ∙ ⊞-self (F .ring) 𝟘ₖ)
 
-  pub len-add-less : (p q : P) → len p < len q → len (p + q) ≡ len q
+  pub len-add-less : (p q : P) → len p < len q → len (p ⊞ q) ≡ len q
   len-add-less p q h = go (len q) refl
     where
-      go : (n : ℕ) → len q ≡ n → len (p + q) ≡ len q
+      go : (n : ℕ) → len q ≡ n → len (p ⊞ q) ≡ len q
       go zero e = omega arith
       go (suc n) e =
           len-is
-          (p + q)
+          (p ⊞ q)
           n
           (len-add p q (suc n) (omega arith) (omega arith))
-          (λ z. A .len-top q n e (sym (𝟘-+ (F .ring) _) ∙ ap (λ a. a ⊕ coeff q n) (sym (A .len-past p n (omega arith))) ∙ sym (A .coeff-add p q n) ∙ z))
+          (λ z. A .len-top q n e (sym (𝟘-⊞ (F .ring) _) ∙ ap (λ a. a ⊞ₖ coeff q n) (sym (A .len-past p n (omega arith))) ∙ sym (A .coeff-add p q n) ∙ z))
           ∙ sym e
 
   -- constants
   pub len-con-le : (a : K) → len (con a) ≤ 1
   len-con-le a = len-bound (con a) 1 go
     where
-      go : (i : ℕ) → 1 ≤ i → coeff (con a) i ≡ 𝟎
+      go : (i : ℕ) → 1 ≤ i → coeff (con a) i ≡ 𝟘ₖ
       go zero h = absurd (omega arith)
       go (suc i) h = A .coeff-con-suc a i
 
-  pub len-con : (a : K) → ¬ (a ≡ 𝟎) → len (con a) ≡ 1
+  pub len-con : (a : K) → ¬ (a ≡ 𝟘ₖ) → len (con a) ≡ 1
   len-con a h = len-is (con a) 0 (len-con-le a) (λ e. h (sym (A .coeff-con a) ∙ e))
 
   pub con-of-len : (p : P) → len p ≤ 1 → p ≡ con (coeff p 0)
@@ -82,42 +82,42 @@ module _ {K P : Type 0} {F : Field2 K} (A : Polynomials F P) where
   pub con-injective : (a b : K) → con a ≡ con b → a ≡ b
   con-injective a b e = sym (A .coeff-con a) ∙ ap (λ p. coeff p 0) e ∙ A .coeff-con b
 
-  pub con-nought : con 𝟎 ≡ 𝟘
-  con-nought = A .ext (con 𝟎) 𝟘 go
+  pub con-nought : con 𝟘ₖ ≡ 𝟘
+  con-nought = A .ext (con 𝟘ₖ) 𝟘 go
     where
-      go : (i : ℕ) → coeff (con 𝟎) i ≡ coeff 𝟘 i
-      go zero = A .coeff-con 𝟎 ∙ sym (coeff-nought 0)
-      go (suc i) = A .coeff-con-suc 𝟎 i ∙ sym (coeff-nought (suc i))
+      go : (i : ℕ) → coeff (con 𝟘ₖ) i ≡ coeff 𝟘 i
+      go zero = A .coeff-con 𝟘ₖ ∙ sym (coeff-nought 0)
+      go (suc i) = A .coeff-con-suc 𝟘ₖ i ∙ sym (coeff-nought (suc i))
 
-  pub con-one : con 𝟏 ≡ 𝟙
+  pub con-one : con 𝟙ₖ ≡ 𝟙
   con-one = sym (A .one-con)
 
-  pub con-mul : (a b : K) → con (a ⊙ b) ≡ con a · con b
-  con-mul a b = A .ext (con (a ⊙ b)) (con a · con b) go
+  pub con-mul : (a b : K) → con (a ·ₖ b) ≡ con a · con b
+  con-mul a b = A .ext (con (a ·ₖ b)) (con a · con b) go
     where
-      go : (i : ℕ) → coeff (con (a ⊙ b)) i ≡ coeff (con a · con b) i
-      go zero = A .coeff-con (a ⊙ b) ∙ sym (A .coeff-con-mul a (con b) 0 ∙ ap (λ z. a ⊙ z) (A .coeff-con b))
-      go (suc i) = A .coeff-con-suc (a ⊙ b) i ∙ sym (A .coeff-con-mul a (con b) (suc i) ∙ ap (λ z. a ⊙ z) (A .coeff-con-suc b i) ∙ ·-𝟘 (F .ring) a)
+      go : (i : ℕ) → coeff (con (a ·ₖ b)) i ≡ coeff (con a · con b) i
+      go zero = A .coeff-con (a ·ₖ b) ∙ sym (A .coeff-con-mul a (con b) 0 ∙ ap (λ z. a ·ₖ z) (A .coeff-con b))
+      go (suc i) = A .coeff-con-suc (a ·ₖ b) i ∙ sym (A .coeff-con-mul a (con b) (suc i) ∙ ap (λ z. a ·ₖ z) (A .coeff-con-suc b i) ∙ ·-𝟘 (F .ring) a)
 
-  pub con-nonzero : (a : K) → ¬ (a ≡ 𝟎) → ¬ (con a ≡ 𝟘)
-  con-nonzero a h e = h (con-injective a 𝟎 (e ∙ sym con-nought))
+  pub con-nonzero : (a : K) → ¬ (a ≡ 𝟘ₖ) → ¬ (con a ≡ 𝟘)
+  con-nonzero a h e = h (con-injective a 𝟘ₖ (e ∙ sym con-nought))
 
   pub len-one : len 𝟙 ≡ 1
-  len-one = ap len (A .one-con) ∙ len-con 𝟏 (F .one≢nought)
+  len-one = ap len (A .one-con) ∙ len-con 𝟙ₖ (F .one≢nought)
 
   pub one-nonzero : ¬ (𝟙 ≡ 𝟘)
   one-nonzero = nonzero-of-len 𝟙 (let h : len 𝟙 ≡ 1 = len-one in omega arith)
 
-  pub coeff-one : coeff 𝟙 0 ≡ 𝟏
-  coeff-one = ap (λ p. coeff p 0) (A .one-con) ∙ A .coeff-con 𝟏
+  pub coeff-one : coeff 𝟙 0 ≡ 𝟙ₖ
+  coeff-one = ap (λ p. coeff p 0) (A .one-con) ∙ A .coeff-con 𝟙ₖ
 
-  pub coeff-one-suc : (i : ℕ) → coeff 𝟙 (suc i) ≡ 𝟎
-  coeff-one-suc i = ap (λ p. coeff p (suc i)) (A .one-con) ∙ A .coeff-con-suc 𝟏 i
+  pub coeff-one-suc : (i : ℕ) → coeff 𝟙 (suc i) ≡ 𝟘ₖ
+  coeff-one-suc i = ap (λ p. coeff p (suc i)) (A .one-con) ∙ A .coeff-con-suc 𝟙ₖ i
 
   pub len-x-mul-le : (p : P) (n : ℕ) → len p ≤ n → len (x · p) ≤ suc n
   len-x-mul-le p n h = len-bound (x · p) (suc n) go
     where
-      go : (i : ℕ) → suc n ≤ i → coeff (x · p) i ≡ 𝟎
+      go : (i : ℕ) → suc n ≤ i → coeff (x · p) i ≡ 𝟘ₖ
       go zero l = absurd (omega arith)
       go (suc i) l = A .coeff-x-mul-suc p i ∙ A .len-past p i (omega arith)
 
@@ -146,17 +146,17 @@ module _ {K P : Type 0} {F : Field2 K} (A : Polynomials F P) where
   rem-x : (p : P) → rem p x ≡ con (coeff p 0)
   rem-x p =
       con-of-len (rem p x) (let h : len (rem p x) < len x = A .rem-len p x x-nonzero in let e : len x ≡ 2 = len-x in omega arith)
-      ∙ ap con (sym (𝟘-+ (F .ring) _) ∙ ap (λ z. z ⊕ coeff (rem p x) 0) (sym (A .coeff-x-mul (quot p x)) ∙ ap (λ z. coeff z 0) (·-comm R x (quot p x))) ∙ sym (A .coeff-add _ _ 0) ∙ ap (λ z. coeff z 0) (sym (A .division p x x-nonzero)))
+      ∙ ap con (sym (𝟘-⊞ (F .ring) _) ∙ ap (λ z. z ⊞ₖ coeff (rem p x) 0) (sym (A .coeff-x-mul (quot p x)) ∙ ap (λ z. coeff z 0) (·-comm R x (quot p x))) ∙ sym (A .coeff-add _ _ 0) ∙ ap (λ z. coeff z 0) (sym (A .division p x x-nonzero)))
 
-  pub split : (p : P) → p ≡ con (coeff p 0) + x · tail A p
+  pub split : (p : P) → p ≡ con (coeff p 0) ⊞ x · tail A p
   unfolding tail
-  split p = A .division p x x-nonzero ∙ ap₂ _+_ (·-comm R (quot p x) x) (rem-x p) ∙ +-comm R (x · quot p x) (con (coeff p 0))
+  split p = A .division p x x-nonzero ∙ ap₂ _⊞_ (·-comm R (quot p x) x) (rem-x p) ∙ ⊞-comm R (x · quot p x) (con (coeff p 0))
 
-  pub coeff-con-add-x-mul : (a : K) (p : P) → coeff (con a + x · p) 0 ≡ a
-  coeff-con-add-x-mul a p = A .coeff-add _ _ 0 ∙ ap₂ _⊕_ (A .coeff-con a) (A .coeff-x-mul p) ∙ +-𝟘 (F .ring) a
+  pub coeff-con-add-x-mul : (a : K) (p : P) → coeff (con a ⊞ x · p) 0 ≡ a
+  coeff-con-add-x-mul a p = A .coeff-add _ _ 0 ∙ ap₂ _⊞ₖ_ (A .coeff-con a) (A .coeff-x-mul p) ∙ ⊞-𝟘 (F .ring) a
 
-  pub coeff-con-add-x-mul-suc : (a : K) (p : P) (i : ℕ) → coeff (con a + x · p) (suc i) ≡ coeff p i
-  coeff-con-add-x-mul-suc a p i = A .coeff-add _ _ (suc i) ∙ ap₂ _⊕_ (A .coeff-con-suc a i) (A .coeff-x-mul-suc p i) ∙ 𝟘-+ (F .ring) (coeff p i)
+  pub coeff-con-add-x-mul-suc : (a : K) (p : P) (i : ℕ) → coeff (con a ⊞ x · p) (suc i) ≡ coeff p i
+  coeff-con-add-x-mul-suc a p i = A .coeff-add _ _ (suc i) ∙ ap₂ _⊞ₖ_ (A .coeff-con-suc a i) (A .coeff-x-mul-suc p i) ∙ 𝟘-⊞ (F .ring) (coeff p i)
 
   pub coeff-tail : (p : P) (i : ℕ) → coeff (tail A p) i ≡ coeff p (suc i)
   coeff-tail p i = sym (coeff-con-add-x-mul-suc (coeff p 0) (tail A p) i) ∙ ap (λ z. coeff z (suc i)) (sym (split p))

@@ -2,12 +2,12 @@
 use mathlib.Core.Path.{_≡_, refl, sym, _∙_, ap, ap₂}
 use Rattle.field_laws.specs.Ring.{Ring2}
 use Rattle.char2_algebra.specs.Divides.{Divides}
-use Rattle.char2_algebra.proofs.Ring.{ring2, +-·, ·-comm, ·-assoc, 𝟙-·, ·-𝟘, 𝟘-·}
+use Rattle.char2_algebra.proofs.Ring.{ring2, ⊞-·, ·-comm, ·-assoc, 𝟙-·, ·-𝟘, 𝟘-·}
 
 module _ {A : Type 0} (R : Ring2 A) where
-  open Ring2 R using (add as _+_, mul as _·_, nought as 𝟘, one as 𝟙)
+  open Ring2 R using (add as _⊞_, mul as _·_, nought as 𝟘, one as 𝟙)
 
-  infixl 60 _+_
+  infixl 60 _⊞_
   infixl 70 _·_
   pub divides-refl : (a : A) → Divides R a a
   divides-refl a = (𝟙, sym (𝟙-· R a))
@@ -27,8 +27,8 @@ module _ {A : Type 0} (R : Ring2 A) where
   pub divides-trans : {a b c : A} → Divides R a b → Divides R b c → Divides R a c
   divides-trans {a} (q, h) (s, k) = (s · q, k ∙ ap (λ z. s · z) h ∙ sym (·-assoc R s q a))
 
-  pub divides-add : {b a a' : A} → Divides R b a → Divides R b a' → Divides R b (a + a')
-  divides-add {b} (q, h) (s, k) = (q + s, ap₂ _+_ h k ∙ sym (+-· R q s b))
+  pub divides-add : {b a a' : A} → Divides R b a → Divides R b a' → Divides R b (a ⊞ a')
+  divides-add {b} (q, h) (s, k) = (q ⊞ s, ap₂ _⊞_ h k ∙ sym (⊞-· R q s b))
 
   pub divides-mul : {b a : A} (c : A) → Divides R b a → Divides R b (c · a)
   divides-mul {b} c (q, h) = (c · q, ap (λ z. c · z) h ∙ sym (·-assoc R c q b))

@@ -1,11 +1,11 @@
 -- Euclid's rule: what it gives is a combination of the two (or three) polynomials, divides each of them, and is monic unless all are nought.
-use Prim.Native.Nat.{ℕ, zero, suc, pred, max, _+_ as _+ℕ_, _≤_, _<_}
+use Prim.Native.Nat.{ℕ, zero, suc, pred, max, _+_, _≤_, _<_}
 use mathlib.Core.Path.{_≡_, refl, sym, _∙_, ap}
 use native.Mathlib.{Omega.arith, Decide.decLe}
 use Rattle.field_laws.specs.{Ring.Ring2, Field.Field2, Division.inverse-of}
 use Rattle.char2_algebra.specs.{Polynomials.Polynomials, Divides.Divides, Lead.lead, Lead.Monic}
 use Rattle.char2_algebra.specs.Euclid.{Bezout, Bezout3, IsBezout, IsBezout3, bezout-nought, bezout-to, bezout, bezout3}
-use Rattle.char2_algebra.proofs.Ring.{ring2, +-𝟘, 𝟘-+, ·-𝟘, 𝟘-·, by, both, combine}
+use Rattle.char2_algebra.proofs.Ring.{ring2, ⊞-𝟘, 𝟘-⊞, ·-𝟘, 𝟘-·, by, both, combine}
 use Rattle.char2_algebra.proofs.Degree.{len-zero, len-nonzero, len-add, nonzero-of-len}
 use Rattle.char2_algebra.proofs.{Product.len-mul-le, Division.len-quot, Division.rem-short, Division.quot-short}
 use Rattle.char2_algebra.proofs.Divides.{divides-eq, divides-nought, divides-add, divides-mul, divides-trans, divides-by-eq, nought-divides, one-divides}
@@ -24,26 +24,26 @@ substitution R a b c g e s t s' t' h k = combine R e _ (both R (by R s' h) (by R
 
 module _ {K P : Type 0} {F : Field2 K} (A : Polynomials F P) where
   open Polynomials A using (ring as R, con, len, quot, rem)
-  open Ring2 (A .ring) using (add as _+_, mul as _·_, nought as 𝟘, one as 𝟙)
-  open Ring2 (F .ring) using (mul as _⊙_, nought as 𝟎, one as 𝟏)
+  open Ring2 (A .ring) using (add as _⊞_, mul as _·_, nought as 𝟘, one as 𝟙)
+  open Ring2 (F .ring) using (mul as _·ₖ_, nought as 𝟘ₖ, one as 𝟙ₖ)
 
-  infixl 60 _+_
+  infixl 60 _⊞_
   infixl 70 _·_
-  infixl 70 _⊙_
+  infixl 70 _·ₖ_
   -- the two cases of the rule
   bezout-stop : (n : ℕ) (a b : P) → len b ≡ 0 → bezout-to A (suc n) a b ≡ bezout-nought A a
   unfolding bezout-to
   bezout-stop n a b e = rw (e, bezout-to)
 
   bezout-go : (n k : ℕ) (a b : P) → len b ≡ suc k → bezout-to A (suc n) a b
-      ≡ (let r = bezout-to A n b (rem a b) in record { g = r .g; s = r .t; t = r .s + r .t · quot a b })
+      ≡ (let r = bezout-to A n b (rem a b) in record { g = r .g; s = r .t; t = r .s ⊞ r .t · quot a b })
   unfolding bezout-to
   bezout-go n k a b e = rw (e, bezout-to)
 
   -- where b is 0, with any constant whose product with the leading coefficient of a is one
-  pub bezout-scaled-is : (a b : P) (c : K) → lead A a ⊙ c ≡ 𝟏 → b ≡ 𝟘 → IsBezout A a b (record { g = con c · a; s = con c; t = 𝟘 })
+  pub bezout-scaled-is : (a b : P) (c : K) → lead A a ·ₖ c ≡ 𝟙ₖ → b ≡ 𝟘 → IsBezout A a b (record { g = con c · a; s = con c; t = 𝟘 })
   bezout-scaled-is a b c unit e = record {
-    combination = sym (ap (λ z. con c · a + z) (𝟘-· R b) ∙ +-𝟘 R _);
+    combination = sym (ap (λ z. con c · a ⊞ z) (𝟘-· R b) ∙ ⊞-𝟘 R _);
     divides-first = (con (lead A a), scaled-factor A a c unit);
     divides-second = divides-eq R (sym e) (divides-nought R _);
     monic = λ _. scaled-monic A a c unit;
@@ -52,7 +52,7 @@ module _ {K P : Type 0} {F : Field2 K} (A : Polynomials F P) where
   -- the divisor of 0 and 0 is 0, whatever the coefficients
   pub bezout-noughts-is : (a b : P) → a ≡ 𝟘 → b ≡ 𝟘 → IsBezout A a b (record { g = 𝟘; s = 𝟘; t = 𝟘 })
   bezout-noughts-is a b h k = record {
-    combination = sym (ap (λ z. z + 𝟘 · b) (𝟘-· R a) ∙ 𝟘-+ R _ ∙ 𝟘-· R b);
+    combination = sym (ap (λ z. z ⊞ 𝟘 · b) (𝟘-· R a) ∙ 𝟘-⊞ R _ ∙ 𝟘-· R b);
     divides-first = divides-eq R (sym h) (divides-nought R 𝟘);
     divides-second = divides-eq R (sym k) (divides-nought R 𝟘);
     monic = λ n. absurd (n (h, k));
@@ -60,9 +60,9 @@ module _ {K P : Type 0} {F : Field2 K} (A : Polynomials F P) where
 
   bezout-nought-is : (a b : P) → b ≡ 𝟘 → IsBezout A a b (bezout-nought A a)
   unfolding bezout-nought
-  bezout-nought-is a b e = go (F .discrete (lead A a) 𝟎)
+  bezout-nought-is a b e = go (F .discrete (lead A a) 𝟘ₖ)
     where
-      go : (d : Dec (lead A a ≡ 𝟎))
+      go : (d : Dec (lead A a ≡ 𝟘ₖ))
           → IsBezout A a b
           (elim d as (λ _. Bezout P) [
             | yes _ ↦ record { g = 𝟘; s = 𝟘; t = 𝟘 }
@@ -72,7 +72,7 @@ module _ {K P : Type 0} {F : Field2 K} (A : Polynomials F P) where
       go (no n) = bezout-scaled-is a b _ (F .mul-inverse (lead A a) n) e
 
   pub bezout-step-is : (a b : P) (r : Bezout P) → ¬ (b ≡ 𝟘) → IsBezout A b (rem a b) r
-      → IsBezout A a b (record { g = r .g; s = r .t; t = r .s + r .t · quot a b })
+      → IsBezout A a b (record { g = r .g; s = r .t; t = r .s ⊞ r .t · quot a b })
   bezout-step-is a b r h i = record {
     combination = back-substitution R a b (r .g) (quot a b) (rem a b) (r .s) (r .t) (i .combination) (A .division a b h);
     divides-first = divides-eq R (sym (A .division a b h)) (divides-add R (divides-mul R (quot a b) (i .divides-first)) (i .divides-second));
@@ -81,26 +81,26 @@ module _ {K P : Type 0} {F : Field2 K} (A : Polynomials F P) where
   }
 
   -- the step keeps the coefficients short: s no longer than b and t no longer than a, or constant
-  pub len-substituted : (a b s t : P) → ¬ (b ≡ 𝟘) → len s ≤ max 1 (len (rem a b)) → len t ≤ max 1 (len b) → len (s + t · quot a b) ≤ max 1 (len a)
+  pub len-substituted : (a b s t : P) → ¬ (b ≡ 𝟘) → len s ≤ max 1 (len (rem a b)) → len t ≤ max 1 (len b) → len (s ⊞ t · quot a b) ≤ max 1 (len a)
   len-substituted a b s t h l m = elim (decLe (len b) (len a)) [
     | yes k ↦
         (let b-len : 0 < len b = len-nonzero A b h in
         let r-len : len (rem a b) < len b = A .rem-len a b h in
-        let q-len : suc (len a) ≡ len (quot a b) +ℕ len b = len-quot A b h a k in
-        let p-len : len (t · quot a b) ≤ pred (len b) +ℕ len (quot a b) = len-mul-le A (pred (len b)) (len (quot a b)) t (quot a b) (omega arith) (omega arith) in
+        let q-len : suc (len a) ≡ len (quot a b) + len b = len-quot A b h a k in
+        let p-len : len (t · quot a b) ≤ pred (len b) + len (quot a b) = len-mul-le A (pred (len b)) (len (quot a b)) t (quot a b) (omega arith) (omega arith) in
         len-add A s (t · quot a b) (max 1 (len a)) (omega arith) (omega arith))
     | no k ↦
         (let r-is : rem a b ≡ a = rem-short A a b (omega arith) in
-        let e : s + t · quot a b ≡ s = ap (λ z. s + t · z) (quot-short A a b (omega arith)) ∙ ap (λ z. s + z) (·-𝟘 R t) ∙ +-𝟘 R s in
-        let n : len (s + t · quot a b) ≡ len s = ap len e in
+        let e : s ⊞ t · quot a b ≡ s = ap (λ z. s ⊞ t · z) (quot-short A a b (omega arith)) ∙ ap (λ z. s ⊞ z) (·-𝟘 R t) ∙ ⊞-𝟘 R s in
+        let n : len (s ⊞ t · quot a b) ≡ len s = ap len e in
         let o : len (rem a b) ≡ len a = ap len r-is in
         omega arith)
   ]
 
   -- a constant other than 0 has the divisor 1 with every polynomial
-  pub bezout-constant-is : (a b : P) (c : K) → len b ≡ 1 → lead A b ⊙ c ≡ 𝟏 → IsBezout A a b (record { g = 𝟙; s = 𝟘; t = con c })
+  pub bezout-constant-is : (a b : P) (c : K) → len b ≡ 1 → lead A b ·ₖ c ≡ 𝟙ₖ → IsBezout A a b (record { g = 𝟙; s = 𝟘; t = con c })
   bezout-constant-is a b c e unit = record {
-    combination = sym (ap (λ z. z + con c · b) (𝟘-· R a) ∙ 𝟘-+ R _ ∙ made-one);
+    combination = sym (ap (λ z. z ⊞ con c · b) (𝟘-· R a) ∙ 𝟘-⊞ R _ ∙ made-one);
     divides-first = one-divides R a;
     divides-second = one-divides R b;
     monic = λ _. monic-one A;
@@ -144,7 +144,7 @@ module _ {K P : Type 0} {F : Field2 K} (A : Polynomials F P) where
   pub bezout-coprime : {a b : P} {B : Bezout P} (c : P) → IsBezout A a b B → B .g ≡ 𝟙
       → IsBezout3 A a b c (record { e = B .g; s1 = B .s; s2 = B .t; s3 = 𝟘 })
   bezout-coprime {a} {b} {B} c i e = record {
-    combination = i .combination ∙ sym (ap (λ z. B .s · a + B .t · b + z) (𝟘-· R c) ∙ +-𝟘 R _);
+    combination = i .combination ∙ sym (ap (λ z. B .s · a ⊞ B .t · b ⊞ z) (𝟘-· R c) ∙ ⊞-𝟘 R _);
     divides-first = i .divides-first;
     divides-second = i .divides-second;
     divides-third = divides-by-eq R (sym e) (one-divides R c);

@@ -5,21 +5,21 @@ use native.Mathlib.{Omega.arith, Decide.decLe}
 use lib.ListN.{length, getD}
 use Rattle.field_laws.specs.{Ring.Ring2, Field.Field2}
 use Rattle.char2_algebra.specs.Polynomial.{IsNo, Nonzero, Trimmed, attach, trim, add-lists, scale-list, mul-lists}
-use Rattle.char2_algebra.proofs.{Ring.𝟘-+, Ring.+-𝟘, Ring.·-𝟘, Convolution.conv, Convolution.conv-none, Convolution.conv-zero, Convolution.conv-suc}
+use Rattle.char2_algebra.proofs.{Ring.𝟘-⊞, Ring.⊞-𝟘, Ring.·-𝟘, Convolution.conv, Convolution.conv-none, Convolution.conv-zero, Convolution.conv-suc}
 
 module _ {K : Type 0} (F : Field2 K) where
   open Field2 F using (ring, discrete)
-  open Ring2 ring using (add as _+_, mul as _·_, nought as 𝟘, one as 𝟙)
+  open Ring2 ring using (add as _⊞_, mul as _·_, nought as 𝟘, one as 𝟙)
 
-  infixl 60 _+_
+  infixl 60 _⊞_
   infixl 70 _·_
   abbrev pub at : List K → ℕ → K
   at p i = getD p i 𝟘
 
-  pub at-add : (p q : List K) (i : ℕ) → at (add-lists F p q) i ≡ at p i + at q i
+  pub at-add : (p q : List K) (i : ℕ) → at (add-lists F p q) i ≡ at p i ⊞ at q i
   unfolding add-lists
-  at-add [] q i = sym (𝟘-+ ring (at q i))
-  at-add (a ∷ p) [] i = sym (+-𝟘 ring (at (a ∷ p) i))
+  at-add [] q i = sym (𝟘-⊞ ring (at q i))
+  at-add (a ∷ p) [] i = sym (⊞-𝟘 ring (at (a ∷ p) i))
   at-add (a ∷ p) (b ∷ q) zero = refl
   at-add (a ∷ p) (b ∷ q) (suc i) = at-add p q i
 
@@ -32,10 +32,10 @@ module _ {K : Type 0} (F : Field2 K) where
   pub at-mul : (p q : List K) (i : ℕ) → at (mul-lists F p q) i ≡ conv ring (at p) (at q) i
   unfolding mul-lists
   at-mul [] q i = sym (conv-none ring (λ _. 𝟘) (at q) (λ _. refl) i)
-  at-mul (a ∷ p) q zero = at-add (scale-list F a q) (𝟘 ∷ mul-lists F p q) 0 ∙ +-𝟘 ring (at (scale-list F a q) 0) ∙ at-scale a q 0 ∙ sym (conv-zero ring (at (a ∷ p)) (at q))
+  at-mul (a ∷ p) q zero = at-add (scale-list F a q) (𝟘 ∷ mul-lists F p q) 0 ∙ ⊞-𝟘 ring (at (scale-list F a q) 0) ∙ at-scale a q 0 ∙ sym (conv-zero ring (at (a ∷ p)) (at q))
   at-mul (a ∷ p) q (suc i) =
       at-add (scale-list F a q) (𝟘 ∷ mul-lists F p q) (suc i)
-      ∙ ap₂ _+_ (at-scale a q (suc i)) (at-mul p q i)
+      ∙ ap₂ _⊞_ (at-scale a q (suc i)) (at-mul p q i)
       ∙ sym (conv-suc ring (at (a ∷ p)) (at q) i)
 
   at-attach : (a : K) (p : List K) (i : ℕ) → at (attach F a p) i ≡ at (a ∷ p) i

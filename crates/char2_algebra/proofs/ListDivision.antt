@@ -6,24 +6,24 @@ use native.Mathlib.{Omega.arith, Decide.ℕ-discrete}
 use lib.ListN.{length, List·getD-eq-default}
 use Rattle.field_laws.specs.{Ring.Ring2, Field.Field2, Division.inverse-of}
 use Rattle.char2_algebra.specs.Polynomial.{Polynomial, Trimmed, trim, trim-trimmed, of-list, add-lists, scale-list, invert, divide-steps, divide-lists, coeff, nought, con, x, add, mul, quot, rem}
-use Rattle.char2_algebra.proofs.Ring.{ring2, 𝟘-·, 𝟘-+, +-𝟘, +-self, ·-𝟘, by, combine}
+use Rattle.char2_algebra.proofs.Ring.{ring2, 𝟘-·, 𝟘-⊞, ⊞-𝟘, ⊞-self, ·-𝟘, by, combine}
 use Rattle.char2_algebra.proofs.ListCoefficients.{at, at-add, at-scale, at-trim, at-end, length-le}
 use Rattle.char2_algebra.proofs.PolynomialRing.{ext, coeff-of-list, coeff-add, coeff-con, coeff-con-suc, coeff-con-mul, coeff-x-mul, coeff-x-mul-suc, ring}
 
 -- one step of the division, over plain variables
 module _ {A : Type 0} (R : Ring2 A) where
-  open Ring2 R using (add as _+_, mul as _·_, nought as 𝟘)
+  open Ring2 R using (add as _⊞_, mul as _·_, nought as 𝟘)
 
-  infixl 60 _+_
+  infixl 60 _⊞_
   infixl 70 _·_
-  step-identity : (a b c q r t : A) → a + t · (q · b + r) ≡ (c + t · q) · b + (a + t · r + c · b)
+  step-identity : (a b c q r t : A) → a ⊞ t · (q · b ⊞ r) ≡ (c ⊞ t · q) · b ⊞ (a ⊞ t · r ⊞ c · b)
   step-identity a b c q r t = simp (ring2, R)
 
 module _ {K : Type 0} (F : Field2 K) where
   open Field2 F using (ring as K-ring, discrete)
-  open Ring2 K-ring using (add as _+_, mul as _·_, nought as 𝟘, one as 𝟙)
+  open Ring2 K-ring using (add as _⊞_, mul as _·_, nought as 𝟘, one as 𝟙)
 
-  infixl 60 _+_
+  infixl 60 _⊞_
   infixl 70 _·_
   -- what polynomial a list stands for
   pub of-cons : (a : K) (p : List K) → of-list F (a ∷ p) ≡ add F (con F a) (mul F (x F) (of-list F p))
@@ -32,14 +32,14 @@ module _ {K : Type 0} (F : Field2 K) where
       each : (i : ℕ) → coeff F (of-list F (a ∷ p)) i ≡ coeff F (add F (con F a) (mul F (x F) (of-list F p))) i
       each zero =
           coeff-of-list F (a ∷ p) 0
-          ∙ sym (+-𝟘 K-ring a)
-          ∙ ap₂ _+_ (sym (coeff-con F a)) (sym (coeff-x-mul F (of-list F p)))
+          ∙ sym (⊞-𝟘 K-ring a)
+          ∙ ap₂ _⊞_ (sym (coeff-con F a)) (sym (coeff-x-mul F (of-list F p)))
           ∙ sym (coeff-add F (con F a) (mul F (x F) (of-list F p)) 0)
       each (suc i) =
           coeff-of-list F (a ∷ p) (suc i)
           ∙ sym (coeff-of-list F p i)
-          ∙ sym (𝟘-+ K-ring (coeff F (of-list F p) i))
-          ∙ ap₂ _+_ (sym (coeff-con-suc F a i)) (sym (coeff-x-mul-suc F (of-list F p) i))
+          ∙ sym (𝟘-⊞ K-ring (coeff F (of-list F p) i))
+          ∙ ap₂ _⊞_ (sym (coeff-con-suc F a i)) (sym (coeff-x-mul-suc F (of-list F p) i))
           ∙ sym (coeff-add F (con F a) (mul F (x F) (of-list F p)) (suc i))
 
   pub of-add : (p q : List K) → of-list F (add-lists F p q) ≡ add F (of-list F p) (of-list F q)
@@ -47,7 +47,7 @@ module _ {K : Type 0} (F : Field2 K) where
       ext F (of-list F (add-lists F p q)) (add F (of-list F p) (of-list F q))
       (λ i. coeff-of-list F (add-lists F p q) i
       ∙ at-add F p q i
-      ∙ ap₂ _+_ (sym (coeff-of-list F p i)) (sym (coeff-of-list F q i))
+      ∙ ap₂ _⊞_ (sym (coeff-of-list F p i)) (sym (coeff-of-list F q i))
       ∙ sym (coeff-add F (of-list F p) (of-list F q) i))
 
   pub of-scale : (c : K) (p : List K) → of-list F (scale-list F c p) ≡ mul F (con F c) (of-list F p)
@@ -82,7 +82,7 @@ module _ {K : Type 0} (F : Field2 K) where
   nought-law : (b : Polynomial F) (p : List K) → of-list F p ≡ add F (mul F (of-list F []) b) (of-list F p)
   unfolding ring of-list nought
   nought-law b p =
-      sym (𝟘-+ (ring F) (of-list F p)) ∙ ap (λ z. add F z (of-list F p)) (sym (𝟘-· (ring F) b))
+      sym (𝟘-⊞ (ring F) (of-list F p)) ∙ ap (λ z. add F z (of-list F p)) (sym (𝟘-· (ring F) b))
 
   pub steps-law : (b : List K) (d : ℕ) (i : K) (p : List K)
       → of-list F p ≡ add F (mul F (of-list F ((divide-steps F b d i p) .0)) (of-list F b)) (of-list F ((divide-steps F b d i p) .1))
@@ -106,8 +106,8 @@ module _ {K : Type 0} (F : Field2 K) where
       by-test (no shown) = steps-law (a ∷ b) (length b) (invert F leading shown) p
 
   -- the place of the divisor's leading coefficient is cleared
-  cleared : (a b i : K) → b · i ≡ 𝟙 → a + a · i · b ≡ 𝟘
-  cleared a b i h = combine K-ring (a + a · i · b) 𝟘 (by K-ring a h) (simp (ring2, K-ring))
+  cleared : (a b i : K) → b · i ≡ 𝟙 → a ⊞ a · i · b ≡ 𝟘
+  cleared a b i h = combine K-ring (a ⊞ a · i · b) 𝟘 (by K-ring a h) (simp (ring2, K-ring))
 
   Below : List K → ℕ → Type 0
   Below p d = (j : ℕ) → d ≤ j → at F p j ≡ 𝟘
@@ -116,17 +116,17 @@ module _ {K : Type 0} (F : Field2 K) where
       → Below (trim F (add-lists F (a ∷ r) (scale-list F (at F (a ∷ r) d · i) b))) d
   unfolding Below
   step-below b d i a r hb hi hr j l =
-      at-trim F (add-lists F (a ∷ r) (scale-list F c b)) j ∙ at-add F (a ∷ r) (scale-list F c b) j ∙ ap (λ z. at F (a ∷ r) j + z) (at-scale F c b j) ∙ each j (ℕ-discrete d j) l
+      at-trim F (add-lists F (a ∷ r) (scale-list F c b)) j ∙ at-add F (a ∷ r) (scale-list F c b) j ∙ ap (λ z. at F (a ∷ r) j ⊞ z) (at-scale F c b j) ∙ each j (ℕ-discrete d j) l
     where
       c : K
       c = at F (a ∷ r) d · i
 
-      each : (j : ℕ) → Dec (d ≡ j) → d ≤ j → at F (a ∷ r) j + c · at F b j ≡ 𝟘
-      each j (yes e) l = subst (λ k. at F (a ∷ r) k + c · at F b k ≡ 𝟘) e (cleared (at F (a ∷ r) d) (at F b d) i hi)
+      each : (j : ℕ) → Dec (d ≡ j) → d ≤ j → at F (a ∷ r) j ⊞ c · at F b j ≡ 𝟘
+      each j (yes e) l = subst (λ k. at F (a ∷ r) k ⊞ c · at F b k ≡ 𝟘) e (cleared (at F (a ∷ r) d) (at F b d) i hi)
       each zero (no n) l = absurd (n (omega arith))
       each (suc j) (no n) l =
           let m : d ≤ j = omega (arith, n) in
-          ap₂ (λ y z. y + c · z) (hr j m) (hb (suc j) (omega arith)) ∙ ap (λ z. 𝟘 + z) (·-𝟘 K-ring c) ∙ +-self K-ring 𝟘
+          ap₂ (λ y z. y ⊞ c · z) (hr j m) (hb (suc j) (omega arith)) ∙ ap (λ z. 𝟘 ⊞ z) (·-𝟘 K-ring c) ∙ ⊞-self K-ring 𝟘
 
   steps-below : (b : List K) (d : ℕ) (i : K) → Below b (suc d) → at F b d · i ≡ 𝟙 → (p : List K) → Below ((divide-steps F b d i p) .1) d
   unfolding Below divide-steps

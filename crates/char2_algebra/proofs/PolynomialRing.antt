@@ -15,9 +15,9 @@ IsNo-prop (no _) = Unit-prop
 
 module _ {K : Type 0} (F : Field2 K) where
   open Field2 F using (ring as K-ring, discrete)
-  open Ring2 K-ring using (add as _+_, mul as _·_, nought as 𝟘, one as 𝟙)
+  open Ring2 K-ring using (add as _⊞_, mul as _·_, nought as 𝟘, one as 𝟙)
 
-  infixl 60 _+_
+  infixl 60 _⊞_
   infixl 70 _·_
   trimmed-prop : (p : List K) → IsProp (Trimmed F p)
   trimmed-prop [] = Unit-prop
@@ -45,7 +45,7 @@ module _ {K : Type 0} (F : Field2 K) where
   unfolding coeff of-list
   coeff-of-list l i = at-trim F l i
 
-  pub coeff-add : (p q : Polynomial F) (i : ℕ) → coeff F (add F p q) i ≡ coeff F p i + coeff F q i
+  pub coeff-add : (p q : Polynomial F) (i : ℕ) → coeff F (add F p q) i ≡ coeff F p i ⊞ coeff F q i
   unfolding coeff add
   coeff-add p q i = coeff-of-list (add-lists F (p .coefficients) (q .coefficients)) i ∙ at-add F (p .coefficients) (q .coefficients) i
 
@@ -95,11 +95,11 @@ module _ {K : Type 0} (F : Field2 K) where
         add-assoc = λ p q r.
             ext (add F (add F p q) r) (add F p (add F q r))
             (λ i. coeff-add (add F p q) r i
-            ∙ ap (λ z. z + coeff F r i) (coeff-add p q i)
+            ∙ ap (λ z. z ⊞ coeff F r i) (coeff-add p q i)
             ∙ K-ring .add-assoc (coeff F p i) (coeff F q i) (coeff F r i)
-            ∙ ap (λ z. coeff F p i + z) (sym (coeff-add q r i))
+            ∙ ap (λ z. coeff F p i ⊞ z) (sym (coeff-add q r i))
             ∙ sym (coeff-add p (add F q r) i));
-        add-nought = λ p. ext (add F p (nought F)) p (λ i. coeff-add p (nought F) i ∙ ap (λ z. coeff F p i + z) (coeff-nought i) ∙ K-ring .add-nought (coeff F p i));
+        add-nought = λ p. ext (add F p (nought F)) p (λ i. coeff-add p (nought F) i ∙ ap (λ z. coeff F p i ⊞ z) (coeff-nought i) ∙ K-ring .add-nought (coeff F p i));
         add-self = λ p. ext (add F p p) (nought F) (λ i. coeff-add p p i ∙ K-ring .add-self (coeff F p i) ∙ sym (coeff-nought i));
         mul-comm = λ p q. ext (mul F p q) (mul F q p) (λ i. coeff-mul p q i ∙ conv-comm K-ring (coeff F p) (coeff F q) i ∙ sym (coeff-mul q p i));
         mul-assoc = λ p q r.
@@ -121,6 +121,6 @@ module _ {K : Type 0} (F : Field2 K) where
             (λ i. coeff-mul p (add F q r) i
             ∙ ap (λ f. conv K-ring (coeff F p) f i) (fun-ext (coeff-add q r))
             ∙ conv-add K-ring (coeff F p) (coeff F q) (coeff F r) i
-            ∙ sym (ap₂ _+_ (coeff-mul p q i) (coeff-mul p r i))
+            ∙ sym (ap₂ _⊞_ (coeff-mul p q i) (coeff-mul p r i))
             ∙ sym (coeff-add (mul F p q) (mul F p r) i));
       }

@@ -19,20 +19,20 @@ pub record Bezout3 (P : Type 0) : Type 0 where
 
 module _ {K P : Type 0} {F : Field2 K} (A : Polynomials F P) where
   open Polynomials A using (ring, len, con, quot, rem)
-  open Ring2 ring using (add as _+_, mul as _·_, nought as 𝟘, one as 𝟙)
+  open Ring2 ring using (add as _⊞_, mul as _·_, nought as 𝟘, one as 𝟙)
 
-  infixl 60 _+_
+  infixl 60 _⊞_
   infixl 70 _·_
   -- what is a greatest common divisor of a and b, however found: it is their combination, divides both, and is monic unless both are 0
   pub record IsBezout (a b : P) (B : Bezout P) : Type 0 where
-    pub combination : B .g ≡ B .s · a + B .t · b
+    pub combination : B .g ≡ B .s · a ⊞ B .t · b
     pub divides-first : Divides ring (B .g) a
     pub divides-second : Divides ring (B .g) b
     pub monic : ¬ ((a ≡ 𝟘) × (b ≡ 𝟘)) → Monic A (B .g)
 
   -- the same of a, b and c
   pub record IsBezout3 (a b c : P) (B : Bezout3 P) : Type 0 where
-    pub combination : B .e ≡ B .s1 · a + B .s2 · b + B .s3 · c
+    pub combination : B .e ≡ B .s1 · a ⊞ B .s2 · b ⊞ B .s3 · c
     pub divides-first : Divides ring (B .e) a
     pub divides-second : Divides ring (B .e) b
     pub divides-third : Divides ring (B .e) c
@@ -56,7 +56,7 @@ module _ {K P : Type 0} {F : Field2 K} (A : Polynomials F P) where
         | zero ↦ bezout-nought a
         | suc m ↦
             (let r = bezout-to n b (rem a b) in
-            record { g = r .g; s = r .t; t = r .s + r .t · quot a b })
+            record { g = r .g; s = r .t; t = r .s ⊞ r .t · quot a b })
       ]
 
   unfoldable pub bezout : P → P → Bezout P

@@ -31,9 +31,9 @@ pub record Polynomial {K : Type 0} (F : Field2 K) : Type 0 where
 
 module _ {K : Type 0} (F : Field2 K) where
   open Field2 F using (ring, discrete)
-  open Ring2 ring using (add as _+_, mul as _·_, nought as 𝟘, one as 𝟙)
+  open Ring2 ring using (add as _⊞_, mul as _·_, nought as 𝟘, one as 𝟙)
 
-  infixl 60 _+_
+  infixl 60 _⊞_
   infixl 70 _·_
   -- a list before which a is put, and without the noughts at its end
   unfoldable pub attach : K → List K → List K
@@ -76,7 +76,7 @@ module _ {K : Type 0} (F : Field2 K) where
   unfoldable pub add-lists : List K → List K → List K
   add-lists [] q = q
   add-lists (a ∷ p) [] = a ∷ p
-  add-lists (a ∷ p) (b ∷ q) = (a + b) ∷ add-lists p q
+  add-lists (a ∷ p) (b ∷ q) = (a ⊞ b) ∷ add-lists p q
 
   unfoldable pub scale-list : K → List K → List K
   scale-list c [] = []

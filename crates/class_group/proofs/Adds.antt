@@ -18,10 +18,10 @@ use Rattle.class_group.proofs.Classes.{functions, ideal, equal-class, t
 
 module _ {K P : Type 0} {F : Field2 K} {A : Polynomials F P} (C : Curve A) where
   open Polynomials A using (ring as R, len, quot, rem)
-  open Ring2 (A .ring) using (add as _+_, mul as _·_, nought as 𝟘, one as 𝟙)
+  open Ring2 (A .ring) using (add as _⊞_, mul as _·_, nought as 𝟘, one as 𝟙)
   open Curve C using (f, f-len)
 
-  infixl 60 _+_
+  infixl 60 _⊞_
   infixl 70 _·_
   -- u of degree 0
   pub short-is-neutral : {D : Pair P} → SemiReduced C D → len (D .u) ≤ 1 → D ≡ neutral C
@@ -52,13 +52,13 @@ module _ {K P : Type 0} {F : Field2 K} {A : Polynomials F P} (C : Curve A) where
     | no h ↦ ap (λ E. E .u) (opposite-long C D (omega arith))
   ]
 
-  opposite-divides : {D : Pair P} → Reduced C D → Divides R (D .u) (D .v + opposite C D .v + 𝟙)
+  opposite-divides : {D : Pair P} → Reduced C D → Divides R (D .u) (D .v ⊞ opposite C D .v ⊞ 𝟙)
   opposite-divides {D} r = elim (decLe (len (D .u)) 1) [
     | yes h ↦ rw (monic-constant A (D .u) (r .u-monic) h) (one-divides R _)
     | no h ↦ rw (opposite-long C D (omega arith)) (divides-eq R (twice (D .v)) (divides-nought R (D .u)))
   ]
     where
-      twice : (v : P) → 𝟘 ≡ v + (v + 𝟙) + 𝟙
+      twice : (v : P) → 𝟘 ≡ v ⊞ (v ⊞ 𝟙) ⊞ 𝟙
       twice v = simp (ring2, R)
 
   opposite-bezout : Pair P → Bezout3 P
@@ -67,13 +67,13 @@ module _ {K P : Type 0} {F : Field2 K} {A : Polynomials F P} (C : Curve A) where
   opposite-combines : {D : Pair P} → Reduced C D → Combines C D (opposite C D) (opposite-bezout D)
   unfolding opposite-bezout
   opposite-combines {D} r = record {
-    combination = only (D .u) (opposite C D .u) (D .v + opposite C D .v + 𝟙);
+    combination = only (D .u) (opposite C D .u) (D .v ⊞ opposite C D .v ⊞ 𝟙);
     divides-first = divides-refl R (D .u);
     divides-second = divides-eq R (sym (opposite-u D)) (divides-refl R (D .u));
     divides-third = opposite-divides r;
   }
     where
-      only : (u u′ c : P) → u ≡ 𝟙 · u + 𝟘 · u′ + 𝟘 · c
+      only : (u u′ c : P) → u ≡ 𝟙 · u ⊞ 𝟘 · u′ ⊞ 𝟘 · c
       only u u′ c = simp (ring2, R)
 
   opposite-composed : {D : Pair P} → Reduced C D → composed-monic C (opposite-bezout D) D (opposite C D) ≡ neutral C
@@ -105,17 +105,17 @@ module _ {K P : Type 0} {F : Field2 K} {A : Polynomials F P} (C : Curve A) where
   right-class : {I J M : P × P → Type 0} → I ~ J → M ⊗ I ~ M ⊗ J
   right-class h = transitive C comm-class (transitive C (~-product (functions C) h) comm-class)
 
-  pub record Adds (_⊕_ : Pair P → Pair P → Pair P) : Type 0 where
-    pub closed : {D E : Pair P} → Reduced C D → Reduced C E → Reduced C (_⊕_ D E)
-    pub class : {D E : Pair P} → Reduced C D → Reduced C E → ideal C D ⊗ ideal C E ~ ideal C (_⊕_ D E)
+  pub record Adds (plus : Pair P → Pair P → Pair P) : Type 0 where
+    pub closed : {D E : Pair P} → Reduced C D → Reduced C E → Reduced C (plus D E)
+    pub class : {D E : Pair P} → Reduced C D → Reduced C E → ideal C D ⊗ ideal C E ~ ideal C (plus D E)
 
   -- equal sums from equivalent products
-  sums-equal : {_⊕_ _⊞_ : Pair P → Pair P → Pair P} → Adds _⊕_ → Adds _⊞_ → {D E D′ E′ : Pair P}
-      → Reduced C D → Reduced C E → Reduced C D′ → Reduced C E′ → ideal C D ⊗ ideal C E ~ ideal C D′ ⊗ ideal C E′ → _⊕_ D E ≡ _⊞_ D′ E′
+  sums-equal : {plus plus′ : Pair P → Pair P → Pair P} → Adds plus → Adds plus′ → {D E D′ E′ : Pair P}
+      → Reduced C D → Reduced C E → Reduced C D′ → Reduced C E′ → ideal C D ⊗ ideal C E ~ ideal C D′ ⊗ ideal C E′ → plus D E ≡ plus′ D′ E′
   sums-equal a b r s r′ s′ h =
       reduced-unique C (a .closed r s) (b .closed r′ s′) (transitive C (~-sym (functions C) (a .class r s)) (transitive C h (b .class r′ s′)))
 
-  pub adds-group : {_⊕_ : Pair P → Pair P → Pair P} → Adds _⊕_ → CommutativeGroup (Reduced C) _⊕_ (neutral C) (opposite C)
+  pub adds-group : {plus : Pair P → Pair P → Pair P} → Adds plus → CommutativeGroup (Reduced C) plus (neutral C) (opposite C)
   adds-group a = record {
     sum-closed = λ r s. a .closed r s;
     neutral-closed = neutral-reduced C;

@@ -2,7 +2,7 @@
 -- pairs, however e was found, has the class of the product of their ideals (`composed-class`).
 use Rattle.field_laws.specs.{Ring.Ring2, Field.Field2}
 use Rattle.char2_algebra.specs.{Polynomials.Polynomials, Divides.Divides, Lead.monic-of, Euclid.Bezout3}
-use Rattle.char2_algebra.proofs.{Ring.+-comm, Degree.one-nonzero, Product.cancel-left, Division.rem-divides}
+use Rattle.char2_algebra.proofs.{Ring.⊞-comm, Degree.one-nonzero, Product.cancel-left, Division.rem-divides}
 use Rattle.char2_algebra.proofs.{Divides.divides-eq, Divides.divides-trans, Lead.monic-of-divides, Lead.divides-monic-of, Lead.monic-of-nonzero}
 use Rattle.class_group.specs.Composition.{Combines, composed-monic}
 use Rattle.class_group.specs.{Curve.Curve, Mumford.Pair, Mumford.value, Composition.composed, Reduction.reduction-step, Reduction.reduce}
@@ -14,10 +14,10 @@ use Rattle.class_group.proofs.Composed.{full-v, composition, composed-v
 
 module _ {K P : Type 0} {F : Field2 K} {A : Polynomials F P} (C : Curve A) where
   open Polynomials A using (ring as R, len, quot, rem)
-  open Ring2 (A .ring) using (add as _+_, mul as _·_, nought as 𝟘, one as 𝟙)
+  open Ring2 (A .ring) using (add as _⊞_, mul as _·_, nought as 𝟘, one as 𝟙)
   open Curve C using (f, f-len)
 
-  infixl 60 _+_
+  infixl 60 _⊞_
   infixl 70 _·_
   abbrev pub functions : Ring2 (P × P)
   functions = coordinate R f
@@ -37,10 +37,10 @@ module _ {K P : Type 0} {F : Field2 K} {A : Polynomials F P} (C : Curve A) where
   transitive h k = ~-trans functions (coordinate-domain A f f-len) h k
 
   -- pairs with u up to a unit and v modulo u
-  pub same-class : (D E : Pair P) → Divides R (E .u) (D .u) → Divides R (D .u) (E .u) → Divides R (E .u) (D .v + E .v) → ideal D ~ ideal E
+  pub same-class : (D E : Pair P) → Divides R (E .u) (D .u) → Divides R (D .u) (E .u) → Divides R (E .u) (D .v ⊞ E .v) → ideal D ~ ideal E
   same-class D E d d′ m = equal-class
       (λ x h. pair-ideal-modulo R f (E .u) (D .v) (E .v) m x (pair-ideal-divisor R f (D .u) (E .u) (D .v) d x h))
-      (λ x h. pair-ideal-divisor R f (E .u) (D .u) (D .v) d′ x (pair-ideal-modulo R f (E .u) (E .v) (D .v) (divides-eq R (+-comm R (D .v) (E .v)) m) x h))
+      (λ x h. pair-ideal-divisor R f (E .u) (D .u) (D .v) d′ x (pair-ideal-modulo R f (E .u) (E .v) (D .v) (divides-eq R (⊞-comm R (D .v) (E .v)) m) x h))
 
   -- a reduction step, and reduction
   step-class : {D : Pair P} → SemiReduced C D → ideal D ~ ideal (reduction-step C D)
@@ -49,8 +49,8 @@ module _ {K P : Type 0} {F : Field2 K} {A : Polynomials F P} (C : Curve A) where
       let w = quot (value C (D .v)) (D .u) in
       transitive
       (~-step R f (D .u) (D .v) w (cofactor-eq C s) (one-nonzero A) (cofactor-nonzero C s))
-      (same-class (record { u = w; v = D .v + 𝟙 }) (reduction-step C D) (monic-of-divides A w) (divides-monic-of A w)
-      (rem-divides A (monic-of A w) (monic-of-nonzero A w (cofactor-nonzero C s)) (D .v + 𝟙)))
+      (same-class (record { u = w; v = D .v ⊞ 𝟙 }) (reduction-step C D) (monic-of-divides A w) (divides-monic-of A w)
+      (rem-divides A (monic-of A w) (monic-of-nonzero A w (cofactor-nonzero C s)) (D .v ⊞ 𝟙)))
 
   pub reduce-class : {D : Pair P} → SemiReduced C D → ideal D ~ ideal (reduce C D .class)
   reduce-class {D} s = reduce-keeps C (λ E. ideal D ~ ideal E) (λ E t h. transitive h (step-class t)) D s (equal-class (λ x h. h) (λ x h. h))

@@ -15,9 +15,9 @@ use Rattle.class_group.proofs.Composed.{compose-is, compose-double-is, 
 
 module _ {K P : Type 0} {F : Field2 K} {A : Polynomials F P} (C : Curve A) where
   open Polynomials A using (ring as R, len)
-  open Ring2 (A .ring) using (add as _+_, nought as 𝟘, one as 𝟙)
+  open Ring2 (A .ring) using (add as _⊞_, nought as 𝟘, one as 𝟙)
 
-  infixl 60 _+_
+  infixl 60 _⊞_
   -- demand 2: the neutral class is one
   pub neutral-reduced : Reduced C (neutral C)
   unfolding neutral
@@ -27,7 +27,7 @@ module _ {K P : Type 0} {F : Field2 K} {A : Polynomials F P} (C : Curve A) where
       record { u-monic = monic-one A; u-len = omega arith; v-len = omega arith; divides = one-divides R _ }
 
   -- the two cases of the opposite
-  pub opposite-long : (D : Pair P) → 1 < len (D .u) → opposite C D ≡ record { u = D .u; v = D .v + 𝟙 }
+  pub opposite-long : (D : Pair P) → 1 < len (D .u) → opposite C D ≡ record { u = D .u; v = D .v ⊞ 𝟙 }
   unfolding opposite
   opposite-long D h = rw (lt-ltb 1 (len (D .u)) h, opposite)
 
@@ -49,12 +49,12 @@ module _ {K P : Type 0} {F : Field2 K} {A : Polynomials F P} (C : Curve A) where
     | no h ↦ rw (opposite-long D (omega arith)) (go (len (D .u)) refl (omega arith))
   ]
     where
-      go : (n : ℕ) → len (D .u) ≡ n → 1 < len (D .u) → Reduced C (record { u = D .u; v = D .v + 𝟙 })
+      go : (n : ℕ) → len (D .u) ≡ n → 1 < len (D .u) → Reduced C (record { u = D .u; v = D .v ⊞ 𝟙 })
       go zero e h = absurd (omega arith)
       go (suc n) e h =
           let k : len 𝟙 ≡ 1 = len-one A in
           let m : len (D .v) < len (D .u) = r .v-len in
-          let l : len (D .v + 𝟙) ≤ n = len-add A (D .v) 𝟙 n (omega arith) (omega arith) in
+          let l : len (D .v ⊞ 𝟙) ≤ n = len-add A (D .v) 𝟙 n (omega arith) (omega arith) in
           record { u-monic = r .u-monic; u-len = r .u-len; v-len = omega arith; divides = divides-eq R (sym (value-one C (D .v))) (r .divides) }
 
   sum-ended : {D E : Pair P} → Reduced C D → Reduced C E → Ended C 2 (counted-sum C D E)

@@ -2,7 +2,7 @@
 -- classes it has u of degree at most 6, so its reduction ends in a reduced class after at most two steps (`composed-reduces`).
 -- Cantor's composition by Euclid's rule and the composition of a double are cases of it (`compose-is`, `compose-double-is`):
 -- `compose-semi`, `compose-len`, `compose-double-semi`, `compose-double-len`.
-use Prim.Native.Nat.{suc, _+_ as _+ℕ_, _≤_, _<_}
+use Prim.Native.Nat.{suc, _+_, _≤_, _<_}
 use mathlib.Core.Path.{_≡_, refl, sym, _∙_, ap, ap₂}
 use native.Mathlib.Omega.{arith}
 use Rattle.field_laws.specs.{Ring.Ring2, Field.Field2}
@@ -17,14 +17,14 @@ use Rattle.class_group.proofs.SemiReduced.{SemiReduced, semi-of-reduced
 
 module _ {K P : Type 0} {F : Field2 K} {A : Polynomials F P} (C : Curve A) where
   open Polynomials A using (ring as R, len, quot, rem)
-  open Ring2 (A .ring) using (add as _+_, mul as _·_, nought as 𝟘, one as 𝟙)
+  open Ring2 (A .ring) using (add as _⊞_, mul as _·_, nought as 𝟘, one as 𝟙)
   open Curve C using (f)
 
-  infixl 60 _+_
+  infixl 60 _⊞_
   infixl 70 _·_
-  pub bezout3-combines : (D E : Pair P) → Combines C D E (bezout3 A (D .u) (E .u) (D .v + E .v + 𝟙))
+  pub bezout3-combines : (D E : Pair P) → Combines C D E (bezout3 A (D .u) (E .u) (D .v ⊞ E .v ⊞ 𝟙))
   bezout3-combines D E =
-      let i = bezout3-is A (D .u) (E .u) (D .v + E .v + 𝟙) in
+      let i = bezout3-is A (D .u) (E .u) (D .v ⊞ E .v ⊞ 𝟙) in
       record {
         combination = i .combination;
         divides-first = i .divides-first;
@@ -34,7 +34,7 @@ module _ {K P : Type 0} {F : Field2 K} {A : Polynomials F P} (C : Curve A) where
 
   -- v before it is taken modulo u
   unfoldable pub full-v : Bezout3 P → Pair P → Pair P → P
-  full-v b D E = quot (b .s1 · D .u · E .v + b .s2 · E .u · D .v + b .s3 · (D .v · E .v + f)) (b .e)
+  full-v b D E = quot (b .s1 · D .u · E .v ⊞ b .s2 · E .u · D .v ⊞ b .s3 · (D .v · E .v ⊞ f)) (b .e)
 
   module _ {D E : Pair P} {b : Bezout3 P} (r : SemiReduced C D) (s : SemiReduced C E) (B : Combines C D E b) where
     open Pair D using (u as u₁, v as v₁)
@@ -100,14 +100,14 @@ module _ {K P : Type 0} {F : Field2 K} {A : Polynomials F P} (C : Curve A) where
     pub composed-nonzero : ¬ (composed C b D E .u ≡ 𝟘)
     composed-nonzero = parts-nonzero R f (cancel-left A) composition
 
-    pub composed-len : suc (len (composed C b D E .u)) ≤ len u₁ +ℕ len u₂
+    pub composed-len : suc (len (composed C b D E .u)) ≤ len u₁ + len u₂
     composed-len =
         let l : len (composed C b D E .u) ≤ len (u₁ · u₂) = divides-len A (e · e, composed-u-divides) u-product-nonzero in
-        let m : suc (len (u₁ · u₂)) ≡ len u₁ +ℕ len u₂ = len-mul A u₁ u₂ (monic-nonzero A u₁ (r .u-monic)) (monic-nonzero A u₂ (s .u-monic)) in
+        let m : suc (len (u₁ · u₂)) ≡ len u₁ + len u₂ = len-mul A u₁ u₂ (monic-nonzero A u₁ (r .u-monic)) (monic-nonzero A u₂ (s .u-monic)) in
         omega arith
 
     -- u divides the difference of v and its remainder, and v² + v + f
-    pub composed-v : Divides R (composed C b D E .u) (full-v b D E + composed C b D E .v)
+    pub composed-v : Divides R (composed C b D E .u) (full-v b D E ⊞ composed C b D E .v)
     unfolding composed full-v
     composed-v = rem-divides A (quot (u₁ · u₂) (e · e)) composed-nonzero _
 
@@ -145,7 +145,7 @@ module _ {K P : Type 0} {F : Field2 K} {A : Polynomials F P} (C : Curve A) where
   pub composed-monic-len : {D E : Pair P} {b : Bezout3 P} → Reduced C D → Reduced C E → Combines C D E b → len (composed-monic C b D E .u) ≤ 7
   unfolding composed-monic
   composed-monic-len {D} {E} {b} r s B =
-      let l : suc (len (composed C b D E .u)) ≤ len (D .u) +ℕ len (E .u) = composed-len (semi-of-reduced C r) (semi-of-reduced C s) B in
+      let l : suc (len (composed C b D E .u)) ≤ len (D .u) + len (E .u) = composed-len (semi-of-reduced C r) (semi-of-reduced C s) B in
       let m : len (monic-of A (composed C b D E .u)) ≡ len (composed C b D E .u) = len-monic-of A (composed C b D E .u) in
       let h : len (D .u) ≤ 4 = r .u-len in
       let k : len (E .u) ≤ 4 = s .u-len in
@@ -156,12 +156,12 @@ module _ {K P : Type 0} {F : Field2 K} {A : Polynomials F P} (C : Curve A) where
 
   -- Cantor's composition by Euclid's rule
   pub compose-is : {D E : Pair P} → Reduced C D → Reduced C E
-      → compose C D E ≡ composed-monic C (bezout3 A (D .u) (E .u) (D .v + E .v + 𝟙)) D E
+      → compose C D E ≡ composed-monic C (bezout3 A (D .u) (E .u) (D .v ⊞ E .v ⊞ 𝟙)) D E
   unfolding compose
   compose-is {D} {E} r s =
       sym
       (composed-monic-is (semi-of-reduced C r) (semi-of-reduced C s) (bezout3-combines D E)
-      (bezout3-monic A (bezout3-is A (D .u) (E .u) (D .v + E .v + 𝟙)) (monic-nonzero A (D .u) (r .u-monic))))
+      (bezout3-monic A (bezout3-is A (D .u) (E .u) (D .v ⊞ E .v ⊞ 𝟙)) (monic-nonzero A (D .u) (r .u-monic))))
 
   -- a double is composed by e = 1 = v + v + 1
   unfoldable pub unit-bezout : Bezout3 P
@@ -173,7 +173,7 @@ module _ {K P : Type 0} {F : Field2 K} {A : Polynomials F P} (C : Curve A) where
     combination = double-bezout R (D .u) (D .v);
     divides-first = one-divides R (D .u);
     divides-second = one-divides R (D .u);
-    divides-third = one-divides R (D .v + D .v + 𝟙);
+    divides-third = one-divides R (D .v ⊞ D .v ⊞ 𝟙);
   }
 
   quot-one : (a : P) → quot a 𝟙 ≡ a
@@ -183,10 +183,10 @@ module _ {K P : Type 0} {F : Field2 K} {A : Polynomials F P} (C : Curve A) where
   unfolding compose-double composed unit-bezout
   compose-double-composed D =
       let p : D .u · D .u ≡ quot (D .u · D .u) (𝟙 · 𝟙) = sym (ap (quot (D .u · D .u)) (·-𝟙 R 𝟙) ∙ quot-one (D .u · D .u)) in
-      let q : D .v · D .v + f ≡ quot (𝟘 · D .u · D .v + 𝟘 · D .u · D .v + 𝟙 · (D .v · D .v + f)) 𝟙 = sym (quot-one _ ∙ only (D .u) (D .v) f) in
+      let q : D .v · D .v ⊞ f ≡ quot (𝟘 · D .u · D .v ⊞ 𝟘 · D .u · D .v ⊞ 𝟙 · (D .v · D .v ⊞ f)) 𝟙 = sym (quot-one _ ∙ only (D .u) (D .v) f) in
       λ i. record { u = p i; v = rem (q i) (p i) }
     where
-      only : (u v g : P) → 𝟘 · u · v + 𝟘 · u · v + 𝟙 · (v · v + g) ≡ v · v + g
+      only : (u v g : P) → 𝟘 · u · v ⊞ 𝟘 · u · v ⊞ 𝟙 · (v · v ⊞ g) ≡ v · v ⊞ g
       only u v g = simp (ring2, R)
 
   pub compose-double-is : {D : Pair P} → Reduced C D → compose-double C D ≡ composed-monic C unit-bezout D D

@@ -8,63 +8,63 @@ use Rattle.char2_algebra.proofs.Ring.{ring2}
 
 -- The identities behind the ring laws, over plain variables.
 module _ {P : Type 0} (R : Ring2 P) where
-  open Ring2 R using (add as _+_, mul as _·_, nought as 𝟘, one as 𝟙)
+  open Ring2 R using (add as _⊞_, mul as _·_, nought as 𝟘, one as 𝟙)
 
-  infixl 60 _+_
+  infixl 60 _⊞_
   infixl 70 _·_
-  pub assoc₀ : (f p q p′ q′ p″ q″ : P) → (p · p′ + q · q′ · f) · p″ + (p · q′ + q · p′ + q · q′) · q″ · f
-      ≡ p · (p′ · p″ + q′ · q″ · f) + q · (p′ · q″ + q′ · p″ + q′ · q″) · f
+  pub assoc₀ : (f p q p′ q′ p″ q″ : P) → (p · p′ ⊞ q · q′ · f) · p″ ⊞ (p · q′ ⊞ q · p′ ⊞ q · q′) · q″ · f
+      ≡ p · (p′ · p″ ⊞ q′ · q″ · f) ⊞ q · (p′ · q″ ⊞ q′ · p″ ⊞ q′ · q″) · f
   assoc₀ f p q p′ q′ p″ q″ = simp (ring2, R)
 
-  pub assoc₁ : (f p q p′ q′ p″ q″ : P) → (p · p′ + q · q′ · f) · q″ + (p · q′ + q · p′ + q · q′) · p″ + (p · q′ + q · p′ + q · q′) · q″
-      ≡ p · (p′ · q″ + q′ · p″ + q′ · q″) + q · (p′ · p″ + q′ · q″ · f) + q · (p′ · q″ + q′ · p″ + q′ · q″)
+  pub assoc₁ : (f p q p′ q′ p″ q″ : P) → (p · p′ ⊞ q · q′ · f) · q″ ⊞ (p · q′ ⊞ q · p′ ⊞ q · q′) · p″ ⊞ (p · q′ ⊞ q · p′ ⊞ q · q′) · q″
+      ≡ p · (p′ · q″ ⊞ q′ · p″ ⊞ q′ · q″) ⊞ q · (p′ · p″ ⊞ q′ · q″ · f) ⊞ q · (p′ · q″ ⊞ q′ · p″ ⊞ q′ · q″)
   assoc₁ f p q p′ q′ p″ q″ = simp (ring2, R)
 
-  pub comm₀ : (f p q p′ q′ : P) → p · p′ + q · q′ · f ≡ p′ · p + q′ · q · f
+  pub comm₀ : (f p q p′ q′ : P) → p · p′ ⊞ q · q′ · f ≡ p′ · p ⊞ q′ · q · f
   comm₀ f p q p′ q′ = simp (ring2, R)
 
-  pub comm₁ : (p q p′ q′ : P) → p · q′ + q · p′ + q · q′ ≡ p′ · q + q′ · p + q′ · q
+  pub comm₁ : (p q p′ q′ : P) → p · q′ ⊞ q · p′ ⊞ q · q′ ≡ p′ · q ⊞ q′ · p ⊞ q′ · q
   comm₁ p q p′ q′ = simp (ring2, R)
 
-  pub one₀ : (f p q : P) → p · 𝟙 + q · 𝟘 · f ≡ p
+  pub one₀ : (f p q : P) → p · 𝟙 ⊞ q · 𝟘 · f ≡ p
   one₀ f p q = simp (ring2, R)
 
-  pub one₁ : (p q : P) → p · 𝟘 + q · 𝟙 + q · 𝟘 ≡ q
+  pub one₁ : (p q : P) → p · 𝟘 ⊞ q · 𝟙 ⊞ q · 𝟘 ≡ q
   one₁ p q = simp (ring2, R)
 
-  pub distrib₀ : (f p q p′ q′ p″ q″ : P) → p · (p′ + p″) + q · (q′ + q″) · f ≡ p · p′ + q · q′ · f + (p · p″ + q · q″ · f)
+  pub distrib₀ : (f p q p′ q′ p″ q″ : P) → p · (p′ ⊞ p″) ⊞ q · (q′ ⊞ q″) · f ≡ p · p′ ⊞ q · q′ · f ⊞ (p · p″ ⊞ q · q″ · f)
   distrib₀ f p q p′ q′ p″ q″ = simp (ring2, R)
 
-  pub distrib₁ : (p q p′ q′ p″ q″ : P) → p · (q′ + q″) + q · (p′ + p″) + q · (q′ + q″) ≡ p · q′ + q · p′ + q · q′ + (p · q″ + q · p″ + q · q″)
+  pub distrib₁ : (p q p′ q′ p″ q″ : P) → p · (q′ ⊞ q″) ⊞ q · (p′ ⊞ p″) ⊞ q · (q′ ⊞ q″) ≡ p · q′ ⊞ q · p′ ⊞ q · q′ ⊞ (p · q″ ⊞ q · p″ ⊞ q · q″)
   distrib₁ p q p′ q′ p″ q″ = simp (ring2, R)
 
-  pub conj₀ : (f p q : P) → p · (p + q) + q · q · f ≡ p · p + p · q + q · q · f
+  pub conj₀ : (f p q : P) → p · (p ⊞ q) ⊞ q · q · f ≡ p · p ⊞ p · q ⊞ q · q · f
   conj₀ f p q = simp (ring2, R)
 
-  pub conj₁ : (p q : P) → p · q + q · (p + q) + q · q ≡ 𝟘
+  pub conj₁ : (p q : P) → p · q ⊞ q · (p ⊞ q) ⊞ q · q ≡ 𝟘
   conj₁ p q = simp (ring2, R)
 
-  pub constant₀ : (f c p q : P) → c · p + 𝟘 · q · f ≡ c · p
+  pub constant₀ : (f c p q : P) → c · p ⊞ 𝟘 · q · f ≡ c · p
   constant₀ f c p q = simp (ring2, R)
 
-  pub constant₁ : (c p q : P) → c · q + 𝟘 · p + 𝟘 · q ≡ c · q
+  pub constant₁ : (c p q : P) → c · q ⊞ 𝟘 · p ⊞ 𝟘 · q ≡ c · q
   constant₁ c p q = simp (ring2, R)
 
-  pub norm-mul′ : (f p q p′ q′ : P) → (p · p′ + q · q′ · f) · (p · p′ + q · q′ · f)
-      + (p · p′ + q · q′ · f) · (p · q′ + q · p′ + q · q′)
-      + (p · q′ + q · p′ + q · q′) · (p · q′ + q · p′ + q · q′) · f
-      ≡ (p · p + p · q + q · q · f) · (p′ · p′ + p′ · q′ + q′ · q′ · f)
+  pub norm-mul′ : (f p q p′ q′ : P) → (p · p′ ⊞ q · q′ · f) · (p · p′ ⊞ q · q′ · f)
+      ⊞ (p · p′ ⊞ q · q′ · f) · (p · q′ ⊞ q · p′ ⊞ q · q′)
+      ⊞ (p · q′ ⊞ q · p′ ⊞ q · q′) · (p · q′ ⊞ q · p′ ⊞ q · q′) · f
+      ≡ (p · p ⊞ p · q ⊞ q · q · f) · (p′ · p′ ⊞ p′ · q′ ⊞ q′ · q′ · f)
   norm-mul′ f p q p′ q′ = simp (ring2, R)
 
 module _ {P : Type 0} (R : Ring2 P) (f : P) where
-  open Ring2 R using (add as _+_, mul as _·_, nought as 𝟘, one as 𝟙)
+  open Ring2 R using (add as _⊞_, mul as _·_, nought as 𝟘, one as 𝟙)
 
-  infixl 60 _+_
+  infixl 60 _⊞_
   infixl 70 _·_
   unfoldable pub coordinate : Ring2 (P × P)
   coordinate = record {
-    add = λ x y. (x .0 + y .0, x .1 + y .1);
-    mul = λ x y. (x .0 · y .0 + x .1 · y .1 · f, x .0 · y .1 + x .1 · y .0 + x .1 · y .1);
+    add = λ x y. (x .0 ⊞ y .0, x .1 ⊞ y .1);
+    mul = λ x y. (x .0 · y .0 ⊞ x .1 · y .1 · f, x .0 · y .1 ⊞ x .1 · y .0 ⊞ x .1 · y .1);
     nought = (𝟘, 𝟘);
     one = (𝟙, 𝟘);
     isSet = Σ-set (R .isSet) (λ p. R .isSet);
@@ -80,10 +80,10 @@ module _ {P : Type 0} (R : Ring2 P) (f : P) where
 
   -- the conjugate
   unfoldable pub conj : P × P → P × P
-  conj x = (x .0 + x .1, x .1)
+  conj x = (x .0 ⊞ x .1, x .1)
 
   unfoldable pub norm : P × P → P
-  norm x = x .0 · x .0 + x .0 · x .1 + x .1 · x .1 · f
+  norm x = x .0 · x .0 ⊞ x .0 · x .1 ⊞ x .1 · x .1 · f
 
   pub norm-mul : (x y : P × P) → norm (coordinate .mul x y) ≡ norm x · norm y
   unfolding coordinate norm
@@ -98,7 +98,7 @@ module _ {P : Type 0} (R : Ring2 P) (f : P) where
   norm-constant p = simp (ring2, R)
 
   -- v² + v + f is the norm of v + y
-  pub norm-value : (v : P) → norm (v, 𝟙) ≡ v · v + v + f
+  pub norm-value : (v : P) → norm (v, 𝟙) ≡ v · v ⊞ v ⊞ f
   unfolding norm
   norm-value v = simp (ring2, R)
 

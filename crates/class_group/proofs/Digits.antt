@@ -1,6 +1,6 @@
 -- Double and add over binary digits, the highest first. One turn goes from n / 2 times an element to n times it: the double, and the element once more where n is odd
 -- (`even-turn`, `odd-turn`); one digit fewer of n is left for each (`digits-left`).
-use Prim.Native.Nat.{ℕ, suc, _+_ as _+ℕ_, _^_, _/_, _%_}
+use Prim.Native.Nat.{ℕ, suc, _+_, _^_, _/_, _%_}
 use mathlib.Core.Path.{_≡_, sym, _∙_, ap}
 use native.Mathlib.{Omega.arith, Nat.pow-suc, Nat.div-div-eq-div-mul}
 use Rattle.class_group.specs.Group.{CommutativeGroup, Doubling}
@@ -11,21 +11,21 @@ use Rattle.class_group.proofs.Doublings.{double-multiple}
 pub digits-left : (n i : ℕ) → n / 2 ^ suc i ≡ n / 2 ^ i / 2
 digits-left n i = ap (λ k. n / k) (pow-suc 2 i) ∙ sym (div-div-eq-div-mul n (2 ^ i) 2)
 
-module _ {X : Type 0} {Member : X → Type 0} {_+_ : X → X → X} {nought : X} {minus double : X → X} (D : Doubling Member _+_ nought minus double) where
-  infixl 60 _+_
-  abbrev G : CommutativeGroup Member _+_ nought minus
+module _ {X : Type 0} {Member : X → Type 0} {_⊞_ : X → X → X} {nought : X} {minus double : X → X} (D : Doubling Member _⊞_ nought minus double) where
+  infixl 60 _⊞_
+  abbrev G : CommutativeGroup Member _⊞_ nought minus
   G = D .group
 
   abbrev times : ℕ → X → X
-  times n a = multiple _+_ nought n a
+  times n a = multiple _⊞_ nought n a
 
   pub even-turn : (n : ℕ) {a : X} → Member a → n % 2 ≡ 0 → double (times (n / 2) a) ≡ times n a
-  even-turn n {a} h e = double-multiple D (n / 2) h ∙ ap (λ k. times k a) (let f : n / 2 +ℕ n / 2 ≡ n = omega arith in f)
+  even-turn n {a} h e = double-multiple D (n / 2) h ∙ ap (λ k. times k a) (let f : n / 2 + n / 2 ≡ n = omega arith in f)
 
-  pub odd-turn : (n : ℕ) {a : X} → Member a → n % 2 ≡ 1 → double (times (n / 2) a) + a ≡ times n a
+  pub odd-turn : (n : ℕ) {a : X} → Member a → n % 2 ≡ 1 → double (times (n / 2) a) ⊞ a ≡ times n a
   unfolding multiple
   odd-turn n {a} h e =
-      let m = n / 2 +ℕ n / 2 in
-      ap (λ z. z + a) (double-multiple D (n / 2) h)
+      let m = n / 2 + n / 2 in
+      ap (λ z. z ⊞ a) (double-multiple D (n / 2) h)
       ∙ G .comm (multiple-member G m h) h
       ∙ ap (λ k. times k a) (let f : suc m ≡ n = omega arith in f)

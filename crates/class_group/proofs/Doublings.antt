@@ -1,7 +1,7 @@
 -- k doublings and k halvings in a commutative group.
 -- `doublings-multiple`: k doublings are the 2^k-fold sum. `doublings-sum`, `doublings-opposite`: they carry over sums and opposites; `doublings-injective`:
 -- they are one to one where doubling is. `halvings-doublings`, `doublings-halvings`: k halvings and k doublings undo each other.
-use Prim.Native.Nat.{ℕ, zero, suc, _+_ as _+ℕ_, _*_, _^_}
+use Prim.Native.Nat.{ℕ, zero, suc, _+_, _*_, _^_}
 use mathlib.Core.Path.{_≡_, refl, sym, _∙_, ap, ap₂}
 use native.Mathlib.{Omega.arith, Nat.pow-suc}
 use Rattle.class_group.specs.Group.{CommutativeGroup, Doubling, Halving}
@@ -26,19 +26,19 @@ module _ {X : Type 0} (step : X → X) {Member : X → Type 0} (closed : (a : X)
   repeat-back back undo (suc k) {a} h =
       sym (repeat-inner back k (step (repeat step k a))) ∙ ap (repeat back k) (undo (repeat step k a) (repeat-member k h)) ∙ repeat-back back undo k h
 
-module _ {X : Type 0} {Member : X → Type 0} {_+_ : X → X → X} {nought : X} {minus double : X → X} (D : Doubling Member _+_ nought minus double) where
-  infixl 60 _+_
-  abbrev G : CommutativeGroup Member _+_ nought minus
+module _ {X : Type 0} {Member : X → Type 0} {_⊞_ : X → X → X} {nought : X} {minus double : X → X} (D : Doubling Member _⊞_ nought minus double) where
+  infixl 60 _⊞_
+  abbrev G : CommutativeGroup Member _⊞_ nought minus
   G = D .group
 
   abbrev times : ℕ → X → X
-  times n a = multiple _+_ nought n a
+  times n a = multiple _⊞_ nought n a
 
   pub double-member : {a : X} → Member a → Member (double a)
   double-member h = rw (D .double-sum h) (G .sum-closed h h)
 
   -- the double of an n-fold sum
-  pub double-multiple : (n : ℕ) {a : X} → Member a → double (times n a) ≡ times (n +ℕ n) a
+  pub double-multiple : (n : ℕ) {a : X} → Member a → double (times n a) ≡ times (n + n) a
   double-multiple n h = D .double-sum (multiple-member G n h) ∙ sym (multiple-add G n n h)
 
   pub doublings-member : (k : ℕ) {a : X} → Member a → Member (repeat double k a)
@@ -50,11 +50,11 @@ module _ {X : Type 0} {Member : X → Type 0} {_+_ : X → X → X} {nought : X}
   doublings-multiple (suc k) {a} h =
       ap double (doublings-multiple k h)
       ∙ double-multiple (2 ^ k) h
-      ∙ ap (λ n. times n a) (let e : 2 ^ suc k ≡ 2 ^ k * 2 = pow-suc 2 k in let f : 2 ^ k +ℕ 2 ^ k ≡ 2 ^ suc k = omega arith in f)
+      ∙ ap (λ n. times n a) (let e : 2 ^ suc k ≡ 2 ^ k * 2 = pow-suc 2 k in let f : 2 ^ k + 2 ^ k ≡ 2 ^ suc k = omega arith in f)
 
-  pub doublings-sum : (k : ℕ) {a b : X} → Member a → Member b → repeat double k (a + b) ≡ repeat double k a + repeat double k b
+  pub doublings-sum : (k : ℕ) {a b : X} → Member a → Member b → repeat double k (a ⊞ b) ≡ repeat double k a ⊞ repeat double k b
   doublings-sum k h m =
-      doublings-multiple k (G .sum-closed h m) ∙ multiple-sum G (2 ^ k) h m ∙ ap₂ _+_ (sym (doublings-multiple k h)) (sym (doublings-multiple k m))
+      doublings-multiple k (G .sum-closed h m) ∙ multiple-sum G (2 ^ k) h m ∙ ap₂ _⊞_ (sym (doublings-multiple k h)) (sym (doublings-multiple k m))
 
   pub doublings-opposite : (k : ℕ) {a : X} → Member a → repeat double k (minus a) ≡ minus (repeat double k a)
   doublings-opposite k h =
@@ -68,7 +68,7 @@ module _ {X : Type 0} {Member : X → Type 0} {_+_ : X → X → X} {nought : X}
   doublings-injective zero h m e = e
   doublings-injective (suc k) h m e = doublings-injective k h m (D .double-injective (doublings-member k h) (doublings-member k m) e)
 
-module _ {X : Type 0} {Member : X → Type 0} {_+_ : X → X → X} {nought : X} {minus double half : X → X} (H : Halving Member _+_ nought minus double half) where
+module _ {X : Type 0} {Member : X → Type 0} {_⊞_ : X → X → X} {nought : X} {minus double half : X → X} (H : Halving Member _⊞_ nought minus double half) where
   pub half-double : {a : X} → Member a → half (double a) ≡ a
   half-double h =
       let d = double-member (H .doubling) h in

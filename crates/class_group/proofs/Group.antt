@@ -19,9 +19,9 @@ use Rattle.class_group.proofs.Classes.{functions, ideal, transitive, co
 
 module _ {K P : Type 0} {F : Field2 K} {A : Polynomials F P} (C : Curve A) where
   open Polynomials A using (ring as R, len)
-  open Ring2 (A .ring) using (add as _+_, nought as 𝟘, one as 𝟙)
+  open Ring2 (A .ring) using (add as _⊞_, nought as 𝟘, one as 𝟙)
 
-  infixl 60 _+_
+  infixl 60 _⊞_
   -- compose, however e was found, and reduce
   reduced-class : {D E : Pair P} {b : Bezout3 P} → Reduced C D → Reduced C E → Combines C D E b
       → Equivalent (functions C) (Product (functions C) (ideal C D) (ideal C E)) (ideal C (reduce C (composed-monic C b D E) .class))
@@ -31,7 +31,7 @@ module _ {K P : Type 0} {F : Field2 K} {A : Polynomials F P} (C : Curve A) where
       transitive C (composed-class C r′ s′ B) (reduce-class C (composed-semi C r′ s′ B))
 
   sum-is : {D E : Pair P} → Reduced C D → Reduced C E
-      → sum C D E ≡ reduce C (composed-monic C (bezout3 A (D .u) (E .u) (D .v + E .v + 𝟙)) D E) .class
+      → sum C D E ≡ reduce C (composed-monic C (bezout3 A (D .u) (E .u) (D .v ⊞ E .v ⊞ 𝟙)) D E) .class
   unfolding sum counted-sum
   sum-is r s = ap (λ z. reduce C z .class) (compose-is C r s)
 
@@ -85,7 +85,7 @@ module _ {K P : Type 0} {F : Field2 K} {A : Polynomials F P} (C : Curve A) where
     | no h ↦ absurd (one-nonzero A (added (D .v) (ap (λ z. z .v) (opposite-unique classes r r e ∙ opposite-long C D (omega arith)))))
   ]
     where
-      added : (v : P) → v ≡ v + 𝟙 → 𝟙 ≡ 𝟘
+      added : (v : P) → v ≡ v ⊞ 𝟙 → 𝟙 ≡ 𝟘
       added v h = combine R 𝟙 𝟘 (by R 𝟙 h) (simp (ring2, R))
 
   -- demand 3: a class is the double of at most one class

@@ -3,55 +3,55 @@
 use mathlib.Core.Path.{_≡_, sym, _∙_, ap, ap₂}
 use Rattle.class_group.specs.Group.{CommutativeGroup}
 
-module _ {X : Type 0} {Member : X → Type 0} {_+_ : X → X → X} {nought : X} {minus : X → X} (G : CommutativeGroup Member _+_ nought minus) where
-  infixl 60 _+_
-  pub +-member : {a b : X} → Member a → Member b → Member (a + b)
-  +-member h k = G .sum-closed h k
+module _ {X : Type 0} {Member : X → Type 0} {_⊞_ : X → X → X} {nought : X} {minus : X → X} (G : CommutativeGroup Member _⊞_ nought minus) where
+  infixl 60 _⊞_
+  pub ⊞-member : {a b : X} → Member a → Member b → Member (a ⊞ b)
+  ⊞-member h k = G .sum-closed h k
 
-  pub +-assoc : {a b c : X} → Member a → Member b → Member c → a + b + c ≡ a + (b + c)
-  +-assoc h k l = G .assoc h k l
+  pub ⊞-assoc : {a b c : X} → Member a → Member b → Member c → a ⊞ b ⊞ c ≡ a ⊞ (b ⊞ c)
+  ⊞-assoc h k l = G .assoc h k l
 
-  pub +-comm : {a b : X} → Member a → Member b → a + b ≡ b + a
-  +-comm h k = G .comm h k
+  pub ⊞-comm : {a b : X} → Member a → Member b → a ⊞ b ≡ b ⊞ a
+  ⊞-comm h k = G .comm h k
 
-  pub +-left-comm : {a b c : X} → Member a → Member b → Member c → a + (b + c) ≡ b + (a + c)
-  +-left-comm {a} {b} {c} h k l = sym (G .assoc h k l) ∙ ap (λ z. z + c) (G .comm h k) ∙ G .assoc k h l
+  pub ⊞-left-comm : {a b c : X} → Member a → Member b → Member c → a ⊞ (b ⊞ c) ≡ b ⊞ (a ⊞ c)
+  ⊞-left-comm {a} {b} {c} h k l = sym (G .assoc h k l) ∙ ap (λ z. z ⊞ c) (G .comm h k) ∙ G .assoc k h l
 
-pub ruleset sums = (+-member, +-assoc, +-comm, +-left-comm)
+pub ruleset sums = (⊞-member, ⊞-assoc, ⊞-comm, ⊞-left-comm)
 
-module _ {X : Type 0} {Member : X → Type 0} {_+_ : X → X → X} {nought : X} {minus : X → X} (G : CommutativeGroup Member _+_ nought minus) where
-  infixl 60 _+_
-  pub add-subtract : {a b : X} → Member a → Member b → a + b + minus b ≡ a
-  add-subtract {a} {b} h k = G .assoc h k (G .opposite-closed k) ∙ ap (λ z. a + z) (G .sum-opposite k) ∙ G .sum-neutral h
+module _ {X : Type 0} {Member : X → Type 0} {_⊞_ : X → X → X} {nought : X} {minus : X → X} (G : CommutativeGroup Member _⊞_ nought minus) where
+  infixl 60 _⊞_
+  pub add-subtract : {a b : X} → Member a → Member b → a ⊞ b ⊞ minus b ≡ a
+  add-subtract {a} {b} h k = G .assoc h k (G .opposite-closed k) ∙ ap (λ z. a ⊞ z) (G .sum-opposite k) ∙ G .sum-neutral h
 
-  pub subtract-add : {a b : X} → Member a → Member b → a + minus b + b ≡ a
-  subtract-add {a} {b} h k = let m = G .opposite-closed k in G .assoc h m k ∙ ap (λ z. a + z) (G .comm m k ∙ G .sum-opposite k) ∙ G .sum-neutral h
+  pub subtract-add : {a b : X} → Member a → Member b → a ⊞ minus b ⊞ b ≡ a
+  subtract-add {a} {b} h k = let m = G .opposite-closed k in G .assoc h m k ∙ ap (λ z. a ⊞ z) (G .comm m k ∙ G .sum-opposite k) ∙ G .sum-neutral h
 
-  pub neutral-sum : {a : X} → Member a → nought + a ≡ a
+  pub neutral-sum : {a : X} → Member a → nought ⊞ a ≡ a
   neutral-sum h = G .comm (G .neutral-closed) h ∙ G .sum-neutral h
 
   -- one summand fixes the other
-  pub cancel-right : {a b c : X} → Member a → Member b → Member c → a + c ≡ b + c → a ≡ b
-  cancel-right {c = c} h k l e = sym (add-subtract h l) ∙ ap (λ z. z + minus c) e ∙ add-subtract k l
+  pub cancel-right : {a b c : X} → Member a → Member b → Member c → a ⊞ c ≡ b ⊞ c → a ≡ b
+  cancel-right {c = c} h k l e = sym (add-subtract h l) ∙ ap (λ z. z ⊞ minus c) e ∙ add-subtract k l
 
-  pub cancel-left : {a b c : X} → Member a → Member b → Member c → c + a ≡ c + b → a ≡ b
+  pub cancel-left : {a b c : X} → Member a → Member b → Member c → c ⊞ a ≡ c ⊞ b → a ≡ b
   cancel-left h k l e = cancel-right h k l (G .comm h l ∙ e ∙ G .comm l k)
 
   -- the difference is neutral only for equal elements
-  pub eq-of-difference : {a b : X} → Member a → Member b → a + minus b ≡ nought → a ≡ b
+  pub eq-of-difference : {a b : X} → Member a → Member b → a ⊞ minus b ≡ nought → a ≡ b
   eq-of-difference h k e = cancel-right h k (G .opposite-closed k) (e ∙ sym (G .sum-opposite k))
 
-  pub opposite-unique : {a b : X} → Member a → Member b → a + b ≡ nought → a ≡ minus b
+  pub opposite-unique : {a b : X} → Member a → Member b → a ⊞ b ≡ nought → a ≡ minus b
   opposite-unique {a} {b} h k e = cancel-right h (G .opposite-closed k) k (e ∙ sym (G .sum-opposite k) ∙ G .comm k (G .opposite-closed k))
 
   pub opposite-neutral : minus nought ≡ nought
   opposite-neutral = sym (opposite-unique (G .neutral-closed) (G .neutral-closed) (G .sum-neutral (G .neutral-closed)))
 
   -- the terms of a sum of sums change places
-  pub interchange : {a b c d : X} → Member a → Member b → Member c → Member d → a + b + (c + d) ≡ a + c + (b + d)
+  pub interchange : {a b c d : X} → Member a → Member b → Member c → Member d → a ⊞ b ⊞ (c ⊞ d) ≡ a ⊞ c ⊞ (b ⊞ d)
   interchange h k l m = simp (sums, G)
 
-  pub opposite-sum : {a b : X} → Member a → Member b → minus (a + b) ≡ minus a + minus b
+  pub opposite-sum : {a b : X} → Member a → Member b → minus (a ⊞ b) ≡ minus a ⊞ minus b
   opposite-sum {a} {b} h k =
       let m = G .opposite-closed h in
       let n = G .opposite-closed k in
@@ -59,12 +59,12 @@ module _ {X : Type 0} {Member : X → Type 0} {_+_ : X → X → X} {nought : X}
       (opposite-unique (G .sum-closed m n) (G .sum-closed h k)
       (G .comm (G .sum-closed m n) (G .sum-closed h k)
       ∙ interchange h k m n
-      ∙ ap₂ _+_ (G .sum-opposite h) (G .sum-opposite k)
+      ∙ ap₂ _⊞_ (G .sum-opposite h) (G .sum-opposite k)
       ∙ G .sum-neutral (G .neutral-closed)))
 
-  pub doubling-injective : ((a : X) → Member a → a + a ≡ nought → a ≡ nought) → {a b : X} → Member a → Member b → a + a ≡ b + b → a ≡ b
+  pub doubling-injective : ((a : X) → Member a → a ⊞ a ≡ nought → a ≡ nought) → {a b : X} → Member a → Member b → a ⊞ a ≡ b ⊞ b → a ≡ b
   doubling-injective torsion {a} {b} h k e =
       let m = G .opposite-closed k in
       eq-of-difference h k
-      (torsion (a + minus b) (G .sum-closed h m)
-      (interchange h m h m ∙ ap₂ _+_ e (sym (opposite-sum k k)) ∙ G .sum-opposite (G .sum-closed k k)))
+      (torsion (a ⊞ minus b) (G .sum-closed h m)
+      (interchange h m h m ∙ ap₂ _⊞_ e (sym (opposite-sum k k)) ∙ G .sum-opposite (G .sum-closed k k)))

@@ -5,7 +5,7 @@ use mathlib.Core.Path.{_≡_, refl, sym, _∙_, ap, subst}
 use native.Mathlib.{Omega.arith, Decide.decLe}
 use Rattle.field_laws.specs.{Ring.Ring2, Field.Field2}
 use Rattle.char2_algebra.specs.{Polynomials.Polynomials, Divides.Divides}
-use Rattle.char2_algebra.proofs.{Ring.ring2, Ring.+-cancel, Ring.by, Ring.both, Ring.combine, Degree.con-mul, Degree.con-one, Degree.one-nonzero, Product.cancel-left}
+use Rattle.char2_algebra.proofs.{Ring.ring2, Ring.⊞-cancel, Ring.by, Ring.both, Ring.combine, Degree.con-mul, Degree.con-one, Degree.one-nonzero, Product.cancel-left}
 use Rattle.char2_algebra.proofs.{Divides.divides-refl, Divides.divides-eq, Divides.divides-trans, Divides.divides-right, Divides.divides-product, Divides.divides-add, Division.rem-divides, Lead.monic-nonzero}
 use Rattle.class_group.specs.{Curve.Curve, Mumford.Pair, Mumford.Reduced, Mumford.value, Mumford.neutral, Mumford.opposite, Operations.sum, Operations.double, Group.Halving}
 use Rattle.class_group.specs.Half.{Triple, triple, lift, step, half, half-by}
@@ -16,9 +16,9 @@ use Rattle.class_group.proofs.{SemiReduced.value-congruent, SemiReduced
 use Rattle.class_group.proofs.{Adds.short-is-neutral, Closed.neutral-reduced, Group.double-from-class, Group.double-sum, Group.sum-neutral, Group.double-injective, Group.class-doubling, Doublings.half-double as group-half-double}
 
 module _ {B : Type 0} (R : Ring2 B) where
-  open Ring2 R using (add as _+_, mul as _·_, one as 𝟙)
+  open Ring2 R using (add as _⊞_, mul as _·_, one as 𝟙)
 
-  infixl 60 _+_
+  infixl 60 _⊞_
   infixl 70 _·_
   -- a a = c u, i c = 1 and value = w u: so value = (i w) (a a)
   square-divides-value : (a c i u w s : B) → a · a ≡ c · u → c · i ≡ 𝟙 → s ≡ w · u → s ≡ i · w · (a · a)
@@ -30,15 +30,15 @@ module _ {B : Type 0} (R : Ring2 B) where
   unit-multiple a c i u h k = combine R _ _ (both R (by R i h) (by R u k)) (simp (ring2, R))
 
   -- v² + v + f with (v + r)² is r² + f + v
-  remainder-square : (v r f : B) → v · v + v + f + (v + r) · (v + r) ≡ r · r + f + v
+  remainder-square : (v r f : B) → v · v ⊞ v ⊞ f ⊞ (v ⊞ r) · (v ⊞ r) ≡ r · r ⊞ f ⊞ v
   remainder-square v r f = simp (ring2, R)
 
 module _ {K P : Type 0} {F : Field2 K} {A : Polynomials F P} (C : Curve A) where
   open Polynomials A using (ring as R, len, rem, con)
-  open Ring2 (A .ring) using (add as _+_, mul as _·_, nought as 𝟘, one as 𝟙)
+  open Ring2 (A .ring) using (add as _⊞_, mul as _·_, nought as 𝟘, one as 𝟙)
   open Curve C using (f)
 
-  infixl 60 _+_
+  infixl 60 _⊞_
   infixl 70 _·_
   abbrev Same : Pair P → Pair P → Type 0
   Same D E = Equivalent (functions C) (ideal C D) (ideal C E)
@@ -52,7 +52,7 @@ module _ {K P : Type 0} {F : Field2 K} {A : Polynomials F P} (C : Curve A) where
   chain-class m start = equal-class C (λ x h. h) (λ x h. h)
   chain-class m (lifted {T = T} k c) =
       transitive C (chain-class m c)
-      (same-class C (pair-of T) (pair-of (lift A k T)) (divides-refl R (T .u)) (divides-refl R (T .u)) (k, +-cancel R (T .v) (k · T .u)))
+      (same-class C (pair-of T) (pair-of (lift A k T)) (divides-refl R (T .u)) (divides-refl R (T .u)) (k, ⊞-cancel R (T .v) (k · T .u)))
   chain-class m (stepped {T = T} h c) =
       transitive C (chain-class m c) (~-step R f (T .u) (T .v) (T .w) (chain-meets C c m) (one-nonzero A) h)
 
@@ -79,9 +79,9 @@ module _ {K P : Type 0} {F : Field2 K} {A : Polynomials F P} (C : Curve A) where
     a≢ = monic-nonzero A a (k .root .monic)
 
     -- v + (v rem a) is a multiple of a
-    v-difference : Divides R a (k .T .v + H .v)
+    v-difference : Divides R a (k .T .v ⊞ H .v)
     unfolding a
-    v-difference = divides-eq R (ap (λ z. k .T .v + z) (sym (k .v-is))) (rem-divides A a a≢ (k .T .v))
+    v-difference = divides-eq R (ap (λ z. k .T .v ⊞ z) (sym (k .v-is))) (rem-divides A a a≢ (k .T .v))
 
     pub chain-reduced : Reduced C H
     unfolding a
@@ -93,14 +93,14 @@ module _ {K P : Type 0} {F : Field2 K} {A : Polynomials F P} (C : Curve A) where
           divides = value-congruent C v-difference (divides-trans R (divides-right R a a) square-divides);
         }
 
-    doubled-v : Divides R (a · a) (H .v · H .v + f + k .T .v)
+    doubled-v : Divides R (a · a) (H .v · H .v ⊞ f ⊞ k .T .v)
     unfolding value
     doubled-v = divides-eq R (remainder-square R (k .T .v) (H .v) f) (divides-add R square-divides (divides-product R v-difference v-difference))
 
-    doubled-class : Same (record { u = a · a; v = H .v · H .v + f }) (pair-of (k .T))
+    doubled-class : Same (record { u = a · a; v = H .v · H .v ⊞ f }) (pair-of (k .T))
     unfolding a
     doubled-class =
-        same-class C (record { u = a · a; v = H .v · H .v + f }) (pair-of (k .T))
+        same-class C (record { u = a · a; v = H .v · H .v ⊞ f }) (pair-of (k .T))
         (con (k .c), k .root .square)
         (i, unit-multiple R a (con (k .c)) i (k .T .u) (k .root .square) inverts)
         (divides-trans R (con (k .c), k .root .square) doubled-v)

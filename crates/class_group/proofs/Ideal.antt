@@ -4,17 +4,17 @@
 -- Equality of subsets is stated as two inclusions.
 use mathlib.Core.Path.{_≡_, refl, sym, _∙_, ap, ap₂, subst}
 use Rattle.field_laws.specs.Ring.{Ring2}
-use Rattle.char2_algebra.proofs.Ring.{𝟘-+, +-·, ·-𝟘, 𝟘-·, 𝟙-·, ·-left-comm}
+use Rattle.char2_algebra.proofs.Ring.{𝟘-⊞, ⊞-·, ·-𝟘, 𝟘-·, 𝟙-·, ·-left-comm}
 
 module _ {B : Type 0} (S : Ring2 B) where
-  open Ring2 S using (add as _+_, mul as _·_, nought as 𝟘, one as 𝟙)
+  open Ring2 S using (add as _⊞_, mul as _·_, nought as 𝟘, one as 𝟙)
 
-  infixl 60 _+_
+  infixl 60 _⊞_
   infixl 70 _·_
   -- an ideal: closed under sums and under multiples by any element, with nought in it
   pub record Ideal (I : B → Type 0) : Type 0 where
     pub nought : I 𝟘
-    pub sum : {a b : B} → I a → I b → I (a + b)
+    pub sum : {a b : B} → I a → I b → I (a ⊞ b)
     pub multiple : (c : B) {a : B} → I a → I (c · a)
 
   abbrev pub Whole : B → Type 0
@@ -26,7 +26,7 @@ module _ {B : Type 0} (S : Ring2 B) where
   -- the sums of products a · b with a in I and b in J
   pub data Product (I J : B → Type 0) : B → Type 0 where
     none : {z : B} → z ≡ 𝟘 → Product I J z
-    more : {z : B} (a b c : B) → I a → J b → Product I J c → z ≡ a · b + c → Product I J z
+    more : {z : B} (a b c : B) → I a → J b → Product I J c → z ≡ a · b ⊞ c → Product I J z
 
   pub product-of : {I J : B → Type 0} (a b : B) → I a → J b → Product I J (a · b)
   product-of a b i j = more {z = a · b} a b 𝟘 i j (none refl) (sym (S .add-nought (a · b)))
@@ -37,19 +37,19 @@ module _ {B : Type 0} (S : Ring2 B) where
 
   pub product-comm : {I J : B → Type 0} → Within (Product I J) (Product J I)
   product-comm z (none e) = none e
-  product-comm z (more a b c i j r e) = more b a c j i (product-comm c r) (e ∙ ap (λ t. t + c) (S .mul-comm a b))
+  product-comm z (more a b c i j r e) = more b a c j i (product-comm c r) (e ∙ ap (λ t. t ⊞ c) (S .mul-comm a b))
 
-  pub product-sum : {I J : B → Type 0} (y z : B) → Product I J y → Product I J z → Product I J (y + z)
-  product-sum {I} {J} y z (none e) s = subst (Product I J) (sym (ap (λ t. t + z) e ∙ 𝟘-+ S z)) s
+  pub product-sum : {I J : B → Type 0} (y z : B) → Product I J y → Product I J z → Product I J (y ⊞ z)
+  product-sum {I} {J} y z (none e) s = subst (Product I J) (sym (ap (λ t. t ⊞ z) e ∙ 𝟘-⊞ S z)) s
   product-sum y z (more a b c i j r e) s =
-      more a b (c + z) i j (product-sum c z r s) (ap (λ t. t + z) e ∙ S .add-assoc (a · b) c z)
+      more a b (c ⊞ z) i j (product-sum c z r s) (ap (λ t. t ⊞ z) e ∙ S .add-assoc (a · b) c z)
 
   -- (I J) K is within I (J K), first for one product of an element of I J and one of K
   product-assoc′ : {I J K : B → Type 0} (a b : B) → Product I J a → K b → Product I (Product J K) (a · b)
   product-assoc′ a b (none e) k = none (ap (λ t. t · b) e ∙ 𝟘-· S b)
   product-assoc′ a b (more x y c i j r e) k =
       more x (y · b) (c · b) i (product-of y b j k) (product-assoc′ c b r k)
-      (ap (λ t. t · b) e ∙ +-· S (x · y) c b ∙ ap (λ t. t + c · b) (S .mul-assoc x y b))
+      (ap (λ t. t · b) e ∙ ⊞-· S (x · y) c b ∙ ap (λ t. t ⊞ c · b) (S .mul-assoc x y b))
 
   pub product-assoc : {I J K : B → Type 0} → Within (Product (Product I J) K) (Product I (Product J K))
   product-assoc z (none e) = none e
@@ -123,10 +123,10 @@ module _ {B : Type 0} (S : Ring2 B) where
     back = carries-trans (k .β) (k .α) (h .β) (h .α) (k .back) (h .back);
   }
 
-  carries-product-eq : (α β z a b c a′ c′ : B) → z ≡ a · b + c → α · a ≡ β · a′ → α · c ≡ β · c′ → α · z ≡ β · (a′ · b + c′)
+  carries-product-eq : (α β z a b c a′ c′ : B) → z ≡ a · b ⊞ c → α · a ≡ β · a′ → α · c ≡ β · c′ → α · z ≡ β · (a′ · b ⊞ c′)
   carries-product-eq α β z a b c a′ c′ e h k =
       ap (λ t. α · t) e ∙ S .mul-add α (a · b) c
-      ∙ ap₂ _+_ (sym (S .mul-assoc α a b) ∙ ap (λ t. t · b) h ∙ S .mul-assoc β a′ b) k
+      ∙ ap₂ _⊞_ (sym (S .mul-assoc α a b) ∙ ap (λ t. t · b) h ∙ S .mul-assoc β a′ b) k
       ∙ sym (S .mul-add β (a′ · b) c′)
 
   carries-product : {I J M : B → Type 0} (α β : B) → Carries α β I J → Carries α β (Product I M) (Product J M)
@@ -134,7 +134,7 @@ module _ {B : Type 0} (S : Ring2 B) where
   carries-product α β h z (more a b c i m r e) =
       let s = h a i in
       let t = carries-product α β h c r in
-      (s .0 · b + t .0, more (s .0) b (t .0) (s .1) m (t .1) refl, carries-product-eq α β z a b c (s .0) (t .0) e (s .2) (t .2))
+      (s .0 · b ⊞ t .0, more (s .0) b (t .0) (s .1) m (t .1) refl, carries-product-eq α β z a b c (s .0) (t .0) e (s .2) (t .2))
 
   -- equivalence is kept by a product with a third subset
   pub ~-product : {I J M : B → Type 0} → Equivalent I J → Equivalent (Product I M) (Product J M)
@@ -154,7 +154,7 @@ module _ {B : Type 0} (S : Ring2 B) where
   pub scaled-ideal : {I : B → Type 0} (α : B) → Ideal I → Ideal (Scaled α I)
   scaled-ideal α h = record {
     nought = (𝟘, h .nought, sym (·-𝟘 S α));
-    sum = λ s t. (s .0 + t .0, h .sum (s .1) (t .1), ap₂ _+_ (s .2) (t .2) ∙ sym (S .mul-add α (s .0) (t .0)));
+    sum = λ s t. (s .0 ⊞ t .0, h .sum (s .1) (t .1), ap₂ _⊞_ (s .2) (t .2) ∙ sym (S .mul-add α (s .0) (t .0)));
     multiple = λ c s. (c · s .0, h .multiple c (s .1), ap (λ z. c · z) (s .2) ∙ ·-left-comm S c α (s .0));
   }
 

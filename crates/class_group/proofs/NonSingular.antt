@@ -8,11 +8,11 @@ use Rattle.class_group.specs.{Curve.Curve, Multiples.multiple}
 use Rattle.class_group.specs.NonSingular.{Over, weighted, derivative, evaluate, evaluate-at, derivative-by-y, equation, equation-over, Singular}
 
 module _ {L : Type 0} (R : Ring2 L) where
-  open Ring2 R using (add as _+_, mul as _·_, nought as 𝟘, one as 𝟙)
+  open Ring2 R using (add as _⊞_, mul as _·_, nought as 𝟘, one as 𝟙)
 
-  infixl 60 _+_
+  infixl 60 _⊞_
   infixl 70 _·_
-  once-and-twice : (x y : L) → 𝟙 + 𝟘 + x · 𝟘 + y · (𝟙 + (𝟙 + 𝟘) + x · 𝟘 + y · 𝟘) ≡ 𝟙
+  once-and-twice : (x y : L) → 𝟙 ⊞ 𝟘 ⊞ x · 𝟘 ⊞ y · (𝟙 ⊞ (𝟙 ⊞ 𝟘) ⊞ x · 𝟘 ⊞ y · 𝟘) ≡ 𝟙
   once-and-twice x y = simp (ring2, R)
 
   pub derivative-by-y-is-one : (f : List L) (x y : L) → evaluate-at R (derivative-by-y R (equation R f)) x y ≡ 𝟙

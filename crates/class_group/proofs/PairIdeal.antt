@@ -8,33 +8,33 @@ use Rattle.class_group.proofs.Coordinate.{coordinate}
 use Rattle.class_group.proofs.Ideal.{Ideal, Whole, Within}
 
 module _ {P : Type 0} (R : Ring2 P) where
-  open Ring2 R using (add as _+_, mul as _·_, nought as 𝟘, one as 𝟙)
+  open Ring2 R using (add as _⊞_, mul as _·_, nought as 𝟘, one as 𝟙)
 
-  infixl 60 _+_
+  infixl 60 _⊞_
   infixl 70 _·_
   abbrev pub pair-ideal : (u v : P) → P × P → Type 0
-  pair-ideal u v x = Divides R u (x .0 + x .1 · v)
+  pair-ideal u v x = Divides R u (x .0 ⊞ x .1 · v)
 
   -- The identities, over plain variables.
-  nought-eq : (u v : P) → 𝟘 + 𝟘 · v ≡ 𝟘 · u
+  nought-eq : (u v : P) → 𝟘 ⊞ 𝟘 · v ≡ 𝟘 · u
   nought-eq u v = simp (ring2, R)
 
-  sum-eq : (u v p q k p′ q′ k′ : P) → p + q · v ≡ k · u → p′ + q′ · v ≡ k′ · u → p + p′ + (q + q′) · v ≡ (k + k′) · u
+  sum-eq : (u v p q k p′ q′ k′ : P) → p ⊞ q · v ≡ k · u → p′ ⊞ q′ · v ≡ k′ · u → p ⊞ p′ ⊞ (q ⊞ q′) · v ≡ (k ⊞ k′) · u
   sum-eq u v p q k p′ q′ k′ h h′ = combine R _ _ (both R (by R 𝟙 h) (by R 𝟙 h′)) (simp (ring2, R))
 
-  multiple-eq : (f u v w p q k p′ q′ : P) → v · v + v + f ≡ w · u → p′ + q′ · v ≡ k · u
-      → p · p′ + q · q′ · f + (p · q′ + q · p′ + q · q′) · v ≡ (k · (p + q · v) + q · q′ · w) · u
-  multiple-eq f u v w p q k p′ q′ on h = combine R _ _ (both R (by R (p + q · v) h) (by R (q · q′) on)) (simp (ring2, R))
+  multiple-eq : (f u v w p q k p′ q′ : P) → v · v ⊞ v ⊞ f ≡ w · u → p′ ⊞ q′ · v ≡ k · u
+      → p · p′ ⊞ q · q′ · f ⊞ (p · q′ ⊞ q · p′ ⊞ q · q′) · v ≡ (k · (p ⊞ q · v) ⊞ q · q′ · w) · u
+  multiple-eq f u v w p q k p′ q′ on h = combine R _ _ (both R (by R (p ⊞ q · v) h) (by R (q · q′) on)) (simp (ring2, R))
 
-  modulo-eq : (u v v′ t p q k : P) → v + v′ ≡ t · u → p + q · v ≡ k · u → p + q · v′ ≡ (k + q · t) · u
+  modulo-eq : (u v v′ t p q k : P) → v ⊞ v′ ≡ t · u → p ⊞ q · v ≡ k · u → p ⊞ q · v′ ≡ (k ⊞ q · t) · u
   modulo-eq u v v′ t p q k e h = combine R _ _ (both R (by R q e) (by R 𝟙 h)) (simp (ring2, R))
 
 module _ {P : Type 0} (R : Ring2 P) (f : P) where
-  open Ring2 R using (add as _+_, mul as _·_, nought as 𝟘, one as 𝟙)
+  open Ring2 R using (add as _⊞_, mul as _·_, nought as 𝟘, one as 𝟙)
 
-  infixl 60 _+_
+  infixl 60 _⊞_
   infixl 70 _·_
-  pub pair-ideal-ideal : (u v : P) → Divides R u (v · v + v + f) → Ideal (coordinate R f) (pair-ideal R u v)
+  pub pair-ideal-ideal : (u v : P) → Divides R u (v · v ⊞ v ⊞ f) → Ideal (coordinate R f) (pair-ideal R u v)
   unfolding coordinate
   pair-ideal-ideal u v d = record {
     nought = (𝟘, nought-eq R u v);
@@ -46,7 +46,7 @@ module _ {P : Type 0} (R : Ring2 P) (f : P) where
   pair-ideal-one x h = (x .0, simp (ring2, R))
 
   -- v modulo u
-  pub pair-ideal-modulo : (u v v′ : P) → Divides R u (v + v′) → Within (coordinate R f) (pair-ideal R u v) (pair-ideal R u v′)
+  pub pair-ideal-modulo : (u v v′ : P) → Divides R u (v ⊞ v′) → Within (coordinate R f) (pair-ideal R u v) (pair-ideal R u v′)
   pair-ideal-modulo u v v′ d x h = (_, modulo-eq R u v v′ (d .0) (x .0) (x .1) (h .0) (d .1) (h .1))
 
   -- a divisor of u has the larger ideal; so u and u′ have the same where each divides the other

@@ -1,7 +1,7 @@
 -- Semi-reduced pairs: u monic, v shorter than u, u a divisor of v² + v + f; a reduced class is one with u of length at most 4.
 -- A reduction step keeps a pair semi-reduced (`step-semi`) and takes u of length 7, 6, 5 to length at most 5, 4, 4 (`step-len`). So
 -- reduction ends in a reduced class after at most two steps (`reduce-ended`). What steps keep, reduction keeps (`reduce-keeps`).
-use Prim.Native.Nat.{ℕ, zero, suc, _+_ as _+ℕ_, _≤_, _<_, _*_, max}
+use Prim.Native.Nat.{ℕ, zero, suc, _+_, _≤_, _<_, _*_, max}
 use mathlib.Core.Path.{_≡_, sym, _∙_, ap}
 use native.Mathlib.{Omega.arith, Decide.decLe}
 use borrow.Author.Tests.{lt-ltb, le-ltb}
@@ -15,10 +15,10 @@ use Rattle.class_group.proofs.Norm.{value-len, value-nonzero}
 
 module _ {K P : Type 0} {F : Field2 K} {A : Polynomials F P} (C : Curve A) where
   open Polynomials A using (ring as R, len, quot, rem)
-  open Ring2 (A .ring) using (add as _+_, mul as _·_, nought as 𝟘, one as 𝟙)
+  open Ring2 (A .ring) using (add as _⊞_, mul as _·_, nought as 𝟘, one as 𝟙)
   open Curve C using (f)
 
-  infixl 60 _+_
+  infixl 60 _⊞_
   infixl 70 _·_
   pub record SemiReduced (D : Pair P) : Type 0 where
     pub u-monic : Monic A (D .u)
@@ -32,18 +32,18 @@ module _ {K P : Type 0} {F : Field2 K} {A : Polynomials F P} (C : Curve A) where
   reduced-of-semi s h = record { u-monic = s .u-monic; u-len = h; v-len = s .v-len; divides = s .divides }
 
   -- v² + v + f depends on v modulo u only, and not on an added 1
-  pub value-congruent : {u v v′ : P} → Divides R u (v + v′) → Divides R u (value C v) → Divides R u (value C v′)
+  pub value-congruent : {u v v′ : P} → Divides R u (v ⊞ v′) → Divides R u (value C v) → Divides R u (value C v′)
   unfolding value
-  value-congruent {u} {v} {v′} d e = divides-eq R (change v v′ f) (divides-add R e (divides-mul-right R (v + v′ + 𝟙) d))
+  value-congruent {u} {v} {v′} d e = divides-eq R (change v v′ f) (divides-add R e (divides-mul-right R (v ⊞ v′ ⊞ 𝟙) d))
     where
-      change : (v v′ f : P) → v · v + v + f + (v + v′) · (v + v′ + 𝟙) ≡ v′ · v′ + v′ + f
+      change : (v v′ f : P) → v · v ⊞ v ⊞ f ⊞ (v ⊞ v′) · (v ⊞ v′ ⊞ 𝟙) ≡ v′ · v′ ⊞ v′ ⊞ f
       change v v′ f = simp (ring2, R)
 
-  pub value-one : (v : P) → value C (v + 𝟙) ≡ value C v
+  pub value-one : (v : P) → value C (v ⊞ 𝟙) ≡ value C v
   unfolding value
   value-one v = same v f
     where
-      same : (v f : P) → (v + 𝟙) · (v + 𝟙) + (v + 𝟙) + f ≡ v · v + v + f
+      same : (v f : P) → (v ⊞ 𝟙) · (v ⊞ 𝟙) ⊞ (v ⊞ 𝟙) ⊞ f ≡ v · v ⊞ v ⊞ f
       same v f = simp (ring2, R)
 
   -- a reduction step
@@ -60,7 +60,7 @@ module _ {K P : Type 0} {F : Field2 K} {A : Polynomials F P} (C : Curve A) where
     unfolding value
     cofactor-nonzero e = value-nonzero A f (C .f-len) v (cofactor-eq ∙ ap (λ z. z · u) e ∙ 𝟘-· R u)
 
-    pub cofactor-len : suc (len (value C v)) ≡ len (quot (value C v) u) +ℕ len u
+    pub cofactor-len : suc (len (value C v)) ≡ len (quot (value C v) u) + len u
     cofactor-len = ap (λ z. suc (len z)) cofactor-eq ∙ len-mul A (quot (value C v) u) u cofactor-nonzero u-nonzero
 
     pub step-semi : SemiReduced (reduction-step C D)
@@ -71,9 +71,9 @@ module _ {K P : Type 0} {F : Field2 K} {A : Polynomials F P} (C : Curve A) where
         let n : ¬ (monic-of A w ≡ 𝟘) = monic-nonzero A (monic-of A w) m in
         record {
           u-monic = m;
-          v-len = A .rem-len (v + 𝟙) (monic-of A w) n;
+          v-len = A .rem-len (v ⊞ 𝟙) (monic-of A w) n;
           divides =
-              value-congruent (rem-divides A (monic-of A w) n (v + 𝟙))
+              value-congruent (rem-divides A (monic-of A w) n (v ⊞ 𝟙))
               (divides-eq R (sym cofactor-eq ∙ sym (value-one v)) (divides-mul-right R u (monic-of-divides A w)));
         }
 
@@ -81,7 +81,7 @@ module _ {K P : Type 0} {F : Field2 K} {A : Polynomials F P} (C : Curve A) where
     pub step-len : 4 < len u → len u ≤ 7 → (len (reduction-step C D .u) ≤ 5) × (len u ≤ 6 → len (reduction-step C D .u) ≤ 4)
     unfolding reduction-step value
     step-len h k =
-        let l : suc (len (value C v)) ≡ len (quot (value C v) u) +ℕ len u = cofactor-len in
+        let l : suc (len (value C v)) ≡ len (quot (value C v) u) + len u = cofactor-len in
         let m : len (monic-of A (quot (value C v) u)) ≡ len (quot (value C v) u) = len-monic-of A (quot (value C v) u) in
         let n : suc (len (value C v)) ≡ max (2 * len v) 9 = value-len A f (C .f-len) v in
         let b : len v < len u = s .v-len in

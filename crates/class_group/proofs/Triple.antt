@@ -9,17 +9,17 @@ use Rattle.class_group.specs.Mumford.{value}
 use Rattle.class_group.specs.Half.{Triple, lift, step}
 
 module _ {B : Type 0} (R : Ring2 B) where
-  open Ring2 R using (add as _+_, mul as _·_, one as 𝟙)
+  open Ring2 R using (add as _⊞_, mul as _·_, one as 𝟙)
 
-  infixl 60 _+_
+  infixl 60 _⊞_
   infixl 70 _·_
   lift-identity :
       (u v w f k : B)
-      → v · v + v + f ≡ w · u
-      → (v + k · u) · (v + k · u) + (v + k · u) + f ≡ (w + k + k · k · u) · u
+      → v · v ⊞ v ⊞ f ≡ w · u
+      → (v ⊞ k · u) · (v ⊞ k · u) ⊞ (v ⊞ k · u) ⊞ f ≡ (w ⊞ k ⊞ k · k · u) · u
   lift-identity u v w f k h = combine R _ _ (by R 𝟙 h) (simp (ring2, R))
 
-  step-identity : (u v w f : B) → v · v + v + f ≡ w · u → (v + 𝟙) · (v + 𝟙) + (v + 𝟙) + f ≡ u · w
+  step-identity : (u v w f : B) → v · v ⊞ v ⊞ f ≡ w · u → (v ⊞ 𝟙) · (v ⊞ 𝟙) ⊞ (v ⊞ 𝟙) ⊞ f ≡ u · w
   step-identity u v w f h = combine R _ _ (by R 𝟙 h) (simp (ring2, R))
 
 module _ {K P : Type 0} {F : Field2 K} {A : Polynomials F P} (C : Curve A) where

@@ -20,16 +20,16 @@ pub mod Constant
 
 module _ {K P : Type 0} {F : Field2 K} (A : Polynomials F P) (f : P) (f-len : A .len f ≡ 8) where
   open Polynomials A using (ring as R, len)
-  open Ring2 (A .ring) using (add as _+_, mul as _·_, nought as 𝟘, one as 𝟙)
+  open Ring2 (A .ring) using (add as _⊞_, mul as _·_, nought as 𝟘, one as 𝟙)
 
-  infixl 60 _+_
+  infixl 60 _⊞_
   infixl 70 _·_
   -- g I(u, v) within k I(u′, v′), for g and k in P: g = k d, and u′ divides d u and d (v + v′)
   record Multiple (u v u′ v′ g k : P) : Type 0 where
     d : P
     d-is : g ≡ k · d
     d-u : Divides R u′ (d · u)
-    d-v : Divides R u′ (d · (v + v′))
+    d-v : Divides R u′ (d · (v ⊞ v′))
 
   multiple : (u v u′ v′ g k : P) → ¬ (k ≡ 𝟘) → Carries (S R f) (g, 𝟘) (k, 𝟘) (pair-ideal R u v) (pair-ideal R u′ v′) → Multiple u v u′ v′ g k
   multiple u v u′ v′ g k k≢𝟘 h =
@@ -55,13 +55,13 @@ module _ {K P : Type 0} {F : Field2 K} (A : Polynomials F P) (f : P) (f-len : A 
     divides-u : Divides R u′ u
     divides-u = (_, unit-divides R u′ u (forth .d) (back .d) (forth .d-u .0) unit (forth .d-u .1))
 
-    divides-v : Divides R u′ (v + v′)
-    divides-v = (_, unit-divides R u′ (v + v′) (forth .d) (back .d) (forth .d-v .0) unit (forth .d-v .1))
+    divides-v : Divides R u′ (v ⊞ v′)
+    divides-v = (_, unit-divides R u′ (v ⊞ v′) (forth .d) (back .d) (forth .d-v .0) unit (forth .d-v .1))
 
   -- Two reduced pairs with equivalent ideals are equal.
   module _ (u v u′ v′ : P) (u-monic : Monic A u) (u′-monic : Monic A u′) (u-len : len u ≤ 4) (u′-len : len u′ ≤ 4)
       (v-len : len v < len u) (v′-len : len v′ < len u′)
-      (d : Divides R u (v · v + v + f)) (d′ : Divides R u′ (v′ · v′ + v′ + f))
+      (d : Divides R u (v · v ⊞ v ⊞ f)) (d′ : Divides R u′ (v′ · v′ ⊞ v′ ⊞ f))
       (h : Equivalent (coordinate R f) (pair-ideal R u v) (pair-ideal R u′ v′))
     where
       k : P

@@ -1,21 +1,21 @@
 -- A commutative group on the members of a type that a predicate picks out, as the reduced classes among all pairs; doubling and halving in it.
 use mathlib.Core.Path.{_≡_}
 
-module _ {X : Type 0} (Member : X → Type 0) (_+_ : X → X → X) (neutral : X) (opposite : X → X) where
-  infixl 60 _+_
+module _ {X : Type 0} (Member : X → Type 0) (_⊞_ : X → X → X) (neutral : X) (opposite : X → X) where
+  infixl 60 _⊞_
   pub record CommutativeGroup : Type 0 where
-    pub sum-closed : {a b : X} → Member a → Member b → Member (a + b)
+    pub sum-closed : {a b : X} → Member a → Member b → Member (a ⊞ b)
     pub neutral-closed : Member neutral
     pub opposite-closed : {a : X} → Member a → Member (opposite a)
-    pub comm : {a b : X} → Member a → Member b → a + b ≡ b + a
-    pub assoc : {a b c : X} → Member a → Member b → Member c → a + b + c ≡ a + (b + c)
-    pub sum-neutral : {a : X} → Member a → a + neutral ≡ a
-    pub sum-opposite : {a : X} → Member a → a + opposite a ≡ neutral
+    pub comm : {a b : X} → Member a → Member b → a ⊞ b ≡ b ⊞ a
+    pub assoc : {a b c : X} → Member a → Member b → Member c → a ⊞ b ⊞ c ≡ a ⊞ (b ⊞ c)
+    pub sum-neutral : {a : X} → Member a → a ⊞ neutral ≡ a
+    pub sum-opposite : {a : X} → Member a → a ⊞ opposite a ≡ neutral
 
   -- one without an element of order 2: doubling is one to one
   pub record Doubling (double : X → X) : Type 0 where
     pub group : CommutativeGroup
-    pub double-sum : {a : X} → Member a → double a ≡ a + a
+    pub double-sum : {a : X} → Member a → double a ≡ a ⊞ a
     pub double-injective : {a b : X} → Member a → Member b → double a ≡ double b → a ≡ b
 
   -- one in which each element has one half

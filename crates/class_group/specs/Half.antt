@@ -18,21 +18,21 @@ pub record Triple (P : Type 0) : Type 0 where
 
 module _ {K P : Type 0} {F : Field2 K} (A : Polynomials F P) where
   open Polynomials A using (ring, coeff, con, x, rem)
-  open Ring2 ring using (add as _+_, mul as _·_, one as 𝟙)
-  open Ring2 (F .ring) using (add as _+ₖ_, mul as _·ₖ_, nought as 𝟘ₖ, one as 𝟙ₖ)
+  open Ring2 ring using (add as _⊞_, mul as _·_, one as 𝟙)
+  open Ring2 (F .ring) using (add as _⊞ₖ_, mul as _·ₖ_, nought as 𝟘ₖ, one as 𝟙ₖ)
   open Field2 F using (root, discrete)
 
-  infixl 60 _+_
+  infixl 60 _⊞_
   infixl 70 _·_
-  infixl 60 _+ₖ_
+  infixl 60 _⊞ₖ_
   infixl 70 _·ₖ_
   -- v becomes v + k u
   unfoldable pub lift : P → Triple P → Triple P
-  lift k T = record { u = T .u; v = T .v + k · T .u; w = T .w + k + k · k · T .u }
+  lift k T = record { u = T .u; v = T .v ⊞ k · T .u; w = T .w ⊞ k ⊞ k · k · T .u }
 
   -- a reduction step that does not reduce v: u and w change places
   unfoldable pub step : Triple P → Triple P
-  step T = record { u = T .w; v = T .v + 𝟙; w = T .u }
+  step T = record { u = T .w; v = T .v ⊞ 𝟙; w = T .u }
 
   -- c times the first polynomial is a², a monic
   unfoldable pub halved : K → Triple P → Pair P
@@ -40,13 +40,13 @@ module _ {K P : Type 0} {F : Field2 K} (A : Polynomials F P) where
 
   -- k2 x² + k1 x + k0
   unfoldable pub quadratic : K → K → K → P
-  quadratic k2 k1 k0 = con k0 + x · (con k1 + x · con k2)
+  quadratic k2 k1 k0 = con k0 ⊞ x · (con k1 ⊞ x · con k2)
 
   -- degree 1: with w of degree 6, k2 = √w5, k1 = √w3, k0 = √(w1 + k1)
   unfoldable pub half-of-degree-1 : Triple P → Pair P
   half-of-degree-1 T =
       let k1 = root (coeff (T .w) 3) in
-      let k = quadratic (root (coeff (T .w) 5)) k1 (root (coeff (T .w) 1 +ₖ k1)) in
+      let k = quadratic (root (coeff (T .w) 5)) k1 (root (coeff (T .w) 1 ⊞ₖ k1)) in
       halved 𝟙ₖ (step (lift k T))
 
   -- degree 2, u1 not nought: k2 = 1/√u1, k1 = √(w3/u1), k0 = √((w1 + k1)/u1)
@@ -55,7 +55,7 @@ module _ {K P : Type 0} {F : Field2 K} (A : Polynomials F P) where
       let u1 = coeff (T .u) 1 in
       let i = inverse-of F u1 shown in
       let k1 = root (coeff (T .w) 3 ·ₖ i) in
-      let k = quadratic (root i) k1 (root ((coeff (T .w) 1 +ₖ k1) ·ₖ i)) in
+      let k = quadratic (root i) k1 (root ((coeff (T .w) 1 ⊞ₖ k1) ·ₖ i)) in
       halved u1 (step (lift k T))
 
   -- degree 2: where u1 is nought, u is a square
@@ -64,7 +64,7 @@ module _ {K P : Type 0} {F : Field2 K} (A : Polynomials F P) where
 
   -- degree 3: w after the lift by √w3
   unfoldable pub first-lift : P → P → P
-  first-lift u w = let k = quadratic 𝟘ₖ 𝟘ₖ (root (coeff w 3)) in w + k + k · k · u
+  first-lift u w = let k = quadratic 𝟘ₖ 𝟘ₖ (root (coeff w 3)) in w ⊞ k ⊞ k · k · u
 
   -- degree 3: the lift by √w3 and a step give the first polynomial x⁴ + e2 x² + t² x + e0
   unfoldable pub stepped-of-degree-3 : Triple P → Triple P
@@ -76,7 +76,7 @@ module _ {K P : Type 0} {F : Field2 K} (A : Polynomials F P) where
       let S = stepped-of-degree-3 T in
       let t = root (coeff (S .u) 1) in
       let i = inverse-of F t shown in
-      let q = root (coeff (T .u) 1 +ₖ i) in
+      let q = root (coeff (T .u) 1 ⊞ₖ i) in
       halved (t ·ₖ t) (step (lift (quadratic 𝟘ₖ i (q ·ₖ i)) S))
 
   -- where t is nought it is a square

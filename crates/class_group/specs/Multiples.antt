@@ -8,16 +8,16 @@ unfoldable pub repeat : {X : Type 0} → (X → X) → ℕ → X → X
 repeat step zero a = a
 repeat step (suc k) a = step (repeat step k a)
 
-module _ {X : Type 0} (_+_ : X → X → X) (neutral : X) where
-  infixl 60 _+_
+module _ {X : Type 0} (_⊞_ : X → X → X) (neutral : X) where
+  infixl 60 _⊞_
   -- n a, the sum of n terms a
   unfoldable pub multiple : ℕ → X → X
   multiple zero a = neutral
-  multiple (suc n) a = a + multiple n a
+  multiple (suc n) a = a ⊞ multiple n a
 
-module _ {X : Type 0} (_+_ : X → X → X) (neutral : X) (double : X → X) where
-  infixl 60 _+_
+module _ {X : Type 0} (_⊞_ : X → X → X) (neutral : X) (double : X → X) where
+  infixl 60 _⊞_
   -- 2^(n-1) D1 + 2^(n-2) D2 + .. + Dn
   unfoldable pub weighted-sum : List X → X
   weighted-sum [] = neutral
-  weighted-sum (d ∷ l) = repeat double (length l) d + weighted-sum l
+  weighted-sum (d ∷ l) = repeat double (length l) d ⊞ weighted-sum l

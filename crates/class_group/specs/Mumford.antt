@@ -15,14 +15,14 @@ pub record Pair (P : Type 0) : Type 0 where
 
 module _ {K P : Type 0} {F : Field2 K} {A : Polynomials F P} (C : Curve A) where
   open Polynomials A using (ring, len)
-  open Ring2 ring using (add as _+_, mul as _·_, nought as 𝟘, one as 𝟙)
+  open Ring2 ring using (add as _⊞_, mul as _·_, nought as 𝟘, one as 𝟙)
   open Curve C using (f)
 
-  infixl 60 _+_
+  infixl 60 _⊞_
   infixl 70 _·_
   -- v² + v + f
   unfoldable pub value : P → P
-  value v = v · v + v + f
+  value v = v · v ⊞ v ⊞ f
 
   pub record Reduced (D : Pair P) : Type 0 where
     pub u-monic : Monic A (D .u)
@@ -36,4 +36,4 @@ module _ {K P : Type 0} {F : Field2 K} {A : Polynomials F P} (C : Curve A) where
 
   -- [u, v + 1] for degree 1 to 3; the neutral class is its own opposite
   unfoldable pub opposite : Pair P → Pair P
-  opposite D = elim (ltb 1 (len (D .u))) [ true ↦ record { u = D .u; v = D .v + 𝟙 } | false ↦ D ]
+  opposite D = elim (ltb 1 (len (D .u))) [ true ↦ record { u = D .u; v = D .v ⊞ 𝟙 } | false ↦ D ]

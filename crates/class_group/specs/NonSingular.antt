@@ -31,14 +31,14 @@ derivative multiple [] = []
 derivative multiple (a ∷ p) = weighted multiple 1 p
 
 module _ {L : Type 0} (R : Ring2 L) where
-  open Ring2 R using (add as _+_, mul as _·_, nought as 𝟘, one as 𝟙)
+  open Ring2 R using (add as _⊞_, mul as _·_, nought as 𝟘, one as 𝟙)
 
-  infixl 60 _+_
+  infixl 60 _⊞_
   infixl 70 _·_
   -- a₀ + a₁ t + a₂ t² + .. at t
   unfoldable pub evaluate : List L → L → L
   evaluate [] t = 𝟘
-  evaluate (a ∷ p) t = a + t · evaluate p t
+  evaluate (a ∷ p) t = a ⊞ t · evaluate p t
 
   -- a polynomial in x and y is the list of the coefficients of 1, y, y², ..; its value at x, y
   unfoldable pub evaluate-at : List (List L) → L → L → L
@@ -46,10 +46,10 @@ module _ {L : Type 0} (R : Ring2 L) where
 
   -- its partial derivatives
   unfoldable pub derivative-by-x : List (List L) → List (List L)
-  derivative-by-x p = map (derivative (multiple _+_ 𝟘)) p
+  derivative-by-x p = map (derivative (multiple _⊞_ 𝟘)) p
 
   unfoldable pub derivative-by-y : List (List L) → List (List L)
-  derivative-by-y p = derivative (λ n. map (multiple _+_ 𝟘 n)) p
+  derivative-by-y p = derivative (λ n. map (multiple _⊞_ 𝟘 n)) p
 
   -- y² + y + f, for f given by its coefficients
   unfoldable pub equation : List L → List (List L)

@@ -16,14 +16,14 @@ pub record Counted (P : Type 0) : Type 0 where
 
 module _ {K P : Type 0} {F : Field2 K} {A : Polynomials F P} (C : Curve A) where
   open Polynomials A using (ring, len, quot, rem)
-  open Ring2 ring using (add as _+_, one as 𝟙)
+  open Ring2 ring using (add as _⊞_, one as 𝟙)
 
-  infixl 60 _+_
+  infixl 60 _⊞_
   -- u becomes (f + v + v²) / u made monic, then v becomes v + 1 modulo the new u
   unfoldable pub reduction-step : Pair P → Pair P
   reduction-step D =
       let u = monic-of A (quot (value C (D .v)) (D .u)) in
-      record { u = u; v = rem (D .v + 𝟙) u }
+      record { u = u; v = rem (D .v ⊞ 𝟙) u }
 
   -- While the degree of u exceeds 3, a reduction step. The first number is a count of steps that are enough,
   -- the second the steps made so far.

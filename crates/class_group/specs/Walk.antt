@@ -29,10 +29,10 @@ module _ {X Y : Type 0} (rule : X → Y → X) where
   walk s (c ∷ l) = s ∷ walk (rule s c) l
 
 -- the walk by double and add
-module _ {X : Type 0} (_+_ : X → X → X) (double : X → X) where
-  infixl 60 _+_
+module _ {X : Type 0} (_⊞_ : X → X → X) (double : X → X) where
+  infixl 60 _⊞_
   abbrev pub forward : X → List X → X
-  forward s l = after (λ s d. double s + d) s l
+  forward s l = after (λ s d. double s ⊞ d) s l
 
 -- two rules that keep the states, each of which takes the other back
 pub record Reversible {X Y : Type 0} (State : X → Type 0) (Step : Y → Type 0) (rule back : X → Y → X) : Type 0 where

@@ -1,5 +1,5 @@
 -- Composition by rows: what the functions of a composition require of each other, and what they promise.
-use Prim.Native.Nat.{ℕ, suc, _+_ as _+ℕ_, _≤_, _<_}
+use Prim.Native.Nat.{ℕ, suc, _+_, _≤_, _<_}
 use mathlib.Core.{Path._≡_, Path.sym, Path._∙_, Path.ap, Path.ap₂, Path.subst, List.List}
 use native.Mathlib.Omega.{arith}
 use Rattle.field_laws.specs.Ring.{Ring2}
@@ -16,9 +16,9 @@ use Rattle.class_rows.proofs.{ReductionRows.reduced-on, DoubleRows.redu
 
 module _ (d : ℕ) where
   open Polynomials (𝔸 d) using (ring as R, len, quot, rem)
-  open Ring2 (𝔸 d .ring) using (add as _+_, mul as _·_, nought as 𝟘, one as 𝟙)
+  open Ring2 (𝔸 d .ring) using (add as _⊞_, mul as _·_, nought as 𝟘, one as 𝟙)
 
-  infixl 60 _+_
+  infixl 60 _⊞_
   infixl 70 _·_
   -- the pair that is joined
   module _ (d₁ d₂ m : List ℕ) {u k : List ℕ} (U : Stands d u (poly d d₁ · poly d d₂)) (h₁ : ¬ (poly d d₁ ≡ 𝟘)) (h₂ : ¬ (poly d d₂ ≡ 𝟘)) (K : Stands d k (rem (poly d m) (poly d d₂))) where
@@ -28,24 +28,24 @@ module _ (d : ℕ) where
     pub joined-less : row-len d k < row-len d d₂
     joined-less = omega (arith, stands-len d K, 𝔸 d .rem-len (poly d m) (poly d d₂) h₂)
 
-    pub joined-stands : (v₁ : List ℕ) {p s v : List ℕ} → Stands d p (poly d d₁ · poly d k) → Stands d s (poly d v₁ + poly d p) → Stands d v (rem (poly d s) (poly d u))
+    pub joined-stands : (v₁ : List ℕ) {p s v : List ℕ} → Stands d p (poly d d₁ · poly d k) → Stands d s (poly d v₁ ⊞ poly d p) → Stands d v (rem (poly d s) (poly d u))
         → StandsPair d (record { u = u; v = v }) (joined (𝔸 d) (poly d d₁) (poly d d₂) (poly d v₁) (poly d m))
     unfolding joined
     joined-stands v₁ P S W = record {
       u-stands = U;
       v-stands =
           stands-eq d
-          (ap₂ rem (S .stands ∙ ap (λ z. poly d v₁ + z) (P .stands ∙ ap (λ z. poly d d₁ · z) (K .stands))) (U .stands)) W;
+          (ap₂ rem (S .stands ∙ ap (λ z. poly d v₁ ⊞ z) (P .stands ∙ ap (λ z. poly d d₁ · z) (K .stands))) (U .stands)) W;
     }
 
   -- lengths of products
-  pub product-len : {r : List ℕ} (p q : Poly d) (m n : ℕ) → Stands d r (p · q) → len p ≤ suc m → len q ≤ n → row-len d r ≤ m +ℕ n
+  pub product-len : {r : List ℕ} (p q : Poly d) (m n : ℕ) → Stands d r (p · q) → len p ≤ suc m → len q ≤ n → row-len d r ≤ m + n
   product-len p q m n s h k = omega (arith, stands-len d s, len-mul-le (𝔸 d) m n p q h k)
 
   pub multiple-stands : (sum w s s′ t′ : List ℕ) {s₁ p q r : List ℕ} → Stands d s₁ (poly d s′ · poly d s) → Stands d p (poly d s₁ · poly d sum)
-      → Stands d q (poly d t′ · poly d w) → Stands d r (poly d p + poly d q) → Stands d r (multiple d sum w s s′ t′)
+      → Stands d q (poly d t′ · poly d w) → Stands d r (poly d p ⊞ poly d q) → Stands d r (multiple d sum w s s′ t′)
   unfolding multiple
-  multiple-stands sum w s s′ t′ S P Q = stands-eq d (ap₂ _+_ (P .stands ∙ ap (λ z. z · poly d sum) (S .stands)) (Q .stands))
+  multiple-stands sum w s s′ t′ S P Q = stands-eq d (ap₂ _⊞_ (P .stands ∙ ap (λ z. z · poly d sum) (S .stands)) (Q .stands))
 
   -- two reduced pairs of rows, and Euclid's rule of their u
   module _ {f : List ℕ} {a : RowPair} (A : ReducedRows d f a) where
@@ -85,7 +85,7 @@ module _ (d : ℕ) where
       part-nonzero D z = quot-exact-nonzero (𝔸 d) (poly d g) h (poly d (a .u)) u-nonzero D (sym (Q .stands) ∙ z)
 
   module _ {f : List ℕ} {a b : RowPair} (A : ReducedRows d f a) (B : ReducedRows d f b) {g s t : List ℕ} (I : BezoutRows d (a .u) (b .u) g s t)
-      {sum : List ℕ} (S : Stands d sum (poly d (a .v) + poly d (b .v))) where
+      {sum : List ℕ} (S : Stands d sum (poly d (a .v) ⊞ poly d (b .v))) where
     -- v1 + v2, and s1
     pub sum-len : row-len d sum ≤ 3
     sum-len =
@@ -113,22 +113,22 @@ module _ (d : ℕ) where
     pub reduced₁ : ReducedRows d f a
     pub reduced₂ : ReducedRows d f b
     pub first-is : BezoutRows d (a .u) (b .u) g s t
-    pub sum-is : Stands d sum (poly d (a .v) + poly d (b .v))
+    pub sum-is : Stands d sum (poly d (a .v) ⊞ poly d (b .v))
     pub one-is : Stands d one 𝟙
-    pub third-is : Stands d c (poly d sum + poly d one)
+    pub third-is : Stands d c (poly d sum ⊞ poly d one)
     pub second-is : BezoutRows d g c e s′ t′
 
-  pub third-len : (sum : List ℕ) {one c : List ℕ} → Stands d one 𝟙 → Stands d c (poly d sum + poly d one) → row-len d sum ≤ 3 → row-len d c ≤ 3
+  pub third-len : (sum : List ℕ) {one c : List ℕ} → Stands d one 𝟙 → Stands d c (poly d sum ⊞ poly d one) → row-len d sum ≤ 3 → row-len d c ≤ 3
   third-len sum {one} O T h =
       let n = len-add (𝔸 d) (poly d sum) (poly d one) 3 h (omega (arith, stands-len d O, len-one (𝔸 d))) in
       omega (arith, stands-len d T, n)
 
 module _ {d : ℕ} {f : List ℕ} {a b : RowPair} {g s t sum one c e s′ t′ : List ℕ} (k : Common d f a b g s t sum one c e s′ t′) where
   open Polynomials (𝔸 d) using (ring as R, quot)
-  open Ring2 (𝔸 d .ring) using (add as _+_, mul as _·_, nought as 𝟘, one as 𝟙)
+  open Ring2 (𝔸 d .ring) using (add as _⊞_, mul as _·_, nought as 𝟘, one as 𝟙)
   open Common k using (reduced₁ as A, reduced₂ as B, first-is as I, sum-is as S, second-is as J)
 
-  infixl 60 _+_
+  infixl 60 _⊞_
   infixl 70 _·_
   pub sum-short : Short d 3 sum
   sum-short = record { in-range = S .in-range; len-le = sum-len d A B I S }
@@ -165,9 +165,9 @@ module _ {d : ℕ} {f : List ℕ} {a b : RowPair} {g s t sum one c e s′ t′ :
         → (C : Theory.Curve (𝔸 d)) → OnCurve d f C → StandsPair d r (compose C (rows-pair d a) (rows-pair d b))
     unfolding rows-pair multiple
     common-stands {r = r} W M Z C on =
-        let c-is : poly d c ≡ poly d (a .v) + poly d (b .v) + 𝟙 = k .third-is .stands ∙ ap₂ _+_ (S .stands) (k .one-is .stands) in
+        let c-is : poly d c ≡ poly d (a .v) ⊞ poly d (b .v) ⊞ 𝟙 = k .third-is .stands ∙ ap₂ _⊞_ (S .stands) (k .one-is .stands) in
         let i = subst (λ z. IsBezout (𝔸 d) (poly d g) z (record { g = poly d e; s = poly d s′; t = poly d t′ })) c-is (J .bezout) in
-        let m-is = M .stands ∙ ap₂ (λ y z. poly d s′ · poly d s · y + poly d t′ · z) (S .stands) (W C on .stands) in
+        let m-is = M .stands ∙ ap₂ (λ y z. poly d s′ · poly d s · y ⊞ poly d t′ · z) (S .stands) (W C on .stands) in
         subst (StandsPair d r)
         ((λ j. joined (𝔸 d) (D .stands j) (E .stands j) (poly d (a .v)) (m-is j))
         ∙ sym (compose-common C (reduced-on d A on) (reduced-on d B on) (I .bezout) i))

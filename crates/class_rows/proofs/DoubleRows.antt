@@ -1,5 +1,5 @@
 -- The composition of a double by rows, and its cofactor: what the functions of a double require of each other, and what they promise.
-use Prim.Native.Nat.{ℕ, suc, _+_ as _+ℕ_, _≤_, _<_}
+use Prim.Native.Nat.{ℕ, suc, _+_, _≤_, _<_}
 use mathlib.Core.{Path._≡_, Path.sym, Path._∙_, Path.ap, Path.ap₂, Path.subst, List.List}
 use native.Mathlib.Omega.{arith}
 use Rattle.field_laws.specs.Ring.{Ring2}
@@ -16,9 +16,9 @@ use Rattle.class_rows.proofs.ReductionRows.{pair-eq, reduced-on, semi-r
 
 module _ (d : ℕ) where
   open Polynomials (𝔸 d) using (len, quot, rem)
-  open Ring2 (𝔸 d .ring) using (add as _+_, mul as _·_, nought as 𝟘)
+  open Ring2 (𝔸 d .ring) using (add as _⊞_, mul as _·_, nought as 𝟘)
 
-  infixl 60 _+_
+  infixl 60 _⊞_
   infixl 70 _·_
   module _ {f : List ℕ} {a : RowPair} (r : ReducedRows d f a) where
     pub reduced-len : (row-len d (a .u) ≤ 4) × (row-len d (a .v) < row-len d (a .u))
@@ -49,11 +49,11 @@ module _ (d : ℕ) where
   pub squared : {f : List ℕ} (a : RowPair) {s t n q o : List ℕ}
       → Stands d s (poly d (a .u) · poly d (a .u))
       → Stands d t (poly d (a .v) · poly d (a .v))
-      → Stands d n (poly d t + poly d f)
+      → Stands d n (poly d t ⊞ poly d f)
       → Stands d q (quot (poly d n) (poly d s)) × Stands d o (rem (poly d n) (poly d s))
       → SquaredRows d f a (record { pair = record { u = s; v = o }; quotient = q })
   squared {f} a s t n p =
-      let e = n .stands ∙ ap (λ z. z + poly d f) (t .stands) in
+      let e = n .stands ∙ ap (λ z. z ⊞ poly d f) (t .stands) in
       record {
         u-stands = s;
         v-stands = record { in-range = p .1 .in-range; stands = p .1 .stands ∙ ap₂ rem e (s .stands) };
@@ -61,7 +61,7 @@ module _ (d : ℕ) where
       }
 
   module _ {f : List ℕ} {a : RowPair} {s : Squared} (r : ReducedRows d f a) (S : SquaredRows d f a s) where
-    pub squared-len : suc (row-len d (s .pair .u)) ≡ row-len d (a .u) +ℕ row-len d (a .u)
+    pub squared-len : suc (row-len d (s .pair .u)) ≡ row-len d (a .u) + row-len d (a .u)
     unfolding rows-pair
     squared-len = ap (λ z. suc (len z)) (S .u-stands .stands) ∙ square-len (r .C) (r .reduced)
 
@@ -71,7 +71,7 @@ module _ (d : ℕ) where
       u-stands = S .u-stands;
       v-stands = record {
         in-range = S .v-stands .in-range;
-        stands = S .v-stands .stands ∙ ap (λ z. rem (poly d (a .v) · poly d (a .v) + z) (poly d (a .u) · poly d (a .u))) (on .is-f);
+        stands = S .v-stands .stands ∙ ap (λ z. rem (poly d (a .v) · poly d (a .v) ⊞ z) (poly d (a .u) · poly d (a .u))) (on .is-f);
       };
     }
 
@@ -86,9 +86,9 @@ module _ (d : ℕ) where
 
     -- the quotient of v² + f by u², on every curve of f
     quotient-on : {C : Theory.Curve (𝔸 d)} → OnCurve d f C
-        → poly d (s .quotient) ≡ quot (poly d (a .v) · poly d (a .v) + C .f) (poly d (a .u) · poly d (a .u))
+        → poly d (s .quotient) ≡ quot (poly d (a .v) · poly d (a .v) ⊞ C .f) (poly d (a .u) · poly d (a .u))
     quotient-on on =
-        S .quotient-stands .stands ∙ ap (λ z. quot (poly d (a .v) · poly d (a .v) + z) (poly d (a .u) · poly d (a .u))) (on .is-f)
+        S .quotient-stands .stands ∙ ap (λ z. quot (poly d (a .v) · poly d (a .v) ⊞ z) (poly d (a .u) · poly d (a .u))) (on .is-f)
 
     -- for u of degree 2 and 3 the squares fit
     module _ (h : 2 < row-len d (a .u)) where
@@ -100,11 +100,11 @@ module _ (d : ℕ) where
       unfolding rows-pair
       quotient-fits = subst (λ z. len z ≤ 6) (sym (quotient-on (r .on-curve))) (quotient-short (r .C) (r .reduced) h .0)
 
-      pub product-fits : {p : List ℕ} → Stands d p (poly d (s .quotient) · poly d (s .quotient)) → row-len d p +ℕ row-len d (s .pair .u) ≤ 13
+      pub product-fits : {p : List ℕ} → Stands d p (poly d (s .quotient) · poly d (s .quotient)) → row-len d p + row-len d (s .pair .u) ≤ 13
       unfolding rows-pair
       product-fits p =
           let e = quotient-on (r .on-curve) in
-          subst (λ z. z ≤ 13) (sym (ap₂ (λ y z. len y +ℕ len z) (p .stands ∙ ap₂ _·_ e e) (S .u-stands .stands))) (quotient-short (r .C) (r .reduced) h .1)
+          subst (λ z. z ≤ 13) (sym (ap₂ (λ y z. len y + len z) (p .stands ∙ ap₂ _·_ e e) (S .u-stands .stands))) (quotient-short (r .C) (r .reduced) h .1)
 
     -- the cofactor of the composed pair: w² + q + q² u²
     pub squared-cofactor : {w e p m t o : List ℕ}
@@ -112,8 +112,8 @@ module _ (d : ℕ) where
         → Stands d e (poly d w · poly d w)
         → Stands d p (poly d (s .quotient) · poly d (s .quotient))
         → Stands d m (poly d p · poly d (s .pair .u))
-        → Stands d t (poly d e + poly d (s .quotient))
-        → Stands d o (poly d t + poly d m)
+        → Stands d t (poly d e ⊞ poly d (s .quotient))
+        → Stands d o (poly d t ⊞ poly d m)
         → CofactorRow d f (s .pair) o
     unfolding rows-pair compose-double
     squared-cofactor w e p m t o C on =
@@ -124,7 +124,7 @@ module _ (d : ℕ) where
           in-range = o .in-range;
           stands =
               o .stands
-              ∙ ap₂ _+_ (t .stands ∙ ap₂ _+_ (e .stands ∙ ap₂ _·_ k k) q) (m .stands ∙ ap₂ _·_ (p .stands ∙ ap₂ _·_ q q) u)
+              ∙ ap₂ _⊞_ (t .stands ∙ ap₂ _⊞_ (e .stands ∙ ap₂ _·_ k k) q) (m .stands ∙ ap₂ _·_ (p .stands ∙ ap₂ _·_ q q) u)
               ∙ sym (double-cofactor C (reduced-on d r on))
               ∙ sym (ap₂ quot (ap (value C) (squared-pair on .v-stands .stands)) u);
         }

@@ -25,9 +25,9 @@ value-stands d v on s = s .stands ∙ ap (𝔸 d .ring .add _) (on .is-f)
 
 module _ (d : ℕ) where
   open Polynomials (𝔸 d) using (ring as R, len, quot, rem)
-  open Ring2 (𝔸 d .ring) using (add as _+_, mul as _·_, nought as 𝟘)
+  open Ring2 (𝔸 d .ring) using (add as _⊞_, mul as _·_, nought as 𝟘)
 
-  infixl 60 _+_
+  infixl 60 _⊞_
   infixl 70 _·_
   -- what two rows stand for is the pair
   pub pair-eq : {b : RowPair} {D : Pair (Poly d)} → StandsPair d b D → rows-pair d b ≡ D
@@ -48,7 +48,7 @@ module _ (d : ℕ) where
     -- v² + v + f is the same on every curve of f
     same-value : {C E : Theory.Curve (𝔸 d)} → OnCurve d f C → OnCurve d f E → (v : Poly d) → value C v ≡ value E v
     unfolding value
-    same-value c e v = ap (λ z. v · v + v + z) (sym (c .is-f) ∙ e .is-f)
+    same-value c e v = ap (λ z. v · v ⊞ v ⊞ z) (sym (c .is-f) ∙ e .is-f)
 
     -- the rows are semi-reduced, or reduced, on every curve of f
     -- rows that stand for a reduced class of the curve of f
@@ -91,7 +91,7 @@ module _ (d : ℕ) where
 
     -- the cofactor of a pair: w = (v² + v + f) / u
     pub cofactor-row : (a : RowPair) {n w : List ℕ}
-        → Stands d n (poly d (a .v) · poly d (a .v) + poly d (a .v) + poly d f)
+        → Stands d n (poly d (a .v) · poly d (a .v) ⊞ poly d (a .v) ⊞ poly d f)
         → Stands d w (quot (poly d n) (poly d (a .u)))
         → CofactorRow d f a w
     cofactor-row a n w C on = stands-eq d (ap (λ z. quot z (poly d (a .u))) (value-stands d (a .v) on n)) w
@@ -108,7 +108,7 @@ module _ (d : ℕ) where
         → CofactorRow d f a w
         → Stands d n (monic-of (𝔸 d) (poly d w))
         → Stands d e (𝔸 d .ring .one)
-        → Stands d o (poly d (a .v) + poly d e)
+        → Stands d o (poly d (a .v) ⊞ poly d e)
         → Stands d r (rem (poly d o) (poly d n))
         → Stepped f a (record { u = n; v = r })
     unfolding reduction-step rows-pair
@@ -118,7 +118,7 @@ module _ (d : ℕ) where
           u-stands = record { in-range = n .in-range; stands = u };
           v-stands = record {
             in-range = r .in-range;
-            stands = r .stands ∙ ap₂ rem (o .stands ∙ ap (λ z. poly d (a .v) + z) (e .stands)) u;
+            stands = r .stands ∙ ap₂ rem (o .stands ∙ ap (λ z. poly d (a .v) ⊞ z) (e .stands)) u;
           };
         }
 

@@ -1,6 +1,6 @@
 -- Reduction written out, step by step: `reduce-none`, `reduce-once`, `reduce-twice`. The cofactor of the composition of a double from
 -- that of the class: with v² + v + f = w u and v² + f = q u² + r, r² + r + f = (w² + q + q² u²) u² (`double-cofactor`), and its lengths.
-use Prim.Native.Nat.{ℕ, zero, suc, _≤_, _<_, _+_ as _+ℕ_, _*_, max}
+use Prim.Native.Nat.{ℕ, zero, suc, _≤_, _<_, _+_, _*_, max}
 use mathlib.Core.Path.{_≡_, refl, _∙_, ap}
 use native.Mathlib.Omega.{arith}
 use Rattle.field_laws.specs.{Ring.Ring2, Field.Field2}
@@ -12,22 +12,22 @@ use Rattle.class_group.proofs.SemiReduced.{SemiReduced, semi-of-reduced, cofact
 use Rattle.class_group.proofs.Norm.{value-len}
 
 module _ {B : Type 0} (R : Ring2 B) where
-  open Ring2 R using (add as _+_, mul as _·_, one as 𝟙)
+  open Ring2 R using (add as _⊞_, mul as _·_, one as 𝟙)
 
-  infixl 60 _+_
+  infixl 60 _⊞_
   infixl 70 _·_
   double-identity : (f u v w q r : B)
-      → v · v + v + f ≡ w · u
-      → v · v + f ≡ q · (u · u) + r
-      → r · r + r + f ≡ (w · w + q + q · q · (u · u)) · (u · u)
-  double-identity f u v w q r g h = combine R _ _ (both R (by R (v · v + v + f + w · u) g) (by R (v · v + f + (q · (u · u) + r) + 𝟙) h)) (simp (ring2, R))
+      → v · v ⊞ v ⊞ f ≡ w · u
+      → v · v ⊞ f ≡ q · (u · u) ⊞ r
+      → r · r ⊞ r ⊞ f ≡ (w · w ⊞ q ⊞ q · q · (u · u)) · (u · u)
+  double-identity f u v w q r g h = combine R _ _ (both R (by R (v · v ⊞ v ⊞ f ⊞ w · u) g) (by R (v · v ⊞ f ⊞ (q · (u · u) ⊞ r) ⊞ 𝟙) h)) (simp (ring2, R))
 
 module _ {K P : Type 0} {F : Field2 K} {A : Polynomials F P} (C : Curve A) where
   open Polynomials A using (ring as R, len, quot, rem)
-  open Ring2 (A .ring) using (add as _+_, mul as _·_, nought as 𝟘)
+  open Ring2 (A .ring) using (add as _⊞_, mul as _·_, nought as 𝟘)
   open Curve C using (f)
 
-  infixl 60 _+_
+  infixl 60 _⊞_
   infixl 70 _·_
   -- no step is made, whatever the count of steps that are enough
   stop : (n steps : ℕ) (D : Pair P) → len (D .u) ≤ 4 → reduce-to C n steps D ≡ record { class = D; steps = steps }
@@ -76,23 +76,23 @@ module _ {K P : Type 0} {F : Field2 K} {A : Polynomials F P} (C : Curve A) where
     pub square-nonzero : ¬ (u · u ≡ 𝟘)
     square-nonzero = mul-nonzero A u u (monic-nonzero A u (r .u-monic)) (monic-nonzero A u (r .u-monic))
 
-    pub square-len : suc (len (u · u)) ≡ len u +ℕ len u
+    pub square-len : suc (len (u · u)) ≡ len u + len u
     square-len = len-square A u (monic-nonzero A u (r .u-monic))
 
     pub double-cofactor :
-        quot (value C (rem (v · v + f) (u · u))) (u · u)
-        ≡ quot (value C v) u · quot (value C v) u + quot (v · v + f) (u · u) + quot (v · v + f) (u · u) · quot (v · v + f) (u · u) · (u · u)
+        quot (value C (rem (v · v ⊞ f) (u · u))) (u · u)
+        ≡ quot (value C v) u · quot (value C v) u ⊞ quot (v · v ⊞ f) (u · u) ⊞ quot (v · v ⊞ f) (u · u) · quot (v · v ⊞ f) (u · u) · (u · u)
     unfolding value
     double-cofactor =
         ap (λ z. quot z (u · u))
-        (double-identity R f u v (quot (value C v) u) (quot (v · v + f) (u · u)) (rem (v · v + f) (u · u)) (cofactor-eq C (semi-of-reduced C r)) (A .division (v · v + f) (u · u) square-nonzero))
+        (double-identity R f u v (quot (value C v) u) (quot (v · v ⊞ f) (u · u)) (rem (v · v ⊞ f) (u · u)) (cofactor-eq C (semi-of-reduced C r)) (A .division (v · v ⊞ f) (u · u) square-nonzero))
         ∙ quot-mul A (u · u) square-nonzero _
 
     -- the lengths: of w at most 6, of the quotient at most 4
     pub cofactor-short : 2 < len u → len (quot (value C v) u) ≤ 6
     unfolding value
     cofactor-short h =
-        let l : suc (len (value C v)) ≡ len (quot (value C v) u) +ℕ len u = cofactor-len C (semi-of-reduced C r) in
+        let l : suc (len (value C v)) ≡ len (quot (value C v) u) + len u = cofactor-len C (semi-of-reduced C r) in
         let n : suc (len (value C v)) ≡ max (2 * len v) 9 = value-len A f (C .f-len) v in
         let a : len v < len u = r .v-len in
         let b : len u ≤ 4 = r .u-len in
@@ -100,15 +100,15 @@ module _ {K P : Type 0} {F : Field2 K} {A : Polynomials F P} (C : Curve A) where
 
     pub quotient-short :
         2 < len u
-        → (len (quot (v · v + f) (u · u)) ≤ 6) × (len (quot (v · v + f) (u · u) · quot (v · v + f) (u · u)) +ℕ len (u · u) ≤ 13)
+        → (len (quot (v · v ⊞ f) (u · u)) ≤ 6) × (len (quot (v · v ⊞ f) (u · u) · quot (v · v ⊞ f) (u · u)) + len (u · u) ≤ 13)
     quotient-short h =
-        let q = quot (v · v + f) (u · u) in
+        let q = quot (v · v ⊞ f) (u · u) in
         let a : len v < len u = r .v-len in
         let b : len u ≤ 4 = r .u-len in
         let e : len f ≡ 8 = C .f-len in
         let s : len (v · v) ≤ 5 = len-mul-le A 2 3 v v (omega arith) (omega arith) in
-        let n : len (v · v + f) ≡ len f = len-add-less A (v · v) f (omega arith) in
-        let m : suc (len (u · u)) ≡ len u +ℕ len u = square-len in
-        let k : suc (len (v · v + f)) ≡ len q +ℕ len (u · u) = len-quot A (u · u) square-nonzero (v · v + f) (omega arith) in
-        let t : suc (len (q · q)) ≡ len q +ℕ len q = len-square A q (nonzero-of-len A q (omega arith)) in
+        let n : len (v · v ⊞ f) ≡ len f = len-add-less A (v · v) f (omega arith) in
+        let m : suc (len (u · u)) ≡ len u + len u = square-len in
+        let k : suc (len (v · v ⊞ f)) ≡ len q + len (u · u) = len-quot A (u · u) square-nonzero (v · v ⊞ f) (omega arith) in
+        let t : suc (len (q · q)) ≡ len q + len q = len-square A q (nonzero-of-len A q (omega arith)) in
         (omega arith, omega arith)

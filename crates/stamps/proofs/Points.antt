@@ -6,7 +6,7 @@ use native.Mathlib.Omega.{arith}
 use lib.ListN.{getD}
 use Rattle.field_laws.specs.{Ring.Ring2, Field.Field2}
 use Rattle.char2_algebra.specs.{Polynomials.Polynomials, Divides.Divides}
-use Rattle.char2_algebra.proofs.{Ring.ring2, Ring.+-𝟘, Degree.coeff-nought, Degree.con-nought, Degree.con-one, Degree.con-mul, Degree.coeff-con-add-x-mul, Degree.coeff-con-add-x-mul-suc}
+use Rattle.char2_algebra.proofs.{Ring.ring2, Ring.⊞-𝟘, Degree.coeff-nought, Degree.con-nought, Degree.con-one, Degree.con-mul, Degree.coeff-con-add-x-mul, Degree.coeff-con-add-x-mul-suc}
 use Rattle.binary_field_theory.specs.{Carryless._⊕_, Element.Accepted, Element.square, Element.product, Quadratic.quadratic, Quadratic.Root}
 use Rattle.binary_field_theory.proofs.Elements.{element-path}
 use Rattle.binary_field.proofs.Field.{add-number, mul-number}
@@ -20,66 +20,66 @@ use Rattle.stamps.specs.Stamps.{value-at, point-class}
 -- ---- over any polynomials
 module _ {K P : Type 0} {F : Field2 K} (A : Polynomials F P) where
   open Polynomials A using (ring as R, coeff, con, x)
-  open Ring2 (A .ring) using (add as _+_, mul as _·_, nought as 𝟘, one as 𝟙)
-  open Ring2 (F .ring) using (add as _⊞_, mul as _⊙_, nought as 𝟎, one as 𝟏)
+  open Ring2 (A .ring) using (add as _⊞_, mul as _·_, nought as 𝟘, one as 𝟙)
+  open Ring2 (F .ring) using (add as _⊞ₖ_, mul as _·ₖ_, nought as 𝟘ₖ, one as 𝟙ₖ)
 
-  infixl 60 _+_
-  infixl 70 _·_
   infixl 60 _⊞_
-  infixl 70 _⊙_
-  con-add : (a b : K) → con (a ⊞ b) ≡ con a + con b
-  con-add a b = A .ext (con (a ⊞ b)) (con a + con b) go
+  infixl 70 _·_
+  infixl 60 _⊞ₖ_
+  infixl 70 _·ₖ_
+  con-add : (a b : K) → con (a ⊞ₖ b) ≡ con a ⊞ con b
+  con-add a b = A .ext (con (a ⊞ₖ b)) (con a ⊞ con b) go
     where
-      go : (i : ℕ) → coeff (con (a ⊞ b)) i ≡ coeff (con a + con b) i
-      go zero = A .coeff-con (a ⊞ b) ∙ sym (A .coeff-add (con a) (con b) 0 ∙ ap₂ _⊞_ (A .coeff-con a) (A .coeff-con b))
+      go : (i : ℕ) → coeff (con (a ⊞ₖ b)) i ≡ coeff (con a ⊞ con b) i
+      go zero = A .coeff-con (a ⊞ₖ b) ∙ sym (A .coeff-add (con a) (con b) 0 ∙ ap₂ _⊞ₖ_ (A .coeff-con a) (A .coeff-con b))
       go (suc i) =
-          A .coeff-con-suc (a ⊞ b) i
-          ∙ sym (A .coeff-add (con a) (con b) (suc i) ∙ ap₂ _⊞_ (A .coeff-con-suc a i) (A .coeff-con-suc b i) ∙ +-𝟘 (F .ring) 𝟎)
+          A .coeff-con-suc (a ⊞ₖ b) i
+          ∙ sym (A .coeff-add (con a) (con b) (suc i) ∙ ap₂ _⊞ₖ_ (A .coeff-con-suc a i) (A .coeff-con-suc b i) ∙ ⊞-𝟘 (F .ring) 𝟘ₖ)
 
-  shifted : (a c k q t : P) → c + t · (q · (a + t) + k) ≡ (t · q + k) · (a + t) + (c + a · k)
+  shifted : (a c k q t : P) → c ⊞ t · (q · (a ⊞ t) ⊞ k) ≡ (t · q ⊞ k) · (a ⊞ t) ⊞ (c ⊞ a · k)
   shifted a c k q t = simp (ring2, R)
 
   -- from the quotient and the value of p those of c + x p
-  next-value : (a c k : K) (p q : P) → p ≡ q · (con a + x) + con k → con c + x · p ≡ (x · q + con k) · (con a + x) + con (c ⊞ a ⊙ k)
+  next-value : (a c k : K) (p q : P) → p ≡ q · (con a ⊞ x) ⊞ con k → con c ⊞ x · p ≡ (x · q ⊞ con k) · (con a ⊞ x) ⊞ con (c ⊞ₖ a ·ₖ k)
   next-value a c k p q e =
-      ap (λ z. con c + x · z) e ∙ shifted (con a) (con c) (con k) q x
-      ∙ ap (λ z. (x · q + con k) · (con a + x) + z) (sym (con-add c (a ⊙ k) ∙ ap (λ z. con c + z) (con-mul A a k)))
+      ap (λ z. con c ⊞ x · z) e ∙ shifted (con a) (con c) (con k) q x
+      ∙ ap (λ z. (x · q ⊞ con k) · (con a ⊞ x) ⊞ z) (sym (con-add c (a ·ₖ k) ∙ ap (λ z. con c ⊞ z) (con-mul A a k)))
 
-  cancelled : (y q u : P) → y · y + y + (q · u + (y · y + y)) ≡ q · u
+  cancelled : (y q u : P) → y · y ⊞ y ⊞ (q · u ⊞ (y · y ⊞ y)) ≡ q · u
   cancelled y q u = simp (ring2, R)
 
   -- where y² + y is the value, y² + y + f is a multiple
-  root-divides : (y k : K) (f u q : P) → y ⊙ y ⊞ y ≡ k → f ≡ q · u + con k → con y · con y + con y + f ≡ q · u
+  root-divides : (y k : K) (f u q : P) → y ·ₖ y ⊞ₖ y ≡ k → f ≡ q · u ⊞ con k → con y · con y ⊞ con y ⊞ f ≡ q · u
   root-divides y k f u q e g =
-      ap (λ z. con y · con y + con y + z)
-      (g ∙ ap (λ z. q · u + z) (ap con (sym e) ∙ con-add (y ⊙ y) y ∙ ap (λ z. z + con y) (con-mul A y y)))
+      ap (λ z. con y · con y ⊞ con y ⊞ z)
+      (g ∙ ap (λ z. q · u ⊞ z) (ap con (sym e) ∙ con-add (y ·ₖ y) y ∙ ap (λ z. z ⊞ con y) (con-mul A y y)))
       ∙ cancelled (con y) q u
 
 -- ---- rows of numbers
 module _ (d : ℕ) where
   open Polynomials (𝔸 d) using (ring as R, coeff, con, x)
-  open Ring2 (𝔸 d .ring) using (add as _+_, mul as _·_, nought as 𝟘, one as 𝟙)
+  open Ring2 (𝔸 d .ring) using (add as _⊞_, mul as _·_, nought as 𝟘, one as 𝟙)
 
-  infixl 60 _+_
+  infixl 60 _⊞_
   infixl 70 _·_
   poly-nil : poly d [] ≡ 𝟘
   poly-nil = poly-is d [] 𝟘 (λ i. el-zero d ∙ sym (coeff-nought (𝔸 d) i))
 
-  poly-cons : (n : ℕ) (r : List ℕ) → poly d (n ∷ r) ≡ con (el d n) + x · poly d r
-  poly-cons n r = poly-is d (n ∷ r) (con (el d n) + x · poly d r) go
+  poly-cons : (n : ℕ) (r : List ℕ) → poly d (n ∷ r) ≡ con (el d n) ⊞ x · poly d r
+  poly-cons n r = poly-is d (n ∷ r) (con (el d n) ⊞ x · poly d r) go
     where
-      go : (i : ℕ) → el d (getD (n ∷ r) i 0) ≡ coeff (con (el d n) + x · poly d r) i
+      go : (i : ℕ) → el d (getD (n ∷ r) i 0) ≡ coeff (con (el d n) ⊞ x · poly d r) i
       go zero = sym (coeff-con-add-x-mul (𝔸 d) (el d n) (poly d r))
       go (suc i) = sym (coeff-con-add-x-mul-suc (𝔸 d) (el d n) (poly d r) i ∙ coeff-poly d r i)
 
-  nothing-added : (t : Poly d) → t · (𝟙 + x · 𝟘) ≡ t
+  nothing-added : (t : Poly d) → t · (𝟙 ⊞ x · 𝟘) ≡ t
   nothing-added t = simp (ring2, R)
 
-  linear : (n : ℕ) → poly d (n ∷ 1 ∷ []) ≡ con (el d n) + x
+  linear : (n : ℕ) → poly d (n ∷ 1 ∷ []) ≡ con (el d n) ⊞ x
   linear n =
       poly-cons n (1 ∷ [])
-      ∙ ap (λ z. con (el d n) + x · z) (poly-cons 1 [] ∙ ap₂ (λ a b. a + x · b) (ap con (el-one d) ∙ con-one (𝔸 d)) poly-nil)
-      ∙ ap (λ z. con (el d n) + z) (nothing-added x)
+      ∙ ap (λ z. con (el d n) ⊞ x · z) (poly-cons 1 [] ∙ ap₂ (λ a b. a ⊞ x · b) (ap con (el-one d) ∙ con-one (𝔸 d)) poly-nil)
+      ∙ ap (λ z. con (el d n) ⊞ z) (nothing-added x)
 
   constant : (n : ℕ) → poly d (n ∷ 0 ∷ 0 ∷ []) ≡ con (el d n)
   constant n = poly-is d (n ∷ 0 ∷ 0 ∷ []) (con (el d n)) go
@@ -91,16 +91,16 @@ module _ (d : ℕ) where
       go (suc (suc (suc i))) = el-zero d ∙ sym (𝔸 d .coeff-con-suc (el d n) (suc (suc i)))
 
   -- a polynomial is a multiple of the variable plus a, and its value at a
-  nothing-left : (u : Poly d) → 𝟘 ≡ 𝟘 · u + 𝟘
+  nothing-left : (u : Poly d) → 𝟘 ≡ 𝟘 · u ⊞ 𝟘
   nothing-left u = simp (ring2, R)
 
-  pub value-left : (a : K d) (r : List ℕ) → (q : Poly d) × (poly d r ≡ q · (con a + x) + con (evaluate (F d .ring) (map (el d) r) a))
+  pub value-left : (a : K d) (r : List ℕ) → (q : Poly d) × (poly d r ≡ q · (con a ⊞ x) ⊞ con (evaluate (F d .ring) (map (el d) r) a))
   unfolding evaluate
-  value-left a [] = (𝟘, poly-nil ∙ nothing-left (con a + x) ∙ ap (λ z. 𝟘 · (con a + x) + z) (sym (con-nought (𝔸 d))))
+  value-left a [] = (𝟘, poly-nil ∙ nothing-left (con a ⊞ x) ∙ ap (λ z. 𝟘 · (con a ⊞ x) ⊞ z) (sym (con-nought (𝔸 d))))
   value-left a (n ∷ r) =
       let k = evaluate (F d .ring) (map (el d) r) a in
       let h = value-left a r in
-      (x · h .0 + con k, poly-cons n r ∙ next-value (𝔸 d) a (el d n) k (poly d r) (h .0) (h .1))
+      (x · h .0 ⊞ con k, poly-cons n r ∙ next-value (𝔸 d) a (el d n) k (poly d r) (h .0) (h .1))
 
 -- ---- the class of a point
 module _ (d : ℕ) (ok : Accepted d) {a y : ℕ} (v : K d) (is : a ≡ v .0) (r : Root d a y) where

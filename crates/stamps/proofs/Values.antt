@@ -4,7 +4,7 @@ use mathlib.Core.{Path._≡_, Path.refl, Path.sym, Path.ap, Path.ap₂, Path.sub
 use native.Mathlib.Omega.{arith}
 use lib.{Bits.bitXor, ListN.length, ListN.getD, ListN.drop, ListN.replicate}
 use Rattle.field_laws.specs.Ring.{Ring2}
-use Rattle.char2_algebra.proofs.Ring.{+-𝟘, 𝟘-+, ·-𝟘}
+use Rattle.char2_algebra.proofs.Ring.{⊞-𝟘, 𝟘-⊞, ·-𝟘}
 use Rattle.binary_field_theory.specs.{Carryless._⊕_, Element.Accepted, Element.product}
 use Rattle.binary_field_theory.proofs.{Sums.sum-zero, Products.product-zero}
 use Rattle.binary_field.specs.{Answer.reply, Answer.product-reply, declared.Answer.Answer, declared.Answer.the-variants.Element, declared.Answer.the-variants.Refused}
@@ -41,7 +41,7 @@ module _ (d : ℕ) where
   zeros : (n : ℕ) (t : K d) → evaluate (F d .ring) (map (el d) (replicate n 0)) t ≡ F d .ring .nought
   unfolding evaluate
   zeros zero t = refl
-  zeros (suc n) t = ap₂ (λ a b. F d .ring .add a (F d .ring .mul t b)) (el-zero d) (zeros n t) ∙ 𝟘-+ (F d .ring) _ ∙ ·-𝟘 (F d .ring) t
+  zeros (suc n) t = ap₂ (λ a b. F d .ring .add a (F d .ring .mul t b)) (el-zero d) (zeros n t) ∙ 𝟘-⊞ (F d .ring) _ ∙ ·-𝟘 (F d .ring) t
 
   filled-zeros : (f : List ℕ) (n : ℕ) (t : K d) → evaluate (F d .ring) (map (el d) (f ++ replicate n 0)) t ≡ evaluate (F d .ring) (map (el d) f) t
   unfolding evaluate

@@ -8,15 +8,15 @@ use Rattle.class_group.proofs.PairIdeal.{pair-ideal}
 use Rattle.class_group.proofs.Uniqueness.Identities.{member-norm-eq}
 
 module _ {P : Type 0} (R : Ring2 P) (f : P) where
-  open Ring2 R using (add as _+_, mul as _·_, nought as 𝟘, one as 𝟙)
+  open Ring2 R using (add as _⊞_, mul as _·_, nought as 𝟘, one as 𝟙)
 
-  infixl 60 _+_
+  infixl 60 _⊞_
   infixl 70 _·_
   abbrev pub S : Ring2 (P × P)
   S = coordinate R f
 
   -- u divides the norms of the members of its ideal
-  pub member-norm : (u v : P) → Divides R u (v · v + v + f) → (x : P × P) → pair-ideal R u v x → Divides R u (norm R f x)
+  pub member-norm : (u v : P) → Divides R u (v · v ⊞ v ⊞ f) → (x : P × P) → pair-ideal R u v x → Divides R u (norm R f x)
   unfolding norm
   member-norm u v d x h = (_, member-norm-eq R f u v (d .0) (x .0) (x .1) (h .0) (d .1) (h .1))
 

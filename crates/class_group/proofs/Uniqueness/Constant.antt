@@ -1,6 +1,6 @@
 -- Where γ I(u, v) = k I(u′, v′) with k in P and deg u and deg u′ at most 3, γ lies in P: with γ u = k δ and k u′ = γ ε, the norms of
 -- δ and ε have degrees that sum up to twice deg u + deg u′, at most 12, so one of them is at most 6.
-use Prim.Native.Nat.{suc, _≤_, _+_ as _+ℕ_}
+use Prim.Native.Nat.{suc, _≤_, _+_}
 use mathlib.Core.Path.{_≡_, sym, _∙_, ap}
 use native.Mathlib.Omega.{arith}
 use native.Mathlib.Decide.{decLe}
@@ -17,12 +17,12 @@ use Rattle.class_group.proofs.Uniqueness.Cleared.{S, member-norm, coord
 
 module _ {K P : Type 0} {F : Field2 K} (A : Polynomials F P) (f : P) (f-len : A .len f ≡ 8) where
   open Polynomials A using (ring as R, len)
-  open Ring2 (A .ring) using (add as _+_, mul as _·_, nought as 𝟘, one as 𝟙)
+  open Ring2 (A .ring) using (add as _⊞_, mul as _·_, nought as 𝟘, one as 𝟙)
 
-  infixl 60 _+_
+  infixl 60 _⊞_
   infixl 70 _·_
   module _ (u v u′ v′ k : P) (γ : P × P) (u≢𝟘 : ¬ (u ≡ 𝟘)) (u′≢𝟘 : ¬ (u′ ≡ 𝟘)) (k≢𝟘 : ¬ (k ≡ 𝟘))
-      (d : Divides R u (v · v + v + f)) (d′ : Divides R u′ (v′ · v′ + v′ + f))
+      (d : Divides R u (v · v ⊞ v ⊞ f)) (d′ : Divides R u′ (v′ · v′ ⊞ v′ ⊞ f))
       (forth : Carries (S R f) γ (k, 𝟘) (pair-ideal R u v) (pair-ideal R u′ v′))
       (back : Carries (S R f) (k, 𝟘) γ (pair-ideal R u′ v′) (pair-ideal R u v))
     where
@@ -59,16 +59,16 @@ module _ {K P : Type 0} {F : Field2 K} (A : Polynomials F P) (f : P) (f-len : A 
           ∙ ap (norm R f) ku′≡γε ∙ norm-mul R f γ ε ∙ ap (λ z. norm R f γ · z) (ε-norm .1)))
 
       -- so one of the two norms has degree at most 6
-      norms-len : len (norm R f δ) +ℕ len (norm R f ε) +ℕ 2 ≡ len u +ℕ len u′ +ℕ (len u +ℕ len u′)
+      norms-len : len (norm R f δ) + len (norm R f ε) + 2 ≡ len u + len u′ + (len u + len u′)
       norms-len =
           let n = δ-norm .0 in
           let m = ε-norm .0 in
           let nm≢𝟘 : ¬ (n · m ≡ 𝟘) = λ z. mul-nonzero A u u′ u≢𝟘 u′≢𝟘 (cofactors ∙ z) in
           let n≢𝟘 = left-nonzero A n m nm≢𝟘 in
           let m≢𝟘 = right-nonzero A n m nm≢𝟘 in
-          let a : suc (len (norm R f δ)) ≡ len n +ℕ len u′ = ap (λ z. suc (len z)) (δ-norm .1) ∙ len-mul A n u′ n≢𝟘 u′≢𝟘 in
-          let b : suc (len (norm R f ε)) ≡ len m +ℕ len u = ap (λ z. suc (len z)) (ε-norm .1) ∙ len-mul A m u m≢𝟘 u≢𝟘 in
-          let c : len u +ℕ len u′ ≡ len n +ℕ len m = sym (len-mul A u u′ u≢𝟘 u′≢𝟘) ∙ ap (λ z. suc (len z)) cofactors ∙ len-mul A n m n≢𝟘 m≢𝟘 in
+          let a : suc (len (norm R f δ)) ≡ len n + len u′ = ap (λ z. suc (len z)) (δ-norm .1) ∙ len-mul A n u′ n≢𝟘 u′≢𝟘 in
+          let b : suc (len (norm R f ε)) ≡ len m + len u = ap (λ z. suc (len z)) (ε-norm .1) ∙ len-mul A m u m≢𝟘 u≢𝟘 in
+          let c : len u + len u′ ≡ len n + len m = sym (len-mul A u u′ u≢𝟘 u′≢𝟘) ∙ ap (λ z. suc (len z)) cofactors ∙ len-mul A n m n≢𝟘 m≢𝟘 in
           omega arith
 
       from-δ : δ .1 ≡ 𝟘 → γ .1 ≡ 𝟘
@@ -83,7 +83,7 @@ module _ {K P : Type 0} {F : Field2 K} (A : Polynomials F P) (f : P) (f-len : A 
 
       pub constant : len u ≤ 4 → len u′ ≤ 4 → γ .1 ≡ 𝟘
       constant l l′ =
-          let a : len (norm R f δ) +ℕ len (norm R f ε) +ℕ 2 ≡ len u +ℕ len u′ +ℕ (len u +ℕ len u′) = norms-len in
+          let a : len (norm R f δ) + len (norm R f ε) + 2 ≡ len u + len u′ + (len u + len u′) = norms-len in
           elim (decLe (len (norm R f δ)) 7) [
             | yes s ↦ from-δ (norm-short A f f-len (δ .0) (δ .1) s)
             | no s ↦ from-ε (norm-short A f f-len (ε .0) (ε .1) (omega arith))

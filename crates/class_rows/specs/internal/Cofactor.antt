@@ -24,12 +24,12 @@ abbrev pub CofactorRow : (d : ℕ) → List ℕ → RowPair → List ℕ → Typ
 CofactorRow d f a w = (C : Theory.Curve (𝔸 d)) → OnCurve d f C → Stands d w (𝔸 d .quot (value C (poly d (a .v))) (poly d (a .u)))
 
 module _ (d : ℕ) where
-  open Ring2 (𝔸 d .ring) using (add as _+_, mul as _·_)
+  open Ring2 (𝔸 d .ring) using (add as _⊞_, mul as _·_)
 
-  infixl 60 _+_
+  infixl 60 _⊞_
   infixl 70 _·_
   -- u², and quotient and remainder of v² + f by it
   pub record SquaredRows (f : List ℕ) (a : RowPair) (r : Squared) : Type 0 where
     pub u-stands : Stands d (r .pair .u) (poly d (a .u) · poly d (a .u))
-    pub v-stands : Stands d (r .pair .v) (𝔸 d .rem (poly d (a .v) · poly d (a .v) + poly d f) (poly d (a .u) · poly d (a .u)))
-    pub quotient-stands : Stands d (r .quotient) (𝔸 d .quot (poly d (a .v) · poly d (a .v) + poly d f) (poly d (a .u) · poly d (a .u)))
+    pub v-stands : Stands d (r .pair .v) (𝔸 d .rem (poly d (a .v) · poly d (a .v) ⊞ poly d f) (poly d (a .u) · poly d (a .u)))
+    pub quotient-stands : Stands d (r .quotient) (𝔸 d .quot (poly d (a .v) · poly d (a .v) ⊞ poly d f) (poly d (a .u) · poly d (a .u)))

@@ -5,7 +5,7 @@ use mathlib.Core.Path.{_≡_, refl, sym, _∙_, ap, ap₂, subst}
 use native.Mathlib.{Omega.arith, Decide.decLe}
 use Rattle.field_laws.specs.{Ring.Ring2, Field.Field2, Division.inverse-of}
 use Rattle.char2_algebra.specs.{Polynomials.Polynomials, Lead.Monic, Square.sqrt}
-use Rattle.char2_algebra.proofs.{Ring.ring2, Ring.by, Ring.both, Ring.combine, Ring.+-𝟘, Ring.·-𝟘, Ring.·-𝟙, Degree.len-add, Degree.len-bound}
+use Rattle.char2_algebra.proofs.{Ring.ring2, Ring.by, Ring.both, Ring.combine, Ring.⊞-𝟘, Ring.·-𝟘, Ring.·-𝟙, Degree.len-add, Degree.len-bound}
 use Rattle.char2_algebra.proofs.{Degree.len-con-le, Product.len-mul-le, Division.rem-is, Lead.monic-top, Lead.monic-nonzero}
 use Rattle.class_group.specs.{Mumford.Pair, Half.Triple, Half.lift, Half.step, Half.halved, Half.quadratic, Half.half-of-degree-3, Half.first-lift}
 use Rattle.class_group.specs.{Half.stepped-of-degree-3, Half.lifted-half-of-degree-3}
@@ -41,12 +41,12 @@ module _ {B : Type 0} (R : Ring2 B) where
 module _ {K P : Type 0} {F : Field2 K} (A : Polynomials F P) where
   open Polynomials A using (ring, coeff, con, x, len, rem, quot)
   open Ring2 ring using (add as _⊞_, mul as _·_, nought as 𝟘, one as 𝟙)
-  open Ring2 (F .ring) using (add as _+ₖ_, mul as _·ₖ_, nought as 𝟘ₖ, one as 𝟙ₖ)
+  open Ring2 (F .ring) using (add as _⊞ₖ_, mul as _·ₖ_, nought as 𝟘ₖ, one as 𝟙ₖ)
   open Field2 F using (root)
 
   infixl 60 _⊞_
   infixl 70 _·_
-  infixl 60 _+ₖ_
+  infixl 60 _⊞ₖ_
   infixl 70 _·ₖ_
   zero-square : (c : K) → c ·ₖ (𝟘ₖ ·ₖ 𝟘ₖ) ≡ 𝟘ₖ
   zero-square c = ap (λ z. c ·ₖ z) (·-𝟘 (F .ring) 𝟘ₖ) ∙ ·-𝟘 (F .ring) c
@@ -72,10 +72,10 @@ module _ {K P : Type 0} {F : Field2 K} (A : Polynomials F P) where
       go : (i : ℕ) → n ≤ i → coeff (p ⊞ q) i ≡ 𝟘ₖ
       go i h =
           elim (decLe (suc n) i) [
-            | yes k ↦ A .coeff-add p q i ∙ ap₂ _+ₖ_ (A .len-past p i (omega arith)) (A .len-past q i (omega arith)) ∙ +-𝟘 (F .ring) 𝟘ₖ
+            | yes k ↦ A .coeff-add p q i ∙ ap₂ _⊞ₖ_ (A .len-past p i (omega arith)) (A .len-past q i (omega arith)) ∙ ⊞-𝟘 (F .ring) 𝟘ₖ
             | no k ↦
                 A .coeff-add p q i
-                ∙ ap₂ _+ₖ_ (monic-top A p i mp (omega arith)) (monic-top A q i mq (omega arith))
+                ∙ ap₂ _⊞ₖ_ (monic-top A p i mp (omega arith)) (monic-top A q i mq (omega arith))
                 ∙ F .ring .add-self 𝟙ₖ
           ]
 
@@ -118,7 +118,7 @@ module _ {K P : Type 0} {F : Field2 K} (A : Polynomials F P) where
       i = inverse-of F t n
 
       abbrev q : K
-      q = root (coeff (T .u) 1 +ₖ i)
+      q = root (coeff (T .u) 1 ⊞ₖ i)
 
       abbrev k : P
       k = quadratic A 𝟘ₖ i (q ·ₖ i)
@@ -128,7 +128,7 @@ module _ {K P : Type 0} {F : Field2 K} (A : Polynomials F P) where
 
       -- t² u + t x + t q + (x² + q²) L
       abbrev pub square : P
-      square = second-square A (T .u) L t q (coeff (T .u) 1 +ₖ i)
+      square = second-square A (T .u) L t q (coeff (T .u) 1 ⊞ₖ i)
 
       square-is : con (t ·ₖ t) · M ≡ square
       unfolding second-square
@@ -136,7 +136,7 @@ module _ {K P : Type 0} {F : Field2 K} (A : Polynomials F P) where
           square-of A (t ·ₖ t) k _ L (T .u)
           (quartic-is A (t ·ₖ t) _ _ _ _ _ _ (zero-square _) (squares-one (F .ring) t i inverts) (scaled-root (F .ring) t i q _ inverts (F .root-square _)))
           ∙ ap₂
-          (λ y z. y ⊞ z ⊞ even-quartic A 𝟘ₖ 𝟙ₖ (coeff (T .u) 1 +ₖ i) · L)
+          (λ y z. y ⊞ z ⊞ even-quartic A 𝟘ₖ 𝟙ₖ (coeff (T .u) 1 ⊞ₖ i) · L)
           (ap (λ z. con z · T .u) (F .root-square (coeff L 1)))
           (quadratic-is A (t ·ₖ t) _ _ _ _ _ _ (·-𝟘 (F .ring) _) (scaled-first (F .ring) t i inverts) (scaled-last (F .ring) t i q inverts))
         where

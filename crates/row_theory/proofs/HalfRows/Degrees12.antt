@@ -21,20 +21,20 @@ module _ {B : Type 0} (R : Ring2 B) where
 module _ {K P : Type 0} {F : Field2 K} (A : Polynomials F P) where
   open Polynomials A using (ring, coeff, con, len)
   open Ring2 ring using (add as _⊞_, mul as _·_, nought as 𝟘, one as 𝟙)
-  open Ring2 (F .ring) using (add as _+ₖ_, mul as _·ₖ_, nought as 𝟘ₖ, one as 𝟙ₖ)
+  open Ring2 (F .ring) using (add as _⊞ₖ_, mul as _·ₖ_, nought as 𝟘ₖ, one as 𝟙ₖ)
   open Field2 F using (root)
 
   infixl 60 _⊞_
   infixl 70 _·_
-  infixl 60 _+ₖ_
+  infixl 60 _⊞ₖ_
   infixl 70 _·ₖ_
   -- degree 1
   module _ (T : Triple P) where
     abbrev pub k-1 : P
-    k-1 = quadratic A (root (coeff (T .w) 5)) (root (coeff (T .w) 3)) (root (coeff (T .w) 1 +ₖ root (coeff (T .w) 3)))
+    k-1 = quadratic A (root (coeff (T .w) 5)) (root (coeff (T .w) 3)) (root (coeff (T .w) 1 ⊞ₖ root (coeff (T .w) 3)))
 
     abbrev pub m-1 : P
-    m-1 = even-quartic A (coeff (T .w) 5) (coeff (T .w) 3) (coeff (T .w) 1 +ₖ root (coeff (T .w) 3))
+    m-1 = even-quartic A (coeff (T .w) 5) (coeff (T .w) 3) (coeff (T .w) 1 ⊞ₖ root (coeff (T .w) 3))
 
     pub square-1 : con 𝟙ₖ · (T .w ⊞ k-1 ⊞ k-1 · k-1 · T .u) ≡ T .w ⊞ k-1 ⊞ m-1 · T .u
     square-1 =
@@ -87,10 +87,10 @@ module _ {K P : Type 0} {F : Field2 K} (A : Polynomials F P) where
     k1 = root (coeff (T .w) 3 ·ₖ i)
 
     abbrev pub k-2 : P
-    k-2 = quadratic A (root i) k1 (root ((coeff (T .w) 1 +ₖ k1) ·ₖ i))
+    k-2 = quadratic A (root i) k1 (root ((coeff (T .w) 1 ⊞ₖ k1) ·ₖ i))
 
     abbrev pub m-2 : P
-    m-2 = even-quartic A 𝟙ₖ (coeff (T .w) 3) (coeff (T .w) 1 +ₖ k1)
+    m-2 = even-quartic A 𝟙ₖ (coeff (T .w) 3) (coeff (T .w) 1 ⊞ₖ k1)
 
     pub square-2 : con u1 · (T .w ⊞ k-2 ⊞ k-2 · k-2 · T .u) ≡ con u1 · T .w ⊞ con u1 · k-2 ⊞ m-2 · T .u
     square-2 =

@@ -3,7 +3,7 @@ use Prim.Native.Nat.{ℕ, zero, suc, _+_, _≤_, _<_, _^_}
 use mathlib.Core.{Path._≡_, Path.sym, Path._∙_, Path.ap, Path.ap₂, Path.subst, List.List, List.[], List._∷_, List.map}
 use native.Mathlib.Omega.{arith}
 use Rattle.field_laws.specs.Ring.{Ring2}
-use Rattle.char2_algebra.proofs.{Ring.+-𝟘, Ring.·-𝟘, Degree.con-nought}
+use Rattle.char2_algebra.proofs.{Ring.⊞-𝟘, Ring.·-𝟘, Degree.con-nought}
 use Rattle.polynomial_lists.proofs.OfList.{of-nil, of-cons}
 use Rattle.class_group.specs.{Half.quadratic}
 use Rattle.row_theory.specs.{Field.degree-of, Field.K, Field.F, Field.Poly, Field.𝔸, Field.el, Field.poly, Row.InRange, Row.Stands, Row.row-len}
@@ -45,13 +45,13 @@ module _ (d : ℕ) where
   -- a 0 before a row: x times it, and nothing before nothing
   zero-stands : {r : List ℕ} {p : Poly d} → Stands d r p → Stands d (0 ∷ r) (𝔸 d .x · p)
   zero-stands {r} {p} s =
-      stands-eq d (ap (λ z. z ⊞ 𝔸 d .x · p) con-zero ∙ 𝔸 d .ring .add-comm 𝟘 _ ∙ +-𝟘 (𝔸 d .ring) _) (cons-stands (zero-lt d) s)
+      stands-eq d (ap (λ z. z ⊞ 𝔸 d .x · p) con-zero ∙ 𝔸 d .ring .add-comm 𝟘 _ ∙ ⊞-𝟘 (𝔸 d .ring) _) (cons-stands (zero-lt d) s)
 
   blank-stands : {r : List ℕ} → Stands d r 𝟘 → Stands d (0 ∷ r) 𝟘
   blank-stands s = stands-eq d (·-𝟘 (𝔸 d .ring) _) (zero-stands s)
 
   last-stands : {n : ℕ} {r : List ℕ} → n < 2 ^ degree-of d → Stands d r 𝟘 → Stands d (n ∷ r) (𝔸 d .con (el d n))
-  last-stands {n} h s = stands-eq d (ap (λ z. 𝔸 d .con (el d n) ⊞ z) (·-𝟘 (𝔸 d .ring) _) ∙ +-𝟘 (𝔸 d .ring) _) (cons-stands h s)
+  last-stands {n} h s = stands-eq d (ap (λ z. 𝔸 d .con (el d n) ⊞ z) (·-𝟘 (𝔸 d .ring) _) ∙ ⊞-𝟘 (𝔸 d .ring) _) (cons-stands h s)
 
   seven-zeros : Stands d (0 ∷ 0 ∷ 0 ∷ 0 ∷ 0 ∷ 0 ∷ 0 ∷ []) 𝟘
   seven-zeros = blank-stands (blank-stands (blank-stands (blank-stands (blank-stands (blank-stands (blank-stands nil-stands))))))

@@ -5,7 +5,7 @@ use native.Mathlib.{Omega.arith, Decide.ℕ-discrete}
 use lib.{ListN.length, ListN.getD, ListN.set, ListN.replicate, ListN.length-set, Seq.getD-set-same, Seq.getD-set-other}
 use Rattle.field_laws.specs.Ring.{Ring2}
 use Rattle.char2_algebra.specs.Lead.{lead}
-use Rattle.char2_algebra.proofs.{Ring.ring2, Ring.𝟘-+, Ring.𝟘-·, Ring.+-𝟘, Ring.·-𝟘, Ring.·-𝟙, Ring.·-assoc, Ring.·-comm, Degree.con-mul}
+use Rattle.char2_algebra.proofs.{Ring.ring2, Ring.𝟘-⊞, Ring.𝟘-·, Ring.⊞-𝟘, Ring.·-𝟘, Ring.·-𝟙, Ring.·-assoc, Ring.·-comm, Degree.con-mul}
 use Rattle.char2_algebra.proofs.Division.{rem-is, quot-is}
 use Rattle.row_theory.specs.{Field.K, Field.F, Field.Poly, Field.𝔸, Field.el, Field.poly, internal.Elements.Is, internal.Elements.Inverts, Row.InRange, Row.Stands, Row.row-len, internal.Elements.x-power}
 use Rattle.row_theory.proofs.{Rows.Elements.zero-lt, Rows.Elements.el-zero, Rows.Elements.zero-of-nought, Rows.Answers.inverts-eq, Rows.Coefficients.coeff-poly}
@@ -57,7 +57,7 @@ module _ {d : ℕ} {low : List ℕ} {top inverse : ℕ} where
             λ g v. sym
             (ap (λ z. 𝔸 d .ring .add (𝔸 d .ring .mul z g) (poly d r)) (zeros-poly d 12)
             ∙ ap (λ z. 𝔸 d .ring .add z (poly d r)) (𝟘-· (𝔸 d .ring) g)
-            ∙ 𝟘-+ (𝔸 d .ring) (poly d r));
+            ∙ 𝟘-⊞ (𝔸 d .ring) (poly d r));
       }
 
   module _ {p : Poly d} {q r : List ℕ} {k : ℕ} (v : Dividing d low top inverse p q r k) (h : top < k) (h' : k ≤ 12) where
@@ -88,7 +88,7 @@ module _ {d : ℕ} {low : List ℕ} {top inverse : ℕ} where
           ∙ ap (λ y. 𝔸 d .coeff y i) (u .stands)
           ∙ 𝔸 d .coeff-add _ _ i
           ∙ ap₂ (F d .ring .add) (coeff-poly d (set r (k - 1) 0) i ∙ ap (el d) (struck i m (ℕ-discrete i (k - 1))) ∙ el-zero d) (𝔸 d .coeff-con-mul (el d c) _ i ∙ ap (F d .ring .mul (el d c)) (coeff-shift-past d (k - 1 - top) top i (poly d low) low-len (omega arith)) ∙ ·-𝟘 (F d .ring) (el d c))
-          ∙ +-𝟘 (F d .ring) (F d .ring .nought)
+          ∙ ⊞-𝟘 (F d .ring) (F d .ring .nought)
 
       balance : (g : Poly d) → IsDivisor d low top inverse g → p ≡ 𝔸 d .ring .add (𝔸 d .ring .mul (poly d (set q (k - 1 - top) c)) g) (poly d t)
       balance g w =

@@ -5,7 +5,7 @@ use native.Mathlib.Omega.{arith}
 use lib.ListN.{length, getD, set}
 use Rattle.field_laws.specs.Ring.{Ring2}
 use Rattle.char2_algebra.specs.Lead.{lead, monic-of}
-use Rattle.char2_algebra.proofs.{Ring.ring2, Ring.𝟘-+, Ring.𝟙-·, Ring.·-𝟘, Ring.·-comm, Degree.con-mul, Degree.con-one, Lead.monic-of-scaled}
+use Rattle.char2_algebra.proofs.{Ring.ring2, Ring.𝟘-⊞, Ring.𝟙-·, Ring.·-𝟘, Ring.·-comm, Degree.con-mul, Degree.con-one, Lead.monic-of-scaled}
 use Rattle.row_theory.specs.{Field.F, Field.𝔸, Field.el, Field.poly, internal.Elements.Inverts, Row.Stands, internal.Elements.x-power}
 use Rattle.row_theory.proofs.{Rows.Elements.one-lt, Rows.Elements.el-zero, Rows.Elements.el-one, Rows.Answers.inverts-eq, Rows.Coefficients.coeff-poly, Rows.Coefficients.self-stands}
 use Rattle.row_theory.proofs.{Rows.Coefficients.stands-eq, Rows.Fill.range-set, Rows.Shift.poly-set, Rows.Lead.Leads, Rows.Lead.lead-row}
@@ -37,7 +37,7 @@ module _ {d : ℕ} {r : List ℕ} {top : ℕ} (s : Leads d r top) where
       record {
         in-range = range-set d t top 1 h (u .in-range) (one-lt d);
         stands =
-            poly-set d t top 1 (F d .ring .one) h (el-one d ∙ sym (ap (λ y. F d .ring .add y (F d .ring .one)) t-top ∙ 𝟘-+ (F d .ring) (F d .ring .one)))
+            poly-set d t top 1 (F d .ring .one) h (el-one d ∙ sym (ap (λ y. F d .ring .add y (F d .ring .one)) t-top ∙ 𝟘-⊞ (F d .ring) (F d .ring .one)))
             ∙ ap₂ (𝔸 d .ring .add) (u .stands) (ap (λ y. 𝔸 d .ring .mul y (x-power d top)) (ap (𝔸 d .con) (sym one-is) ∙ con-mul (𝔸 d) (el d i) (el d (getD r top 0))))
             ∙ sym (scale-split (𝔸 d .ring) (𝔸 d .con (el d i)) (𝔸 d .con (el d (getD r top 0))) (poly d (set r top 0)) (x-power d top))
             ∙ ap (𝔸 d .ring .mul (𝔸 d .con (el d i))) (sym (row-split s))

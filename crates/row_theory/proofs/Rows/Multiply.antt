@@ -4,7 +4,7 @@ use mathlib.Core.{Path._≡_, Path.sym, Path._∙_, Path.ap, Path.ap₂, List.Li
 use native.Mathlib.{Omega.arith, Decide.ℕ-discrete, Decide.decLe}
 use lib.ListN.{getD, replicate}
 use Rattle.field_laws.specs.Ring.{Ring2}
-use Rattle.char2_algebra.proofs.{Ring.ring2, Ring.+-𝟘, Ring.𝟘-+, Ring.𝟘-·, Degree.coeff-nought}
+use Rattle.char2_algebra.proofs.{Ring.ring2, Ring.⊞-𝟘, Ring.𝟘-⊞, Ring.𝟘-·, Degree.coeff-nought}
 use Rattle.row_theory.specs.{Field.F, Field.Poly, Field.𝔸, Field.el, Field.poly, Row.InRange, Row.Stands, internal.Elements.x-power, Row.row-len}
 use Rattle.row_theory.proofs.{Rows.Coefficients.coeff-poly, Rows.Fill.zeros-range, Rows.Fill.zeros-poly, Rows.Shift.monomial-at, Rows.Shift.monomial-off}
 
@@ -39,7 +39,7 @@ module _ {d : ℕ} {a b : List ℕ} where
         range = u .in-range;
         front = 𝔸 d .ring .add (s .front) m;
         below = λ j h. 𝔸 d .coeff-add (s .front) m j ∙ at j h (ℕ-discrete j i);
-        above = λ j h. 𝔸 d .coeff-add (s .front) m j ∙ ap₂ (F d .ring .add) (s .above j (omega arith)) (monomial-off d _ i j (λ e. absurd (omega arith))) ∙ +-𝟘 (F d .ring) _;
+        above = λ j h. 𝔸 d .coeff-add (s .front) m j ∙ ap₂ (F d .ring .add) (s .above j (omega arith)) (monomial-off d _ i j (λ e. absurd (omega arith))) ∙ ⊞-𝟘 (F d .ring) _;
         product = u .stands ∙ ap (λ z. 𝔸 d .ring .add z (𝔸 d .ring .mul (𝔸 d .con (el d (getD a i 0))) (𝔸 d .ring .mul (x-power d i) (poly d b)))) (s .product) ∙ one-more (𝔸 d .ring) (s .front) (𝔸 d .con (el d (getD a i 0))) (x-power d i) (poly d b);
       }
     where
@@ -47,8 +47,8 @@ module _ {d : ℕ} {a b : List ℕ} where
       m = 𝔸 d .ring .mul (𝔸 d .con (el d (getD a i 0))) (x-power d i)
 
       at : (j : ℕ) → j < i + 1 → Dec (j ≡ i) → F d .ring .add (𝔸 d .coeff (s .front) j) (𝔸 d .coeff m j) ≡ el d (getD a j 0)
-      at j h (yes e) = rw e (ap₂ (F d .ring .add) (s .above i (omega arith)) (monomial-at d _ i) ∙ 𝟘-+ (F d .ring) _)
-      at j h (no e) = ap₂ (F d .ring .add) (s .below j (omega arith)) (monomial-off d _ i j e) ∙ +-𝟘 (F d .ring) _
+      at j h (yes e) = rw e (ap₂ (F d .ring .add) (s .above i (omega arith)) (monomial-at d _ i) ∙ 𝟘-⊞ (F d .ring) _)
+      at j h (no e) = ap₂ (F d .ring .add) (s .below j (omega arith)) (monomial-off d _ i j e) ∙ ⊞-𝟘 (F d .ring) _
 
   pub partial-end : {r : List ℕ} {i : ℕ} → Partial d a b r i → row-len d a ≤ i → Stands d r (𝔸 d .ring .mul (poly d a) (poly d b))
   partial-end {r} {i} s h =

@@ -3,7 +3,7 @@ use Prim.Native.Nat.{ℕ, zero, suc, _+_, _≤_, _<_}
 use mathlib.Core.{Path._≡_, Path.refl, Path.sym, Path._∙_, Path.ap, Path.ap₂, List.List}
 use native.Mathlib.{Omega.arith, Decide.ℕ-discrete}
 use lib.{ListN.length, ListN.getD, ListN.set, Seq.getD-set-same, Seq.getD-set-other}
-use Rattle.char2_algebra.proofs.{Ring.+-𝟘, Ring.𝟘-+, Ring.·-𝟙, Ring.𝟙-·, Ring.·-𝟘, Ring.·-assoc, Degree.coeff-one, Degree.coeff-one-suc}
+use Rattle.char2_algebra.proofs.{Ring.⊞-𝟘, Ring.𝟘-⊞, Ring.·-𝟙, Ring.𝟙-·, Ring.·-𝟘, Ring.·-assoc, Degree.coeff-one, Degree.coeff-one-suc}
 use Rattle.row_theory.specs.{Field.K, Field.F, Field.Poly, Field.𝔸, Field.el, Field.poly, internal.Elements.x-power}
 use Rattle.row_theory.proofs.{Rows.Elements.el-zero, Rows.Coefficients.coeff-poly, Rows.Coefficients.poly-is}
 
@@ -67,7 +67,7 @@ module _ (d : ℕ) where
     where
       go : (j : ℕ) → Dec (j ≡ i) → el d (getD (set r i v) j 0) ≡ F d .ring .add (𝔸 d .coeff (poly d r) j) (𝔸 d .coeff (𝔸 d .ring .mul (𝔸 d .con a) (x-power d i)) j)
       go j (yes w) = rw w (ap (el d) (getD-set-same r i v 0 h) ∙ e ∙ ap₂ (F d .ring .add) (sym (coeff-poly d r i)) (sym (monomial-at a i)))
-      go j (no w) = ap (el d) (getD-set-other r i j v 0 w) ∙ sym (coeff-poly d r j) ∙ sym (+-𝟘 (F d .ring) _) ∙ ap (F d .ring .add (𝔸 d .coeff (poly d r) j)) (sym (monomial-off a i j w))
+      go j (no w) = ap (el d) (getD-set-other r i j v 0 w) ∙ sym (coeff-poly d r j) ∙ sym (⊞-𝟘 (F d .ring) _) ∙ ap (F d .ring .add (𝔸 d .coeff (poly d r) j)) (sym (monomial-off a i j w))
 
   -- a 0 filled in, and a number struck out
   pub poly-set-zero :
@@ -75,7 +75,7 @@ module _ (d : ℕ) where
       → i < length r
       → getD r i 0 ≡ 0
       → poly d (set r i v) ≡ 𝔸 d .ring .add (poly d r) (𝔸 d .ring .mul (𝔸 d .con (el d v)) (x-power d i))
-  poly-set-zero r i v h e = poly-set r i v (el d v) h (sym (ap (λ z. F d .ring .add z (el d v)) (ap (el d) e ∙ el-zero d) ∙ 𝟘-+ (F d .ring) (el d v)))
+  poly-set-zero r i v h e = poly-set r i v (el d v) h (sym (ap (λ z. F d .ring .add z (el d v)) (ap (el d) e ∙ el-zero d) ∙ 𝟘-⊞ (F d .ring) (el d v)))
 
   pub poly-strike :
       (r : List ℕ) (i : ℕ)

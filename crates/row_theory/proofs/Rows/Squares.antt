@@ -12,20 +12,20 @@ use Rattle.row_theory.proofs.{Rows.Elements.is-eq, Rows.Coefficients.co
 module _ (d : ℕ) where
   open Polynomials (𝔸 d) using (ring, coeff, con, len)
   open Ring2 (𝔸 d .ring) using (add as _⊞_, mul as _·_)
-  open Ring2 (F d .ring) using (add as _⊕_, mul as _⊙_, nought as 𝟎)
+  open Ring2 (F d .ring) using (add as _⊞ₖ_, mul as _·ₖ_, nought as 𝟘ₖ)
 
   infixl 60 _⊞_
   infixl 70 _·_
-  infixl 60 _⊕_
-  infixl 70 _⊙_
+  infixl 60 _⊞ₖ_
+  infixl 70 _·ₖ_
   -- the square
-  pub squared-at : (r : List ℕ) (i : ℕ) {v : ℕ} → Is d v (el d (getD r i 0) ⊙ el d (getD r i 0)) → Is d v (coeff (poly d r · poly d r) (i + i))
-  squared-at r i = is-eq d (sym (coeff-square-even (𝔸 d) i (poly d r) ∙ ap₂ _⊙_ (coeff-poly d r i) (coeff-poly d r i)))
+  pub squared-at : (r : List ℕ) (i : ℕ) {v : ℕ} → Is d v (el d (getD r i 0) ·ₖ el d (getD r i 0)) → Is d v (coeff (poly d r · poly d r) (i + i))
+  squared-at r i = is-eq d (sym (coeff-square-even (𝔸 d) i (poly d r) ∙ ap₂ _·ₖ_ (coeff-poly d r i) (coeff-poly d r i)))
 
-  pub squared-odd : (p : Poly d) (i : ℕ) → coeff (p · p) (i + i + 1) ≡ 𝟎
+  pub squared-odd : (p : Poly d) (i : ℕ) → coeff (p · p) (i + i + 1) ≡ 𝟘ₖ
   squared-odd p i = let e : i + i + 1 ≡ suc (i + i) = omega arith in ap (coeff (p · p)) e ∙ coeff-square-odd (𝔸 d) i p
 
-  pub squared-past : (p : Poly d) (n i : ℕ) → len p ≤ n → n + n ≤ i → coeff (p · p) i ≡ 𝟎
+  pub squared-past : (p : Poly d) (n i : ℕ) → len p ≤ n → n + n ≤ i → coeff (p · p) i ≡ 𝟘ₖ
   squared-past p n i h k =
       𝔸 d .len-past (p · p) i (go n h k)
     where
@@ -37,5 +37,5 @@ module _ (d : ℕ) where
   pub root-at : (r : List ℕ) (i : ℕ) {v : ℕ} → Is d v (F d .root (el d (getD r (i + i) 0))) → Is d v (coeff (sqrt (𝔸 d) (poly d r)) i)
   root-at r i = is-eq d (sym (coeff-of-sqrt (𝔸 d) (poly d r) i ∙ ap (F d .root) (coeff-poly d r (i + i))))
 
-  pub root-past : (p : Poly d) (i : ℕ) → len p ≤ i + i → coeff (sqrt (𝔸 d) p) i ≡ 𝟎
+  pub root-past : (p : Poly d) (i : ℕ) → len p ≤ i + i → coeff (sqrt (𝔸 d) p) i ≡ 𝟘ₖ
   root-past p i h = coeff-of-sqrt (𝔸 d) p i ∙ ap (F d .root) (𝔸 d .len-past p (i + i) h) ∙ root-nought (F d)
