@@ -5,7 +5,7 @@ use mathlib.Core.Path.{_≡_, refl, sym, ap, _∙_, subst}
 use mathlib.Core.List.{List, [], _++_}
 use native.Mathlib.Nat.{le-refl}
 use lib.ListN.{length}
-use Rattle.class_group.specs.Walk.{All}
+use Rattle.lists.specs.Lists.{All}
 use Rattle.jacobian.specs.declared.{Curve.Curve, Class.Class}
 use Rattle.stored_form.specs.{Number.Bytes, Reading.found, Fields.drawing-field, Fields.count-field, Classes.curve-first-fields, Classes.class-field, Classes.operation-fields}
 use Rattle.stored_form.specs.{Passing.CurvePasses, Passing.DrawingPasses, Passing.CountPasses, Passing.ClassPasses, Records.read-fields, Records.archive-opening, declared.Held.Held}

@@ -3,7 +3,7 @@
 use Prim.Native.Nat.{ℕ}
 use mathlib.Core.Path.{_≡_, sym, ap, _∙_, subst}
 use mathlib.Core.List.{List}
-use Rattle.class_group.specs.Walk.{All}
+use Rattle.lists.specs.Lists.{All}
 use Rattle.jacobian.specs.declared.Class.{Class}
 use Rattle.jacobian.specs.Answer.{Accepts}
 use Rattle.stored_form.specs.{Reading.found, Held.nothing-held, Tags.rules, Records.read-fields, Records.read-operations, Records.archive-opening, declared.Held.Held}

@@ -10,12 +10,12 @@ use mathlib.Core.List.{List, _∷_, _++_}
 use native.Mathlib.Omega.{arith}
 use lib.{ListN.length, ListN.getD, ListN.set, ListN.length-append, ListN.length-drop, Seq.set-split, Seq.split-at}
 use Rattle.class_group.specs.Group.{CommutativeGroup, Doubling, Halving}
-use Rattle.class_group.specs.{Multiples.repeat, Multiples.weighted-sum}
-use Rattle.class_group.specs.Walk.{All, none, more, ChangedAt, after, forward, Reversible}
+use Rattle.lists.specs.{Lists.All, Lists.none, Lists.more, Lists.ChangedAt, Walk.after, Walk.Reversible}
+use Rattle.class_group.specs.Multiples.{repeat, weighted-sum, forward}
 use Rattle.class_group.proofs.GroupLaws.{sums, add-subtract, subtract-add, neutral-sum, cancel-left, cancel-right, eq-of-difference, interchange}
 use Rattle.class_group.proofs.Doublings.{double-member, half-double, repeat-inner, doublings-member, doublings-sum, doublings-opposite, doublings-neutral, doublings-injective}
-use Rattle.class_group.proofs.All.{all-take, all-drop, all-head, all-split, all-at, changed-members}
-use Rattle.class_group.proofs.Walk.{after-append, after-member, after-injective}
+use Rattle.lists.proofs.Lists.{all-take, all-drop, all-head, all-split, all-at, changed-members}
+use Rattle.lists.proofs.Walk.{after-append, after-member, after-injective}
 
 module _ {X : Type 0} {Member : X → Type 0} {_⊞_ : X → X → X} {nought : X} {minus double : X → X} (D : Doubling Member _⊞_ nought minus double) where
   infixl 60 _⊞_

@@ -1,12 +1,10 @@
 -- The theory of classes. The curve has no singular point;
 pub mod NonSingular
--- commutative groups: multiples, doublings, halvings, and walks by a rule and back;
+-- commutative groups: multiples, doublings, halvings, and one changed element of a walk;
 pub mod GroupLaws
 pub mod Multiples
 pub mod Doublings
 pub mod Digits
-pub mod All
-pub mod Walk
 pub mod Displacement
 -- the coordinate ring and its ideals, and what composition, reduction and uniqueness mean there;
 pub mod Coordinate

@@ -5,7 +5,8 @@
 use mathlib.Core.Path.{_≡_, refl}
 use Rattle.field_laws.specs.Field.{Field2}
 use Rattle.char2_algebra.specs.Polynomials.{Polynomials}
-use Rattle.class_group.specs.{Curve.Curve, Mumford.Pair, Mumford.Reduced, Walk.Reversible, Operations.sum, Operations.double}
+use Rattle.lists.specs.Walk.{Reversible}
+use Rattle.class_group.specs.{Curve.Curve, Mumford.Pair, Mumford.Reduced, Operations.sum, Operations.double}
 use Rattle.class_group.specs.Moves.{double-and-add, subtract-and-halve, counted-double-and-add, counted-subtract-and-halve}
 use Rattle.class_group.proofs.{Halving.class-halving, Displacement.reversible}
 

@@ -9,5 +9,4 @@ pub mod Coefficients
 pub mod Group
 pub mod Multiples
 pub mod Moves
-pub mod Walk
 pub mod NonSingular

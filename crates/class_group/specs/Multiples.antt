@@ -1,7 +1,8 @@
--- n-fold sums, doublings and halvings.
+-- n-fold sums, doublings and halvings, and the walk by double and add.
 use Prim.Native.Nat.{ℕ, zero, suc}
 use mathlib.Core.List.{List, [], _∷_}
 use lib.ListN.{length}
+use Rattle.lists.specs.Walk.{after}
 
 -- a step taken k times: k doublings, k halvings
 unfoldable pub repeat : {X : Type 0} → (X → X) → ℕ → X → X
@@ -21,3 +22,9 @@ module _ {X : Type 0} (_⊞_ : X → X → X) (neutral : X) (double : X → X) w
   unfoldable pub weighted-sum : List X → X
   weighted-sum [] = neutral
   weighted-sum (d ∷ l) = repeat double (length l) d ⊞ weighted-sum l
+
+module _ {X : Type 0} (_⊞_ : X → X → X) (double : X → X) where
+  infixl 60 _⊞_
+  -- the walk by double and add
+  abbrev pub forward : X → List X → X
+  forward s l = after (λ s d. double s ⊞ d) s l

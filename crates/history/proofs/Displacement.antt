@@ -9,9 +9,9 @@ use mathlib.Core.Path.{_≡_, refl, sym, _∙_, ap, ap₂, subst}
 use mathlib.Core.List.{List, [], _∷_, _++_, reverse, reverse-reverse}
 use native.Mathlib.Omega.{arith}
 use lib.ListN.{length, length-append, length-map, length-reverse}
-use Rattle.class_group.specs.Walk.{All, none, more, ChangedAt, after, forward}
-use Rattle.class_group.specs.{Group.Doubling, Multiples.repeat, Multiples.multiple}
-use Rattle.class_group.proofs.{All.all-reverse, All.changed-members, Walk.after-agrees, Walk.after-state, Walk.after-back, Walk.turned}
+use Rattle.lists.specs.{Lists.All, Lists.none, Lists.more, Lists.ChangedAt, Walk.after}
+use Rattle.class_group.specs.{Group.Doubling, Multiples.repeat, Multiples.multiple, Multiples.forward}
+use Rattle.lists.proofs.{Lists.all-reverse, Lists.changed-members, Walk.after-agrees, Walk.after-state, Walk.after-back, Walk.turned}
 use Rattle.class_group.proofs.Displacement as group
 use Rattle.jacobian.specs.{Answer.Verdict, Answer.accepted, Answer.refused, Answer.Accepts, Answer.result, Answer.gives, Answer.neutral-class, Answer.sum-answer}
 use Rattle.jacobian.specs.Group.{sum-of, opposite-of, double-of, difference, doublings}

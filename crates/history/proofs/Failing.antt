@@ -1,7 +1,7 @@
 -- A register that itself fails a check is refused by every call of a list with that check's number and stays as it was (docs/SPECIFICATION.md, 11).
 use mathlib.Core.Path.{_≡_, refl, sym, _∙_, ap}
 use mathlib.Core.List.{List, [], _∷_, map}
-use Rattle.class_group.specs.Walk.{after}
+use Rattle.lists.specs.Walk.{after}
 use Rattle.jacobian.specs.Answer.{refused}
 use Rattle.jacobian.proofs.ByValue.Checks.{first-due}
 use Rattle.history.specs.Register.{register-refusal, step-refusal, RegisterReply, stepped, follows, step-answer}

@@ -1,5 +1,4 @@
 -- Demand 3 of commits, undos and walks: one step, a whole list taken back, the walk back; and what the calls rest on.
-pub mod All
 pub mod Machine
 pub mod Seals
 pub mod Registers

@@ -8,7 +8,7 @@ use mathlib.Core.Path.{_≡_, refl, _∙_, subst}
 use mathlib.Core.List.{List, [], _∷_}
 use native.Mathlib.Omega.{arith}
 use lib.ListN.{length}
-use Rattle.class_group.specs.Walk.{All, none, more}
+use Rattle.lists.specs.Lists.{All, none, more}
 use Rattle.class_group.specs.Mumford.{Reduced}
 use Rattle.jacobian.specs.{Curves.curve-refusal, Curves.curve, Classes.pair, Classes.class-refusal, Answer.Verdict, Answer.accepted, Answer.refused, Answer.Accepts, declared.Curve.Curve, declared.Class.Class}
 use Rattle.jacobian.proofs.Representation.{accepts-both, accepted-reduced}
@@ -16,7 +16,7 @@ use Rattle.history.specs.Register.{register-refusal, other, step-answer}
 use Rattle.history.specs.Machine as definition
 use Rattle.history.specs.Calls.{Call, answer, registers, Event, run, last, newest, classes}
 use Rattle.history.specs.declared.{Register.Register, Step.Step}
-use Rattle.class_group.proofs.All.{all-reverse}
+use Rattle.lists.proofs.Lists.{all-reverse}
 use Rattle.history.proofs.Machine.Run.{run-all, last-holds, all-accepted}
 use Rattle.history.proofs.Registers.{Passes, register-passes, passes-register}
 use Rattle.history.proofs.OneStep.{step-taken-back}

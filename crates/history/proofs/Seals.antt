@@ -1,7 +1,7 @@
 -- The two rules on seals by value: from an accepted seal and an accepted class each gives an accepted class (`commit-sound`, `undo-sound`), and they
 -- take each other back (`undo-of-commit`, `commit-of-undo`; together `reversible`). The rules are those of jacobian's calls; the first is twice the seal plus the class (`commit-sum`).
 use mathlib.Core.Path.{_≡_, sym, _∙_, ap, subst}
-use Rattle.class_group.specs.Walk.{Reversible}
+use Rattle.lists.specs.Walk.{Reversible}
 use Rattle.jacobian.specs.Answer.{Accepts, Result, double-and-add-answer, subtract-and-halve-answer}
 use Rattle.jacobian.specs.Group.{sum-of, double-of}
 use Rattle.jacobian.specs.declared.{Curve.Curve, Class.Class}

@@ -5,7 +5,7 @@ use mathlib.Core.Path.{_≡_, refl, sym, _∙_, ap}
 use mathlib.Core.List.{List, [], _∷_, map}
 use native.Mathlib.Omega.{arith}
 use lib.ListN.{length, take, getD}
-use Rattle.class_group.specs.Walk.{All, none, more, after, walk}
+use Rattle.lists.specs.{Lists.All, Lists.none, Lists.more, Walk.after, Walk.walk}
 use Rattle.jacobian.specs.{Answer.accepted, Answer.Result, Answer.result, Answer.refusal, Answer.refusal-of-two, Answer.subtract-and-halve-answer}
 use Rattle.jacobian.specs.declared.{Curve.Curve, Class.Class}
 use Rattle.jacobian.proofs.Representation.Unrefused.{zero-then}

@@ -4,13 +4,13 @@
 -- `curve-kept`, `taken-back-curve`: degree and curve never change. All this is of machines (Machine); a register is one by `reversible`.
 use mathlib.Core.Path.{_≡_, refl, _∙_, subst}
 use mathlib.Core.List.{List, map}
-use Rattle.class_group.specs.Walk.{All}
+use Rattle.lists.specs.Lists.{All}
 use Rattle.jacobian.specs.Answer.{accepted}
 use Rattle.history.specs.Machine.{accepted-of, event}
 use Rattle.history.specs.Calls.{Call, back, registers, run, last, newest, backs, taken-back, turned}
 use Rattle.history.specs.Machine as definition
 use Rattle.history.specs.declared.Register.{Register}
-use Rattle.history.proofs.All.{every}
+use Rattle.lists.proofs.Lists.{every}
 use Rattle.history.proofs.Machine.Run.{run-all, last-holds}
 use Rattle.history.proofs.Machine.TakingBack as machine
 use Rattle.history.proofs.OneCall.{answer-curve, reversible}

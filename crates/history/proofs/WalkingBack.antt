@@ -6,13 +6,13 @@ use Prim.Native.Nat.{ℕ, _≤_}
 use mathlib.Core.Path.{_≡_, refl, sym, _∙_, ap, ap₂}
 use mathlib.Core.List.{List, [], _∷_, map, map-map}
 use lib.ListN.{length, take, getD, length-map}
-use Rattle.class_group.specs.Walk.{All, none, more, walk}
+use Rattle.lists.specs.{Lists.All, Lists.none, Lists.more, Walk.walk}
 use Rattle.jacobian.specs.Answer.{accepted, Result}
 use Rattle.history.specs.Register.{limit, undo-seal, other}
 use Rattle.history.specs.Machine as definition
 use Rattle.history.specs.Calls.{Call, undo, back, Event, run, last, newest, backs, taken-back, turned, classes, OnlyCommits, seals-back, walk-back, steps-back, met}
 use Rattle.history.specs.declared.Register.{Register}
-use Rattle.history.proofs.All.{all-map}
+use Rattle.lists.proofs.Lists.{all-map}
 use Rattle.history.proofs.Steps.{undos-steps, undos-few, steps-walk, walk-at, steps-take}
 use Rattle.history.proofs.TakingBack.{last-curve, taken-back-turned, taken-back-accepted}
 

@@ -2,7 +2,7 @@
 use Prim.Native.Nat.{ℕ}
 use mathlib.Core.Path.{_≡_}
 use mathlib.Core.List.{List, [], _∷_, map, reverse}
-use Rattle.class_group.specs.Walk.{All, ChangedAt, after}
+use Rattle.lists.specs.{Lists.All, Lists.ChangedAt, Walk.after}
 use Rattle.jacobian.specs.{Answer.accepted, Answer.Result, Answer.result, Answer.sum-answer, Answer.subtract-and-halve-answer, Group.difference, Group.doublings}
 use Rattle.jacobian.specs.declared.{Curve.Curve, Class.Class}
 use Rattle.history.specs.Register.{RegisterReply, step-answer, other, undo-seal}

@@ -2,7 +2,7 @@
 use Prim.Native.Nat.{ℕ}
 use mathlib.Core.Path.{_≡_}
 use mathlib.Core.List.{List, [], _∷_, map, reverse}
-use Rattle.class_group.specs.Walk.{after}
+use Rattle.lists.specs.Walk.{after}
 use Rattle.jacobian.specs.Answer.{Verdict, accepted, refused}
 
 -- what a machine in a state answers to a call: an outcome, and the state that follows

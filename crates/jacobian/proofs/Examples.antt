@@ -5,6 +5,7 @@ use mathlib.Core.Bool.{Bool, true, _&&_}
 use mathlib.Core.List.{List, [], _∷_}
 use lib.Dec.{T, eqb, eqb→eq}
 use mir.Facts.{and-yes}
+use Rattle.lists.specs.Lists.{All, none, more}
 use Rattle.binary_field_theory.specs.Element.{Accepted}
 use Rattle.class_group.specs.Mumford.{Pair}
 use Rattle.class_group.specs.Operations.{double, sum}
@@ -15,7 +16,7 @@ use Rattle.jacobian.specs.declared.Class.{Class}
 use Rattle.jacobian.specs.Curves.{curve}
 use Rattle.jacobian.specs.Classes.{pair}
 use Rattle.jacobian.specs.Answer.{Result, result, accepted, refused, membership-answer, double-answer, half-answer, sum-answer}
-use Rattle.jacobian.specs.Examples.{Example, twice-is, half-is, sum-is, on-and-not-on, Gives, Holds, All-hold, table}
+use Rattle.jacobian.specs.Examples.{Example, twice-is, half-is, sum-is, on-and-not-on, Gives, Holds, table}
 use Rattle.jacobian.proofs.ByValue.Degrees.{by-degree}
 use Rattle.jacobian.proofs.Computing.{computing}
 use Rattle.jacobian.proofs.Examples.Compare.{alike-pairs, pairs-eq, alike-verdicts, verdicts-eq, alike-results, results-eq}
@@ -56,12 +57,12 @@ test-holds (on-and-not-on c e a) t =
     let h = and-yes (alike-verdicts (membership-answer c a) accepted) (alike-verdicts (membership-answer e a) (refused 111)) t in
     (verdicts-eq (membership-answer c a) accepted (h .0), verdicts-eq (membership-answer e a) (refused 111) (h .1))
 
-all-hold : (es : List Example) → T (test-all es) → All-hold es
-all-hold [] t = tt
+all-hold : (es : List Example) → T (test-all es) → All Holds es
+all-hold [] t = none
 all-hold (e ∷ es) t =
     let h = and-yes (test e) (test-all es) t in
-    (test-holds e (h .0), all-hold es (h .1))
+    more (test-holds e (h .0)) (all-hold es (h .1))
 
 -- the twelve examples, over either field (docs/SPECIFICATION.md, 2.9)
-pub examples : (d : ℕ) → Accepted d → All-hold (table d)
-examples = by-degree (λ d. All-hold (table d)) (all-hold (table 5) (computed .0)) (all-hold (table 61) (computed .1))
+pub examples : (d : ℕ) → Accepted d → All Holds (table d)
+examples = by-degree (λ d. All Holds (table d)) (all-hold (table 5) (computed .0)) (all-hold (table 61) (computed .1))

@@ -32,10 +32,6 @@ Holds (half-is c a r n) = Gives c (half (curve c) (pair (c .degree) a)) (result 
 Holds (sum-is c a b r) = Gives c (sum (curve c) (pair (c .degree) a) (pair (c .degree) b)) (result (sum-answer c a b)) r
 Holds (on-and-not-on c e a) = (membership-answer c a ≡ accepted) × (membership-answer e a ≡ refused 111)
 
-abbrev pub All-hold : List Example → Type 0
-All-hold [] = Unit {0}
-All-hold (e ∷ es) = Holds e × All-hold es
-
 -- f = x^7, and f = x^7 + 1
 abbrev pub A : ℕ → Curve
 A d = curve-with d (0 ∷ 0 ∷ 0 ∷ [])

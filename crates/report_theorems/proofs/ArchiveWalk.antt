@@ -5,7 +5,7 @@ use Prim.Native.Nat.{ℕ}
 use mathlib.Core.Path.{_≡_, ap, _∙_, sym, subst}
 use mathlib.Core.List.{List, [], _∷_, map}
 use lib.ListN.{length}
-use Rattle.class_group.specs.Walk.{All, none, more}
+use Rattle.lists.specs.Lists.{All, none, more}
 use Rattle.jacobian.specs.{Answer.accepted, Answer.Accepts, Answer.Result, Answer.result, Answer.subtract-and-halve-answer, declared.Curve.Curve, declared.Class.Class}
 use Rattle.jacobian.proofs.Calls.{accepts-two}
 use Rattle.stored_form.specs.Reading.{found}

@@ -5,7 +5,7 @@ use Prim.Native.Nat.{ℕ, _-_}
 use mathlib.Core.Path.{_≡_, ap, _∙_, subst}
 use mathlib.Core.List.{List, reverse}
 use lib.ListN.{length}
-use Rattle.class_group.specs.Walk.{All, ChangedAt}
+use Rattle.lists.specs.Lists.{All, ChangedAt}
 use Rattle.jacobian.specs.{Answer.Accepts, Answer.gives, declared.Class.Class}
 use Rattle.stored_form.specs.Reading.{found}
 use Rattle.history.specs.Calls.{walk-back, displaced}

@@ -9,8 +9,8 @@ use mathlib.Core.List.{List, [], _∷_}
 use native.Mathlib.Omega.{arith}
 use lib.ListN.{length, getD, take, drop}
 use borrow.Author.Tests.{eq-eqb, ne-eqb, eqb-true}
-use Rattle.class_group.specs.Walk.{All, more, walk}
-use Rattle.class_group.proofs.All.{all-at, all-drop}
+use Rattle.lists.specs.{Lists.All, Lists.more, Walk.walk}
+use Rattle.lists.proofs.Lists.{all-at, all-drop}
 use Rattle.jacobian.specs.{Classes.same-row, Classes.same-class, Answer.Accepts, Answer.neutral-class, Answer.opposite-answer, declared.Curve.Curve, declared.Class.Class}
 use Rattle.jacobian.proofs.Calls.{only-neutral, opposite-accepts, opposite-degree}
 use Rattle.stored_form.specs.Reading.{found}

@@ -16,7 +16,7 @@ use Rattle.archive.specs.Reader as reading
 use Rattle.archive.specs.declared.Due.the-variants as due
 use Rattle.archive.proofs.ToldApart.{archive-found}
 use Rattle.archive_theorems.proofs.Parts.{parts-of, seal-sound}
-use Rattle.class_group.specs.Walk.{walk}
+use Rattle.lists.specs.Walk.{walk}
 use Rattle.walk_report.specs.{Lines.line, Lines.first-line, Lines.refusal-line, Walk.seals, Walk.next-older, Walk.letter, Walk.letters, Report.seal-lines, Report.walk-lines, Report.lines-of, Report.report-lines}
 use Rattle.walk_report.specs.Steps.{report-at, with-stage, with-seal, moved, older, held-next, advanced-by, advanced, letter-before, undone, next-of, next-line, refused-report, first-report, opened-by, opened, lines-left, texts}
 use Rattle.walk_report.proofs.LinesLeft.{due-older}

@@ -9,8 +9,9 @@ use Prim.Native.Nat.{ℕ, _-_, _≤_}
 use mathlib.Core.Path.{_≡_, refl, sym, ap, ap₂, _∙_, subst}
 use mathlib.Core.List.{List, [], _∷_, _++_, map, reverse, reverse-reverse}
 use lib.{ListN.length, ListN.drop, ListN.length-map, ListN.length-reverse, Seq.drop-append-seam}
-use Rattle.class_group.specs.{Walk.All, Walk.none, Walk.more, Walk.after, Walk.forward, Multiples.repeat}
-use Rattle.class_group.proofs.{All.all-reverse, All.changed-members, Walk.changed-map}
+use Rattle.lists.specs.{Lists.All, Lists.none, Lists.more, Walk.after}
+use Rattle.lists.proofs.Lists.{all-reverse, changed-members, changed-map}
+use Rattle.class_group.specs.Multiples.{repeat, forward}
 use Rattle.class_group.proofs.Displacement as group
 use Rattle.jacobian.specs.{Answer.Verdict, Answer.accepted, Answer.refused, Answer.Accepts, Group.sum-of, Group.double-of, declared.Class.Class}
 use Rattle.history.specs.{Register.RegisterReply, Register.moved, Register.stepped, Register.step-answer, Calls.answer}

@@ -12,7 +12,7 @@ use lib.Dec.{ltb}
 use lib.ListN.{length}
 use lib.Seq.{take-append-seam}
 use borrow.Author.Tests.{ltb-false, le-ltb}
-use Rattle.class_group.specs.Walk.{All}
+use Rattle.lists.specs.Lists.{All}
 use Rattle.jacobian.specs.{Answer.Verdict, Answer.accepted, Answer.refused, declared.Class.Class}
 use Rattle.history.specs.Register.{RegisterReply, other, step-answer}
 use Rattle.history.specs.Machine.{Event, event, newest, last, backs, turned, taken-back, Reversible}

@@ -3,7 +3,7 @@ use Prim.Native.Nat.{ℕ}
 use mathlib.Core.{Path._≡_, Bool.cond, List.List, List._∷_, List._++_, List.map, List.reverse}
 use lib.Dec.{ltb}
 use lib.ListN.{drop}
-use Rattle.class_group.specs.Walk.{All, ChangedAt}
+use Rattle.lists.specs.Lists.{All, ChangedAt}
 use Rattle.jacobian.specs.Answer.{Verdict, accepted, refused}
 use Rattle.history.specs.{Machine.Machine, Machine.Event, Register.other, declared.Register.Register, declared.Step.Step, declared.Step.the-variants.Commit}
 use Rattle.stored_form.specs.{Cuts.drop-fields, Passing.CountPasses, Passing.ClassPasses, Classes.curve-first-fields}

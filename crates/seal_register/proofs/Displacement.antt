@@ -5,7 +5,7 @@ use Prim.Native.Nat.{ℕ, _-_}
 use mathlib.Core.Path.{_≡_, sym, _∙_, ap}
 use mathlib.Core.List.{List, [], _∷_, reverse}
 use lib.ListN.{length}
-use Rattle.class_group.specs.Walk.{All, none, more, ChangedAt}
+use Rattle.lists.specs.Lists.{All, none, more, ChangedAt}
 use Rattle.jacobian.specs.{Curves.curve-refusal, Answer.Accepts, Answer.Result, Answer.gives, Answer.verdict-of, declared.Curve.Curve, declared.Class.Class}
 use Rattle.jacobian.proofs.{ByValue.Checks.then-zero, Representation.accepts-both}
 use Rattle.history.specs.{Calls.newest, Calls.walk-back, Calls.Variants, Calls.displaced, declared.Register.Register}

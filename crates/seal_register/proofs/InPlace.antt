@@ -8,12 +8,13 @@
 use Prim.Native.Nat.{ℕ, suc, _≤_}
 use mathlib.Core.{Path._≡_, Path.refl, Path.sym, Path._∙_, Path.ap, List.List, List.[], List._∷_, List.map, List.map-map}
 use lib.ListN.{length, take, getD}
-use Rattle.class_group.specs.Walk.{All, none, more, walk}
+use Rattle.lists.specs.{Lists.All, Lists.none, Lists.more, Walk.walk}
 use Rattle.jacobian.specs.Answer.{accepted, refused, verdict-of}
 use Rattle.history.specs.{Register.RegisterReply, Register.register-refusal, Register.undo-seal, Calls.Call, Calls.answer, Calls.registers, Calls.Event, Calls.run, Calls.last, Calls.newest, Calls.backs, Calls.turned, Calls.classes, Calls.OnlyCommits, Calls.walk-back, Calls.steps-back, Calls.met, Calls.seals-back}
 use Rattle.history.specs.Machine as machine
 use Rattle.history.specs.declared.Register.{Register}
-use Rattle.history.proofs.{All.all-map, OneCall.refused-stays, Failing.failing-run, Failing.failing-last, Machine.Carried.run-carried, Machine.Carried.last-carried, Machine.Carried.newest-carried}
+use Rattle.history.proofs.{OneCall.refused-stays, Failing.failing-run, Failing.failing-last, Machine.Carried.run-carried, Machine.Carried.last-carried, Machine.Carried.newest-carried}
+use Rattle.lists.proofs.Lists.{all-map}
 use Rattle.history.proofs.TakingBack as history
 use Rattle.history.proofs.WalkingBack as walking
 use Rattle.seal_register.specs.InPlace.{in-place, Made, call, said, calls, made, Session, happened, left-by, newest-made, seals-made}

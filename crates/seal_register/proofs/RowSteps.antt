@@ -5,7 +5,7 @@ use native.Mathlib.Numerals.{add-one}
 use native.Mathlib.Omega.{arith}
 use lib.{Dec.leb, ListN.length, ListN.take, ListN.getD, Seq.take-nil, Seq.take-length, Seq.take-suc}
 use borrow.Author.Tests.{leb-true, leb-false, lt-leb, le-leb}
-use Rattle.class_group.specs.Walk.{after}
+use Rattle.lists.specs.Walk.{after}
 use Rattle.jacobian.specs.{Checks.unless, Checks._or-else_, Curves.curve-refusal, Classes.class-refusal, Answer.Verdict, Answer.accepted, Answer.refused, Answer.verdict-of, Answer.outcome-refusal, Answer.neutral-class, Answer.Accepts, Answer.refusal, Answer.refusal-of-two, Answer.Result, Answer.reply, Answer.result, Answer.subtract-and-halve-answer, declared.Curve.Curve, declared.Class.Class, declared.ClassAnswer.ClassAnswer}
 use Rattle.jacobian.proofs.{ByValue.Checks.then-zero, Representation.accepts-class, Representation.accepts-both}
 use Rattle.history.specs.{Register.limit, Register.undo-seal, Register.sealed, Calls.walk-back}

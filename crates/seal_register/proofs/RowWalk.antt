@@ -7,7 +7,7 @@ use mathlib.Core.{Path._≡_, Path.refl, Path.sym, Path._∙_, Path.ap, Path.ap�
 use native.Mathlib.Omega.{arith}
 use lib.{ListN.length, ListN.take, ListN.getD, ListN.length-map, Seq.length-take-le, Seq.take-length}
 use borrow.Author.Tests.{le-leb}
-use Rattle.class_group.specs.Walk.{All, none, more, after}
+use Rattle.lists.specs.{Lists.All, Lists.none, Lists.more, Walk.after}
 use Rattle.jacobian.specs.{Checks.unless, Checks._or-else_, Curves.curve-refusal, Classes.class-refusal, Answer.accepted, Answer.verdict-of, Answer.Result, declared.Curve.Curve, declared.Class.Class}
 use Rattle.history.specs.Machine as machine
 use Rattle.history.specs.{Register.limit, Register.register-refusal, Register.sealed, Calls.Call, Calls.Event, Calls.registers, Calls.last, Calls.newest, Calls.backs, Calls.turned, Calls.classes, Calls.OnlyCommits, Calls.seals-back, Calls.walk-back, declared.Register.Register}

@@ -3,7 +3,7 @@
 -- which is a class that no check refuses, or the number of a refusal and the neutral class (`row-walk-told`).
 use Prim.Native.Nat.{ℕ, zero, suc}
 use mathlib.Core.{Path._≡_, Path.refl, Path.sym, Path._∙_, Path.ap, Path.subst, List.List, List.[], List._∷_, Logic._⊎_, Logic.inl, Logic.inr}
-use Rattle.class_group.specs.Walk.{after}
+use Rattle.lists.specs.Walk.{after}
 use Rattle.jacobian.specs.{Curves.curve-refusal, Classes.class-refusal, Refusals.refusals, Refusals.listed, Refusals.IsRefusal, Refusals.Told, declared.Curve.Curve, declared.Class.Class}
 use Rattle.jacobian.specs.Answer.{accepted, verdict-of, neutral-class, Accepts, Result, membership-answer}
 use Rattle.jacobian.proofs.{ByValue.Checks.then-zero, Refusals.told-none, Refusals.told-unless, Refusals.told-or-else, Refusals.refused-told, Told.curve-refusal-told, Told.class-refusal-told, Representation.accepts-both}

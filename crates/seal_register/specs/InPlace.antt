@@ -2,7 +2,7 @@
 use Prim.Native.Nat.{ℕ}
 use mathlib.Core.Path.{_≡_}
 use mathlib.Core.List.{List, _∷_, map}
-use Rattle.class_group.specs.Walk.{All}
+use Rattle.lists.specs.Lists.{All}
 use Rattle.jacobian.specs.{Answer.verdict-of, declared.Class.Class}
 use Rattle.history.specs.Register.{RegisterReply, register-reply}
 use Rattle.history.specs.Machine.{Machine, run, last, newest, carried}

@@ -3,7 +3,7 @@ use Prim.Native.Nat.{ℕ}
 use mathlib.Core.Bool.{Bool, false, cond}
 use mathlib.Core.List.{List, [], _∷_}
 use lib.Dec.{eqb}
-use Rattle.class_group.specs.Walk.{walk}
+use Rattle.lists.specs.Walk.{walk}
 use Rattle.jacobian.specs.{Classes.same-class, Answer.opposite-answer, declared.Curve.Curve, declared.Class.Class}
 use Rattle.history.specs.Register.{undo-seal}
 

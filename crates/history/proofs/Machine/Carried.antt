@@ -2,7 +2,7 @@
 -- state (`last-carried`), and the same calls are accepted (`newest-carried`).
 use mathlib.Core.Path.{_≡_, refl, sym, _∙_, ap, ap₂}
 use mathlib.Core.List.{List, [], _∷_, map, reverse, reverseAux}
-use Rattle.class_group.specs.Walk.{All, none, more, after}
+use Rattle.lists.specs.{Lists.All, Lists.none, Lists.more, Walk.after}
 use Rattle.jacobian.specs.Answer.{Verdict, accepted, refused}
 use Rattle.history.specs.Machine.{Machine, Event, accepted-of, event, run, last, newest, carried, Agrees}
 

@@ -3,8 +3,8 @@
 -- `accepted-fit`).
 use mathlib.Core.Path.{_≡_, refl, ap}
 use mathlib.Core.List.{List, [], _∷_, _++_}
-use Rattle.class_group.specs.Walk.{All, none, more, after}
-use Rattle.class_group.proofs.Walk.{after-append}
+use Rattle.lists.specs.{Lists.All, Lists.none, Lists.more, Walk.after}
+use Rattle.lists.proofs.Walk.{after-append}
 use Rattle.jacobian.specs.Answer.{Verdict, accepted, refused}
 use Rattle.history.specs.Machine.{Machine, Event, accepted-of, event, run, last}
 

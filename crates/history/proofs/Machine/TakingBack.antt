@@ -4,10 +4,10 @@
 -- Of a list of which a part cannot be taken back, all this holds of the calls after that part, from the state that it left (`last-append`, `last-holds` of Run).
 use mathlib.Core.Path.{_≡_, refl, sym, _∙_, ap, ap₂, subst}
 use mathlib.Core.List.{List, [], _∷_, _++_, map, map-map, reverse, reverse-cons, map-append}
-use Rattle.class_group.specs.Walk.{All, none, more, after}
+use Rattle.lists.specs.{Lists.All, Lists.none, Lists.more, Walk.after}
 use Rattle.jacobian.specs.Answer.{Verdict, accepted, refused}
 use Rattle.history.specs.Machine.{Machine, Event, accepted-of, event, run, last, newest, backs, turned, taken-back, Reversible}
-use Rattle.history.proofs.All.{all-map}
+use Rattle.lists.proofs.Lists.{all-map}
 use Rattle.history.proofs.Machine.Run.{run-append, last-append}
 
 module _ {State Call : Type 0} (M : Machine State Call) (back : Call → Call) where

@@ -18,7 +18,7 @@ use sound.WpLaws.{fmOf, WpFn-mono}
 use denote.{RattleType.owns, Laws.Is, Laws.Makes, Laws.shows, Memory.pointee, Memory.shares, Plain.uint-tells, Plain.uint-makes, Plain.uint-lawful, Ref.RefT, Exit.yes, Slice.sliceTy, Slice.sliceVal, Slice.ShrSlice, Slice.Room, Slice.slice-vals, Slice.shr-slice-tells, Signature.plain, Signature.shrSliceOf, Index.place-is, Index.elem-out, Index.elem-back, Index.looks-slice, Index.shuts-slice, Steps.owned, Steps.nothing}
 use denote.Struct.Laws as LL
 use denote.Triple.{Statement.Contract, Statement.Triple, Entry.onEntry, Spec.Meets, Spec.tripleOf, Table.entered, Table.cited, Walked.says, Walked.Stays, Walked.stay-dropped, Walked.walkOf, Walked.AllGo, Walked.goes-dropped, Walked.ends-at, Walked.walked, Walked.walk-meets}
-use Rattle.class_group.specs.Walk.{after}
+use Rattle.lists.specs.Walk.{after}
 use Rattle.jacobian.specs.{Answer.Result, Answer.neutral-class, Answer.verdict-of, declared.Curve.Curve, declared.Class.Class}
 use Rattle.history.specs.Register.{sealed}
 use Rattle.jacobian.proofs.Curve as C

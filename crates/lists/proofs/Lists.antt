@@ -1,10 +1,18 @@
--- Lists whose elements are all members: reversed, a part of one, two one after the other, the element at a place, and the two at the place where lists differ.
+-- Lists whose elements are all members: mapped, reversed, a part of one, two one after the other, the element at a place; and two that differ at one place.
 use Prim.Native.Nat.{ℕ, zero, suc, _<_}
-use mathlib.Core.Path.{subst}
-use mathlib.Core.List.{List, [], _∷_, _++_, reverse, reverseAux}
-use lib.ListN.{length, take, drop, getD}
+use mathlib.Core.Path.{sym, _∙_, ap, subst}
+use mathlib.Core.List.{List, [], _∷_, _++_, map, map-append, reverse, reverseAux}
+use lib.ListN.{length, length-map, take, drop, getD}
 use native.Mathlib.Omega.{arith}
-use Rattle.class_group.specs.Walk.{All, none, more, ChangedAt}
+use Rattle.lists.specs.Lists.{All, none, more, ChangedAt}
+
+pub every : {X : Type 0} {P : X → Type 0} → ((x : X) → P x) → (l : List X) → All P l
+every h [] = none
+every h (x ∷ l) = more (h x) (every h l)
+
+pub all-map : {X Y : Type 0} {P : Y → Type 0} (f : X → Y) → ((x : X) → P (f x)) → (l : List X) → All P (map f l)
+all-map f h [] = none
+all-map f h (x ∷ l) = more (h x) (all-map f h l)
 
 module _ {X : Type 0} {Member : X → Type 0} where
   all-onto : {l m : List X} → All Member l → All Member m → All Member (reverseAux l m)
@@ -39,3 +47,13 @@ module _ {X : Type 0} {Member : X → Type 0} where
   pub changed-members : {k : ℕ} {d e : X} {l m : List X} → ChangedAt k d e l m → All Member l → All Member m → Member d × Member e
   changed-members at h r =
       (all-head (all-split (at .before) (subst (All Member) (at .was) h) .1) .0, all-head (all-split (at .before) (subst (All Member) (at .is) r) .1) .0)
+
+-- a function of the elements keeps the place
+pub changed-map : {X Y : Type 0} (f : X → Y) {k : ℕ} {d e : X} {l m : List X} → ChangedAt k d e l m → ChangedAt k (f d) (f e) (map f l) (map f m)
+changed-map f at = record {
+  before = map f (at .before);
+  behind = map f (at .behind);
+  place = at .place ∙ ap suc (sym (length-map (at .before) f));
+  was = ap (map f) (at .was) ∙ map-append f (at .before) _;
+  is = ap (map f) (at .is) ∙ map-append f (at .before) _;
+}

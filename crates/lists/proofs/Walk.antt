@@ -2,22 +2,10 @@
 -- `after-reverse`: the way back over the reversed list ends at the start. `walk-reverse`: it meets the same states in reverse order. `only-start`: where it
 -- ends is the only start from which the rule leads there, and `after-back`: it is one. `after-injective`: different starts have different ends. `after-state`:
 -- the end is a state. `after-agrees`: rules that agree on states lead to the same.
--- `changed-map`: a function of the elements of two lists that differ at one place.
-use Prim.Native.Nat.{ℕ, suc}
 use mathlib.Core.Path.{_≡_, refl, sym, _∙_, ap}
-use mathlib.Core.List.{List, [], _∷_, _++_, map, map-append, reverse, reverse-cons, reverse-reverse}
-use lib.ListN.{length-map}
-use Rattle.class_group.proofs.All.{all-reverse}
-use Rattle.class_group.specs.Walk.{All, none, more, ChangedAt, after, walk, Reversible}
-
-pub changed-map : {X Y : Type 0} (f : X → Y) {k : ℕ} {d e : X} {l m : List X} → ChangedAt k d e l m → ChangedAt k (f d) (f e) (map f l) (map f m)
-changed-map f at = record {
-  before = map f (at .before);
-  behind = map f (at .behind);
-  place = at .place ∙ ap suc (sym (length-map (at .before) f));
-  was = ap (map f) (at .was) ∙ map-append f (at .before) _;
-  is = ap (map f) (at .is) ∙ map-append f (at .before) _;
-}
+use mathlib.Core.List.{List, [], _∷_, _++_, reverse, reverse-cons, reverse-reverse}
+use Rattle.lists.specs.{Lists.All, Lists.none, Lists.more, Walk.after, Walk.walk, Walk.Reversible}
+use Rattle.lists.proofs.Lists.{all-reverse}
 
 module _ {X Y : Type 0} (rule : X → Y → X) where
   pub after-append : (s : X) (l m : List Y) → after rule s (l ++ m) ≡ after rule (after rule s l) m

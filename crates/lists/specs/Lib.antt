@@ -1,0 +1,3 @@
+-- Predicates of lists, and walks along them.
+pub mod Lists
+pub mod Walk
