@@ -1,5 +1,6 @@
 -- The numbers of the field's operations, laws of checks, and what the calls answer.
 pub mod Field
 pub mod Checks
+pub mod Degrees
 pub mod Replies
 pub mod Told

@@ -1,17 +1,17 @@
 -- What the answers of the calls on elements come to: the refusal where there is one, and else what the field's operation gives, or the root of
 -- y² + y = a with lowest bit 0 where there is one (`quadratic-means`). The inverse of an element other than 0 is the only one whose product with it is 1
 -- (`inverse-means`), and 0 is refused with 117 (`inverse-zero-refused`).
-use mathlib.Core.{Path._≡_, Path.refl, Path.ap, Path.sym, Path._∙_, Bool.Bool, Bool.true, Bool.false, Bool._||_, Bool._&&_, List.[], List._∷_, Option.Option, Option.none, Option.some}
+use mathlib.Core.{Path._≡_, Path.refl, Path.ap, Path.sym, Path._∙_, Bool.Bool, Bool.true, Bool.false, Bool._&&_, List.[], List._∷_, Option.Option, Option.none, Option.some}
 use Prim.Native.Nat.{ℕ, zero, suc, _-_, _%_, _^_, _<_}
 use native.Mathlib.Omega.{arith}
-use lib.{Dec.T, Dec.eqb, Dec.ltb, Dec.ltb→lt, Pow.pow-pos}
+use lib.{Dec.T, Dec.ltb, Dec.ltb→lt, Pow.pow-pos}
 use borrow.Author.Tests.{lt-ltb}
 use Rattle.binary_field.specs.{declared.Answer.Answer, declared.Answer.the-variants.Element, declared.Answer.the-variants.Refused, Field.element as at}
 use Rattle.binary_field.specs.declared.{Solution.Solution, Solution.the-variants.Root, Solution.the-variants.NoRoot}
 use Rattle.binary_field.specs.declared.Solution.the-variants as solution
-use Rattle.binary_field_theory.specs.{Carryless._⊕_, Element.Accepted, Element.product, Element.square, Element.power, Element.root, Element.inverse, Quadratic.even-root, Quadratic.trace, Quadratic.half-trace}
+use Rattle.binary_field_theory.specs.{Carryless._⊕_, Element.is-degree, Element.Accepted, Element.product, Element.square, Element.power, Element.root, Element.inverse, Quadratic.even-root, Quadratic.trace, Quadratic.half-trace}
 use Rattle.binary_field_theory.proofs.{Linear.both, Elements.element-path, Theorems.one-inverse, Theorems.even-root-found, Theorems.even-root-none, Theorems.even-root-by-trace, Theorems.none-by-trace}
-use Rattle.binary_field.specs.{Field.field, Answer.element, Answer.refusal, Answer.reply, Answer.below, Answer.element-refusal, Answer.inverse-refusal, Answer.answered, Answer.sum-reply, Answer.product-reply, Answer.square-reply, Answer.root-reply, Answer.inverse-reply, Answer.InverseMeans, Answer.solved, Answer.quadratic-answer, Answer.Means, Checks.unless, Checks._or-else_}
+use Rattle.binary_field.specs.{Field.field, Answer.element, Answer.refusal, Answer.reply, Answer.below, Answer.degree-refusal, Answer.element-refusal, Answer.inverse-refusal, Answer.answered, Answer.sum-reply, Answer.product-reply, Answer.square-reply, Answer.root-reply, Answer.inverse-reply, Answer.InverseMeans, Answer.solved, Answer.quadratic-answer, Answer.Means, Checks.unless, Checks._or-else_}
 use Rattle.field_laws.specs.Division.{inverse-of}
 use Rattle.binary_field.proofs.Field.{add-number, mul-number, nought-number, root-number, inverse-number, element-small}
 use Rattle.binary_field.proofs.Checks.{then-zero}
@@ -38,16 +38,16 @@ both-pass false y e = absurd (omega arith)
 
 -- no refusal: the degree is accepted and the numbers are in range
 pub none-refused : (d a b : ℕ) {k : ℕ} → k ≡ element-refusal d (a ∷ b ∷ []) → k ≡ 0 → Accepted d × (a < 2 ^ d) × (b < 2 ^ d)
-unfolding element-refusal below
+unfolding element-refusal degree-refusal below
 none-refused d a b e h =
-    let z = both-pass (eqb d 5 || eqb d 61) (ltb a (2 ^ d) && (ltb b (2 ^ d) && true)) (sym h ∙ e) in
+    let z = both-pass (is-degree d) (ltb a (2 ^ d) && (ltb b (2 ^ d) && true)) (sym h ∙ e) in
     let y = both (ltb a (2 ^ d)) (ltb b (2 ^ d) && true) (z .1) in
     (z .0, ltb→lt _ _ (y .0), ltb→lt _ _ (both (ltb b (2 ^ d)) true (y .1) .0))
 
 -- a call on one number tests it twice
 pub refusal-twice : (d a : ℕ) → element-refusal d (a ∷ a ∷ []) ≡ element-refusal d (a ∷ [])
 unfolding element-refusal below
-refusal-twice d a = ap (λ (x : Bool). unless (eqb d 5 || eqb d 61) 106 or-else unless x 110) (twice (ltb a (2 ^ d)))
+refusal-twice d a = ap (λ (x : Bool). degree-refusal d or-else unless x 110) (twice (ltb a (2 ^ d)))
   where
     twice : (x : Bool) → (x && (x && true)) ≡ (x && true)
     twice true = refl
@@ -60,12 +60,12 @@ of-T false t = absurd t
 -- the degree is accepted and the numbers are in range: the answer is the element
 module _ (d a : ℕ) (hd : Accepted d) (ha : a < 2 ^ d) where
   none-one : element-refusal d (a ∷ []) ≡ 0
-  unfolding element-refusal below unless _or-else_
-  none-one = rw (of-T (eqb d 5 || eqb d 61) hd, lt-ltb _ _ ha)
+  unfolding element-refusal degree-refusal below unless _or-else_
+  none-one = rw (of-T (is-degree d) hd, lt-ltb _ _ ha)
 
   none-two : (b : ℕ) → b < 2 ^ d → element-refusal d (a ∷ b ∷ []) ≡ 0
-  unfolding element-refusal below unless _or-else_
-  none-two b hb = rw (of-T (eqb d 5 || eqb d 61) hd, lt-ltb _ _ ha, lt-ltb _ _ hb)
+  unfolding element-refusal degree-refusal below unless _or-else_
+  none-two b hb = rw (of-T (is-degree d) hd, lt-ltb _ _ ha, lt-ltb _ _ hb)
 
   pub sum-replies : (b : ℕ) → b < 2 ^ d → sum-reply d a b ≡ element (a ⊕ b)
   unfolding sum-reply answered

@@ -1,12 +1,12 @@
 -- Demand 1 of the calls on elements: what their checks say is 0 or one of 106, 110 and 117 (`element-refusal-told`, `inverse-refusal-told`). 117 is said of an inverse
 -- exactly where the degree is accepted and the element is 0 (`inverse-refusal-zero`), and of no other call (`element-refusal-other`).
 use Prim.Native.Nat.{ℕ, zero, suc, _^_}
-use mathlib.Core.{Path._≡_, Path.refl, Path.ap, Path._∙_, Bool.Bool, Bool.true, Bool.false, Bool._||_, List.List, List.[], List._∷_, Logic._↔_, Logic.inl, Logic.inr}
+use mathlib.Core.{Path._≡_, Path.refl, Path.ap, Path._∙_, Bool.Bool, Bool.true, Bool.false, List.List, List.[], List._∷_, Logic._↔_, Logic.inl, Logic.inr}
 use native.Mathlib.Omega.{arith}
-use lib.Dec.{T, eqb, ltb}
+use lib.Dec.{T, ltb}
 use borrow.Author.Tests.{ltb-false}
-use Rattle.binary_field_theory.specs.Element.{Accepted}
-use Rattle.binary_field.specs.{Checks.unless, Checks._or-else_, Checks.listed, Answer.below, Answer.element-refusal, Answer.inverse-refusal, Answer.element-refusals, Answer.ElementTold}
+use Rattle.binary_field_theory.specs.Element.{is-degree, Accepted}
+use Rattle.binary_field.specs.{Checks.unless, Checks._or-else_, Checks.listed, Answer.below, Answer.degree-refusal, Answer.element-refusal, Answer.inverse-refusal, Answer.element-refusals, Answer.ElementTold}
 use Rattle.binary_field.proofs.Replies.{zero-refusal}
 
 told-two : (x y : Bool) → ElementTold (unless x 106 or-else unless y 110)
@@ -16,8 +16,8 @@ told-two true false = inr refl
 told-two false y = inr refl
 
 pub element-refusal-told : (d : ℕ) (ns : List ℕ) → ElementTold (element-refusal d ns)
-unfolding element-refusal
-element-refusal-told d ns = told-two (eqb d 5 || eqb d 61) (below (2 ^ d) ns)
+unfolding element-refusal degree-refusal
+element-refusal-told d ns = told-two (is-degree d) (below (2 ^ d) ns)
 
 told-then : (n : ℕ) (z : Bool) → ElementTold n → ElementTold (n or-else unless z 117)
 unfolding ElementTold unless _or-else_ listed element-refusals
@@ -38,8 +38,8 @@ two-others true false e = omega arith
 two-others false y e = omega arith
 
 pub element-refusal-other : (d : ℕ) (ns : List ℕ) → ¬ (element-refusal d ns ≡ 117)
-unfolding element-refusal
-element-refusal-other d ns = two-others (eqb d 5 || eqb d 61) (below (2 ^ d) ns)
+unfolding element-refusal degree-refusal
+element-refusal-other d ns = two-others (is-degree d) (below (2 ^ d) ns)
 
 by-tests : (x y z : Bool) → (unless x 106 or-else unless y 110) or-else unless z 117 ≡ 117 → T x × (z ≡ false)
 unfolding unless _or-else_
@@ -49,10 +49,10 @@ by-tests true false z e = absurd (omega arith)
 by-tests false y z e = absurd (omega arith)
 
 pub inverse-refusal-zero : (d a : ℕ) → (inverse-refusal d a ≡ 117) ↔ (Accepted d × (a ≡ 0))
-unfolding inverse-refusal element-refusal
+unfolding inverse-refusal element-refusal degree-refusal
 inverse-refusal-zero d a = (
   λ e.
-      let p = by-tests (eqb d 5 || eqb d 61) (below (2 ^ d) (a ∷ [])) (ltb 0 a) e in
+      let p = by-tests (is-degree d) (below (2 ^ d) (a ∷ [])) (ltb 0 a) e in
       let none = ltb-false 0 a (p .1) in
       (p .0, omega arith),
   λ h. ap (inverse-refusal d) (h .1) ∙ zero-refusal d (h .0),

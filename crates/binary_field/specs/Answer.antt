@@ -1,14 +1,14 @@
 -- What the calls on elements answer (docs/SPECIFICATION.md, 1 and 6).
 use Prim.Native.Nat.{ℕ, zero, suc, _^_}
-use mathlib.Core.{Path._≡_, Bool.Bool, Bool.true, Bool._||_, Bool._&&_, List.List, List.[], List._∷_, Logic._⊎_, Option.Option, Option.none, Option.some}
+use mathlib.Core.{Path._≡_, Bool.Bool, Bool.true, Bool.cond, Bool._&&_, List.List, List.[], List._∷_, Logic._⊎_, Option.Option, Option.none, Option.some}
 use native.Mathlib.Omega.{arith}
-use lib.Dec.{eqb, ltb}
+use lib.Dec.{ltb}
 use Rattle.binary_field.specs.Checks.{unless, _or-else_, listed}
 use Rattle.binary_field.specs.declared.Answer.{Answer, the-variants.Element, the-variants.Refused}
 use Rattle.binary_field.specs.declared.Solution.{Solution, the-variants.Root, the-variants.NoRoot}
 use Rattle.binary_field.specs.declared.Solution.the-variants as solution
 use Rattle.binary_field_theory.specs.Quadratic as equation
-use Rattle.binary_field_theory.specs.{Carryless._⊕_, Element.product, Element.square, Element.root, Element.inverse, Element.OneInverse, Quadratic.even-root}
+use Rattle.binary_field_theory.specs.{Carryless._⊕_, Element.is-degree, Element.product, Element.square, Element.root, Element.inverse, Element.OneInverse, Quadratic.even-root}
 
 -- an answer is an element or a refusal with its number
 pub data Reply : Type 0 where
@@ -25,9 +25,17 @@ unfoldable pub below : ℕ → List ℕ → Bool
 below m [] = true
 below m (n ∷ ns) = ltb n m && below m ns
 
--- the refusal of a call on elements, and 0 where there is none: 106 for a degree other than 5 and 61, then 110 for a number of 2^d or more
+-- 106 for a degree other than 5 and 61
+unfoldable pub degree-refusal : ℕ → ℕ
+degree-refusal d = unless (is-degree d) 106
+
+-- how many elements the field of degree d has: they are the numbers below 2^d; 0 where the degree is refused
+unfoldable pub bound : ℕ → ℕ
+bound d = cond (is-degree d) (2 ^ d) 0
+
+-- the refusal of a call on elements, and 0 where there is none: 106 for the degree, then 110 for a number of 2^d or more
 unfoldable pub element-refusal : ℕ → List ℕ → ℕ
-element-refusal d ns = unless (eqb d 5 || eqb d 61) 106 or-else unless (below (2 ^ d) ns) 110
+element-refusal d ns = degree-refusal d or-else unless (below (2 ^ d) ns) 110
 
 -- that of an inverse: then 117 for 0, which has none
 unfoldable pub inverse-refusal : ℕ → ℕ → ℕ

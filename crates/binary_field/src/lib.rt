@@ -3,7 +3,7 @@
 ghost use mathlib.Core.Path.{_≡_};
 ghost use mathlib.Core.List.{[], _∷_};
 ghost use Rattle.binary_field.specs.Checks.{unless};
-ghost use Rattle.binary_field.specs.Answer.{reply, below, element-refusal, inverse-refusal, sum-reply, product-reply, square-reply, root-reply, inverse-reply, quadratic-answer};
+ghost use Rattle.binary_field.specs.Answer.{reply, below, bound, degree-refusal, element-refusal, inverse-refusal, sum-reply, product-reply, square-reply, root-reply, inverse-reply, quadratic-answer};
 
 mod carryless;
 mod inverting;
@@ -25,6 +25,29 @@ pub enum Solution {
     Refused(u32),
 }
 
+// How many elements the field of degree d has, 2^d; 0 where the degree is refused.
+pub fn bound(d: u8) -> u64
+    ensures { λ r. ⌜ r ≡ bound d ⌝ }
+{
+    if d == 5 {
+        return 0x20;
+    }
+    if d == 61 {
+        return 0x2000_0000_0000_0000;
+    }
+    0
+}
+
+// 106 for a degree other than 5 and 61, else 0.
+pub fn degree_refusal(d: u8) -> u32
+    ensures { λ r. ⌜ r ≡ degree-refusal d ⌝ }
+{
+    if bound(d) == 0 {
+        return 106;
+    }
+    0
+}
+
 // 110 where one of two numbers is m or more, else 0.
 fn range_refusal(m: u64, a: u64, b: u64) -> u32
     ensures { λ r. ⌜ r ≡ unless (below m (a ∷ b ∷ [])) 110 ⌝ }
@@ -41,13 +64,11 @@ fn range_refusal(m: u64, a: u64, b: u64) -> u32
 fn refusal(d: u8, a: u64, b: u64) -> u32
     ensures { λ r. ⌜ r ≡ element-refusal d (a ∷ b ∷ []) ⌝ }
 {
-    if d == 5 {
-        return range_refusal(0x20, a, b);
+    let n = degree_refusal(d);
+    if n != 0 {
+        return n;
     }
-    if d == 61 {
-        return range_refusal(0x2000_0000_0000_0000, a, b);
-    }
-    106
+    range_refusal(bound(d), a, b)
 }
 
 // The refusal of an inverse, and 0 where there is none: 117 for 0, after the others.

@@ -3,8 +3,10 @@ use Prim.Native.Nat.{ℕ, _+_, _-_, _≤_, _<_, _^_}
 use mathlib.Core.{Path._≡_, Path.refl, Path.sym, Path._∙_, Path.ap, Path.subst, Bool.Bool, Bool.true, Bool.false, Bool.true≢false, List.List}
 use native.Mathlib.{Omega.arith, Decide.decLe}
 use lib.{Dec.eqb, ListN.length, ListN.getD, ListN.List·getD-eq-default}
-use borrow.Author.Tests.{eqb-true, eq-eqb, ne-eqb}
+use borrow.Author.Tests.{eqb-true, eq-eqb}
 use Rattle.binary_field_theory.specs.Element.{Accepted}
+use Rattle.binary_field.specs.Answer.{bound}
+use Rattle.binary_field.proofs.Degrees.{bound-accepted}
 use Rattle.char2_algebra.specs.Lead.{Monic}
 use Rattle.char2_algebra.proofs.{Degree.len-zero, Degree.len-nought, Division.rem-of-divides, Division.divides-of-rem, Lead.monic-nonzero}
 use Rattle.class_group.specs.Curve as Theory
@@ -31,12 +33,10 @@ also h f g = (λ e. f (h .0 e), λ q. h .1 (g q))
 pub by-number : {m n : ℕ} {P : Type 0} → (m ≡ n → P) → (P → m ≡ n) → Decides (eqb m n) P
 by-number {m} {n} f g = (λ e. f (eqb-true m n e), λ p. eq-eqb m n (g p))
 
--- ---- the degree
-pub is-five : {d : ℕ} → ¬ (d ≡ 61) → Accepted d → d ≡ 5
-unfolding degree-of
-is-five {d} h ok = sym (degree-is d ok) ∙ rw (ne-eqb d 61 h)
-
 -- ---- the range of a row
+pub bound-is : (d : ℕ) {m : ℕ} → Accepted d → m ≡ bound d → m ≡ 2 ^ degree-of d
+bound-is d ok e = e ∙ bound-accepted d ok ∙ ap (λ n. 2 ^ n) (sym (degree-is d ok))
+
 pub record Below (d : ℕ) (r : List ℕ) (i : ℕ) : Type 0 where
   pub at : (j : ℕ) → j < i → getD r j 0 < 2 ^ degree-of d
 

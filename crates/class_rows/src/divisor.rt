@@ -9,7 +9,6 @@ ghost use Rattle.class_rows.specs.{Checked.Decides, Checked.Divisor, int
 use crate::row::Row;
 use crate::row::RowPair;
 use crate::row::add_rows;
-use crate::row::bound;
 use crate::row::divide;
 use crate::row::length;
 use crate::row::square_row;
@@ -20,21 +19,12 @@ pub(crate) struct Check {
     pub w: Row,
 }
 
-// Is d a degree of the two fields?
-fn is_degree(d: u8) -> bool
-    ensures { λ t. ⌜ Decides t (Accepted d) ⌝ }
-{
-    if d == 61 {
-        return true;
-    }
-    d == 5
-}
-
 // Is every number an element?
 fn in_range(d: u8, r: Row) -> bool
+    requires { ⌜ Accepted d ⌝ }
     ensures { λ t. ⌜ Decides t (InRange d r) ⌝ }
 {
-    let m = bound(d);
+    let m = binary_field::bound(d);
     let mut i = 0;
     while i < 12 {
         if r[i] >= m {
@@ -59,6 +49,7 @@ fn is_monic(d: u8, r: Row) -> bool
 
 // Is f monic of degree 7?
 fn is_curve(d: u8, f: Row) -> bool
+    requires { ⌜ Accepted d ⌝ }
     ensures { λ t. ⌜ Decides t ((C : TheoryCurve (𝔸 d)) × OnCurve d f C) ⌝ }
 {
     if !in_range(d, f) {
@@ -72,6 +63,7 @@ fn is_curve(d: u8, f: Row) -> bool
 
 // Is u monic of degree at most 3, and v of smaller degree?
 fn is_pair(d: u8, a: RowPair) -> bool
+    requires { ⌜ Accepted d ⌝ }
     ensures { λ t. ⌜ Decides t (FormedPair d a) ⌝ }
 {
     let u = a.u;
@@ -96,7 +88,7 @@ fn is_pair(d: u8, a: RowPair) -> bool
 fn in_form(d: u8, f: Row, a: RowPair) -> bool
     ensures { λ t. ⌜ Decides t (FormedRows d f a) ⌝ }
 {
-    if !is_degree(d) {
+    if binary_field::degree_refusal(d) != 0 {
         return false;
     }
     if !is_curve(d, f) {

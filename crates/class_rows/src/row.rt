@@ -31,16 +31,6 @@ pub(crate) struct Lead {
     pub inverse: u64,
 }
 
-// 2 to the field's degree: every number of a row is below it.
-pub fn bound(d: u8) -> u64
-    ensures { λ r. ⌜ r ≡ 2 ^ degree-of d ⌝ }
-{
-    if d == 61 {
-        return 0x2000_0000_0000_0000;
-    }
-    0x20
-}
-
 // One past the last number that is not 0: the degree plus one.
 pub fn length(a: Row) -> usize
     ensures { λ n. ⌜ n ≡ places a ⌝ }

@@ -1,50 +1,52 @@
 -- The conditions of 109, 113 and 114 at their edges (docs/SPECIFICATION.md, 6): of a register with accepted curve and seal and a call with an accepted class,
 -- the count alone decides. A commit is accepted below the limit, 114 at it and 109 above; an undo is 113 at 0, accepted up to the limit and 109 above.
 use Prim.Native.Nat.{suc, _≤_, _<_}
-use mathlib.Core.Path.{_≡_, _∙_, ap}
+use mathlib.Core.Path.{_≡_, _∙_, ap, ap₂}
 use native.Mathlib.Omega.{arith}
 use Rattle.jacobian.specs.{Checks._or-else_, Answer.accepted, Answer.refused, Answer.refusal-of-two}
 use Rattle.jacobian.specs.declared.Class.{Class}
 use Rattle.jacobian.proofs.{Representation.accepts-curve, Calls.two-accept}
-use Rattle.history.specs.Register.{limit, edge, edge-refusal, moved, stepped, RegisterReply, follows, step-answer, commit-answer, undo-answer}
+use Rattle.count_limit.specs.Limit.{count-limit}
+use Rattle.count_limit.proofs.Limit.{within-limit, above-limit}
+use Rattle.history.specs.Register.{edge, edge-refusal, moved, stepped, RegisterReply, follows, step-answer, commit-answer, undo-answer}
 use Rattle.history.specs.declared.{Register.Register, Step.Step, Step.the-variants.Commit, Step.the-variants.Undo}
 use Rattle.history.proofs.{Registers.follows-zero, Numbers.step-above, Numbers.step-at, Numbers.step-off}
 
 module _ (r : Register) (a : Class) (none : refusal-of-two (r .curve) (r .seal) a ≡ 0) where
   -- ---- either step
-  off-edge : (k : Step) → r .count ≤ limit → ¬ (r .count ≡ edge k) → step-answer k r a ≡ record { outcome = accepted; register = stepped k r a }
+  off-edge : (k : Step) → r .count ≤ count-limit → ¬ (r .count ≡ edge k) → step-answer k r a ≡ record { outcome = accepted; register = stepped k r a }
   unfolding step-answer
-  off-edge k l h = follows-zero _ r (stepped k r a) (step-off k r a l h ∙ none)
+  off-edge k l h = follows-zero _ r (stepped k r a) (step-off k r a (within-limit (r .count) l) h ∙ none)
 
-  at-edge : (k : Step) → r .count ≤ limit → r .count ≡ edge k → step-answer k r a ≡ follows (edge-refusal k) r (stepped k r a)
+  at-edge : (k : Step) → r .count ≤ count-limit → r .count ≡ edge k → step-answer k r a ≡ follows (edge-refusal k) r (stepped k r a)
   unfolding step-answer _or-else_
-  at-edge k l e = ap (λ n. follows n r (stepped k r a)) (step-at k r a l e ∙ ap (λ n. n or-else edge-refusal k) none)
+  at-edge k l e = ap (λ n. follows n r (stepped k r a)) (step-at k r a (within-limit (r .count) l) e ∙ ap (λ n. n or-else edge-refusal k) none)
 
-  above : (k : Step) → limit < r .count → step-answer k r a ≡ record { outcome = refused 109; register = r }
+  above : (k : Step) → count-limit < r .count → step-answer k r a ≡ record { outcome = refused 109; register = r }
   unfolding step-answer refusal-of-two _or-else_ follows
   above k h =
       ap (λ n. follows n r (stepped k r a))
-      (step-above k r a h ∙ ap (λ n. n or-else 109) (accepts-curve (two-accept (r .curve) (r .seal) a none .0)))
+      (step-above k r a (λ z. omega (arith, above-limit (r .count) h, z)) ∙ ap₂ _or-else_ (accepts-curve (two-accept (r .curve) (r .seal) a none .0)) (above-limit (r .count) h))
 
   -- ---- a commit
-  pub commit-below-limit : r .count < limit → commit-answer r a ≡ record { outcome = accepted; register = stepped Commit r a }
+  pub commit-below-limit : r .count < count-limit → commit-answer r a ≡ record { outcome = accepted; register = stepped Commit r a }
   unfolding edge
   commit-below-limit h = off-edge Commit (omega arith) (λ e. omega arith)
 
   -- one below the limit it gives the limit
-  pub commit-to-limit : suc (r .count) ≡ limit → commit-answer r a .register .count ≡ limit
+  pub commit-to-limit : suc (r .count) ≡ count-limit → commit-answer r a .register .count ≡ count-limit
   unfolding stepped moved
   commit-to-limit e = ap (λ (x : RegisterReply). x .register .count) (commit-below-limit (omega arith)) ∙ (omega arith)
 
-  pub commit-at-limit : r .count ≡ limit → commit-answer r a ≡ record { outcome = refused 114; register = r }
+  pub commit-at-limit : r .count ≡ count-limit → commit-answer r a ≡ record { outcome = refused 114; register = r }
   unfolding edge edge-refusal follows
   commit-at-limit e = at-edge Commit (omega arith) e
 
-  pub commit-above-limit : limit < r .count → commit-answer r a ≡ record { outcome = refused 109; register = r }
+  pub commit-above-limit : count-limit < r .count → commit-answer r a ≡ record { outcome = refused 109; register = r }
   commit-above-limit = above Commit
 
   -- ---- an undo
-  pub undo-within-limit : 0 < r .count → r .count ≤ limit → undo-answer r a ≡ record { outcome = accepted; register = stepped Undo r a }
+  pub undo-within-limit : 0 < r .count → r .count ≤ count-limit → undo-answer r a ≡ record { outcome = accepted; register = stepped Undo r a }
   unfolding edge
   undo-within-limit h l = off-edge Undo l (λ e. omega arith)
 
@@ -52,5 +54,5 @@ module _ (r : Register) (a : Class) (none : refusal-of-two (r .curve) (r .seal) 
   unfolding edge edge-refusal follows
   undo-at-zero e = at-edge Undo (omega arith) e
 
-  pub undo-above-limit : limit < r .count → undo-answer r a ≡ record { outcome = refused 109; register = r }
+  pub undo-above-limit : count-limit < r .count → undo-answer r a ≡ record { outcome = refused 109; register = r }
   undo-above-limit = above Undo

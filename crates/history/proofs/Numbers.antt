@@ -1,12 +1,13 @@
 -- Which refusal is due to a step on a register, by its count: what the curve, the seal and the class are refused for, with 109, 113 or 114 in its place.
-use Prim.Native.Nat.{ℕ, zero, suc, _≤_, _<_}
+use Prim.Native.Nat.{ℕ, zero, suc}
 use mathlib.Core.Path.{_≡_, refl, sym, _∙_, ap₂}
 use native.Mathlib.Omega.{arith}
-use borrow.Author.Tests.{lt-leb, le-leb, eq-eqb, ne-eqb}
-use Rattle.jacobian.specs.{Checks.unless, Checks._or-else_, Curves.curve-refusal, Classes.class-refusal, Answer.refusal, Answer.refusal-of-two}
+use borrow.Author.Tests.{eq-eqb, ne-eqb}
+use Rattle.jacobian.specs.{Checks._or-else_, Curves.curve-refusal, Classes.class-refusal, Answer.refusal, Answer.refusal-of-two}
 use Rattle.jacobian.specs.declared.{Curve.Curve, Class.Class}
 use Rattle.jacobian.proofs.ByValue.Checks.{then-zero}
-use Rattle.history.specs.Register.{limit, register-refusal, edge, edge-refusal, step-refusal, stepped, RegisterReply, follows, step-answer}
+use Rattle.count_limit.specs.Limit.{count-refusal}
+use Rattle.history.specs.Register.{register-refusal, edge, edge-refusal, step-refusal, stepped, RegisterReply, follows, step-answer}
 use Rattle.history.specs.declared.{Register.Register, Step.Step}
 
 -- ---- checks one after the other
@@ -41,24 +42,24 @@ second-refused c s a z = rw (z, then-zero (curve-refusal c) (class-refusal c s) 
 
 -- ---- the refusal of a step by the count
 module _ (k : Step) (r : Register) (a : Class) where
-  pub step-above : limit < r .count → step-refusal k r a ≡ curve-refusal (r .curve) or-else 109
-  unfolding step-refusal register-refusal unless
-  step-above h = rw (lt-leb (r .count) limit h) (hides (curve-refusal (r .curve)) 109 _ _ (λ e. omega arith))
+  pub step-above : ¬ (count-refusal (r .count) ≡ 0) → step-refusal k r a ≡ curve-refusal (r .curve) or-else count-refusal (r .count)
+  unfolding step-refusal register-refusal
+  step-above = hides (curve-refusal (r .curve)) (count-refusal (r .count)) _ _
 
-  pub step-at : r .count ≤ limit → r .count ≡ edge k → step-refusal k r a ≡ refusal-of-two (r .curve) (r .seal) a or-else edge-refusal k
-  unfolding step-refusal register-refusal unless refusal refusal-of-two
+  pub step-at : count-refusal (r .count) ≡ 0 → r .count ≡ edge k → step-refusal k r a ≡ refusal-of-two (r .curve) (r .seal) a or-else edge-refusal k
+  unfolding step-refusal register-refusal refusal refusal-of-two
   step-at l e =
-      rw (le-leb (r .count) limit l, eq-eqb (r .count) (edge k) e)
+      rw (l, eq-eqb (r .count) (edge k) e)
       (passed (curve-refusal (r .curve)) (class-refusal (r .curve) (r .seal)) (class-refusal (r .curve) a) (edge-refusal k))
 
-  pub step-off : r .count ≤ limit → ¬ (r .count ≡ edge k) → step-refusal k r a ≡ refusal-of-two (r .curve) (r .seal) a
-  unfolding step-refusal register-refusal unless refusal refusal-of-two
+  pub step-off : count-refusal (r .count) ≡ 0 → ¬ (r .count ≡ edge k) → step-refusal k r a ≡ refusal-of-two (r .curve) (r .seal) a
+  unfolding step-refusal register-refusal refusal refusal-of-two
   step-off l h =
-      rw (le-leb (r .count) limit l, ne-eqb (r .count) (edge k) h)
+      rw (l, ne-eqb (r .count) (edge k) h)
       (passed (curve-refusal (r .curve)) (class-refusal (r .curve) (r .seal)) (class-refusal (r .curve) a) 0 ∙ then-none _)
 
   -- so off its edge it answers what follows the checks of the curve, the seal and the class
-  pub step-follows : {next : Register} {x : RegisterReply} → r .count ≤ limit → ¬ (r .count ≡ edge k) → next ≡ stepped k r a
+  pub step-follows : {next : Register} {x : RegisterReply} → count-refusal (r .count) ≡ 0 → ¬ (r .count ≡ edge k) → next ≡ stepped k r a
       → x ≡ follows (refusal-of-two (r .curve) (r .seal) a) r next → x ≡ step-answer k r a
   unfolding step-answer
   step-follows l h e f = f ∙ ap₂ (λ n t. follows n r t) (sym (step-off l h)) e

@@ -6,7 +6,8 @@ use native.Mathlib.Omega.{arith}
 use Rattle.jacobian.specs.Answer.{accepted, Accepts}
 use Rattle.jacobian.specs.declared.Class.{Class}
 use Rattle.jacobian.proofs.Representation.{accepts-class, accepts-both}
-use Rattle.history.specs.Register.{limit, moved, edge, stepped, other, RegisterReply, step-answer}
+use Rattle.count_limit.specs.Limit.{count-limit}
+use Rattle.history.specs.Register.{moved, edge, stepped, other, RegisterReply, step-answer}
 use Rattle.history.specs.declared.{Register.Register, Step.Step, Step.the-variants.Commit, Step.the-variants.Undo}
 use Rattle.history.proofs.Seals.{commit-sound, undo-sound, undo-of-commit, commit-of-undo}
 use Rattle.history.proofs.Registers.{Passes, Passing, step-passes, passes-step, follows-accepted, follows-zero}
@@ -21,7 +22,7 @@ unfolding stepped moved
 stepped-curve Commit r a = refl
 stepped-curve Undo r a = refl
 
-moved-passes : (n : ℕ) (s : Class) (r : Register) → Passes r → n ≤ limit → Accepts (r .curve) s → Passes (moved n s r)
+moved-passes : (n : ℕ) (s : Class) (r : Register) → Passes r → n ≤ count-limit → Accepts (r .curve) s → Passes (moved n s r)
 unfolding moved
 moved-passes n s r p h k = record { curve-passes = p .curve-passes; count-passes = h; seal-passes = accepts-class k }
 

@@ -3,18 +3,20 @@ use Prim.Native.Nat.{ℕ, zero, suc, _≤_}
 use mathlib.Core.Path.{_≡_, refl, sym, _∙_, ap}
 use mathlib.Core.Bool.{Bool, true, false, cond}
 use native.Mathlib.Omega.{arith}
-use borrow.Author.Tests.{leb-true, le-leb, ne-eqb, eqb-false}
-use lib.Dec.{eqb, lit<}
-use Rattle.jacobian.specs.{Checks.unless, Checks._or-else_, Curves.curve-refusal, Classes.class-refusal, Answer.accepted, Answer.refused}
+use borrow.Author.Tests.{ne-eqb, eqb-false}
+use lib.Dec.{eqb}
+use Rattle.jacobian.specs.{Checks._or-else_, Curves.curve-refusal, Classes.class-refusal, Answer.accepted, Answer.refused}
 use Rattle.jacobian.specs.declared.Class.{Class}
-use Rattle.jacobian.proofs.ByValue.Checks.{then-zero, unless-zero}
-use Rattle.history.specs.Register.{limit, register-refusal, edge, edge-refusal, step-refusal, RegisterReply, follows}
+use Rattle.jacobian.proofs.ByValue.Checks.{then-zero}
+use Rattle.count_limit.specs.Limit.{count-limit}
+use Rattle.count_limit.proofs.Limit.{within-limit, limit-keeps}
+use Rattle.history.specs.Register.{register-refusal, edge, edge-refusal, step-refusal, RegisterReply, follows}
 use Rattle.history.specs.declared.{Register.Register, Step.Step, Step.the-variants.Commit, Step.the-variants.Undo}
 
 -- ---- a register that passes its own checks
 pub record Passes (r : Register) : Type 0 where
   pub curve-passes : curve-refusal (r .curve) ≡ 0
-  pub count-passes : r .count ≤ limit
+  pub count-passes : r .count ≤ count-limit
   pub seal-passes : class-refusal (r .curve) (r .seal) ≡ 0
 
 pub register-passes : (r : Register) → register-refusal r ≡ 0 → Passes r
@@ -22,11 +24,11 @@ unfolding register-refusal
 register-passes r e =
     let h = then-zero _ _ e in
     let k = then-zero _ _ (h .1) in
-    record { curve-passes = h .0; count-passes = leb-true _ _ (unless-zero _ 109 (lit< tt) (k .0)); seal-passes = k .1 }
+    record { curve-passes = h .0; count-passes = limit-keeps _ (k .0); seal-passes = k .1 }
 
 pub passes-register : (r : Register) → Passes r → register-refusal r ≡ 0
-unfolding register-refusal unless _or-else_
-passes-register r p = rw (p .curve-passes, le-leb (r .count) limit (p .count-passes)) (p .seal-passes)
+unfolding register-refusal _or-else_
+passes-register r p = rw (p .curve-passes, within-limit (r .count) (p .count-passes)) (p .seal-passes)
 
 -- ---- a step that passes: the register, the class, and a count off the step's edge
 pub record Passing (k : Step) (r : Register) (a : Class) : Type 0 where

@@ -9,7 +9,8 @@ use Rattle.lists.specs.{Lists.All, Lists.none, Lists.more, Walk.after, Walk.wal
 use Rattle.jacobian.specs.{Answer.accepted, Answer.Result, Answer.result, Answer.refusal, Answer.refusal-of-two, Answer.subtract-and-halve-answer}
 use Rattle.jacobian.specs.declared.{Curve.Curve, Class.Class}
 use Rattle.jacobian.proofs.Representation.Unrefused.{zero-then}
-use Rattle.history.specs.Register.{limit, RegisterReply, undo-seal, sealed, edge, moved, stepped, step-answer, undo-answer}
+use Rattle.count_limit.specs.Limit.{count-limit}
+use Rattle.history.specs.Register.{RegisterReply, undo-seal, sealed, edge, moved, stepped, step-answer, undo-answer}
 use Rattle.history.specs.Machine as definition
 use Rattle.history.specs.Calls.{undo, answer, run, steps-back}
 use Rattle.history.specs.declared.{Register.Register, Step.the-variants.Undo}
@@ -56,12 +57,12 @@ undos-count t (a ∷ ops) (more h hs) =
     let m : answer t (undo a) .register .count ≡ t .count - 1 = ap (λ (x : Register). x .count) (undo-hands t a h) in
     omega arith
 
-pub undos-few : (t : Register) (ops : List Class) → All (λ e. e .outcome ≡ accepted) (run t (map undo ops)) → length ops ≤ limit
+pub undos-few : (t : Register) (ops : List Class) → All (λ e. e .outcome ≡ accepted) (run t (map undo ops)) → length ops ≤ count-limit
 unfolding definition.run definition.event answer
 undos-few t [] none = omega arith
 undos-few t (a ∷ ops) (more h hs) =
     let l : length (a ∷ ops) ≤ t .count = undos-count t (a ∷ ops) (more h hs) in
-    let b : t .count ≤ limit = passing t a h .register .count-passes in
+    let b : t .count ≤ count-limit = passing t a h .register .count-passes in
     omega arith
 
 -- ---- a walk whose steps are not refused

@@ -1,6 +1,6 @@
 -- Demand 1 of the register by value: a commit or an undo answers an acceptance, or a refusal with one of the numbers and the register given (`step-told`), and never 117
 -- (`step-never-117`).
--- What the checks of a register and of a step say is 0 or one of the numbers: `register-refusal-told`, `step-refusal-told`.
+-- What the checks of a count, of a register and of a step say is 0 or one of the numbers: `count-refusal-told`, `register-refusal-told`, `step-refusal-told`.
 use Prim.Native.Nat.{ℕ, zero, suc}
 use mathlib.Core.{Path._≡_, Path.refl, Bool.Bool, Bool.true, Bool.false, Bool.cond, Logic.inl, Logic.inr}
 use native.Mathlib.Omega.{arith}
@@ -8,15 +8,20 @@ use lib.Dec.{eqb}
 use Rattle.jacobian.specs.{Refusals.refusals, Refusals.listed, Refusals.IsRefusal, Refusals.Told, Answer.refused, declared.Class.Class}
 use Rattle.jacobian.specs.Told as told
 use Rattle.jacobian.proofs.{Refusals.told-unless, Refusals.told-or-else, Refusals.verdict-never-117, Told.curve-refusal-told, Told.class-refusal-told}
+use Rattle.count_limit.specs.Limit.{count-refusal}
 use Rattle.history.specs.Register.{register-refusal, edge, edge-refusal, step-refusal, stepped, follows, step-answer, RegisterReply, StepTold}
 use Rattle.history.specs.Register as register
 use Rattle.history.specs.declared.{Register.Register, Step.Step, Step.the-variants.Commit, Step.the-variants.Undo}
 
 -- ---- the checks
+pub count-refusal-told : (n : ℕ) → Told (count-refusal n)
+unfolding count-refusal IsRefusal refusals listed
+count-refusal-told n = told-unless _ 109 refl
+
 pub register-refusal-told : (r : Register) → Told (register-refusal r)
-unfolding register-refusal IsRefusal refusals listed
+unfolding register-refusal
 register-refusal-told r =
-    told-or-else _ _ (curve-refusal-told (r .curve)) (told-or-else _ _ (told-unless _ 109 refl) (class-refusal-told (r .curve) (r .seal)))
+    told-or-else _ _ (curve-refusal-told (r .curve)) (told-or-else _ _ (count-refusal-told (r .count)) (class-refusal-told (r .curve) (r .seal)))
 
 edge-told : (k : Step) (at : Bool) → Told (cond at (edge-refusal k) 0)
 unfolding Told edge-refusal IsRefusal refusals listed

@@ -8,7 +8,8 @@ use mathlib.Core.List.{List, [], _∷_, map, map-map}
 use lib.ListN.{length, take, getD, length-map}
 use Rattle.lists.specs.{Lists.All, Lists.none, Lists.more, Walk.walk}
 use Rattle.jacobian.specs.Answer.{accepted, Result}
-use Rattle.history.specs.Register.{limit, undo-seal, other}
+use Rattle.count_limit.specs.Limit.{count-limit}
+use Rattle.history.specs.Register.{undo-seal, other}
 use Rattle.history.specs.Machine as definition
 use Rattle.history.specs.Calls.{Call, undo, back, Event, run, last, newest, backs, taken-back, turned, classes, OnlyCommits, seals-back, walk-back, steps-back, met}
 use Rattle.history.specs.declared.Register.{Register}
@@ -62,6 +63,6 @@ module _ (r : Register) (cs : List Call) (only : OnlyCommits (newest r cs)) wher
   walk-part k = steps-take (r .curve) (last r cs .seal) (classes (newest r cs)) k ∙ ap (take k) walk-steps
 
   -- no more commits were accepted than the limit
-  pub accepted-few : length (newest r cs) ≤ limit
+  pub accepted-few : length (newest r cs) ≤ count-limit
   unfolding classes
   accepted-few = rw length-map at (undos-few (last r cs) (classes (newest r cs)) undos-accepted)

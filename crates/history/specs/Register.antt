@@ -1,17 +1,13 @@
 -- The history register by value: its checks, its two steps and what the calls on it answer (docs/SPECIFICATION.md, 4 and 6).
 use Prim.Native.Nat.{ℕ, zero, suc, _+_, _-_}
 use mathlib.Core.Bool.{cond}
-use lib.Dec.{eqb, leb}
+use lib.Dec.{eqb}
 use Rattle.class_group.specs.Moves.{double-and-add, subtract-and-halve}
-use Rattle.jacobian.specs.{Checks.unless, Checks._or-else_, Refusals.IsRefusal, Curves.curve-refusal, Curves.curve, Classes.pair, Classes.class-of, Classes.class-refusal}
+use Rattle.jacobian.specs.{Checks._or-else_, Refusals.IsRefusal, Curves.curve-refusal, Curves.curve, Classes.pair, Classes.class-of, Classes.class-refusal}
 use Rattle.jacobian.specs.Answer.{Verdict, accepted, refused, verdict, neutral-class, Result}
 use Rattle.jacobian.specs.declared.{Curve.Curve, Class.Class}
-use Rattle.stored_form.specs.Fields.{count-limit}
+use Rattle.count_limit.specs.Limit.{count-limit, count-refusal}
 use Rattle.history.specs.declared.{Register.Register, RegisterAnswer.RegisterAnswer, Step.Step, Step.the-variants.Commit, Step.the-variants.Undo}
-
--- the most operations that a register counts: as many as the stored count may say
-abbrev pub limit : ℕ
-limit = count-limit
 
 -- ---- seals
 -- the seal after a commit: twice the seal plus the operation's class
@@ -32,12 +28,12 @@ sealed (suc n) seal = record { outcome = refused (suc n); class = neutral-class 
 unfoldable pub register-refusal : Register → ℕ
 register-refusal r =
     curve-refusal (r .curve)
-    or-else unless (leb (r .count) limit) 109
+    or-else count-refusal (r .count)
     or-else class-refusal (r .curve) (r .seal)
 
 -- the count at which a step is refused, and the refusal: a commit at the limit with 114, an undo at count 0 with 113
 unfoldable pub edge : Step → ℕ
-edge Commit = limit
+edge Commit = count-limit
 edge Undo = 0
 
 unfoldable pub edge-refusal : Step → ℕ

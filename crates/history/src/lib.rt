@@ -5,6 +5,7 @@ ghost use Prim.Native.Nat.{ℕ};
 ghost use mathlib.Core.Path.{_≡_};
 ghost use Rattle.jacobian.specs.{Checks._or-else_, Curves.curve-refusal, Answer.refusal-of-two, Answer.reply, Answer.result};
 ghost use Rattle.jacobian.specs.declared.Class.{Class as Seal};
+ghost use Rattle.count_limit.specs.Limit.{count-refusal};
 ghost use Rattle.history.specs.declared.Register.{Register as Value};
 ghost use Rattle.history.specs.Register.{edge, edge-refusal, moved, sealed, register-reply, follows, step-answer, commit-answer, undo-answer};
 use jacobian::Class;
@@ -32,18 +33,15 @@ pub enum Step {
     Undo,
 }
 
-// The most operations that a register counts: as many as the stored count may say.
-const LIMIT: u64 = stored_form::COUNT_LIMIT;
-
-// The refusal of a count above the limit, unless the curve is refused first.
-pub fn count_refusal(curve: Curve) -> u32
-    ensures { λ r. ⌜ r ≡ curve-refusal curve or-else 109 ⌝ }
+// The refusal of a count, unless the curve is refused first.
+pub fn count_refusal(curve: Curve, count: u64) -> u32
+    ensures { λ r. ⌜ r ≡ curve-refusal curve or-else count-refusal count ⌝ }
 {
     let n = jacobian::curves::curve_refusal(curve);
     if n != 0 {
         return n;
     }
-    109
+    count_limit::count_refusal(count)
 }
 
 // The count at which a step is refused.
@@ -51,7 +49,7 @@ fn edge_count(step: Step) -> u64
     ensures { λ r. ⌜ r ≡ edge step ⌝ }
 {
     match step {
-        Step::Commit => LIMIT,
+        Step::Commit => count_limit::COUNT_LIMIT,
         Step::Undo => 0,
     }
 }
@@ -110,8 +108,8 @@ impl Register {
         let curve = self.curve;
         let count = self.count;
         let seal = self.seal;
-        if count > LIMIT {
-            return kept(self, count_refusal(curve));
+        if count_limit::count_refusal(count) != 0 {
+            return kept(self, count_refusal(curve, count));
         }
         if count == edge_count(step) {
             return kept(self, edge_refusal(step, curve, seal, class));

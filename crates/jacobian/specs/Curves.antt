@@ -1,12 +1,13 @@
 -- A curve by value: which are refused, and the f of those that are not (docs/SPECIFICATION.md, 2, 3 and 6).
 -- Of the definitions only `coefficients`, `curve-with` and `f-row` name the fields f3, f1 and f0.
 use Prim.Native.Nat.{ℕ, _^_}
-use mathlib.Core.{Bool._||_, List.List, List.[], List._∷_}
-use lib.{Dec.eqb, ListN.getD, ListN.replicate}
+use mathlib.Core.List.{List, [], _∷_}
+use lib.ListN.{getD, replicate}
 use Rattle.class_group.specs.Coefficients.{curve-of}
 use Rattle.row_theory.specs.Field.{F, 𝔸, el}
 use Rattle.jacobian.specs.{Checks.unless, Checks._or-else_, declared.Curve.Curve}
 use Rattle.binary_field.specs.Answer.{below}
+unfoldable pub use Rattle.binary_field.specs.Answer.{degree-refusal}
 use Rattle.class_group.specs.Curve as Theory
 
 -- how many coefficients a curve has
@@ -29,17 +30,13 @@ f-row c = c .f0 ∷ c .f1 ∷ 0 ∷ c .f3 ∷ 0 ∷ 0 ∷ 0 ∷ 1 ∷ []
 unfoldable pub blank-curve : Curve
 blank-curve = curve-with 5 (replicate coefficient-count 0)
 
--- 106 for a degree other than 5 and 61
-unfoldable pub degree-refusal : Curve → ℕ
-degree-refusal c = unless (eqb (c .degree) 5 || eqb (c .degree) 61) 106
-
 -- 107 for a coefficient of 2^d or more
 unfoldable pub coefficient-refusal : Curve → ℕ
 coefficient-refusal c = unless (below (2 ^ c .degree) (coefficients c)) 107
 
 -- 106, then 107; 0 where the curve is accepted
 unfoldable pub curve-refusal : Curve → ℕ
-curve-refusal c = degree-refusal c or-else coefficient-refusal c
+curve-refusal c = degree-refusal (c .degree) or-else coefficient-refusal c
 
 -- the curve of the theory: y² + y = f
 unfoldable pub curve : (c : Curve) → Theory.Curve (𝔸 (c .degree))

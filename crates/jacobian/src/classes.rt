@@ -172,7 +172,7 @@ fn range_refusal(d: u8, a: Class) -> u32
 {
     let u = a.u;
     let v = a.v;
-    let m = row::bound(d);
+    let m = binary_field::bound(d);
     if !all_below(m, u) {
         return 110;
     }

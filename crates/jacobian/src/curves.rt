@@ -62,11 +62,10 @@ fn coefficients_refusal(m: u64, c: Curve) -> u32
 pub fn curve_refusal(c: Curve) -> u32
     ensures { λ r. ⌜ r ≡ curve-refusal c ⌝ }
 {
-    if c.degree == 5 {
-        return coefficients_refusal(0x20, c);
+    let d = c.degree;
+    let n = binary_field::degree_refusal(d);
+    if n != 0 {
+        return n;
     }
-    if c.degree == 61 {
-        return coefficients_refusal(0x2000_0000_0000_0000, c);
-    }
-    106
+    coefficients_refusal(binary_field::bound(d), c)
 }

@@ -3,12 +3,14 @@ use Prim.Native.Nat.{ℕ, zero, suc, _+_, _≤_, _<_}
 use mathlib.Core.{Path._≡_, Path.refl, Path.sym, Path._∙_, Path.ap, Path.ap₂, Bool.Bool, Bool.true, Bool.false, List.List, List.[], List._∷_, List._++_}
 use native.Mathlib.Numerals.{add-one}
 use native.Mathlib.Omega.{arith}
-use lib.{Dec.leb, ListN.length, ListN.take, ListN.getD, Seq.take-nil, Seq.take-length, Seq.take-suc}
-use borrow.Author.Tests.{leb-true, leb-false, lt-leb, le-leb}
+use lib.{Dec.eqb, ListN.length, ListN.take, ListN.getD, Seq.take-nil, Seq.take-length, Seq.take-suc}
+use borrow.Author.Tests.{eqb-true, eqb-false, eq-eqb, ne-eqb}
 use Rattle.lists.specs.Walk.{after}
 use Rattle.jacobian.specs.{Checks.unless, Checks._or-else_, Curves.curve-refusal, Classes.class-refusal, Answer.Verdict, Answer.accepted, Answer.refused, Answer.verdict-of, Answer.outcome-refusal, Answer.neutral-class, Answer.Accepts, Answer.refusal, Answer.refusal-of-two, Answer.Result, Answer.reply, Answer.result, Answer.subtract-and-halve-answer, declared.Curve.Curve, declared.Class.Class, declared.ClassAnswer.ClassAnswer}
 use Rattle.jacobian.proofs.{ByValue.Checks.then-zero, Representation.accepts-class, Representation.accepts-both}
-use Rattle.history.specs.{Register.limit, Register.undo-seal, Register.sealed, Calls.walk-back}
+use Rattle.count_limit.specs.Limit.{count-refusal}
+use Rattle.count_limit.proofs.Limit.{within-limit}
+use Rattle.history.specs.{Register.undo-seal, Register.sealed, Calls.walk-back}
 use Rattle.history.proofs.{Seals.undo-sound, Answers.sealed-outcome, Answers.answer-refusal, Answers.subtract-and-halve-sealed, Numbers.then-positive, Numbers.then-none}
 use Rattle.seal_register.specs.{RowWalk.classes-refusal, RowWalk.row-refusal, RowWalk.row-walk-answer, internal.RowSteps.opening-refusal, internal.RowSteps.turns-due, internal.RowSteps.onward}
 
@@ -39,15 +41,15 @@ module _ (c : Curve) (s : Class) where
   unfolding opening-refusal
   opening-empty n e = rw e
 
-  pub opening-above : (n : ℕ) → limit < n → curve-refusal c or-else 109 ≡ opening-refusal c s n
+  pub opening-above : (n : ℕ) → ¬ (count-refusal n ≡ 0) → curve-refusal c or-else count-refusal n ≡ opening-refusal c s n
   unfolding opening-refusal unless
-  opening-above zero h = absurd (omega arith)
-  opening-above (suc n) h = rw (lt-leb (suc n) limit h)
+  opening-above zero h = absurd (h (within-limit 0 (omega arith)))
+  opening-above (suc n) h = rw (ne-eqb (count-refusal (suc n)) 0 h)
 
-  pub opening-within : (n : ℕ) → ¬ (n ≡ 0) → n ≤ limit → 0 ≡ opening-refusal c s n
+  pub opening-within : (n : ℕ) → ¬ (n ≡ 0) → count-refusal n ≡ 0 → 0 ≡ opening-refusal c s n
   unfolding opening-refusal unless
   opening-within zero h k = absurd (h refl)
-  opening-within (suc n) h k = rw (le-leb (suc n) limit k)
+  opening-within (suc n) h k = rw (eq-eqb (count-refusal (suc n)) 0 k)
 
 -- ---- how many steps
 pub turns-none : (n m : ℕ) → ¬ (n ≡ 0) → 0 ≡ turns-due (verdict-of n) m
@@ -70,10 +72,11 @@ unfolding _or-else_
 then-within zero s b = refl
 then-within (suc a) s b = refl
 
-then-above : (a n s : ℕ) → a or-else suc n ≡ a or-else suc n or-else s
+then-above : (a n s : ℕ) → ¬ (n ≡ 0) → a or-else n ≡ a or-else n or-else s
 unfolding _or-else_
-then-above zero n s = refl
-then-above (suc a) n s = refl
+then-above zero zero s h = absurd (h refl)
+then-above zero (suc n) s h = refl
+then-above (suc a) n s h = refl
 
 -- ---- rows
 -- one step more leads over the next element
@@ -146,41 +149,41 @@ module _ (c : Curve) where
       ∙ sealed-refused (suc n) _ _ (λ z. omega arith)
 
   -- the definition's checks, by the length of the row
-  row-within : (s : Class) (ops : List Class) → length ops ≤ limit → sealed (refusal c s or-else classes-refusal c ops) (walk-back c s ops) ≡ row-walk-answer c s ops
-  unfolding row-walk-answer row-refusal refusal unless
-  row-within s ops h = rw (le-leb (length ops) limit h) (ap (λ n. sealed n (walk-back c s ops)) (then-within (curve-refusal c) (class-refusal c s) (classes-refusal c ops)))
+  row-within : (s : Class) (ops : List Class) → count-refusal (length ops) ≡ 0 → sealed (refusal c s or-else classes-refusal c ops) (walk-back c s ops) ≡ row-walk-answer c s ops
+  unfolding row-walk-answer row-refusal refusal
+  row-within s ops h = rw h (ap (λ n. sealed n (walk-back c s ops)) (then-within (curve-refusal c) (class-refusal c s) (classes-refusal c ops)))
 
-  row-above : (s : Class) (ops : List Class) → limit < length ops → sealed (curve-refusal c or-else 109) s ≡ row-walk-answer c s ops
-  unfolding row-walk-answer row-refusal unless
+  row-above : (s : Class) (ops : List Class) → ¬ (count-refusal (length ops) ≡ 0) → sealed (curve-refusal c or-else count-refusal (length ops)) s ≡ row-walk-answer c s ops
+  unfolding row-walk-answer row-refusal
   row-above s ops h =
-      sealed-refused (curve-refusal c or-else 109) s (walk-back c s ops) (then-positive (curve-refusal c) 109 (λ z. omega arith))
-      ∙ rw (lt-leb (length ops) limit h) (ap (λ n. sealed n (walk-back c s ops)) (then-above (curve-refusal c) 108 (class-refusal c s or-else classes-refusal c ops)))
+      sealed-refused (curve-refusal c or-else count-refusal (length ops)) s (walk-back c s ops) (then-positive (curve-refusal c) (count-refusal (length ops)) h)
+      ∙ ap (λ n. sealed n (walk-back c s ops)) (then-above (curve-refusal c) (count-refusal (length ops)) (class-refusal c s or-else classes-refusal c ops) h)
 
   module _ (s : Class) where
-    by-length : (a : Class) (ops : List Class) (x : Result) (n : ℕ) (b : Bool) → leb (length (a ∷ ops)) limit ≡ b
+    by-length : (a : Class) (ops : List Class) (x : Result) (n : ℕ) (b : Bool) → eqb (count-refusal (length (a ∷ ops))) 0 ≡ b
         → x ≡ sealed (opening-refusal c s (length (a ∷ ops))) s → n ≡ turns-due (x .outcome) (length (a ∷ ops))
         → after (onward c) x (take n (a ∷ ops)) ≡ row-walk-answer c s (a ∷ ops)
     unfolding turns-due sealed after
     by-length a ops x n true l e m =
-        let within = leb-true _ _ l in
+        let within = eqb-true _ 0 l in
         let start : x ≡ sealed 0 s = e ∙ ap (λ k. sealed k s) (sym (opening-within c s (length (a ∷ ops)) (λ z. omega arith) within)) in
         let all : n ≡ length (a ∷ ops) = m ∙ ap (λ (y : Result). turns-due (y .outcome) (length (a ∷ ops))) start in
         ap₂ (after (onward c)) start (ap (λ k. take k (a ∷ ops)) all ∙ take-length (a ∷ ops))
         ∙ opens-sound (refusal c s) s a ops refl
         ∙ row-within s (a ∷ ops) within
     by-length a ops x n false l e m =
-        let above = leb-false _ _ l in
-        let k = curve-refusal c or-else 109 in
+        let above = eqb-false _ 0 l in
+        let k = curve-refusal c or-else count-refusal (length (a ∷ ops)) in
         let start : x ≡ sealed k s = e ∙ ap (λ k. sealed k s) (sym (opening-above c s (length (a ∷ ops)) above)) in
         let still : n ≡ 0 =
         m ∙ ap (λ (y : Result). turns-due (y .outcome) (length (a ∷ ops))) start
         ∙ ap (λ v. turns-due v (length (a ∷ ops))) (sealed-outcome k s)
-        ∙ sym (turns-none k (length (a ∷ ops)) (then-positive (curve-refusal c) 109 (λ z. omega arith))) in
+        ∙ sym (turns-none k (length (a ∷ ops)) (then-positive (curve-refusal c) (count-refusal (length (a ∷ ops))) above)) in
         ap₂ (λ (y : Result) (j : ℕ). after (onward c) y (take j (a ∷ ops))) start still ∙ row-above s (a ∷ ops) above
 
     -- the steps that are due after the opening x answer the walk over the row
     pub row-walked : (ops : List Class) (x : Result) (n : ℕ) → x ≡ sealed (opening-refusal c s (length ops)) s → n ≡ turns-due (x .outcome) (length ops)
         → after (onward c) x (take n ops) ≡ row-walk-answer c s ops
     unfolding after opening-refusal classes-refusal walk-back
-    row-walked [] x n e m = ap (after (onward c) x) (take-nil n) ∙ e ∙ ap (λ k. sealed k s) (sym (then-none (refusal c s))) ∙ row-within s [] (omega arith)
-    row-walked (a ∷ ops) x n e m = by-length a ops x n (leb (length (a ∷ ops)) limit) refl e m
+    row-walked [] x n e m = ap (after (onward c) x) (take-nil n) ∙ e ∙ ap (λ k. sealed k s) (sym (then-none (refusal c s))) ∙ row-within s [] (within-limit 0 (omega arith))
+    row-walked (a ∷ ops) x n e m = by-length a ops x n (eqb (count-refusal (length (a ∷ ops))) 0) refl e m

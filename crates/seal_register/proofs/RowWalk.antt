@@ -6,11 +6,12 @@ use Prim.Native.Nat.{ℕ, zero, suc, _≤_}
 use mathlib.Core.{Path._≡_, Path.refl, Path.sym, Path._∙_, Path.ap, Path.ap₂, Path.subst, List.List, List.[], List._∷_, List.map, List.map-map}
 use native.Mathlib.Omega.{arith}
 use lib.{ListN.length, ListN.take, ListN.getD, ListN.length-map, Seq.length-take-le, Seq.take-length}
-use borrow.Author.Tests.{le-leb}
 use Rattle.lists.specs.{Lists.All, Lists.none, Lists.more, Walk.after}
-use Rattle.jacobian.specs.{Checks.unless, Checks._or-else_, Curves.curve-refusal, Classes.class-refusal, Answer.accepted, Answer.verdict-of, Answer.Result, declared.Curve.Curve, declared.Class.Class}
+use Rattle.jacobian.specs.{Checks._or-else_, Curves.curve-refusal, Classes.class-refusal, Answer.accepted, Answer.verdict-of, Answer.Result, declared.Curve.Curve, declared.Class.Class}
 use Rattle.history.specs.Machine as machine
-use Rattle.history.specs.{Register.limit, Register.register-refusal, Register.sealed, Calls.Call, Calls.Event, Calls.registers, Calls.last, Calls.newest, Calls.backs, Calls.turned, Calls.classes, Calls.OnlyCommits, Calls.seals-back, Calls.walk-back, declared.Register.Register}
+use Rattle.count_limit.specs.Limit.{count-limit}
+use Rattle.count_limit.proofs.Limit.{within-limit}
+use Rattle.history.specs.{Register.register-refusal, Register.sealed, Calls.Call, Calls.Event, Calls.registers, Calls.last, Calls.newest, Calls.backs, Calls.turned, Calls.classes, Calls.OnlyCommits, Calls.seals-back, Calls.walk-back, declared.Register.Register}
 use Rattle.history.proofs.{Registers.Passes, Registers.register-passes, TakingBack.last-curve, TakingBack.taken-back-turned, TakingBack.taken-back-all, Preserved.last-passes, Preserved.accepted-classes, WalkingBack.walk-ends, WalkingBack.accepted-few}
 use Rattle.seal_register.specs.{InPlace.Made, InPlace.calls, InPlace.Session, InPlace.left-by, InPlace.newest-made, InPlace.seals-made, RowWalk.classes-refusal, RowWalk.row-refusal, RowWalk.reached, RowWalk.row-walk-answer, declared.walk.RowWalk.RowWalk}
 use Rattle.seal_register.proofs.{Answer.verdict-number, InPlace.as-by-value, InPlace.newest-is}
@@ -24,10 +25,10 @@ unrefused c [] (suc k) none = refl
 unrefused c (e ∷ es) zero (more h hs) = refl
 unrefused c (e ∷ es) (suc k) (more h hs) = rw h (unrefused c es k hs)
 
-row-answered : (c : Curve) (s : Class) (ops : List Class) → curve-refusal c ≡ 0 → class-refusal c s ≡ 0 → length ops ≤ limit → classes-refusal c ops ≡ 0
+row-answered : (c : Curve) (s : Class) (ops : List Class) → curve-refusal c ≡ 0 → class-refusal c s ≡ 0 → length ops ≤ count-limit → classes-refusal c ops ≡ 0
     → row-walk-answer c s ops ≡ record { outcome = accepted; class = walk-back c s ops }
-unfolding row-walk-answer row-refusal sealed unless _or-else_
-row-answered c s ops hc hs hl ho = rw (hc, le-leb (length ops) limit hl, hs, ho)
+unfolding row-walk-answer row-refusal sealed _or-else_
+row-answered c s ops hc hs hl ho = rw (hc, within-limit (length ops) hl, hs, ho)
 
 -- ---- with all calls by value
 -- what the last call of a run leaves is the last state
@@ -52,11 +53,11 @@ module _ (r : Register) (cs : List Call) where
     passes : Passes (last r cs)
     passes = register-passes (last r cs) (last-passes r cs ok)
 
-    within : (k : ℕ) → k ≤ length (newest r cs) → length (take k (classes (newest r cs))) ≤ limit
+    within : (k : ℕ) → k ≤ length (newest r cs) → length (take k (classes (newest r cs))) ≤ count-limit
     unfolding classes
     within k h =
         let e : length (take k (classes (newest r cs))) ≡ k = length-take-le k (classes (newest r cs)) (rw length-map h) in
-        let f : length (newest r cs) ≤ limit = accepted-few r cs only in
+        let f : length (newest r cs) ≤ count-limit = accepted-few r cs only in
         omega arith
 
     by-value : (k : ℕ) → k ≤ length (newest r cs)

@@ -4,11 +4,11 @@
 use Prim.Native.Nat.{ℕ, zero, suc}
 use mathlib.Core.{Path._≡_, Path.refl, Path.sym, Path._∙_, Path.ap, Path.subst, List.List, List.[], List._∷_, Logic._⊎_, Logic.inl, Logic.inr}
 use Rattle.lists.specs.Walk.{after}
-use Rattle.jacobian.specs.{Curves.curve-refusal, Classes.class-refusal, Refusals.refusals, Refusals.listed, Refusals.IsRefusal, Refusals.Told, declared.Curve.Curve, declared.Class.Class}
+use Rattle.jacobian.specs.{Curves.curve-refusal, Classes.class-refusal, Refusals.IsRefusal, Refusals.Told, declared.Curve.Curve, declared.Class.Class}
 use Rattle.jacobian.specs.Answer.{accepted, verdict-of, neutral-class, Accepts, Result, membership-answer}
-use Rattle.jacobian.proofs.{ByValue.Checks.then-zero, Refusals.told-none, Refusals.told-unless, Refusals.told-or-else, Refusals.refused-told, Told.curve-refusal-told, Told.class-refusal-told, Representation.accepts-both}
+use Rattle.jacobian.proofs.{ByValue.Checks.then-zero, Refusals.told-none, Refusals.told-or-else, Refusals.refused-told, Told.curve-refusal-told, Told.class-refusal-told, Representation.accepts-both}
 use Rattle.history.specs.{Register.RegisterReply, Register.sealed, Register.stepped, Register.follows, Register.step-refusal, Register.step-answer, Calls.Call, Calls.answer, Calls.walk-back, declared.Register.Register}
-use Rattle.history.proofs.{Seals.undo-sound, Told.step-refusal-told}
+use Rattle.history.proofs.{Seals.undo-sound, Told.count-refusal-told, Told.step-refusal-told}
 use Rattle.seal_register.specs.{InPlace.in-place, RowWalk.classes-refusal, RowWalk.row-refusal, RowWalk.reached, RowWalk.row-walk-answer, declared.walk.RowWalk.RowWalk}
 use Rattle.seal_register.proofs.Answer.{verdict-number}
 
@@ -35,8 +35,8 @@ classes-told c [] = told-none
 classes-told c (a ∷ ops) = told-or-else _ _ (class-refusal-told c a) (classes-told c ops)
 
 row-told : (c : Curve) (last : Class) (ops : List Class) → Told (row-refusal c last ops)
-unfolding row-refusal IsRefusal refusals listed
-row-told c last ops = told-or-else _ _ (curve-refusal-told c) (told-or-else _ _ (told-unless _ 109 refl) (told-or-else _ _ (class-refusal-told c last) (classes-told c ops)))
+unfolding row-refusal
+row-told c last ops = told-or-else _ _ (curve-refusal-told c) (told-or-else _ _ (count-refusal-told _) (told-or-else _ _ (class-refusal-told c last) (classes-told c ops)))
 
 module _ (c : Curve) where
   -- from an accepted seal over accepted classes, the walk ends in an accepted seal

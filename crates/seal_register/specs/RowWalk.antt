@@ -1,12 +1,12 @@
 -- The walk over a lent row of classes, newest first, refusals included (docs/SPECIFICATION.md, 6 and 8).
 use Prim.Native.Nat.{ℕ}
 use mathlib.Core.List.{List, [], _∷_}
-use lib.Dec.{leb}
 use lib.ListN.{length}
-use Rattle.jacobian.specs.{Checks.unless, Checks._or-else_, Curves.curve-refusal, Classes.class-refusal}
+use Rattle.jacobian.specs.{Checks._or-else_, Curves.curve-refusal, Classes.class-refusal}
 use Rattle.jacobian.specs.Answer.{verdict-of, Result}
 use Rattle.jacobian.specs.declared.{Curve.Curve, Class.Class}
-use Rattle.history.specs.Register.{limit, sealed}
+use Rattle.count_limit.specs.Limit.{count-refusal}
+use Rattle.history.specs.Register.{sealed}
 use Rattle.history.specs.Calls.{walk-back}
 use Rattle.seal_register.specs.declared.walk.RowWalk.{RowWalk}
 
@@ -19,7 +19,7 @@ classes-refusal c (a ∷ ops) = class-refusal c a or-else classes-refusal c ops
 unfoldable pub row-refusal : Curve → Class → List Class → ℕ
 row-refusal c last ops =
     curve-refusal c
-    or-else unless (leb (length ops) limit) 109
+    or-else count-refusal (length ops)
     or-else class-refusal c last
     or-else classes-refusal c ops
 

@@ -16,9 +16,6 @@ pub struct RowWalk {
     pub seal: Class,
 }
 
-// The most classes of a row: as many as the stored count may say.
-const LIMIT: u64 = stored_form::COUNT_LIMIT;
-
 // The refusal that is due before the first step, which itself checks the curve and the last seal.
 fn opening_refusal(curve: Curve, last: Class, classes: usize) -> u32
     ensures { λ r. ⌜ r ≡ opening-refusal curve last classes ⌝ }
@@ -26,8 +23,9 @@ fn opening_refusal(curve: Curve, last: Class, classes: usize) -> u32
     if classes == 0 {
         return jacobian::class_refusal(curve, last);
     }
-    if classes as u64 > LIMIT {
-        return history::count_refusal(curve);
+    let n = classes as u64;
+    if count_limit::count_refusal(n) != 0 {
+        return history::count_refusal(curve, n);
     }
     0
 }

@@ -4,7 +4,7 @@ use mathlib.Core.{Path._≡_, Path.refl, Path.sym, Path.ap, Path.ap₂, Path.sub
 use native.Mathlib.Omega.{arith}
 use lib.{Bits.bitXor, ListN.length, ListN.getD, ListN.drop, ListN.replicate}
 use Rattle.field_laws.specs.Ring.{Ring2}
-use Rattle.char2_algebra.proofs.Ring.{⊞-𝟘, 𝟘-⊞, ·-𝟘}
+use Rattle.char2_algebra.proofs.Ring.{𝟘-⊞, ·-𝟘}
 use Rattle.binary_field_theory.specs.{Carryless._⊕_, Element.Accepted, Element.product}
 use Rattle.binary_field_theory.proofs.{Sums.sum-zero, Products.product-zero}
 use Rattle.binary_field.specs.{Answer.reply, Answer.product-reply, declared.Answer.Answer, declared.Answer.the-variants.Element, declared.Answer.the-variants.Refused}

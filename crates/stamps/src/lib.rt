@@ -83,10 +83,7 @@ fn limit(d: u8) -> u64
     requires { ⌜ Accepted d ⌝ }
     ensures { λ r. ⌜ r ≡ 2 ^ (d - 3) ⌝ }
 {
-    if d == 5 {
-        return 4;
-    }
-    0x0400_0000_0000_0000
+    binary_field::bound(d) / CANDIDATES
 }
 
 // The refusal that is due before any candidate is tried, and 0 where none is.

@@ -5,7 +5,7 @@ use mathlib.Core.Path.{_≡_, refl, ap}
 use mathlib.Core.{Bool.Bool, Bool.true, Bool.false, Bool.cond, Bool.not, List.List, List.[], List._∷_, Logic.inl, Logic.inr}
 use native.Mathlib.Omega.{arith}
 use lib.{Dec.eqb, Dec.ltb, ListN.length, ListN.getD}
-use Rattle.jacobian.specs.{Refusals.refusals, Refusals.listed, Refusals.IsRefusal, Refusals.Told, Curves.degree-refusal, declared.Curve.Curve}
+use Rattle.jacobian.specs.{Refusals.refusals, Refusals.listed, Refusals.IsRefusal, Refusals.Told, Curves.degree-refusal}
 use Rattle.jacobian.proofs.{Refusals.told-unless, Refusals.above-100, Told.curve-refusal-told, Told.refusal-told}
 use Rattle.stored_form.specs.{Reading.Reading, Reading.found, Reading.refused, Reading.refuse, Reading.checked, Reading._then_, Reading.reading-refusal}
 use Rattle.stored_form.specs.{Head.body-length, Fields.count-refusal, Fields.drawing-refusal, Fields.end-refusal, Fields.ended, Held.nothing-held, Tags.Rules, Tags.rules}
@@ -18,9 +18,9 @@ pub either : {A : Type 0} (P : A → Type 0) (b : Bool) {x y : A} → P x → P 
 either P true p q = p
 either P false p q = q
 
-told-degree : (c : Curve) → Told (degree-refusal c)
+told-degree : (d : ℕ) → Told (degree-refusal d)
 unfolding degree-refusal IsRefusal refusals listed
-told-degree c = told-unless _ 106 refl
+told-degree d = told-unless _ 106 refl
 
 pub told-count : (n : ℕ) → Told (count-refusal n)
 unfolding count-refusal IsRefusal refusals listed

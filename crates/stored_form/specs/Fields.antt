@@ -5,6 +5,7 @@ use mathlib.Core.List.{List, [], _∷_}
 use lib.ListN.{length}
 use lib.Dec.{leb, ltb}
 use Rattle.jacobian.specs.Checks.{unless}
+unfoldable pub use Rattle.count_limit.specs.Limit.{count-limit, count-refusal}
 use Rattle.stored_form.specs.{Number.bytes-of, Reading.Reading, Reading.found, Reading.checked}
 use Rattle.stored_form.specs.Head.{degree-length, count-length, stored}
 
@@ -14,14 +15,6 @@ unfoldable pub degree-field : ℕ → List ℕ
 degree-field d = stored 0x40 (bytes-of degree-length d)
 
 -- ---- the count of operations
-
--- the most operations that a count may say
-unfoldable pub count-limit : ℕ
-count-limit = 1024
-
--- 109 for a count above it
-unfoldable pub count-refusal : ℕ → ℕ
-count-refusal n = unless (leb n count-limit) 109
 
 unfoldable pub count-field : ℕ → List ℕ
 count-field n = stored 0x42 (bytes-of count-length n)

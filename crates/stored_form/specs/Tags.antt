@@ -28,7 +28,7 @@ degree-rules = record {
   allows = λ h n. eqb n degree-length;
   hold = λ body h. with-curve (curve-of-degree (number-of body)) h;
   body = λ h. bytes-of degree-length (h .curve .degree);
-  check = λ n h. degree-refusal (h .curve);
+  check = λ n h. degree-refusal (h .curve .degree);
 }
 
 -- the curve, over the field whose degree was read

@@ -3,37 +3,13 @@ ghost use mathlib.Core.Path.{_≡_};
 ghost use mathlib.Core.Bool.{true};
 ghost use Prim.Native.Nat.{_+_, _≤_};
 ghost use lib.ListN.{length};
-ghost use Rattle.jacobian.specs.Curves.{degree-refusal};
-ghost use Rattle.stored_form.specs.{Number.part, Head.drawing-limit, Fields.count-refusal, Held.curve-of-degree, Tags.rules};
+ghost use Rattle.stored_form.specs.{Number.part, Head.drawing-limit, Held.curve-of-degree, Tags.rules};
 use crate::Held;
 use crate::classes;
 use crate::drawings;
 use crate::numbers;
 use jacobian::Curve;
 use jacobian::curves::COEFFICIENTS;
-
-// 106 for a degree other than 5 and 61, else 0.
-fn degree_refusal(c: Curve) -> u32
-    ensures { λ r. ⌜ r ≡ degree-refusal c ⌝ }
-{
-    if c.degree == 5 {
-        return 0;
-    }
-    if c.degree == 61 {
-        return 0;
-    }
-    106
-}
-
-// 109 for a count above the limit, else 0.
-fn count_refusal(n: u64) -> u32
-    ensures { λ r. ⌜ r ≡ count-refusal n ⌝ }
-{
-    if crate::COUNT_LIMIT < n {
-        return 109;
-    }
-    0
-}
 
 // The curve over the field of degree d with all coefficients 0.
 fn curve_of_degree(d: u8) -> Curve
@@ -87,7 +63,7 @@ pub(crate) fn field_refusal(tag: u8, len: usize, h: Held) -> u32
 {
     let curve = h.curve;
     if tag == crate::DEGREE {
-        return degree_refusal(curve);
+        return binary_field::degree_refusal(curve.degree);
     }
     if tag == crate::CURVE {
         return jacobian::curves::curve_refusal(curve);
@@ -97,7 +73,7 @@ pub(crate) fn field_refusal(tag: u8, len: usize, h: Held) -> u32
         return drawings::drawing_refusal(drawing);
     }
     if tag == crate::COUNT {
-        return count_refusal(h.count);
+        return count_limit::count_refusal(h.count);
     }
     if tag == crate::CLASS {
         let class = h.class;

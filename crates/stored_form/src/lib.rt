@@ -61,9 +61,6 @@ pub const CLASS_LIMIT: usize = 6 * ELEMENT_LENGTH;
 
 pub const CLASS_ROOM: usize = 3 + CLASS_LIMIT;
 
-// The most operations that a count may say.
-pub const COUNT_LIMIT: u64 = 1024;
-
 // A place in the input.
 pub struct Cursor {
     pub at: usize,

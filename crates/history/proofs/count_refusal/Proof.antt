@@ -1,15 +1,14 @@
 -- `count_refusal` meets its contract.
-use mathlib.Core.Path.{refl}
 use Rattle.jacobian.proofs.ByValue.Checks.{first-due, next-due}
 use borrow.Author.Needs.{needs}
 use Rattle.history.proofs.count_refusal.Statement.{statement}
 use Rattle.history.proofs.count_refusal.Tie as tie
 
 returns : tie.Need-returns
-returns c = first-due 109 (c .before .curve-refusal .ensures) (c .if1 .taken)
+returns c = first-due _ (c .before .curve-refusal .ensures) (c .if1 .taken)
 
 returns-2 : tie.Need-returns-2
-returns-2 c = next-due (c .before .curve-refusal .ensures) (c .if1 .left) refl
+returns-2 c = next-due (c .before .before .curve-refusal .ensures) (c .before .if1 .left) (c .count-refusal .ensures)
 
 pub count-refusal-spec : {M : Type 1} → statement M
-count-refusal-spec = tie.close (tie.spec (λ c κs. search needs) returns returns-2)
+count-refusal-spec = tie.close (tie.spec (λ c κs. search needs) returns (λ c κs. search needs) returns-2)

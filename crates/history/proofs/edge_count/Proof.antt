@@ -1,6 +1,6 @@
 -- `edge_count` meets its contract.
 use mathlib.Core.Path.{ap, sym}
-use Rattle.stored_form.specs.Fields.{count-limit}
+use Rattle.count_limit.specs.Limit.{count-limit}
 use Rattle.history.specs.Register.{edge}
 use borrow.Author.Needs.{needs}
 use Rattle.history.proofs.edge_count.Statement.{statement}

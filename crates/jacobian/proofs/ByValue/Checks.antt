@@ -3,7 +3,7 @@ use Prim.Native.Nat.{ℕ, zero, suc, _^_, _≤_, _<_}
 use mathlib.Core.Path.{_≡_, refl}
 use mathlib.Core.{Bool.Bool, Bool.true, Bool.false, Bool._&&_, List.List, List.[], List._∷_}
 use native.Mathlib.Omega.{arith}
-use lib.{Dec.T, Dec.eqb, Dec.ltb, Dec.lit<, Dec.lit≤, ListN.getD, ListN.length, ListN.drop, Pow.pow-pos}
+use lib.{Dec.eqb, Dec.ltb, Dec.lit<, Dec.lit≤, ListN.getD, ListN.length, ListN.drop, Pow.pow-pos}
 use borrow.Author.Tests.{ltb-true, leb-true, eqb-true}
 use Rattle.binary_field_theory.specs.Element.{Accepted}
 use Rattle.class_group.specs.Mumford.{value}
@@ -11,6 +11,7 @@ use Rattle.row_theory.specs.Field.{𝔸}
 use Rattle.jacobian.specs.{Checks.blank, Curves.coefficients, Curves.degree-refusal, Curves.coefficient-refusal, Curves.curve-refusal, Curves.f-row, Curves.curve, Classes.pair, Classes.padded, Classes.shape-refusal, Classes.range-refusal, Classes.class-refusal, declared.Curve.Curve, declared.Class.Class}
 use Rattle.binary_field.specs.Answer.{below}
 pub use Rattle.binary_field.proofs.Checks.{then-zero, first-due, next-due, unless-zero}
+use Rattle.binary_field.proofs.Degrees.{accepted-degree}
 use Rattle.jacobian.proofs.ByValue.Degrees.{by-degree}
 
 -- ---- one check
@@ -18,9 +19,6 @@ pub both : (x y : Bool) → (x && y) ≡ true → (x ≡ true) × (y ≡ true)
 both true y e = (refl, e)
 both false true e = (e, refl)
 both false false e = (e, e)
-
-T-of : {x : Bool} → x ≡ true → T x
-T-of e = rw e tt
 
 -- ---- rows
 pub below-at : (m : ℕ) (r : List ℕ) → 0 < m → below m r ≡ true → (i : ℕ) → getD r i 0 < m
@@ -60,12 +58,12 @@ pub record CurvePasses (c : Curve) : Type 0 where
   pub f-below : (i : ℕ) → getD (f-row c) i 0 < 2 ^ c .degree
 
 pub curve-passes : (c : Curve) → curve-refusal c ≡ 0 → CurvePasses c
-unfolding curve-refusal degree-refusal coefficients coefficient-refusal f-row
+unfolding curve-refusal coefficients coefficient-refusal f-row
 curve-passes c e =
     let h = then-zero _ _ e in
-    let of-degree : degree-refusal c ≡ 0 = search in
+    let of-degree : degree-refusal (c .degree) ≡ 0 = search in
     let of-coefficients : coefficient-refusal c ≡ 0 = search in
-    let ok : Accepted (c .degree) = T-of (unless-zero _ 106 (lit< tt) of-degree) in
+    let ok : Accepted (c .degree) = accepted-degree _ of-degree in
     let two : 2 ≤ 2 ^ c .degree = by-degree (λ d. 2 ≤ 2 ^ d) (lit≤ tt) (lit≤ tt) (c .degree) ok in
     let at = below-at _ _ (omega arith) (unless-zero _ 107 (lit< tt) of-coefficients) in
     record {

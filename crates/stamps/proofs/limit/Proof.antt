@@ -1,12 +1,19 @@
 -- `limit` meets its contract, degree by degree.
-use mathlib.Core.Path.{refl}
-use Rattle.binary_field_theory.proofs.Degrees.{other-degree}
+use Prim.Native.Nat.{ℕ, _-_, _/_, _^_}
+use mathlib.Core.Path.{_≡_, refl, _∙_, ap}
+use borrow.Author.Needs.{needs}
+use Rattle.binary_field_theory.specs.Element.{Accepted}
+use Rattle.binary_field_theory.proofs.Products.{degree-cases}
+use Rattle.binary_field.proofs.Degrees.{bound-accepted}
 use Rattle.stamps.proofs.limit.Statement.{statement}
 use Rattle.stamps.proofs.limit.Tie as tie
+
+eighth : (d : ℕ) → Accepted d → 2 ^ d / 8 ≡ 2 ^ (d - 3)
+eighth = degree-cases (λ (d : ℕ). 2 ^ d / 8 ≡ 2 ^ (d - 3)) refl refl
 
 pub limit-spec : {M : Type 1} → statement M
 limit-spec =
     tie.close
     (tie.spec
-    (λ c. rw (c .if1 .taken) refl)
-    (λ c. rw (other-degree (c .before .args .d) (c .before .pre) (c .if1 .left)) refl))
+    (λ c κs. search needs)
+    (λ c. let ok = c .before .pre in ap (λ m. m / 8) (c .bound .ensures ∙ bound-accepted _ ok) ∙ eighth _ ok))

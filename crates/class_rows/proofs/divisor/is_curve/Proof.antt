@@ -31,4 +31,4 @@ returns-3 c =
     (λ p. subst (Monic (𝔸 d)) (sym (p .1 .is-f)) (p .0 .f-monic))
 
 pub is-curve-spec : {M : Type 1} → statement M
-is-curve-spec = tie.close (tie.spec (λ c κs. tt) returns (λ c κs. tt) returns-2 is-monic-requires returns-3)
+is-curve-spec = tie.close (tie.spec (λ c κs. c .pre) returns (λ c κs. tt) returns-2 is-monic-requires returns-3)

@@ -47,4 +47,4 @@ returns-5 c =
     (λ p. p .u-monic)
 
 pub is-pair-spec : {M : Type 1} → statement M
-is-pair-spec = tie.close (tie.spec (λ c κs. tt) returns (λ c κs. tt) returns-2 (λ c κs. tt) returns-3 (λ c κs. tt) returns-4 is-monic-requires returns-5)
+is-pair-spec = tie.close (tie.spec (λ c κs. c .before .before .pre) returns (λ c κs. c .before .before .before .before .pre) returns-2 (λ c κs. tt) returns-3 (λ c κs. tt) returns-4 is-monic-requires returns-5)

@@ -1,15 +1,14 @@
 -- `range_refusal` meets its contract: each return by the tests that led to it.
 use Prim.Native.Nat.{_^_}
-use mathlib.Core.Path.{_≡_, sym, _∙_, ap}
+use mathlib.Core.Path.{_≡_, sym, _∙_}
 use borrow.Author.{Tests.not-true, Tests.not-false, Needs.needs}
-use Rattle.row_theory.proofs.Rows.Elements.{degree-is}
+use Rattle.binary_field.proofs.Degrees.{bound-accepted}
 use Rattle.jacobian.specs.{Checks.unless, Classes.range-refusal}
 use Rattle.jacobian.proofs.classes.range_refusal.Statement.{statement}
 use Rattle.jacobian.proofs.classes.range_refusal.Tie as tie
 
--- the field's degree is d
 bound-is : (s : tie.After-bound) → s .bound .result ≡ 2 ^ s .before .before .before .args .d
-bound-is s = s .bound .ensures ∙ ap (λ n. 2 ^ n) (degree-is _ (s .before .before .before .pre))
+bound-is s = s .bound .ensures ∙ bound-accepted _ (s .before .before .before .pre)
 
 returns : tie.Need-returns
 unfolding range-refusal unless

@@ -1,7 +1,5 @@
 -- `opening_refusal` meets its contract.
-use mathlib.Core.Path.{_∙_}
-use native.Mathlib.Omega.{arith}
-use Rattle.stored_form.specs.Fields.{count-limit}
+use mathlib.Core.Path.{sym, _∙_}
 use Rattle.seal_register.proofs.RowSteps.{opening-empty, opening-above, opening-within}
 use borrow.Author.Needs.{needs}
 use Rattle.seal_register.proofs.walk.opening_refusal.Statement.{statement}
@@ -13,17 +11,15 @@ returns c =
     c .class-refusal .ensures ∙ opening-empty (s .args .curve) (s .args .last) (s .args .classes) (c .before .if1 .taken)
 
 returns-2 : tie.Need-returns-2
-unfolding count-limit
 returns-2 c =
-    let s = c .before .before .before in
-    c .count-refusal .ensures ∙ opening-above (s .args .curve) (s .args .last) (s .args .classes) (c .before .if2 .taken)
+    let due = c .before in
+    let s = due .before .before .before in
+    c .count-refusal2 .ensures ∙ opening-above (s .args .curve) (s .args .last) (s .args .classes) (λ e. due .if2 .taken (due .before .count-refusal .ensures ∙ e))
 
 returns-3 : tie.Need-returns-3
-unfolding count-limit
 returns-3 c =
-    let s = c .before .before in
-    let l = c .if2 .left in
-    opening-within (s .args .curve) (s .args .last) (s .args .classes) (c .before .if1 .left) (omega arith)
+    let s = c .before .before .before in
+    opening-within (s .args .curve) (s .args .last) (s .args .classes) (c .before .before .if1 .left) (sym (c .before .count-refusal .ensures) ∙ c .if2 .left)
 
 pub opening-refusal-spec : {M : Type 1} → statement M
-opening-refusal-spec = tie.close (tie.spec (λ c κs. search needs) returns (λ c κs. search needs) returns-2 returns-3)
+opening-refusal-spec = tie.close (tie.spec (λ c κs. search needs) returns (λ c κs. search needs) (λ c κs. search needs) returns-2 returns-3)

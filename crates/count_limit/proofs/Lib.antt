@@ -1,0 +1,2 @@
+-- Counts within the limit and above it.
+pub mod Limit

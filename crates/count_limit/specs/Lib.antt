@@ -1,0 +1,2 @@
+-- The limit of operations.
+pub mod Limit

@@ -1,0 +1,15 @@
+// The limit of operations: the most that a register counts, that a row of classes has and that a stored count says.
+ghost use mathlib.Core.Path.{_≡_};
+ghost use Rattle.count_limit.specs.Limit.{count-refusal};
+
+pub const COUNT_LIMIT: u64 = 1024;
+
+// 109 for a count above the limit, else 0.
+pub fn count_refusal(n: u64) -> u32
+    ensures { λ r. ⌜ r ≡ count-refusal n ⌝ }
+{
+    if COUNT_LIMIT < n {
+        return 109;
+    }
+    0
+}
