@@ -12,7 +12,7 @@ use native.Mathlib.Omega.{arith}
 use lib.{Dec.lit<, ListN.length, Pow.pow-lt}
 use Rattle.class_group.specs.Multiples.{repeat}
 use Rattle.jacobian.specs.{Answer.Result, Answer.result, Answer.neutral-class, Answer.double-answer, Answer.half-answer, Group.doublings, declared.Curve.Curve, declared.Class.Class}
-use Rattle.stored_form.specs.{Number.Bytes, Reading.found, Head.class-room, Classes.class-field, Passing.ClassPasses, Held.read-record, Held.class-record, declared.Held.Held}
+use Rattle.stored_form.specs.{Number.Bytes, Reading.found, Head.class-room, Classes.class-field, Passing.ClassPasses, Records.read-record, Records.class-record, declared.Held.Held}
 use Rattle.written_form.specs.Effect.{write}
 use Rattle.stored_form_theorems.proofs.Cuts.{cut-whole}
 use Rattle.seal.specs.{Records.class-record-bytes, Rebuilt.last-field, Rebuilt.class-rebuilt, Calls.half-call, Calls.sum-call, Group.sum-record-of}

@@ -7,7 +7,7 @@ use mathlib.Core.{Path._≡_, Path.refl, Path.ap, Bool.Bool, Bool.true, Bool.fal
 use lib.{Dec.ltb, Dec.leb, Dec.lit≤, ListN.length}
 use borrow.Author.Tests.{ltb-true, ltb-false, leb-true, leb-false}
 use Rattle.jacobian.specs.{Refusals.refusals, Refusals.listed, Refusals.IsRefusal, Answer.Result, declared.Curve.Curve, declared.Class.Class}
-use Rattle.stored_form.specs.{Reading.found, Reading.refused as unread, Head.class-room, Held.read-record, Held.class-record, declared.Held.Held}
+use Rattle.stored_form.specs.{Reading.found, Reading.refused as unread, Head.class-room, Records.read-record, Records.class-record, declared.Held.Held}
 use Rattle.written_form.specs.Effect.{refuse, on, class-handed, HandedApart, number, ToldApart, AnswerTells}
 use Rattle.written_form.proofs.{Effects.call-refused, Effects.answer-refused, ToldApart.call-told-apart, ToldApart.answer-tells}
 use Rattle.seal.proofs.{Passing.class-holds, ClassCalls.class-call, ToldApart.class-apart}

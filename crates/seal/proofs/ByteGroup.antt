@@ -15,7 +15,7 @@ use Rattle.jacobian.specs.Group.{sum-of, opposite-of, double-of, doublings}
 use Rattle.jacobian.specs.declared.{Curve.Curve, Class.Class}
 use Rattle.jacobian.proofs.{Calls.neutral-accepts, Group.group, Group.doubling}
 use Rattle.stored_form.specs.{Number.Bytes, Reading.found, Head.class-room, Passing.ClassPasses, Classes.curve-first-fields, Classes.class-field}
-use Rattle.stored_form.specs.Held.{read-record, curve-fields, class-record, sum-record}
+use Rattle.stored_form.specs.Records.{read-record, curve-fields, class-record, sum-record}
 use Rattle.stored_form.specs.declared.Held.{Held}
 use Rattle.stored_form.proofs.Readings.{same-found}
 use Rattle.stored_form_theorems.specs.Records.{none}

@@ -8,7 +8,7 @@ use mathlib.Core.List.{List, _++_}
 use lib.ListN.{length}
 use Rattle.jacobian.specs.{Answer.Result, Answer.result, Answer.double-answer, Answer.half-answer, declared.Curve.Curve, declared.Class.Class}
 use Rattle.jacobian.proofs.Calls.{double-of-half, half-of-double}
-use Rattle.stored_form.specs.{Number.Bytes, Reading.found, Head.class-room, Classes.class-field, Held.read-record, Held.class-record, declared.Held.Held}
+use Rattle.stored_form.specs.{Number.Bytes, Reading.found, Head.class-room, Classes.class-field, Records.read-record, Records.class-record, declared.Held.Held}
 use Rattle.written_form.specs.Effect.{write}
 use Rattle.stored_form_theorems.proofs.Cuts.{cut-whole}
 use Rattle.seal.specs.{Rebuilt.first-fields, Rebuilt.last-field, Rebuilt.class-rebuilt, Calls.answered, Calls.double-call, Calls.half-call}

@@ -14,7 +14,7 @@ use Rattle.history.specs.declared.{Register.Register, Step.Step, Step.the-varia
 use Rattle.history.specs.Register.{RegisterReply, step-refusal, stepped, other, step-answer, commit-answer, undo-answer}
 use Rattle.history.proofs.Registers.{Passes, step-passes, follows-accepted}
 use Rattle.history.proofs.OneStep.{taken, step-taken, stepped-curve, stepped-passes, step-taken-back}
-use Rattle.stored_form.specs.{Reading.found, Fields.count-field, Classes.class-field, Held.read-record, Held.register-record}
+use Rattle.stored_form.specs.{Reading.found, Fields.count-field, Classes.class-field, Records.read-record, Records.register-record}
 use Rattle.written_form.specs.Effect.{Effect, refuse, write, put, register-room}
 use Rattle.stored_form.specs.declared.Held.{Held}
 use Rattle.stored_form_theorems.proofs.ClassRoundTrips.{class-short}

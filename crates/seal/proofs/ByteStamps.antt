@@ -10,7 +10,7 @@ use Rattle.jacobian.specs.{Refusals.IsRefusal, Refusals.refusals, Refusals.list
 use Rattle.jacobian.proofs.Refusals.{above-100}
 use Rattle.stamps.specs.Stamps.{stamp-answer, Rootless}
 use Rattle.stamps.proofs.Theorems.{stamp-accepts, stamp-refuses, stamp-too-large, stamp-rootless, stamp-injective}
-use Rattle.stored_form.specs.{Number.bytes-of, Reading.found, Head.class-room, Head.stored, Head.head-bytes, Classes.class-said, Classes.class-field, Held.read-record, Held.curve-fields, declared.Held.Held}
+use Rattle.stored_form.specs.{Number.bytes-of, Reading.found, Head.class-room, Head.stored, Head.head-bytes, Classes.class-said, Classes.class-field, Records.read-record, Records.curve-fields, declared.Held.Held}
 use Rattle.stored_form_theorems.proofs.ClassRoundTrips.{body-said, class-short}
 use Rattle.written_form.specs.Effect.{Effect, write, refuse, class-handed, longest-answer}
 use Rattle.written_form.proofs.{Effects.answer-written, Effects.answer-refused, ToldApart.never-both}

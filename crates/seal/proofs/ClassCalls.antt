@@ -6,7 +6,7 @@ use mathlib.Core.Path.{_≡_, refl, sym, ap, _∙_}
 use mathlib.Core.List.{List, _++_}
 use lib.{ListN.length, Seq.take-append-seam}
 use Rattle.jacobian.specs.{Answer.Result, Answer.gives, declared.Curve.Curve, declared.Class.Class}
-use Rattle.stored_form.specs.{Number.Bytes, Reading.found, Head.class-room, Classes.curve-first-fields, Classes.class-field, Passing.ClassPasses, Held.read-record, Held.class-record, declared.Held.Held}
+use Rattle.stored_form.specs.{Number.Bytes, Reading.found, Head.class-room, Classes.curve-first-fields, Classes.class-field, Passing.ClassPasses, Records.read-record, Records.class-record, declared.Held.Held}
 use Rattle.written_form.specs.Effect.{Effect, Handed, write, class-handed, byte-call}
 use Rattle.stored_form_theorems.proofs.{ClassRoundTrips.class-short, Cuts.take-cut, Cuts.drop-cut, Cuts.curve-cut}
 use Rattle.written_form.proofs.Effects.{answer-written}

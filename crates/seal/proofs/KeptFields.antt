@@ -9,7 +9,7 @@ use lib.Seq.{drop-append-seam}
 use Rattle.jacobian.specs.declared.Class.{Class}
 use Rattle.history.specs.declared.Register.{Register}
 use Rattle.stored_form.specs.{Number.Bytes, Reading.found, Head.count-length, Classes.curve-first-fields, Classes.class-field, Fields.count-field, Passing.CountPasses, Passing.ClassPasses}
-use Rattle.stored_form.specs.Held.{nothing-held, with-curve, with-count, with-class, read-fields, read-record, curve-fields, register-record}
+use Rattle.stored_form.specs.{Held.nothing-held, Held.with-curve, Held.with-count, Held.with-class, Records.read-fields, Records.read-record, Records.curve-fields, Records.register-record}
 use Rattle.stored_form.specs.declared.Held.{Held}
 use Rattle.stored_form.proofs.Readings.{same-found}
 use Rattle.stored_form_theorems.specs.Records.{none, Stored}

@@ -11,7 +11,7 @@ use Rattle.jacobian.proofs.{Calls.double-gives, Calls.sum-gives, Calls.double-a
 use Rattle.history.specs.Register.{commit-seal, undo-seal, edge, moved, stepped, step-answer, RegisterReply}
 use Rattle.history.specs.declared.{Register.Register, Step.the-variants.Undo}
 use Rattle.history.proofs.{Seals.undo-sound, Seals.undo-of-commit, Seals.commit-of-undo, Registers.Passing, Registers.passes-step, Registers.follows-zero, OneStep.taken}
-use Rattle.stored_form.specs.{Reading.found, Fields.count-field, Classes.class-field, Passing.ClassPasses, Held.read-record, Held.register-record, declared.Held.Held}
+use Rattle.stored_form.specs.{Reading.found, Fields.count-field, Classes.class-field, Passing.ClassPasses, Records.read-record, Records.register-record, declared.Held.Held}
 use Rattle.written_form.specs.Effect.{Effect, write, register-room}
 use Rattle.seal.specs.Records.{register-fields}
 use Rattle.seal.specs.Calls.{register, half-call, undo-call, Halves, Undoes}

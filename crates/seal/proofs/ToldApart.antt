@@ -13,7 +13,7 @@ use Rattle.stamps.proofs.Theorems.{stamp-accepts, stamp-refuses}
 use Rattle.history.proofs.Told.{step-refusal-told}
 use Rattle.history.specs.Register.{step-refusal, stepped, follows, step-answer}
 use Rattle.history.specs.declared.{Register.Register, Step.Step, Step.the-variants.Commit, Step.the-variants.Undo}
-use Rattle.stored_form.specs.{Reading.Reading, Reading.found, Reading.refused as unread, Head.class-room, Held.read-record, Held.curve-fields, Held.class-record, Held.sum-record, Held.register-record, declared.Held.Held, Classes.class-field}
+use Rattle.stored_form.specs.{Reading.Reading, Reading.found, Reading.refused as unread, Head.class-room, Records.read-record, Records.curve-fields, Records.class-record, Records.sum-record, Records.register-record, declared.Held.Held, Classes.class-field}
 use Rattle.written_form.specs.Effect.{Effect, refuse, on, class-handed, register-room, HandedApart, bytes, ToldApart, AnswerTells, longest-answer}
 use Rattle.stored_form_theorems.proofs.ClassRoundTrips.{class-short}
 use Rattle.stored_form.proofs.{ToldApart.Tells, ToldApart.record-tells, ToldApart.reading-told, ToldApart.reading-found, ToldApart.found-reading}

@@ -7,7 +7,7 @@ use lib.ListN.{length}
 use Rattle.jacobian.specs.{Curves.curve-refusal, Answer.refusal, declared.Curve.Curve, declared.Class.Class}
 use Rattle.jacobian.proofs.ByValue.Checks.{then-zero}
 use Rattle.stored_form.specs.{Number.Bytes, Reading.found, Passing.ClassPasses, Fields.count-field, Classes.curve-first-fields, Classes.class-field}
-use Rattle.stored_form.specs.Held.{nothing-held, with-curve, with-count, with-class, read-record, class-record, sum-record, register-record}
+use Rattle.stored_form.specs.{Held.nothing-held, Held.with-curve, Held.with-count, Held.with-class, Records.read-record, Records.class-record, Records.sum-record, Records.register-record}
 use Rattle.stored_form.specs.declared.Held.{Held}
 use Rattle.stored_form_theorems.proofs.{RecordRoundTrips.record-written, RecordRoundTrips.record-read-back, FieldLaws.more, FieldLaws.first-value, FieldLaws.no-more}
 use Rattle.stored_form_theorems.proofs.FieldValues.{count-law, class-law, operation-law, curve-more, first-curve}

@@ -9,7 +9,7 @@ use Rattle.history.specs.declared.Step.the-variants as step
 use Rattle.history.specs.Register.{RegisterReply, commit-answer, undo-answer}
 use Rattle.stamps.specs.Stamps.{stamp-answer}
 use Rattle.stored_form.specs.{Reading.found, Reading.reading-refusal, Head.class-room, Fields.count-field, Classes.class-field}
-use Rattle.stored_form.specs.Held.{read-record, curve-fields, class-record, sum-record, register-record}
+use Rattle.stored_form.specs.Records.{read-record, curve-fields, class-record, sum-record, register-record}
 use Rattle.written_form.specs.Effect.{Effect, Handed, register-room, write, on, class-handed, byte-call}
 use Rattle.stored_form.specs.declared.Held.{Held}
 use Rattle.seal.specs.Records.{register-fields}

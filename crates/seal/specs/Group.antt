@@ -2,7 +2,7 @@
 use Prim.Native.Nat.{ℕ}
 use mathlib.Core.{Path._≡_, List.List, List._++_}
 use Rattle.jacobian.specs.Answer.{neutral-class}
-use Rattle.stored_form.specs.{Number.Bytes, Reading.found, Classes.class-field, Held.read-record, Held.class-record, declared.Held.Held}
+use Rattle.stored_form.specs.{Number.Bytes, Reading.found, Classes.class-field, Records.read-record, Records.class-record, declared.Held.Held}
 use Rattle.seal.specs.{Rebuilt.first-fields, Rebuilt.last-field, Rebuilt.class-rebuilt, Calls.opposite-call, Calls.double-call, Calls.sum-call}
 
 -- a class's record that is read, with these fields of degree and curve

@@ -2,7 +2,7 @@
 // Each answers the length written, or the number of a refusal, and then no lent byte has changed.
 ghost use mathlib.Core.Path.{_≡_};
 ghost use Rattle.history.specs.Register.{register-reply};
-ghost use Rattle.stored_form.specs.{Head.class-room, Held.class-record, Held.register-record};
+ghost use Rattle.stored_form.specs.{Head.class-room, Records.class-record, Records.register-record};
 ghost use Rattle.written_form.specs.{Effect.register-room, Effect.effect, Effect.handed, Effect.byte-call};
 ghost use Rattle.seal.specs.Calls.{register-handed, answered, membership-call, opposite-call, double-call, sum-call, commit-call, stamp-call, Halves, Undoes};
 use history::Register;

@@ -1,7 +1,7 @@
 -- What each byte call answers and leaves in the lent output (docs/SPECIFICATION.md, 5, 6 and 7).
 use Prim.Native.Nat.{ℕ}
 use mathlib.Core.List.{List}
-use Rattle.stored_form.specs.{Head.class-room, Held.class-record, declared.Held.Held}
+use Rattle.stored_form.specs.{Head.class-room, Records.class-record, declared.Held.Held}
 use Rattle.written_form.specs.Effect.{Effect, Handed, class-handed, byte-call}
 use Rattle.seal_licence.specs.Multiples.{multiple-answer, halvings-answer}
 use Rattle.seal_licence.specs.declared.calls.Call.{Call}

@@ -6,7 +6,7 @@ use native.Mathlib.Omega.{arith}
 use lib.{Dec.ltb, ListN.length, ListN.take, ListN.drop, ListN.length-take, Seq.take-take, Seq.take-length}
 use borrow.Author.Tests.{lt-ltb, le-ltb, ltb-true, ltb-false, le-leb, lt-leb}
 use Rattle.jacobian.specs.{Checks.unless, Answer.Verdict, Answer.accepted, Answer.refused as said-no}
-use Rattle.stored_form.specs.{Reading.Reading, Reading.found, Reading.refused, Reading.checked, Held.read-record, Held.read-of, Held.place-refusal}
+use Rattle.stored_form.specs.{Reading.Reading, Reading.found, Reading.refused, Reading.checked, Records.read-record, Records.read-of, Records.place-refusal}
 use Rattle.stored_form.specs.declared.{Held.Held, Read.Read, Cursor.Cursor, Place.the-variants.Next, Place.the-variants.Refused}
 use Rattle.written_form.specs.Effect.{Effect, Handed, effect, refuse, write, hand, refusal, written, on, for, put, read-call, room-refusal, byte-call, room}
 use Rattle.stored_form.proofs.Readers.{place-found, place-refused-as}

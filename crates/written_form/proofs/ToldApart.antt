@@ -10,7 +10,7 @@ use borrow.Author.Tests.{ltb-true, ltb-false}
 use Rattle.jacobian.specs.{Refusals.refusals, Refusals.listed, Refusals.IsRefusal, Refusals.Told, Answer.Verdict, Answer.accepted, Answer.refused as said-no}
 use Rattle.jacobian.proofs.Refusals.{above-100, never-117}
 use Rattle.stored_form.specs.{Reading.Reading, Reading.found, Reading.refused, Reading.refuse}
-use Rattle.stored_form.specs.Held.{read-record}
+use Rattle.stored_form.specs.Records.{read-record}
 use Rattle.written_form.specs.Effect.{Effect, Handed, write, on, put, byte-call, HandedApart, bytes, number, ToldApart, wrote, kept, AnswerTells, longest-answer}
 use Rattle.written_form.specs.Effect as specs
 use Rattle.stored_form.specs.declared.Held.{Held}

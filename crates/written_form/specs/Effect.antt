@@ -9,7 +9,7 @@ use Rattle.jacobian.specs.{Checks.unless, Refusals.IsRefusal, Answer.Verdict, A
 use Rattle.stored_form.specs.Reading.{Reading, found, refused, checked}
 use Rattle.stored_form.specs.Head.{count-length, class-room}
 use Rattle.stored_form.specs.Classes.{class-field}
-use Rattle.stored_form.specs.Held.{read-record}
+use Rattle.stored_form.specs.Records.{read-record}
 use Rattle.stored_form.specs.declared.Held.{Held}
 use Rattle.written_form.specs.declared.effect.Output.{Output}
 

@@ -1,7 +1,7 @@
 // What a call on byte areas hands over to be written, and the one place that writes it.
 ghost use mathlib.Core.Path.{_≡_};
 ghost use Rattle.written_form.specs.Effect.{room, read-call, effect, hand, refusal, handed, put};
-ghost use Rattle.stored_form.specs.Held.{read-of};
+ghost use Rattle.stored_form.specs.Records.{read-of};
 ghost use Prim.Native.Nat.{min};
 ghost use lib.ListN.{take};
 use crate::ranges;
