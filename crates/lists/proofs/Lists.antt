@@ -14,6 +14,11 @@ pub all-map : {X Y : Type 0} {P : Y → Type 0} (f : X → Y) → ((x : X) → P
 all-map f h [] = none
 all-map f h (x ∷ l) = more (h x) (all-map f h l)
 
+-- what holds at every place
+pub all-of : {X : Type 0} {P : X → Type 0} (l : List X) (x : X) → ((i : ℕ) → P (getD l i x)) → All P l
+all-of [] x h = none
+all-of (a ∷ l) x h = more (h 0) (all-of l x (λ i. h (suc i)))
+
 module _ {X : Type 0} {Member : X → Type 0} where
   all-onto : {l m : List X} → All Member l → All Member m → All Member (reverseAux l m)
   all-onto none k = k
@@ -21,6 +26,10 @@ module _ {X : Type 0} {Member : X → Type 0} where
 
   pub all-reverse : {l : List X} → All Member l → All Member (reverse l)
   all-reverse h = all-onto h none
+
+  pub all-append : {l m : List X} → All Member l → All Member m → All Member (l ++ m)
+  all-append none k = k
+  all-append (more h r) k = more h (all-append r k)
 
   pub all-take : (k : ℕ) {l : List X} → All Member l → All Member (take k l)
   all-take zero h = none

@@ -8,13 +8,14 @@ use native.Mathlib.Omega.{arith}
 use lib.Dec.{lit≤}
 use lib.ListN.{length, getD, take, drop, length-append, length-take, length-drop, take-append-drop}
 use lib.Seq.{take-at, drop-at}
+use Rattle.lists.proofs.Lists.{all-of, all-reverse, all-append, all-take}
 use Rattle.jacobian.specs.{Answer.refusal, declared.Curve.Curve, declared.Class.Class}
 use Rattle.jacobian.proofs.{ByValue.Degrees.by-degree, ByValue.Threes.by-three, ByValue.Answers.passes}
 use Rattle.stored_form.specs.{Number.Bytes, Head.class-room, Head.class-limit, Head.class-length, Head.stored, Elements.elements, Elements.element-bytes}
 use Rattle.stored_form.specs.Classes.{row-said, class-said, row-written, class-body, class-field}
 use Rattle.stored_form.proofs.{Lengths.class-length-le, Lengths.class-length-even, Lengths.length-stored, Items.length-elements, ElementBytes.length-element-bytes, ElementBytes.element-bytes-append}
 use Rattle.stored_form.proofs.ClassBytes.{length-row}
-use Rattle.stored_form_theorems.proofs.Elements.{Small, small-of, small-take, small-append, small-reversed, elements-bytes, bytes-elements, fits}
+use Rattle.stored_form_theorems.proofs.Elements.{Small, elements-bytes, bytes-elements, fits}
 
 -- ---- rows and the order in which they are stored
 
@@ -80,8 +81,8 @@ shaped c a ok =
       low = p .1 .shape .low;
       u-blank = p .1 .shape .u-blank;
       v-blank = p .1 .shape .v-blank;
-      u-fits = small-of (a .u) (λ i. fits (c .degree) small (p .1 .range .u-below i));
-      v-fits = small-of (a .v) (λ i. fits (c .degree) small (p .1 .range .v-below i));
+      u-fits = all-of (a .u) 0 (λ i. fits (c .degree) small (p .1 .range .u-below i));
+      v-fits = all-of (a .v) 0 (λ i. fits (c .degree) small (p .1 .range .v-below i));
     }
 
 length-body : (a : Class) → Shaped a → length (class-body a) ≡ 16 * a .degree
@@ -95,7 +96,7 @@ length-body a h =
 
 row-small : (n : ℕ) (r : List ℕ) → Small r → Small (row-written n r)
 unfolding row-written
-row-small n r h = small-reversed (take n r) [] (small-take n r h) tt
+row-small n r h = all-reverse (all-take n h)
 
 -- the elements of its body
 body-elements : (a : Class) → Shaped a →
@@ -108,7 +109,7 @@ body-elements a h =
     let v : length vs ≡ n = length-row n (a .v) (h .v-three) (h .low) in
     let both : length (us ++ vs) ≡ n + n = length-append us vs ∙ omega arith in
     ap₂ (λ (k : ℕ) (bs : List ℕ). elements k bs) (sym both) (sym (element-bytes-append us vs))
-    ∙ elements-bytes (us ++ vs) (small-append us vs (row-small n (a .u) (h .u-fits)) (row-small n (a .v) (h .v-fits)))
+    ∙ elements-bytes (us ++ vs) (all-append (row-small n (a .u) (h .u-fits)) (row-small n (a .v) (h .v-fits)))
 
 class-said-field : (a : Class) → Shaped a → class-said (class-body a) ≡ a
 unfolding class-said

@@ -1,42 +1,25 @@
 -- Elements and their bytes determine each other, for numbers that fit eight bytes (`elements-bytes`, `bytes-elements`).
 use Prim.Native.Nat.{ℕ, zero, suc, _+_, _*_, _^_, _≤_, _<_}
 use mathlib.Core.Path.{_≡_, refl, sym, ap, ap₂, _∙_}
-use mathlib.Core.List.{List, [], _∷_, _++_, reverseAux}
+use mathlib.Core.List.{List, [], _∷_, _++_}
 use native.Mathlib.Omega.{arith}
 use native.Mathlib.Nat.{lt-of-lt-of-le}
 use lib.Dec.{lit≤}
-use lib.ListN.{length, getD, take, drop, length-take, length-drop, take-append-drop}
+use lib.ListN.{length, take, drop, length-take, length-drop, take-append-drop}
 use lib.Seq.{getD-drop}
+use Rattle.lists.specs.Lists.{All, more}
 use Rattle.stored_form.specs.{Number.number-of, Number.bytes-of, Number.Bytes, Elements.elements, Elements.element-bytes}
 use Rattle.stored_form.proofs.Digits.{part-bytes}
 use Rattle.stored_form_theorems.proofs.Numbers.{bytes-number, number-bytes-small}
 
 -- every number fits an element's bytes
 abbrev pub Small : List ℕ → Type 0
-Small [] = Unit {0}
-Small (x ∷ xs) = (x < 2 ^ 64) × Small xs
-
-pub small-of : (r : List ℕ) → ((i : ℕ) → getD r i 0 < 2 ^ 64) → Small r
-small-of [] h = tt
-small-of (x ∷ r) h = (h 0, small-of r (λ i. h (suc i)))
-
-pub small-take : (n : ℕ) (r : List ℕ) → Small r → Small (take n r)
-small-take zero r h = tt
-small-take (suc n) [] h = tt
-small-take (suc n) (x ∷ r) h = (h .0, small-take n r (h .1))
-
-pub small-append : (xs ys : List ℕ) → Small xs → Small ys → Small (xs ++ ys)
-small-append [] ys h k = k
-small-append (x ∷ xs) ys h k = (h .0, small-append xs ys (h .1) k)
-
-pub small-reversed : (xs ys : List ℕ) → Small xs → Small ys → Small (reverseAux xs ys)
-small-reversed [] ys h k = k
-small-reversed (x ∷ xs) ys h k = small-reversed xs (x ∷ ys) (h .1) (h .0, k)
+Small = All (λ x. x < 2 ^ 64)
 
 pub elements-bytes : (xs : List ℕ) → Small xs → elements (length xs) (element-bytes xs) ≡ xs
 unfolding elements element-bytes bytes-of
 elements-bytes [] h = refl
-elements-bytes (x ∷ xs) h = ap₂ (λ (y : ℕ) (ys : List ℕ). y ∷ ys) (number-bytes-small 8 x (h .0)) (elements-bytes xs (h .1))
+elements-bytes (x ∷ xs) (more h r) = ap₂ (λ (y : ℕ) (ys : List ℕ). y ∷ ys) (number-bytes-small 8 x h) (elements-bytes xs r)
 
 pub bytes-elements : (k : ℕ) (s : List ℕ) → length s ≡ 8 * k → Bytes s → element-bytes (elements k s) ≡ s
 unfolding elements element-bytes

@@ -8,7 +8,8 @@ use native.Mathlib.Omega.{arith}
 use lib.Dec.{eqb, lit<, lit≤}
 use lib.ListN.{length}
 use borrow.Author.Tests.{eqb-true, leb-true, le-leb}
-use Rattle.jacobian.specs.{Checks.unless, Curves.coefficients, Curves.curve-with, Curves.f-row, Curves.degree-refusal, Curves.curve-refusal, declared.Curve.Curve}
+use Rattle.lists.proofs.Lists.{all-of}
+use Rattle.jacobian.specs.{Checks.unless, Curves.coefficients, Curves.curve-with, Curves.degree-refusal, Curves.curve-refusal, declared.Curve.Curve}
 use Rattle.jacobian.proofs.ByValue.{Degrees.by-degree, Checks.curve-passes, Checks.then-zero}
 use Rattle.stored_form.specs.{Number.number-of, Number.bytes-of, Head.degree-length, Head.count-length, Head.drawing-limit, Elements.element-bytes, Passing.DegreePasses, Passing.CurvePasses, Passing.CountPasses, Passing.DrawingPasses, Passing.ClassPasses}
 use Rattle.stored_form.specs.Fields.{degree-field, count-field, count-limit, count-refusal, drawing-field, drawing-refusal}
@@ -35,11 +36,10 @@ count-small n h = omega arith
 
 -- the coefficients of a curve that is not refused fit
 curve-fits : (c : Curve) → CurvePasses c → Small (coefficients c)
-unfolding f-row coefficients
 curve-fits c ok =
     let p = curve-passes c ok in
     let small = by-degree (λ d. 2 ^ d ≤ 2 ^ 61) (lit≤ tt) (lit≤ tt) (c .degree) (p .accepted) in
-    (fits (c .degree) small (p .f-below 3), (fits (c .degree) small (p .f-below 1), (fits (c .degree) small (p .f-below 0), tt)))
+    all-of (coefficients c) 0 (λ i. fits (c .degree) small (p .coefficients-below i))
 
 curve-said-field : (c : Curve) → CurvePasses c → curve-said (c .degree) (element-bytes (coefficients c)) ≡ c
 unfolding curve-said coefficients curve-with
