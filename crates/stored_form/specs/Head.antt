@@ -35,10 +35,6 @@ class-limit = 48
 abbrev pub class-room : ℕ
 class-room = 3 + class-limit
 
--- 0x40 and 0x41 together
-abbrev pub first-fields-length : ℕ
-first-fields-length = 3 + degree-length + (3 + curve-length)
-
 -- ---- the head
 
 -- the length that the head at a place says

@@ -52,9 +52,18 @@ body-written tag h s at {body} {next} b e₀ =
 
 -- ---- what was written is read so
 
+-- the head of a field says its body's length
+pub stored-length : (tag : ℕ) (s : List ℕ) (at : ℕ) (body : List ℕ) → length body < 256 ^ 2 → StandsAt s at (stored tag body) → body-length s at ≡ length body
+unfolding stored head-bytes bytes-of body-length
+stored-length tag s at body small stands =
+    let n : ℕ = length body in
+    let all : part s at (3 + n) ≡ stored tag body = ap (part s at) (sym (length-stored tag body)) ∙ stands in
+    let two : part s (at + 1) 2 ≡ bytes-of 2 n = sym (part-part s at (3 + n) 1 2 (omega arith)) ∙ ap (λ (l : List ℕ). part l 1 2) all in
+    ap number-of two ∙ number-bytes-small 2 n small
+
 pub body-read : (tag : ℕ) (h : Held) (s : List ℕ) (at : ℕ) (body : List ℕ) → rules tag .allows h (length body) ≡ true → length body < 256 ^ 2 → StandsAt s at (stored tag body) →
     body-at tag h s at ≡ found body (at + length (stored tag body))
-unfolding stored head-bytes bytes-of body-at body-length
+unfolding stored head-bytes bytes-of body-at
 body-read tag h s at body a small stands =
     let n : ℕ = length body in
     let long : length (stored tag body) ≡ 3 + n = length-stored tag body in
@@ -64,8 +73,6 @@ body-read tag h s at body a small stands =
     let e : at + 0 ≡ at = omega arith in
     let first : getD s at 0 ≡ tag =
     ap (λ (i : ℕ). getD s i 0) (sym e) ∙ sym (getD-part s at (3 + n) 0 (omega arith)) ∙ ap (λ (l : List ℕ). getD l 0 0) all in
-    let two : part s (at + 1) 2 ≡ bytes-of 2 n = sym (part-part s at (3 + n) 1 2 (omega arith)) ∙ ap (λ (l : List ℕ). part l 1 2) all in
-    let said : n ≡ number-of (part s (at + 1) 2) = sym (ap number-of two ∙ number-bytes-small 2 n small) in
     let rest : part s (at + 3) n ≡ body = sym (part-part s at (3 + n) 3 n (omega arith)) ∙ ap (λ (l : List ℕ). part l 3 n) all ∙ take-length body in
     let ends : at + 3 + n ≡ at + length (stored tag body) = omega arith in
-    then-found _ (head-whole tag h s at said (omega arith) first a fits) ∙ ap₂ (λ (x : List ℕ) (y : ℕ). found x y) rest ends
+    then-found _ (head-whole tag h s at (sym (stored-length tag s at body small stands)) (omega arith) first a fits) ∙ ap₂ (λ (x : List ℕ) (y : ℕ). found x y) rest ends

@@ -6,32 +6,24 @@ use mathlib.Core.List.{List, _++_}
 use native.Mathlib.{Nat.zero-add, Omega.arith}
 use lib.{ListN.length, ListN.take-append-drop, Seq.take-at, Seq.drop-at}
 use Rattle.jacobian.specs.{Curves.coefficients, declared.Curve.Curve}
-use Rattle.stored_form.specs.{Number.number-of, Number.bytes-of, Number.part, Head.degree-length, Head.count-length, Head.body-length, Head.head-bytes, Head.stored, Elements.element-bytes, Fields.degree-field, Fields.count-field}
+use Rattle.stored_form.specs.{Number.bytes-of, Head.degree-length, Head.count-length, Head.body-length, Head.stored, Elements.element-bytes, Fields.degree-field, Fields.count-field}
 use Rattle.stored_form.specs.{Classes.curve-field, Classes.curve-first-fields, Cuts.fields-end, Cuts.take-fields, Cuts.drop-fields}
 use Rattle.stored_form.proofs.{Digits.length-bytes, ElementBytes.length-element-bytes, Lengths.length-stored}
 use Rattle.stored_form_theorems.specs.Fields.{Field}
-use Rattle.stored_form_theorems.proofs.{Numbers.number-bytes-small, Places.part-part, Places.apart, Places.whole}
+use Rattle.stored_form_theorems.proofs.{Bodies.stored-length, Places.apart, Places.whole}
 
 -- k stored fields, from a place to the next
 pub data FieldsAt (s : List ℕ) : ℕ → ℕ → ℕ → Type 0 where
   none : {at : ℕ} → FieldsAt s 0 at at
   field : {k at middle next : ℕ} (tag : ℕ) (body : List ℕ) → length body < 256 ^ 2 → Field s at (stored tag body) middle → FieldsAt s k middle next → FieldsAt s (suc k) at next
 
--- the head of a field says its body's length
-head-says : {s : List ℕ} {at next : ℕ} (tag : ℕ) (body : List ℕ) → length body < 256 ^ 2 → Field s at (stored tag body) next → at + 3 + body-length s at ≡ next
-unfolding stored head-bytes bytes-of body-length
-head-says {s} {at} {next} tag body small f =
-    let n : ℕ = length body in
-    let long : length (stored tag body) ≡ 3 + n = length-stored tag body in
-    let all : part s at (3 + n) ≡ stored tag body = ap (part s at) (sym long) ∙ f .stands in
-    let two : part s (at + 1) 2 ≡ bytes-of 2 n = sym (part-part s at (3 + n) 1 2 (omega arith)) ∙ ap (λ (l : List ℕ). part l 1 2) all in
-    let said : number-of (part s (at + 1) 2) ≡ n = ap number-of two ∙ number-bytes-small 2 n small in
-    omega (arith, f .ends)
-
 pub fields-at-end : {s : List ℕ} {k at next : ℕ} → FieldsAt s k at next → fields-end k s at ≡ next
 unfolding fields-end
 fields-at-end none = refl
-fields-at-end {s} (field {k} tag body small f rest) = ap (fields-end k s) (head-says tag body small f) ∙ fields-at-end rest
+fields-at-end {s} {at = at} (field {k} {middle = middle} tag body small f rest) =
+    let n : body-length s at ≡ length body = stored-length tag s at body small (f .stands) in
+    let ends : at + 3 + body-length s at ≡ middle = omega (arith, n, f .ends, length-stored tag body) in
+    ap (fields-end k s) ends ∙ fields-at-end rest
 
 -- ---- bytes that begin with such fields
 
