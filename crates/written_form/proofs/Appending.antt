@@ -1,4 +1,4 @@
--- A range appended where it fits (`append-fits`) and where it does not (`append-outside`); the first bytes, at the start of the output (`front-fits`, `front-outside`).
+-- A range appended where it fits (`append-fits`) and where it does not (`append-outside`); the first bytes, at the start of the output (`front-fits`).
 use Prim.Native.Nat.{ℕ, _+_, _-_, _≤_, _<_}
 use mathlib.Core.Path.{_≡_, sym, _∙_}
 use mathlib.Core.{Bool.true, Bool.false, List.List, List.[], List._++_, List.append-nil}
@@ -52,12 +52,8 @@ module _ (s : List ℕ) (start end : ℕ) (out : List ℕ) (at : ℕ) where
       rw (all, same, drop-drop) (sym (append-fits h k l))
 
 -- the first bytes of a source, at the start of the output
-module _ (s : List ℕ) (n : ℕ) (out : List ℕ) where
-  pub front-fits : n ≤ length s → n ≤ length out → append s 0 n (effect 0 out) ≡ effect n (take n s ++ drop n out)
-  front-fits h k =
-      let e : n - 0 ≡ n = omega arith in
-      let f : 0 + n ≡ n = omega arith in
-      append-fits s 0 n out 0 (omega arith) h (omega arith) ∙ rw (e, f)
-
-  pub front-outside : n ≤ length s → length out < n → append s 0 n (effect 0 out) ≡ effect (length out + 1) out
-  front-outside h k = sym (append-outside s 0 n out 0 (output-short _ _ _ _ _ (omega arith) h (omega arith)))
+pub front-fits : (s : List ℕ) (n : ℕ) (out : List ℕ) → n ≤ length s → n ≤ length out → append s 0 n (effect 0 out) ≡ effect n (take n s ++ drop n out)
+front-fits s n out h k =
+    let e : n - 0 ≡ n = omega arith in
+    let f : 0 + n ≡ n = omega arith in
+    append-fits s 0 n out 0 (omega arith) h (omega arith) ∙ rw (e, f)

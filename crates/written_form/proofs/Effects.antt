@@ -1,17 +1,17 @@
 -- What is put into the lent output, the copy of it, and what a call on byte areas does by what it reads.
-use Prim.Native.Nat.{ℕ, _+_, _≤_, _<_, min}
-use mathlib.Core.Path.{_≡_, refl, sym, ap, ap₂, _∙_}
-use mathlib.Core.{Bool.Bool, Bool.true, Bool.false, List.List, List._++_}
+use Prim.Native.Nat.{ℕ, _≤_, _<_, min}
+use mathlib.Core.Path.{_≡_, sym, ap, ap₂, _∙_}
+use mathlib.Core.List.{List, _++_}
 use native.Mathlib.Omega.{arith}
-use lib.{Dec.ltb, ListN.length, ListN.take, ListN.drop, ListN.length-take, Seq.take-take, Seq.take-length}
-use borrow.Author.Tests.{lt-ltb, le-ltb, ltb-true, ltb-false, le-leb, lt-leb}
+use lib.{ListN.length, ListN.take, ListN.drop, ListN.length-take, Seq.take-take, Seq.take-length}
+use borrow.Author.Tests.{lt-ltb, le-ltb, le-leb, lt-leb}
 use Rattle.jacobian.specs.{Checks.unless, Answer.Verdict, Answer.accepted, Answer.refused as said-no}
 use Rattle.stored_form.specs.{Reading.Reading, Reading.found, Reading.refused, Reading.checked, Records.read-record, Records.read-of, Records.place-refusal}
 use Rattle.stored_form.specs.declared.{Held.Held, Read.Read, Cursor.Cursor, Place.the-variants.Next, Place.the-variants.Refused}
 use Rattle.written_form.specs.Effect.{Effect, Handed, effect, refuse, write, hand, refusal, written, on, for, put, read-call, room-refusal, byte-call, room}
 use Rattle.stored_form.proofs.Readers.{place-found, place-refused-as}
 use Rattle.written_form.specs.Ranges.{append}
-use Rattle.written_form.proofs.Appending.{front-fits, front-outside}
+use Rattle.written_form.proofs.Appending.{front-fits}
 
 -- ---- what is put
 
@@ -47,50 +47,24 @@ module _ (v : Verdict) (xs out : List ℕ) where
 
 -- ---- the copy
 
--- the first bytes of a row, appended at the start of the output: the output afterwards, and whether there was room for them
-module _ (answer len : ℕ) (row out : List ℕ) (long : length row ≡ room) {n r : ℕ} {after : List ℕ} (e : n ≡ min len room)
-    (f : effect r after ≡ append row 0 n (effect 0 out)) (same : length after ≡ length out) where
+-- the first bytes of a row, as many as it has, appended at the start of the output
+module _ (answer len : ℕ) (row out : List ℕ) (long : length row ≡ room) {n : ℕ} (e : n ≡ min len room) where
   abbrev xs : List ℕ
   xs = take len row
 
   first-length : length xs ≡ n
   first-length = length-take len row ∙ ap (min len) long ∙ sym e
 
-  ends : n ≤ length out → (r ≡ n) × (after ≡ xs ++ drop (length xs) out)
-  ends h =
+  pub put-short : length out < n → effect 101 out ≡ put (hand answer xs) out
+  put-short h = put-over _ out (let l = first-length in omega arith)
+
+  pub put-all : n ≤ length out → {r : ℕ} {after : List ℕ} → effect r after ≡ append row 0 n (effect 0 out) → effect answer after ≡ put (hand answer xs) out
+  put-all h f =
       let l = first-length in
       let all : take n row ≡ xs = sym (take-take n len row (omega arith)) ∙ ap (λ (k : ℕ). take k xs) (sym l) ∙ take-length xs in
-      let g : effect r after ≡ effect n (xs ++ drop (length xs) out) =
-      f ∙ front-fits row n out (omega arith) h ∙ ap₂ (λ (ys : List ℕ) (k : ℕ). effect n (ys ++ drop k out)) all (sym l) in
-      (ap (λ (x : Effect). x .answer) g, ap (λ (x : Effect). x .after) g)
-
-  ends-past : length out < n → (r ≡ length out + 1) × (after ≡ out)
-  ends-past h =
-      let g = f ∙ front-outside row n out (omega arith) h in
-      (ap (λ (x : Effect). x .answer) g, ap (λ (x : Effect). x .after) g)
-
-  pub put-short : length after < r → effect 101 after ≡ put (hand answer xs) out
-  put-short h = go (ltb (length out) n) refl
-    where
-      go : (b : Bool) → ltb (length out) n ≡ b → effect 101 after ≡ put (hand answer xs) out
-      go true t =
-          let l = first-length in
-          let k : length out < n = ltb-true _ _ t in
-          ap (effect 101) (ends-past k .1) ∙ put-over _ out (omega arith)
-      go false t =
-          let m : n ≤ length out = ltb-false _ _ t in
-          let k : r ≡ n = ends m .0 in
-          absurd (omega arith)
-
-  pub put-all : r ≤ length after → effect answer after ≡ put (hand answer xs) out
-  put-all h = go (ltb (length out) n) refl
-    where
-      go : (b : Bool) → ltb (length out) n ≡ b → effect answer after ≡ put (hand answer xs) out
-      go true t = let k = ends-past (ltb-true _ _ t) .0 in absurd (omega arith)
-      go false t =
-          let l = first-length in
-          let k : n ≤ length out = ltb-false _ _ t in
-          ap (effect answer) (ends k .1) ∙ sym (put-in _ out (omega arith))
+      ap (λ (x : Effect). effect answer (x .after))
+      (f ∙ front-fits row n out (omega arith) h ∙ ap₂ (λ (ys : List ℕ) (k : ℕ). effect n (ys ++ drop k out)) all (sym l))
+      ∙ sym (put-in _ out (omega arith))
 
 -- ---- a call
 
@@ -106,10 +80,9 @@ module _ (has least : ℕ) (tags s : List ℕ) where
 
 -- what it does, by what is read
 module _ (least : ℕ) (tags : List ℕ) (answer : Held → Handed) (s out : List ℕ) where
-  module _ {x : Reading Held} (e : read-call (length out) least tags s ≡ x) where
-    does : byte-call least tags answer s out ≡ put (for x answer) out
-    unfolding byte-call
-    does = ap (λ (r : Reading Held). put (for r answer) out) e
+  does : {x : Reading Held} → read-call (length out) least tags s ≡ x → byte-call least tags answer s out ≡ put (for x answer) out
+  unfolding byte-call
+  does e = ap (λ (r : Reading Held). put (for r answer) out) e
 
   refuses-call : {n : ℕ} → read-call (length out) least tags s ≡ refused n → byte-call least tags answer s out ≡ refuse n out
   unfolding for

@@ -72,7 +72,7 @@ put o out =
 unfoldable pub room-refusal : ℕ → ℕ → ℕ
 room-refusal has least = unless (leb least has) 101
 
--- the record of a call is read once the output's room was asked for, and no byte of the input before that
+-- the record of a call, read after that check: no byte of the input is looked at before it
 unfoldable pub read-call : ℕ → ℕ → List ℕ → List ℕ → Reading Held
 read-call has least tags s = checked (room-refusal has least) (read-record tags s)
 

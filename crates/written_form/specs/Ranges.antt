@@ -1,4 +1,4 @@
--- Ranges of bytes appended one behind the other: the answer is the place behind them.
+-- Ranges of bytes appended one after the other; the answer is the place after the last.
 use Prim.Native.Nat.{ℕ, _+_, _-_}
 use mathlib.Core.Bool.{Bool, cond, _&&_}
 use mathlib.Core.List.{List, _++_}
@@ -11,8 +11,8 @@ use Rattle.written_form.specs.Effect.{Effect, effect}
 unfoldable pub fits : ℕ → ℕ → ℕ → ℕ → ℕ → Bool
 fits source start end output at = leb start end && leb end source && leb (at + (end - start)) output
 
--- the bytes of s from a start up to an end stored behind the place answered before, and the place behind them;
--- where they do not fit the output is as it was, and the answer is the place past its end, where no range fits
+-- the bytes of s from a start up to an end, stored at the place answered before; the answer is the place after them;
+-- where they do not fit the output stays as it was, and the answer is one more than its length, where no range fits
 unfoldable pub append : List ℕ → ℕ → ℕ → Effect → Effect
 append s start end e =
     let at = e .answer in

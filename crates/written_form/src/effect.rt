@@ -57,10 +57,11 @@ fn within(len: usize) -> usize
 fn put_row(answer: u32, len: usize, row: [u8; ROOM], output: &mut [u8]) -> u32
     ensures { λ r. ⌜ effect r (now (output .exit)) ≡ put (hand answer (take len row)) (now (output .entry)) ⌝ }
 {
-    let end = ranges::append(&row, 0, within(len), output, 0);
-    if output.len() < end {
+    let n = within(len);
+    if output.len() < n {
         return 101;
     }
+    ranges::append(&row, 0, n, output, 0);
     answer
 }
 
