@@ -1,7 +1,7 @@
 -- An archive's bytes and its values determine each other.
 -- `archive-read-back`: what is written of values that no check refuses is read so. `archive-written`: what is read was written so, and no check refuses it.
 use Prim.Native.Nat.{ℕ}
-use mathlib.Core.Path.{_≡_, refl, sym, ap, _∙_, subst}
+use mathlib.Core.Path.{_≡_, sym, ap, _∙_, subst}
 use mathlib.Core.List.{List, [], _++_}
 use native.Mathlib.Nat.{le-refl}
 use lib.ListN.{length}
@@ -9,7 +9,7 @@ use Rattle.lists.specs.Lists.{All}
 use Rattle.jacobian.specs.declared.{Curve.Curve, Class.Class}
 use Rattle.stored_form.specs.{Number.Bytes, Reading.found, Fields.drawing-field, Fields.count-field, Classes.curve-first-fields, Classes.class-field, Classes.operation-fields}
 use Rattle.stored_form.specs.{Passing.CurvePasses, Passing.DrawingPasses, Passing.CountPasses, Passing.ClassPasses, Records.read-fields, Records.archive-opening, declared.Held.Held}
-use Rattle.stored_form.specs.Held.{drawing-said, drawing-name, nothing-held, with-curve, with-drawing, with-count, with-class}
+use Rattle.stored_form.specs.Held.{drawing-said, nothing-held, with-curve, with-drawing, with-count, with-class}
 use Rattle.stored_form.proofs.{Readings.then-found, DrawingBytes.name-said}
 use Rattle.stored_form_theorems.specs.{Fields.Field, Records.Leads}
 use Rattle.stored_form_theorems.specs.Records as records

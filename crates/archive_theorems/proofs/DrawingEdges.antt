@@ -11,7 +11,7 @@ use borrow.Author.Tests.{le-leb, lt-leb}
 use Rattle.jacobian.specs.Checks.{unless}
 use Rattle.stored_form.specs.{Number.part, Reading.found, Reading.refused, Reading.checked, Reading.reading-refusal, Fields.printable, Fields.drawing-refusal}
 use Rattle.stored_form.specs.{Head.drawing-limit, Head.body-length, Held.drawing-said, Held.nothing-held, Held.with-drawing, Tags.rules}
-use Rattle.stored_form.specs.{Records.curve-fields, Records.head-at, Records.body-at, Records.read-field, Records.read-fields, declared.Held.Held}
+use Rattle.stored_form.specs.{Records.curve-fields, Records.body-at, Records.read-field, Records.read-fields, declared.Held.Held}
 use Rattle.stored_form.proofs.{DrawingBytes.name-said, Heads.head-104, Heads.head-105, Heads.head-whole, Readings.then-found, Readings.then-refused, Readers.field-refused, Readers.fields-append}
 use Rattle.archive.specs.Archive.{read-archive, archive-refusal}
 

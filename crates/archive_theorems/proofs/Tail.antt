@@ -1,11 +1,11 @@
 -- What follows the operations: what is read of it was written so (`tail-written`), what is written of it is read so (`tail-read-back`), and it is read
 -- through a part of the input that moves on (`tail-after`, `tail-within`).
 use Prim.Native.Nat.{ℕ, _+_, _≤_}
-use mathlib.Core.Path.{_≡_, ap}
+use mathlib.Core.Path.{_≡_}
 use mathlib.Core.List.{List}
 use native.Mathlib.Omega.{arith}
 use lib.ListN.{length, take, drop, length-take, length-drop}
-use Rattle.stored_form.specs.{Reading.found, Reading.checked, Fields.end-refusal, Fields.ended, Tags.longest-body}
+use Rattle.stored_form.specs.{Reading.found, Fields.end-refusal, Fields.ended, Tags.longest-body}
 use Rattle.stored_form_theorems.proofs.Places.{end-found, end-read-back}
 use Rattle.archive.specs.Archive.{Tail, read-tail}
 use Rattle.archive_theorems.specs.Places.{after}

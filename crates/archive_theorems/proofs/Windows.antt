@@ -14,7 +14,7 @@ use Rattle.stored_form.specs.{Records.head-at, Records.body-at, Records.read-fi
 use Rattle.stored_form.proofs.{Parts.drop-take, Heads.head-found, Lengths.allows-short}
 use Rattle.archive.specs.{Archive.read-tail, declared.Due.Due, declared.Reader.Reader}
 use Rattle.archive.specs.declared.Due.the-variants.{Opening, Operations, End, Nothing}
-use Rattle.archive.specs.Reader.{reader, read-opening, read-operation, read-end, read-due, step}
+use Rattle.archive.specs.Reader.{read-opening, read-operation, read-end, read-due, step}
 use Rattle.archive_theorems.specs.Places.{after}
 use Rattle.archive_theorems.proofs.{Shifted.checked-after, Shifted.then-after, Shifted.same-test, Tail.tail-after, Tail.tail-within}
 

@@ -3,7 +3,6 @@ use Prim.Native.Nat.{ℕ, zero, suc, _+_, _-_}
 use mathlib.Core.Path.{_≡_, refl, sym, ap, _∙_, subst}
 use mathlib.Core.List.{List, [], _∷_}
 use native.Mathlib.Omega.{arith}
-use lib.ListN.{length}
 use Rattle.jacobian.specs.{Answer.Accepts, Answer.Result, Answer.neutral-class, Answer.subtract-and-halve-answer, declared.Curve.Curve, declared.Class.Class}
 use Rattle.stored_form.specs.{Reading.Reading, Reading.found, Reading.refused, Reading._then_, Reading.reading-refusal, Held.drawing-name, Held.nothing-held, Held.with-operation}
 use Rattle.stored_form.specs.{Records.read-field, Records.read-fields, Records.read-operations, Records.archive-opening, declared.Held.Held}

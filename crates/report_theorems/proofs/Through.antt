@@ -1,7 +1,7 @@
 -- A line is made from any part of the input that has the next field: over m bytes from a place k on the line and the report after it are those that the whole input
 -- gives, with the place counted from k on, where the longest field has room (`line-through`) or the m bytes are all that is left (`line-last`).
 use Prim.Native.Nat.{ℕ, zero, suc, _+_, _-_, _≤_}
-use mathlib.Core.Path.{_≡_, refl, sym, ap, _∙_}
+use mathlib.Core.Path.{_≡_, refl, ap, _∙_}
 use mathlib.Core.List.{List}
 use lib.ListN.{length}
 use Rattle.stored_form.specs.{Number.part, Tags.longest-body, Reading.Reading, Reading.found, Reading.refused}

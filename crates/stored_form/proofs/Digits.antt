@@ -72,9 +72,3 @@ turn-fits s h at k i n le fits lt e =
 pub turn : (s : List ℕ) (at k i n b : ℕ) → at + k ≤ length s → i < k → n ≡ number-of (part s at i) → b ≡ getD s (at + i) 0 →
     n * 256 + b ≡ number-of (part s at (i + 1))
 turn s at k i n b fits lt e f = rw (e, f) (sym (number-more s at i (omega arith)))
-
--- ---- two bytes of a small number, as the code writes them
-
-pub two-bytes-small : (n : ℕ) → n < 256 → 0 ∷ n ∷ [] ≡ bytes-of 2 n
-unfolding bytes-of
-two-bytes-small n h = ap₂ (λ (x y : ℕ). x ∷ y ∷ []) (omega arith) (omega arith)

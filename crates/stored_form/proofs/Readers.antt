@@ -8,7 +8,7 @@ use lib.ListN.{length, getD, drop, drop-of-length-le}
 use lib.Seq.{drop-cons}
 use borrow.Author.Tests.{ne-eqb}
 use Rattle.stored_form.specs.{Number.part, Reading.Reading, Reading.found, Reading.refused, Reading.checked, Reading._then_, Reading.reading-refusal}
-use Rattle.stored_form.specs.{Head.drawing-limit, Classes.class-said, Held.drawing-said, Held.with-operation, Tags.rules}
+use Rattle.stored_form.specs.{Head.drawing-limit, Held.drawing-said, Held.with-operation, Tags.rules}
 use Rattle.stored_form.specs.Records.{head-at, body-at, read-field, read-fields, read-of, place-refusal}
 use Rattle.stored_form.specs.declared.{Held.Held, Read.Read, Place.Place, Cursor.Cursor}
 use Rattle.stored_form.specs.declared.Place.the-variants.{Next, Refused}

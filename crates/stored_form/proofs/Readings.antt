@@ -59,12 +59,6 @@ module _ {A B : Type 0} (f : A → ℕ → Reading B) where
   then-same (found a n) e = e a n
   then-same (refused k) e = refl
 
--- a check goes before what follows it
-pub checked-then : {A B : Type 0} (n : ℕ) (a : A) (next : ℕ) (f : A → ℕ → Reading B) → (checked n (found a next) then f) ≡ checked n (f a next)
-unfolding checked _then_
-checked-then zero a next f = refl
-checked-then (suc n) a next f = refl
-
 pub then-assoc : {A B C : Type 0} (x : Reading A) (f : A → ℕ → Reading B) (g : B → ℕ → Reading C) →
     (x then f then g) ≡ (x then λ a n. f a n then g)
 unfolding _then_

@@ -1,13 +1,12 @@
--- Runs of stores in a row: one after the other, an element's bytes, the coefficients of a class.
-use Prim.Native.Nat.{ℕ, zero, suc, _+_, _*_, _-_, _/_, _%_, _^_, _≤_, _<_}
-use mathlib.Core.Path.{_≡_, refl, sym, ap, ap₂, _∙_}
+-- Runs of stores in a row, one after the other.
+use Prim.Native.Nat.{ℕ, zero, suc, _+_, _-_, _≤_, _<_}
+use mathlib.Core.Path.{_≡_, sym, ap, ap₂, _∙_}
 use mathlib.Core.List.{List, [], _∷_, _++_}
 use native.Mathlib.Nat.{zero-add, add-zero}
 use native.Mathlib.Numerals.{add-one}
 use native.Mathlib.Omega.{arith}
 use lib.ListN.{length, getD, take, drop, set, replicate, length-replicate}
 use lib.Seq.{sets, sets-eq, take-suc, length-take-le}
-use Rattle.stored_form.specs.Number.{bytes-of}
 
 pub sets-append : (d : List ℕ) (at : ℕ) (xs ys : List ℕ) → sets (sets d at xs) (at + length xs) ys ≡ sets d at (xs ++ ys)
 sets-append d at [] ys = rw add-zero
@@ -43,25 +42,3 @@ filled xs n le =
     sets-eq xs (replicate n 0) 0 (omega arith)
     ∙ ap (λ (k : ℕ). xs ++ drop k (replicate n 0)) (zero-add (length xs))
     ∙ ap (λ (l : List ℕ). xs ++ l) (drop-replicate (length xs) n)
-
--- ---- the bytes of an element
-
--- by cases of a number below 8
-below-eight : (P : ℕ → Type 0) → P 0 → P 1 → P 2 → P 3 → P 4 → P 5 → P 6 → P 7 → (i : ℕ) → i < 8 → P i
-below-eight P p₀ p₁ p₂ p₃ p₄ p₅ p₆ p₇ zero h = p₀
-below-eight P p₀ p₁ p₂ p₃ p₄ p₅ p₆ p₇ (suc zero) h = p₁
-below-eight P p₀ p₁ p₂ p₃ p₄ p₅ p₆ p₇ (suc (suc zero)) h = p₂
-below-eight P p₀ p₁ p₂ p₃ p₄ p₅ p₆ p₇ (suc (suc (suc zero))) h = p₃
-below-eight P p₀ p₁ p₂ p₃ p₄ p₅ p₆ p₇ (suc (suc (suc (suc zero)))) h = p₄
-below-eight P p₀ p₁ p₂ p₃ p₄ p₅ p₆ p₇ (suc (suc (suc (suc (suc zero))))) h = p₅
-below-eight P p₀ p₁ p₂ p₃ p₄ p₅ p₆ p₇ (suc (suc (suc (suc (suc (suc zero)))))) h = p₆
-below-eight P p₀ p₁ p₂ p₃ p₄ p₅ p₆ p₇ (suc (suc (suc (suc (suc (suc (suc zero))))))) h = p₇
-below-eight P p₀ p₁ p₂ p₃ p₄ p₅ p₆ p₇ (suc (suc (suc (suc (suc (suc (suc (suc i)))))))) h = absurd (omega arith)
-
-pub byte-is : (x i : ℕ) → i < 8 → x / 2 ^ (8 * (7 - i)) % 256 ≡ getD (bytes-of 8 x) i 0
-unfolding bytes-of
-byte-is x = below-eight (λ i. x / 2 ^ (8 * (7 - i)) % 256 ≡ getD (bytes-of 8 x) i 0) refl refl refl refl refl refl refl refl
-
-pub store-all : (d : List ℕ) (at x i : ℕ) {r : List ℕ} → 8 ≤ i → i ≤ 8 → r ≡ sets d at (take i (bytes-of 8 x)) → r ≡ sets d at (bytes-of 8 x)
-unfolding bytes-of
-store-all d at x i h k e = let z : i ≡ 8 = omega arith in e ∙ ap (λ (j : ℕ). sets d at (take j (bytes-of 8 x))) z

@@ -1,9 +1,9 @@
 -- The body of a class and the class determine each other: what a body says has that body (`class-body-said`), and the body of a class that no check refuses says the class
 -- (`body-said`), is of an allowed length (`body-allowed`) and has room (`class-short`).
 use Prim.Native.Nat.{ℕ, zero, suc, _+_, _*_, _/_, _^_, _≤_}
-use mathlib.Core.Path.{_≡_, refl, sym, ap, ap₂, _∙_, subst}
+use mathlib.Core.Path.{_≡_, refl, sym, ap, ap₂, _∙_}
 use mathlib.Core.Bool.{true}
-use mathlib.Core.List.{List, [], _∷_, _++_, reverse}
+use mathlib.Core.List.{List, [], _∷_, _++_}
 use native.Mathlib.Omega.{arith}
 use lib.Dec.{lit≤}
 use lib.ListN.{length, getD, take, drop, length-append, length-take, length-drop, take-append-drop}

@@ -6,7 +6,7 @@ use mathlib.Core.Bool.{true}
 use mathlib.Core.List.{List, [], _∷_, _++_}
 use lib.ListN.{length}
 use Rattle.stored_form.specs.{Number.Bytes, Reading.found, Head.stored, Head.StandsAt, Tags.rules, Tags.field-bytes, Records.read-field, declared.Held.Held}
-use Rattle.stored_form_theorems.specs.{Fields.Field, Fields.Says, Fields.FieldLaw, Records.Leads, Records.field, Records.none}
+use Rattle.stored_form_theorems.specs.{Fields.Field, Fields.FieldLaw, Records.Leads, Records.field, Records.none}
 use Rattle.stored_form_theorems.proofs.FieldRoundTrips.{field-written, field-read-back}
 
 -- the law of a tag, from how its body is written and read: the body that is held, that a value which passes is said, is not refused and fits, and that

@@ -7,7 +7,7 @@ use native.Mathlib.Omega.{arith}
 use lib.ListN.{length}
 use Rattle.jacobian.specs.Curves.{coefficient-count, coefficients, curve-with}
 use Rattle.stored_form.specs.{Number.number-of, Number.bytes-of, Number.Bytes, Reading.found, Reading.checked, Elements.elements, Classes.curve-said, declared.Held.Held}
-use Rattle.stored_form.specs.{Head.degree-length, Head.count-length, Head.stored, Head.StandsAt, Held.curve-of-degree, Tags.rules, Tags.field-bytes, Records.body-at, Records.read-field}
+use Rattle.stored_form.specs.{Head.degree-length, Head.count-length, Head.stored, Head.StandsAt, Held.curve-of-degree, Tags.rules, Tags.field-bytes, Records.read-field}
 use Rattle.stored_form.proofs.{Lengths.is-degree-length, Lengths.is-curve-length, Lengths.is-count-length, Lengths.class-lengths, Lengths.operation-lengths, Lengths.by-tag, Lengths.allows-short}
 use Rattle.stored_form.proofs.{DrawingBytes.name-said, Readings.then-found, Readings.checked-none, Readers.field-found}
 use Rattle.stored_form_theorems.specs.Fields.{Field, Says}

@@ -9,7 +9,7 @@ use native.Mathlib.Omega.{arith}
 use lib.Dec.{lit<}
 use lib.ListN.{length, length-append}
 use Rattle.lists.specs.Lists.{All, none, more}
-use Rattle.jacobian.specs.{Answer.refusal, declared.Curve.Curve, declared.Class.Class}
+use Rattle.jacobian.specs.{declared.Curve.Curve, declared.Class.Class}
 use Rattle.stored_form.specs.{Number.Bytes, Reading.found, Head.class-room, Classes.class-field, Classes.operation-fields, Passing.ClassPasses}
 use Rattle.stored_form.specs.{Tags.rules, Records.read-field, Records.read-operations, declared.Held.Held}
 use Rattle.stored_form.proofs.{Readings.then-found, Readings.both-found, Readings.same-found, Readers.field-found, Readers.operation-held}

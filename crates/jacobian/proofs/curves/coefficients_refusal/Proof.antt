@@ -3,17 +3,17 @@ use Prim.Native.Nat.{_-_, _≤_}
 use lib.ListN.{getD}
 use native.Mathlib.Omega.{arith}
 use borrow.Author.Needs.{needs}
-use Rattle.jacobian.specs.{Checks.unless, Curves.coefficients}
+use Rattle.jacobian.specs.{Checks.unless, Curves.coefficient-count, Curves.coefficients}
 use Rattle.binary_field.specs.Answer.{below}
 use Rattle.jacobian.proofs.ByValue.Below.{BelowTo, below-none, below-more, below-all, below-fails}
 use Rattle.jacobian.proofs.curves.coefficients_refusal.Statement.{statement}
 use Rattle.jacobian.proofs.curves.coefficients_refusal.Tie as tie
 
 abbrev Inv-loop : tie.InvT-loop
-Inv-loop m cs i₀ i = (i ≤ 3) × BelowTo m cs i
+Inv-loop m cs i₀ i = (i ≤ coefficient-count) × BelowTo m cs i
 
 abbrev μ-loop : tie.MeasureT-loop
-μ-loop m cs i₀ i = 3 - i
+μ-loop m cs i₀ i = coefficient-count - i
 
 returns : tie.Need-returns Inv-loop μ-loop
 unfolding unless coefficients
