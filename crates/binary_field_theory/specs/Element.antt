@@ -5,10 +5,11 @@ use mathlib.Core.{Path._≡_, Bool.Bool, Bool.cond, Bool._||_}
 use lib.Dec.{T, eqb}
 use Rattle.binary_field_theory.specs.Carryless.{clmul, remainder, digits}
 
--- the degree is 5 or 61
+-- whether d is 5 or 61
 abbrev pub is-degree : ℕ → Bool
 is-degree d = eqb d 5 || eqb d 61
 
+-- d is one of the two degrees
 abbrev pub Accepted : ℕ → Type 0
 Accepted d = T (is-degree d)
 
@@ -16,20 +17,23 @@ Accepted d = T (is-degree d)
 unfoldable pub low : ℕ → ℕ
 low d = cond (eqb d 61) 39 5
 
+-- the modulus of degree d
 unfoldable pub modulus : ℕ → ℕ
 modulus d = 2 ^ d + low d
 
+-- the elements of degree d: numbers below 2^d
 abbrev pub Element : ℕ → Type 0
 Element d = (n : ℕ) × (n < 2 ^ d)
 
--- the product: that of the polynomials, modulo the modulus
+-- the product: that of the polynomials, reduced by the modulus
 unfoldable pub product : ℕ → ℕ → ℕ → ℕ
 product d a b = remainder d (low d) (clmul a b)
 
+-- the square
 unfoldable pub square : ℕ → ℕ → ℕ
 square d a = product d a a
 
--- squared k times: a to the power 2^k
+-- a squared k times: a to the power 2^k
 unfoldable pub squarings : ℕ → ℕ → ℕ → ℕ
 squarings d zero a = a
 squarings d (suc k) a = square d (squarings d k a)

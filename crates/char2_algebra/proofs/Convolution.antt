@@ -1,6 +1,8 @@
--- The product of polynomials on coefficient functions ℕ → A, over any commutative ring of characteristic 2:
+-- The product of polynomials on coefficient functions ℕ → A, over any commutative ring of characteristic 2 (`conv`):
 -- (p q)₀ = p₀ q₀ and (p q)' = p₀ q' + p' q, where p' is p without its first coefficient.
--- It is commutative, associative, distributive, and multiplies by a constant and by x as it should.
+-- `conv-comm`, `conv-assoc`, `conv-add`: it is commutative, associative and distributive.
+-- `conv-none`: the product with a function that is zero everywhere is zero.
+-- `conv-con`: the product with a constant. `conv-shift`: the product with a multiple of x.
 use Prim.Native.Nat.{ℕ, zero, suc}
 use mathlib.Core.Path.{_≡_, refl, sym, _∙_, ap, ap₂}
 use Rattle.field_laws.specs.Ring.{Ring2}
@@ -23,7 +25,7 @@ module _ {A : Type 0} (R : Ring2 A) where
   unfolding conv
   conv-suc p q i = refl
 
-  -- two regroupings
+  -- two sums with their terms in another order
   at-end : (a b c : A) → a ⊞ (b ⊞ c) ≡ a ⊞ b ⊞ c
   at-end a b c = simp (ring2, R)
 
@@ -87,13 +89,11 @@ module _ {A : Type 0} (R : Ring2 A) where
   conv-none p q h (suc i) =
       ap₂ _⊞_ (ap (λ z. z · q (suc i)) (h 0) ∙ 𝟘-· R (q (suc i))) (conv-none (λ j. p (suc j)) q (λ j. h (suc j)) i) ∙ ⊞-self R 𝟘
 
-  -- a constant
   pub conv-con : (p q : ℕ → A) → ((j : ℕ) → p (suc j) ≡ 𝟘) → (i : ℕ) → conv p q i ≡ p 0 · q i
   unfolding conv
   conv-con p q h zero = refl
   conv-con p q h (suc i) = ap (λ z. p 0 · q (suc i) ⊞ z) (conv-none (λ j. p (suc j)) q h i) ∙ ⊞-𝟘 R (p 0 · q (suc i))
 
-  -- a multiple of x
   pub conv-shift : (p q : ℕ → A) → p 0 ≡ 𝟘 → (i : ℕ) → conv p q (suc i) ≡ conv (λ j. p (suc j)) q i
   unfolding conv
   conv-shift p q h i =

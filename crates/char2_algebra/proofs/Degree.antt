@@ -1,5 +1,13 @@
--- Coefficients and length (degree plus one): of nought, of sums, of constants, of x and of multiples of x; whether a polynomial is nought; a
--- polynomial as its lowest coefficient and x times the rest, its tail.
+-- Coefficients and length (degree plus one) of 0, of sums, of constants, of x and of multiples of x.
+-- `len-bound`: the length is at most n if the coefficients from n on are zero.
+-- `len-zero`, `len-nonzero`, `nonzero-of-len`: a polynomial is 0 exactly if its length is 0.
+-- `len-is`: the highest coefficient that is not zero determines the length.
+-- `len-add`, `len-add-less`: the length of a sum.
+-- `len-con`, `con-of-len`: the polynomials of length at most 1 are the constants.
+-- `con-injective`, `con-nought`, `con-one`, `con-mul`: the constants are the field's elements.
+-- `len-x-mul`: the length of a multiple of x.
+-- `split`: a polynomial is its lowest coefficient plus x times the rest, its tail.
+-- `coeff-tail`, `len-tail`: coefficients and length of the tail.
 use Prim.Native.Nat.{ℕ, zero, suc, _≤_, _<_}
 use mathlib.Core.Path.{_≡_, refl, sym, _∙_, ap, ap₂}
 use native.Mathlib.{Omega.arith, Decide.decLe}
@@ -19,7 +27,6 @@ module _ {K P : Type 0} {F : Field2 K} (A : Polynomials F P) where
   pub coeff-nought : (i : ℕ) → coeff 𝟘 i ≡ 𝟘ₖ
   coeff-nought i = ap (λ z. coeff z i) (sym (⊞-self R 𝟘)) ∙ A .coeff-add 𝟘 𝟘 i ∙ ⊞-self (F .ring) (coeff 𝟘 i)
 
-  -- a polynomial is no longer than the place from which on its coefficients are nought
   pub len-bound : (p : P) (n : ℕ) → ((i : ℕ) → n ≤ i → coeff p i ≡ 𝟘ₖ) → len p ≤ n
   len-bound p n h = go (len p) refl
     where
@@ -39,7 +46,6 @@ module _ {K P : Type 0} {F : Field2 K} (A : Polynomials F P) where
   pub nonzero-of-len : (p : P) → 0 < len p → ¬ (p ≡ 𝟘)
   nonzero-of-len p h e = let k : len p ≡ 0 = ap len e ∙ len-nought in omega arith
 
-  -- the length is fixed by the highest coefficient that is not nought
   pub len-is : (p : P) (n : ℕ) → len p ≤ suc n → ¬ (coeff p n ≡ 𝟘ₖ) → len p ≡ suc n
   len-is p n h t = elim (decLe (len p) n) [ yes l ↦ absurd (t (A .len-past p n l)) | no m ↦ omega arith ]
 
@@ -134,7 +140,7 @@ module _ {K P : Type 0} {F : Field2 K} (A : Polynomials F P) where
   pub x-nonzero : ¬ (x ≡ 𝟘)
   x-nonzero = nonzero-of-len x (let h : len x ≡ 2 = len-x in omega arith)
 
-  -- whether it is nought is decided by its length
+  -- whether a polynomial is 0 is decided by its length
   unfoldable pub is-nought : (p : P) → Dec (p ≡ 𝟘)
   is-nought p = go (len p) refl
     where

@@ -1,4 +1,4 @@
--- Divisibility: its closure laws in any ring of characteristic 2.
+-- Divisibility in any ring of characteristic 2: reflexive, transitive, and closed under sums and multiples.
 use mathlib.Core.Path.{_≡_, refl, sym, _∙_, ap, ap₂}
 use Rattle.field_laws.specs.Ring.{Ring2}
 use Rattle.char2_algebra.specs.Divides.{Divides}

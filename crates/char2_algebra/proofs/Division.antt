@@ -1,5 +1,12 @@
--- Division of polynomials with remainder: a multiple shorter than its divisor is nought, quotient and remainder are unique, the remainder is
--- nought exactly for multiples, congruent polynomials have one remainder, exact quotients and their length.
+-- Division of polynomials with remainder.
+-- `divides-len`, `divides-short`: a multiple that is shorter than its divisor is 0.
+-- `congruent-short`: congruent polynomials that are shorter than the modulus are equal.
+-- `remainder-unique`, `quotient-unique`, `rem-is`, `quot-is`: quotient and remainder are unique.
+-- `rem-short`, `quot-short`: those of a dividend that is shorter than the divisor.
+-- `rem-congruent`: congruent polynomials have the same remainder.
+-- `rem-of-divides`, `divides-of-rem`: the remainder is 0 exactly for multiples.
+-- `quot-exact`, `quot-mul`: the quotient of a multiple.
+-- `len-quot`, `len-quot-exact`, `len-quot-le`: the length of a quotient.
 use Prim.Native.Nat.{ℕ, zero, suc, _+_, _≤_, _<_}
 use mathlib.Core.Path.{_≡_, refl, sym, _∙_, ap}
 use native.Mathlib.{Omega.arith, Decide.decLe}
@@ -61,7 +68,6 @@ module _ {K P : Type 0} {F : Field2 K} (A : Polynomials F P) where
       q'
       (integral A b (q ⊞ q') (divisor-nonzero b r h) (·-comm R b (q ⊞ q') ∙ sym (difference R b q r q' r' e) ∙ sum-of-eq R r r' (remainder-unique b q r q' r' h k e)))
 
-  -- what has the shape of a division is the division
   pub rem-is : (a b q r : P) → len r < len b → a ≡ q · b ⊞ r → rem a b ≡ r
   rem-is a b q r h e =
       let k : ¬ (b ≡ 𝟘) = divisor-nonzero b r h in
@@ -92,7 +98,6 @@ module _ {K P : Type 0} {F : Field2 K} (A : Polynomials F P) where
     pub divides-of-rem : (a : P) → rem a b ≡ 𝟘 → Divides R b a
     divides-of-rem a e = (quot a b, A .division a b h ∙ ap (λ z. quot a b · b ⊞ z) e ∙ ⊞-𝟘 R (quot a b · b))
 
-    -- the exact quotient
     pub quot-exact : (a : P) → Divides R b a → a ≡ quot a b · b
     unfolding divides-of-rem
     quot-exact a d = divides-of-rem a (rem-of-divides a d) .1
@@ -100,7 +105,6 @@ module _ {K P : Type 0} {F : Field2 K} (A : Polynomials F P) where
     pub quot-mul : (q : P) → quot (q · b) b ≡ q
     quot-mul q = cancel-right A b (quot (q · b) b) q h (sym (quot-exact (q · b) (divides-right R q b)))
 
-    -- the length of a quotient
     pub len-quot : (a : P) → len b ≤ len a → suc (len a) ≡ len (quot a b) + len b
     len-quot a l =
         let r : len (rem a b) < len b = A .rem-len a b h in

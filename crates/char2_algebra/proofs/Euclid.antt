@@ -1,4 +1,13 @@
--- Euclid's rule: what it gives is a combination of the two (or three) polynomials, divides each of them, and is monic unless all are nought.
+-- Euclid's algorithm gives a greatest common divisor of two or three polynomials with its coefficients.
+-- `bezout-is`, `bezout3-is`: it is a combination of the polynomials, divides each, and is monic unless all are 0.
+-- `bezout-scaled-is`, `bezout-noughts-is`: the last call, where b is 0. `bezout-step-is`: one call on the remainder.
+-- `bezout-constant-is`: a constant other than 0 has the divisor 1 with every polynomial.
+-- `len-substituted`: a call keeps the coefficients short.
+-- `bezout-twice`: the divisor of three, from that of two and that of this divisor and the third.
+-- `bezout-coprime`: where the divisor of two is 1, it is the divisor of three.
+-- `bezout3-greatest`: every common divisor divides the divisor of three.
+-- `bezout3-unique`: the divisor does not depend on the coefficients.
+-- `bezout3-monic`, `bezout3-nonzero`: it is monic, so not 0, where the first polynomial is not 0.
 use Prim.Native.Nat.{ℕ, zero, suc, pred, max, _+_, _≤_, _<_}
 use mathlib.Core.Path.{_≡_, refl, sym, _∙_, ap}
 use native.Mathlib.{Omega.arith, Decide.decLe}
@@ -30,7 +39,7 @@ module _ {K P : Type 0} {F : Field2 K} (A : Polynomials F P) where
   infixl 60 _⊞_
   infixl 70 _·_
   infixl 70 _·ₖ_
-  -- the two cases of the rule
+  -- the two cases of a call
   bezout-stop : (n : ℕ) (a b : P) → len b ≡ 0 → bezout-to A (suc n) a b ≡ bezout-nought A a
   unfolding bezout-to
   bezout-stop n a b e = rw (e, bezout-to)
@@ -49,7 +58,6 @@ module _ {K P : Type 0} {F : Field2 K} (A : Polynomials F P) where
     monic = λ _. scaled-monic A a c unit;
   }
 
-  -- the divisor of 0 and 0 is 0, whatever the coefficients
   pub bezout-noughts-is : (a b : P) → a ≡ 𝟘 → b ≡ 𝟘 → IsBezout A a b (record { g = 𝟘; s = 𝟘; t = 𝟘 })
   bezout-noughts-is a b h k = record {
     combination = sym (ap (λ z. z ⊞ 𝟘 · b) (𝟘-· R a) ∙ 𝟘-⊞ R _ ∙ 𝟘-· R b);
@@ -80,7 +88,7 @@ module _ {K P : Type 0} {F : Field2 K} (A : Polynomials F P) where
     monic = λ _. i .monic (λ z. h (z .0));
   }
 
-  -- the step keeps the coefficients short: s no longer than b and t no longer than a, or constant
+  -- the coefficients stay short: s no longer than b and t no longer than a, or constant
   pub len-substituted : (a b s t : P) → ¬ (b ≡ 𝟘) → len s ≤ max 1 (len (rem a b)) → len t ≤ max 1 (len b) → len (s ⊞ t · quot a b) ≤ max 1 (len a)
   len-substituted a b s t h l m = elim (decLe (len b) (len a)) [
     | yes k ↦
@@ -97,7 +105,6 @@ module _ {K P : Type 0} {F : Field2 K} (A : Polynomials F P) where
         omega arith)
   ]
 
-  -- a constant other than 0 has the divisor 1 with every polynomial
   pub bezout-constant-is : (a b : P) (c : K) → len b ≡ 1 → lead A b ·ₖ c ≡ 𝟙ₖ → IsBezout A a b (record { g = 𝟙; s = 𝟘; t = con c })
   bezout-constant-is a b c e unit = record {
     combination = sym (ap (λ z. z ⊞ con c · b) (𝟘-· R a) ∙ 𝟘-⊞ R _ ∙ made-one);
@@ -120,12 +127,10 @@ module _ {K P : Type 0} {F : Field2 K} (A : Polynomials F P) where
           let l : len (rem a b) < len b = A .rem-len a b b-nonzero in
           rw (bezout-go n k a b e) (bezout-step-is a b (bezout-to A n b (rem a b)) b-nonzero (ih (omega arith)))
 
-  -- Euclid's rule of two polynomials
   pub bezout-is : (a b : P) → IsBezout A a b (bezout A a b)
   unfolding bezout
   bezout-is a b = bezout-to-is (suc (len b)) a b (omega arith)
 
-  -- of three: of two of them first, then of their divisor and the third
   pub bezout-twice : {a b c : P} {B B' : Bezout P} → IsBezout A a b B → IsBezout A (B .g) c B'
       → IsBezout3 A a b c (record { e = B' .g; s1 = B' .s · B .s; s2 = B' .s · B .t; s3 = B' .t })
   bezout-twice {a} {b} {c} first second = record {
@@ -140,7 +145,6 @@ module _ {K P : Type 0} {F : Field2 K} (A : Polynomials F P) where
   unfolding bezout3
   bezout3-is a b c = bezout-twice (bezout-is a b) (bezout-is (bezout A a b .g) c)
 
-  -- where the divisor of two is 1, the third is not needed
   pub bezout-coprime : {a b : P} {B : Bezout P} (c : P) → IsBezout A a b B → B .g ≡ 𝟙
       → IsBezout3 A a b c (record { e = B .g; s1 = B .s; s2 = B .t; s3 = 𝟘 })
   bezout-coprime {a} {b} {B} c i e = record {
@@ -151,7 +155,6 @@ module _ {K P : Type 0} {F : Field2 K} (A : Polynomials F P) where
     monic = λ _. ap (lead A) e ∙ monic-one A;
   }
 
-  -- the greatest: every common divisor divides it
   pub bezout3-greatest : {a b c d : P} {B : Bezout3 P} → IsBezout3 A a b c B → Divides R d a → Divides R d b → Divides R d c → Divides R d (B .e)
   bezout3-greatest {B = B} i p q r =
       divides-eq
@@ -159,7 +162,6 @@ module _ {K P : Type 0} {F : Field2 K} (A : Polynomials F P) where
       (sym (i .combination))
       (divides-add R (divides-add R (divides-mul R (B .s1) p) (divides-mul R (B .s2) q)) (divides-mul R (B .s3) r))
 
-  -- it is the same however the coefficients were found
   pub bezout3-unique : {a b c : P} {B B' : Bezout3 P} → ¬ ((a ≡ 𝟘) × (b ≡ 𝟘) × (c ≡ 𝟘)) → IsBezout3 A a b c B → IsBezout3 A a b c B' → B .e ≡ B' .e
   bezout3-unique {B = B} {B' = B'} h i j =
       monic-antisym

@@ -1,4 +1,13 @@
--- Leading coefficients: of products and sums; monic polynomials, and polynomials made monic; monic divisors of each other are equal.
+-- Leading coefficients and monic polynomials.
+-- `lead-mul`, `lead-add-less`, `lead-con`: the leading coefficient of a product, a sum and a constant.
+-- `lead-nonzero`, `nought-of-lead`: it is zero only for the polynomial 0.
+-- `monic-mul`, `monic-cofactor`: products and cofactors of monic polynomials are monic.
+-- `monic-top`, `len-by-top`, `monic-by-top`: 1 at n and zero above is monic of length n + 1.
+-- `monic-constant`: the only monic constant is 1.
+-- `monic-of-factor`, `monic-of-monic`, `len-monic-of`: p is a constant times p made monic, which is monic and as long.
+-- `monic-of-divides`, `divides-monic-of`: p and p made monic divide each other.
+-- `monic-antisym`: monic polynomials that divide each other are equal.
+-- `quot-monic`: the exact quotient of monic polynomials is monic.
 use Prim.Native.Nat.{ℕ, zero, suc, _+_, _≤_, _<_}
 use mathlib.Core.Path.{_≡_, refl, sym, _∙_, ap, ap₂}
 use native.Mathlib.Omega.{arith}
@@ -75,11 +84,9 @@ module _ {K P : Type 0} {F : Field2 K} (A : Polynomials F P) where
   pub monic-cofactor : (p q : P) → Monic A (p · q) → Monic A q → Monic A p
   monic-cofactor p q m n = sym (·-𝟙 (F .ring) (lead A p)) ∙ ap (λ z. lead A p ·ₖ z) (sym n) ∙ sym (lead-mul p q) ∙ m
 
-  -- the highest coefficient of a monic polynomial is one
   pub monic-top : (p : P) (n : ℕ) → Monic A p → len p ≡ suc n → coeff p n ≡ 𝟙ₖ
   monic-top p n m e = sym (lead-is p n e) ∙ m
 
-  -- one at n and nought above: monic of length n + 1
   pub len-by-top : (p : P) (n : ℕ) → coeff p n ≡ 𝟙ₖ → ((i : ℕ) → n < i → coeff p i ≡ 𝟘ₖ) → len p ≡ suc n
   len-by-top p n e h = len-is A p n (len-bound A p (suc n) h) (λ z. F .one≢nought (sym e ∙ z))
 
@@ -91,7 +98,7 @@ module _ {K P : Type 0} {F : Field2 K} (A : Polynomials F P) where
       let l : 0 < len p = len-nonzero A p (monic-nonzero p m) in
       con-of-len A p h ∙ ap con (monic-top p 0 m (omega arith)) ∙ sym (A .one-con)
 
-  -- p times a constant whose product with the leading coefficient is one
+  -- p times a constant c whose product with the leading coefficient is 1
   module _ (p : P) (c : K) (unit : lead A p ·ₖ c ≡ 𝟙ₖ) where
     c≢ : ¬ (c ≡ 𝟘ₖ)
     c≢ e = F .one≢nought (sym unit ∙ ap (λ z. lead A p ·ₖ z) e ∙ ·-𝟘 (F .ring) (lead A p))
@@ -120,7 +127,7 @@ module _ {K P : Type 0} {F : Field2 K} (A : Polynomials F P) where
   pub nought-of-lead : (p : P) → lead A p ≡ 𝟘ₖ → p ≡ 𝟘
   nought-of-lead p e = elim (is-nought A p) [ yes z ↦ z | no h ↦ absurd (lead-nonzero p h e) ]
 
-  -- 0 stays
+  -- the polynomial 0 stays 0
   monic-of-nought : (p : P) → p ≡ 𝟘 → monic-of A p ≡ p
   unfolding monic-of
   monic-of-nought p e = go (F .discrete (lead A p) 𝟘ₖ)
@@ -164,7 +171,6 @@ module _ {K P : Type 0} {F : Field2 K} (A : Polynomials F P) where
       go (yes e) = (𝟙, monic-of-nought p e ∙ sym (𝟙-· R p))
       go (no h) = (_, monic-of-scaled p _ (unit p h))
 
-  -- monic polynomials that divide each other are equal
   pub monic-antisym : (p q : P) → Monic A p → Monic A q → Divides R p q → Divides R q p → p ≡ q
   monic-antisym p q m n d d' =
       let h : ¬ (p ≡ 𝟘) = monic-nonzero p m in
@@ -176,6 +182,5 @@ module _ {K P : Type 0} {F : Field2 K} (A : Polynomials F P) where
       let b : len q ≤ len p = divides-len A d' h in
       sym (𝟙-· R p) ∙ ap (λ z. z · p) (sym (monic-constant (d .0) s-monic (omega arith))) ∙ sym (d .1)
 
-  -- exact quotients of monic polynomials
   pub quot-monic : (a b : P) → Monic A a → Monic A b → Divides R b a → Monic A (quot a b)
   quot-monic a b m n d = monic-cofactor (quot a b) b (ap (lead A) (sym (quot-exact A b (monic-nonzero b n) a d)) ∙ m) n

@@ -1,4 +1,4 @@
--- Algebra in characteristic 2. Rings, and polynomials by the record of what they need:
+-- Algebra in characteristic 2. Rings, and polynomials as a record of operations and laws:
 pub mod Ring
 pub mod Degree
 pub mod Product

@@ -1,4 +1,8 @@
--- Lists of coefficients: which coefficients the operations on lists give, and that a list without a nought at its end is known by its coefficients.
+-- Coefficients of lists.
+-- `at-add`, `at-scale`, `at-mul`, `at-trim`: the coefficients of a sum, a multiple, a product and a trimmed list.
+-- `at-end`, `at-last`: the last coefficient of a trimmed list is not zero.
+-- `eq-of-at`: trimmed lists with the same coefficients are equal.
+-- `length-le`: a trimmed list has at most d elements if its coefficients from d on are zero.
 use Prim.Native.Nat.{ℕ, zero, suc, _≤_, zero-le}
 use mathlib.Core.{Path._≡_, Path.refl, Path.sym, Path._∙_, Path.ap₂, Path.subst, List.List, List.[], List._∷_}
 use native.Mathlib.{Omega.arith, Decide.decLe}
@@ -73,14 +77,12 @@ module _ {K : Type 0} (F : Field2 K) where
   at-last [] t i e = absurd (omega arith)
   at-last (a ∷ p) t i e = let h : length p ≡ i = omega arith in subst (λ k. ¬ (at (a ∷ p) k ≡ 𝟘)) h (at-end a p t)
 
-  -- a trimmed list is known by its coefficients
   pub eq-of-at : (p q : List K) → Trimmed F p → Trimmed F q → ((i : ℕ) → at p i ≡ at q i) → p ≡ q
   eq-of-at [] [] s t h = refl
   eq-of-at [] (b ∷ q) s t h = absurd (at-end b q t (sym (h (length q))))
   eq-of-at (a ∷ p) [] s t h = absurd (at-end a p s (h (length p)))
   eq-of-at (a ∷ p) (b ∷ q) s t h = ap₂ _∷_ (h 0) (eq-of-at p q (trimmed-tail a p s) (trimmed-tail b q t) (λ i. h (suc i)))
 
-  -- a trimmed list is no longer than its coefficients ask
   pub length-le : (p : List K) → Trimmed F p → (d : ℕ) → ((j : ℕ) → d ≤ j → at p j ≡ 𝟘) → length p ≤ d
   length-le [] t d h = zero-le
   length-le (a ∷ p) t d h = by-test (decLe d (length p))

@@ -1,5 +1,7 @@
--- The schoolbook division of lists of coefficients: the dividend is quotient times divisor plus remainder, and the remainder is shorter
--- than the divisor.
+-- The schoolbook division of lists of coefficients.
+-- `of-cons`, `of-add`, `of-scale`, `of-trim`, `of-coefficients`: the polynomial with given coefficients.
+-- `steps-law`, `divide-law`, `division`: the dividend is quotient times divisor plus remainder.
+-- `divide-short`: the remainder is shorter than the divisor.
 use Prim.Native.Nat.{ℕ, zero, suc, _≤_, _<_, suc-le-suc}
 use mathlib.Core.{Path._≡_, Path.refl, Path.sym, Path._∙_, Path.ap, Path.ap₂, Path.subst, List.List, List.[], List._∷_}
 use native.Mathlib.{Omega.arith, Decide.ℕ-discrete}
@@ -25,7 +27,7 @@ module _ {K : Type 0} (F : Field2 K) where
 
   infixl 60 _⊞_
   infixl 70 _·_
-  -- what polynomial a list stands for
+  -- the polynomial with given coefficients
   pub of-cons : (a : K) (p : List K) → of-list F (a ∷ p) ≡ add F (con F a) (mul F (x F) (of-list F p))
   of-cons a p = ext F (of-list F (a ∷ p)) (add F (con F a) (mul F (x F) (of-list F p))) each
     where
@@ -105,7 +107,7 @@ module _ {K : Type 0} (F : Field2 K) where
       by-test (yes _) = nought-law (of-list F (a ∷ b)) p
       by-test (no shown) = steps-law (a ∷ b) (length b) (invert F leading shown) p
 
-  -- the place of the divisor's leading coefficient is cleared
+  -- a step makes the coefficient at the divisor's degree zero
   cleared : (a b i : K) → b · i ≡ 𝟙 → a ⊞ a · i · b ≡ 𝟘
   cleared a b i h = combine K-ring (a ⊞ a · i · b) 𝟘 (by K-ring a h) (simp (ring2, K-ring))
 
@@ -157,7 +159,6 @@ module _ {K : Type 0} (F : Field2 K) where
       by-test (no shown) =
           steps-below (a ∷ b) (length b) (invert F leading shown) (λ j l. List·getD-eq-default (a ∷ b) 𝟘 l) (invert-law leading shown) p
 
-  -- a = q b + r
   pub division : (a b : Polynomial F) → a ≡ add F (mul F (quot F a b) b) (rem F a b)
   unfolding quot rem
   division a b =

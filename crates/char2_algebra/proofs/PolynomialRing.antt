@@ -1,5 +1,8 @@
--- Trimmed lists of coefficients form a commutative ring of characteristic 2. Two of them with the same coefficients are equal (`ext`), so
--- each law of the ring is a law of coefficient functions.
+-- Trimmed lists of coefficients are a commutative ring of characteristic 2.
+-- `eq-of-coefficients`: polynomials with the same list are equal.
+-- `ext`: polynomials with the same coefficients are equal, so that each ring law is one of coefficient functions.
+-- `coeff-of-list`, `coeff-add`, `coeff-mul`, `coeff-con`, `coeff-x-mul`: the coefficients of the operations' results.
+-- `ring`: the ring.
 use Prim.Native.Nat.{ℕ, suc}
 use mathlib.Core.{Path._≡_, Path.refl, Path.sym, Path._∙_, Path.ap, Path.ap₂, Path.fun-ext, List.List, List.[], List._∷_, List.List·isSet}
 use mathlib.Core.HLevel.{isProp→PathP, collapsible→set, Unit-prop, ⊥-prop}

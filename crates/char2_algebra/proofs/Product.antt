@@ -1,4 +1,9 @@
--- Products of polynomials: their coefficients and length, no zero divisors, cancellation of a factor that is not nought.
+-- Products of polynomials.
+-- `field-integral`, `inverse-only`: a field has no zero divisors, and inverses are unique.
+-- `coeff-mul-zero`, `coeff-mul-suc`, `coeff-mul-top`: the lowest, the other and the highest coefficients of a product.
+-- `len-mul`, `len-mul-le`, `len-square`, `len-con-mul`: the length of a product.
+-- `mul-nonzero`, `integral`: polynomials have no zero divisors.
+-- `cancel-left`, `cancel-right`: a factor that is not 0 may be cancelled.
 use Prim.Native.Nat.{ℕ, zero, suc, _+_, _≤_, _<_}
 use mathlib.Core.Path.{_≡_, refl, sym, _∙_, ap, ap₂}
 use native.Mathlib.Omega.{arith}
@@ -62,7 +67,6 @@ module _ {K P : Type 0} {F : Field2 K} (A : Polynomials F P) where
           ∙ ap₂ _⊞ₖ_ (ap (λ z. coeff p 0 ·ₖ z) (A .len-past q (suc i) (omega arith)) ∙ ·-𝟘 (F .ring) _) (A .len-past (tail A p · q) i (omega arith))
           ∙ ⊞-self (F .ring) 𝟘ₖ
 
-  -- the highest coefficient of a product
   pub coeff-mul-top : (m n : ℕ) (p q : P) → len p ≤ suc m → len q ≤ suc n → coeff (p · q) (m + n) ≡ coeff p m ·ₖ coeff q n
   coeff-mul-top zero n p q h k = ap₂ (λ z i. coeff (z · q) i) (con-of-len A p h) (omega arith) ∙ A .coeff-con-mul (coeff p 0) q n
   coeff-mul-top (suc m) n p q h k =
@@ -90,7 +94,6 @@ module _ {K P : Type 0} {F : Field2 K} (A : Polynomials F P) where
       let b : 0 < len q = len-nonzero A q k in
       nonzero-of-len A (p · q) (omega arith) e
 
-  -- no zero divisors
   pub integral : (p q : P) → ¬ (p ≡ 𝟘) → p · q ≡ 𝟘 → q ≡ 𝟘
   integral p q h e = elim (is-nought A q) [ yes d ↦ d | no k ↦ absurd (mul-nonzero p q h k e) ]
 

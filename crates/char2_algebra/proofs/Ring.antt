@@ -1,5 +1,7 @@
--- Commutative rings of characteristic 2: the laws as lemmas with bare names, and `ring2`, the set by which `simp (ring2, R)`
--- proves an identity of a few terms. `by`, `both` and `combine` conclude an equation from hypotheses times coefficients.
+-- Commutative rings of characteristic 2.
+-- The laws as lemmas with short names; `simp (ring2, R)` proves an identity of a few terms.
+-- `eq-of-sum`, `sum-of-eq`: a sum is zero exactly where the two terms are equal.
+-- `by`, `both`, `combine`: an equation from hypotheses that are multiplied by coefficients and added.
 use mathlib.Core.Path.{_≡_, sym, _∙_, ap, ap₂}
 use Rattle.field_laws.specs.Ring.{Ring2}
 
@@ -66,14 +68,13 @@ module _ {A : Type 0} (R : Ring2 A) where
   pub square-⊞ : (a b : A) → (a ⊞ b) · (a ⊞ b) ≡ a · a ⊞ b · b
   square-⊞ a b = simp (ring2, R)
 
-  -- a sum is nought only where the two are equal
   pub eq-of-sum : (a b : A) → a ⊞ b ≡ 𝟘 → a ≡ b
   eq-of-sum a b h = sym (⊞-𝟘 R a) ∙ ap (λ z. a ⊞ z) (sym (⊞-self R b)) ∙ sym (⊞-assoc R a b b) ∙ ap (λ z. z ⊞ b) h ∙ 𝟘-⊞ R b
 
   pub sum-of-eq : (a b : A) → a ≡ b → a ⊞ b ≡ 𝟘
   sum-of-eq a b h = ap (λ z. z ⊞ b) h ∙ ⊞-self R b
 
-  -- From p ≡ q, with a coefficient c: l ≡ r where l + r is c times p + q.
+  -- from p ≡ q, with a coefficient c: l ≡ r where l + r is c times p + q
   pub by : (c : A) {p q : A} → p ≡ q → c · (p ⊞ q) ≡ 𝟘
   by c {p} {q} h = ap (λ z. c · z) (sum-of-eq p q h) ∙ ·-𝟘 R c
 

@@ -1,5 +1,8 @@
--- Squares of polynomials: their even coefficients are the squares of the coefficients, the odd ones are nought; a polynomial without odd
--- powers is the square of `sqrt` of it, of half the degree, monic if it is.
+-- Squares of polynomials, and square roots of polynomials without odd powers.
+-- `coeff-square-even`, `coeff-square-odd`: the even coefficients of a square are squares, the odd ones are zero.
+-- `field-square-injective`: an element has one square root.
+-- `sqrt-square`: a polynomial without odd powers is the square of its `sqrt`.
+-- `len-sqrt`, `len-sqrt-is`, `sqrt-monic`: the root has half the degree, and is monic if the polynomial is.
 use Prim.Native.Nat.{ℕ, zero, suc, _+_, _≤_}
 use mathlib.Core.Path.{_≡_, sym, _∙_, ap, ap₂, fun-ext}
 use native.Mathlib.Omega.{arith}
@@ -23,7 +26,6 @@ module _ {K : Type 0} (F : Field2 K) where
   squares c (suc zero) = 𝟘ₖ
   squares c (suc (suc i)) = squares (λ j. c (suc j)) i
 
-  -- an element has one square root
   pub field-square-injective : (a b : K) → a ·ₖ a ≡ b ·ₖ b → a ≡ b
   field-square-injective a b e = eq-of-sum (F .ring) a b (go (F .discrete (a ⊞ₖ b) 𝟘ₖ))
     where
@@ -61,7 +63,7 @@ module _ {K P : Type 0} {F : Field2 K} (A : Polynomials F P) where
       ∙ A .coeff-x-mul-suc _ (suc (i + i))
       ∙ coeff-square-odd i (tail A p)
 
-  -- both at once, by computing at numerals: a rule for `simp` beside `coefficients`
+  -- both in one rule that computes at numerals, for `simp` with `coefficients`
   pub at-square : (i : ℕ) (p : P) → coeff (p · p) i ≡ squares F (coeff p) i
   at-square zero p = coeff-square-even 0 p
   at-square (suc zero) p = coeff-square-odd 0 p
@@ -93,7 +95,6 @@ module _ {K P : Type 0} {F : Field2 K} (A : Polynomials F P) where
       ∙ sym (even-tails p (odd 0))
 
   module _ (p : P) (odd : (i : ℕ) → coeff p (suc (i + i)) ≡ 𝟘ₖ) where
-    -- a polynomial without odd powers is a square
     pub sqrt-square : sqrt A p · sqrt A p ≡ p
     unfolding sqrt
     sqrt-square = sqrt-to-square (len p) p (omega arith) odd

@@ -1,16 +1,16 @@
--- Euclid's rule with coefficients: the greatest common divisor of two polynomials, and of three, as a combination of them.
+-- Euclid's algorithm with coefficients: the greatest common divisor of two or three polynomials as a combination.
 use Prim.Native.Nat.{ℕ, zero, suc}
 use mathlib.Core.Path.{_≡_}
 use Rattle.field_laws.specs.{Ring.Ring2, Field.Field2, Division.inverse-of}
 use Rattle.char2_algebra.specs.{Polynomials.Polynomials, Divides.Divides, Lead.lead, Lead.Monic}
 
--- g = s a + t b
+-- a divisor g of a and b, and the coefficients with g = s a + t b
 pub record Bezout (P : Type 0) : Type 0 where
   pub g : P
   pub s : P
   pub t : P
 
--- e = s1 a + s2 b + s3 c
+-- a divisor e of a, b and c, and the coefficients with e = s1 a + s2 b + s3 c
 pub record Bezout3 (P : Type 0) : Type 0 where
   pub e : P
   pub s1 : P
@@ -23,14 +23,15 @@ module _ {K P : Type 0} {F : Field2 K} (A : Polynomials F P) where
 
   infixl 60 _⊞_
   infixl 70 _·_
-  -- what is a greatest common divisor of a and b, however found: it is their combination, divides both, and is monic unless both are 0
+  -- g is a greatest common divisor of a and b, by whatever method: a combination of both that divides both,
+  -- and monic unless both are 0
   pub record IsBezout (a b : P) (B : Bezout P) : Type 0 where
     pub combination : B .g ≡ B .s · a ⊞ B .t · b
     pub divides-first : Divides ring (B .g) a
     pub divides-second : Divides ring (B .g) b
     pub monic : ¬ ((a ≡ 𝟘) × (b ≡ 𝟘)) → Monic A (B .g)
 
-  -- the same of a, b and c
+  -- e is a greatest common divisor of a, b and c, by whatever method
   pub record IsBezout3 (a b c : P) (B : Bezout3 P) : Type 0 where
     pub combination : B .e ≡ B .s1 · a ⊞ B .s2 · b ⊞ B .s3 · c
     pub divides-first : Divides ring (B .e) a
@@ -38,7 +39,7 @@ module _ {K P : Type 0} {F : Field2 K} (A : Polynomials F P) where
     pub divides-third : Divides ring (B .e) c
     pub monic : ¬ ((a ≡ 𝟘) × (b ≡ 𝟘) × (c ≡ 𝟘)) → Monic A (B .e)
 
-  -- where b is 0: a, divided by its leading coefficient; 0 where a is 0 too
+  -- the divisor of a and 0: a divided by its leading coefficient, and 0 where a is 0 too
   unfoldable pub bezout-nought : P → Bezout P
   bezout-nought a =
       elim (F .discrete (lead A a) (F .ring .nought)) [
@@ -46,8 +47,8 @@ module _ {K P : Type 0} {F : Field2 K} (A : Polynomials F P) where
         | no shown ↦ (let c = con (inverse-of F (lead A a) shown) in record { g = c · a; s = c; t = 𝟘 })
       ]
 
-  -- The rule calls itself on the remainder: from g = s b + t r and a = q b + r follows g = t a + (s + t q) b.
-  -- The recursion is on a count of calls to go.
+  -- Euclid's algorithm, which recurs on b and the remainder r of a by b:
+  -- from g = s b + t r and a = q b + r follows g = t a + (s + t q) b; the first number bounds the calls
   unfoldable pub bezout-to : ℕ → P → P → Bezout P
   unfolding bezout-nought
   bezout-to zero a b = record { g = a; s = 𝟙; t = 𝟘 }
@@ -59,10 +60,11 @@ module _ {K P : Type 0} {F : Field2 K} (A : Polynomials F P) where
             record { g = r .g; s = r .t; t = r .s ⊞ r .t · quot a b })
       ]
 
+  -- the divisor of a and b with its coefficients; as many calls as b has coefficients, plus one, are enough
   unfoldable pub bezout : P → P → Bezout P
   bezout a b = bezout-to (suc (len b)) a b
 
-  -- of three: first of a and b, then of their divisor and c
+  -- the divisor of a, b and c with its coefficients: first that of a and b, then that of their divisor and c
   unfoldable pub bezout3 : P → P → P → Bezout3 P
   bezout3 a b c =
       let first = bezout a b in

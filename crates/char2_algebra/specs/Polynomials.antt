@@ -1,10 +1,12 @@
--- The polynomials in one variable x over a field K of characteristic 2, as a record of operations and laws over a carrier P.
--- The laws fix P up to isomorphism: a polynomial is its coefficients (`ext`), of which finitely many are not nought (`len`).
--- `len p` is the degree plus one, and 0 for the polynomial 0. `quot` and `rem` are total; their laws are for a divisor that is not 0.
+-- The polynomials in one variable x over a field K of characteristic 2, as operations and laws over a carrier P.
+-- The laws determine P up to isomorphism.
 use Prim.Native.Nat.{ℕ, suc, _≤_, _<_}
 use mathlib.Core.Path.{_≡_}
 use Rattle.field_laws.specs.{Ring.Ring2, Field.Field2}
 
+-- a polynomial is determined by its coefficients (`ext`), of which finitely many are not zero (`len`);
+-- `len p` is the degree plus one, and 0 for the polynomial 0;
+-- `quot` and `rem` are total, and their laws are for a divisor other than 0
 pub record Polynomials {K : Type 0} (F : Field2 K) (P : Type 0) : Type 0 where
   pub ring : Ring2 P
   pub coeff : P → ℕ → K

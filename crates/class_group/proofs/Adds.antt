@@ -1,5 +1,7 @@
--- An operation on reduced classes that multiplies their ideals up to equivalence, however it computes (`Adds`), makes
--- the reduced classes a commutative group with [1, 0] and [u, v + 1] (`adds-group`).
+-- Operations on reduced classes that multiply their ideals up to equivalence, by whatever computation (`Adds`).
+-- `short-is-neutral`: a semi-reduced pair with u of degree 0 is the neutral class.
+-- `adds-group`: the reduced classes are a commutative group under such an operation, with [1, 0] as the neutral class
+-- and `opposite` as the opposite.
 use Prim.Native.Nat.{_≤_, _<_}
 use mathlib.Core.Path.{_≡_, sym, _∙_, ap}
 use native.Mathlib.{Omega.arith, Decide.decLe}
@@ -23,7 +25,6 @@ module _ {K P : Type 0} {F : Field2 K} {A : Polynomials F P} (C : Curve A) where
 
   infixl 60 _⊞_
   infixl 70 _·_
-  -- u of degree 0
   pub short-is-neutral : {D : Pair P} → SemiReduced C D → len (D .u) ≤ 1 → D ≡ neutral C
   unfolding neutral
   short-is-neutral {D} s h =
@@ -105,6 +106,7 @@ module _ {K P : Type 0} {F : Field2 K} {A : Polynomials F P} (C : Curve A) where
   right-class : {I J M : P × P → Type 0} → I ~ J → M ⊗ I ~ M ⊗ J
   right-class h = transitive C comm-class (transitive C (~-product (functions C) h) comm-class)
 
+  -- `plus` gives reduced classes, and its ideal is equivalent to the product of the two ideals
   pub record Adds (plus : Pair P → Pair P → Pair P) : Type 0 where
     pub closed : {D E : Pair P} → Reduced C D → Reduced C E → Reduced C (plus D E)
     pub class : {D E : Pair P} → Reduced C D → Reduced C E → ideal C D ⊗ ideal C E ~ ideal C (plus D E)

@@ -1,5 +1,8 @@
--- Pairs and the classes of their ideals: reduction keeps the class of a semi-reduced pair (`reduce-class`), and the composition of two
--- pairs, however e was found, has the class of the product of their ideals (`composed-class`).
+-- Pairs and the classes of their ideals.
+-- `equal-class`, `transitive`: equal ideals are equivalent, and equivalence is transitive.
+-- `same-class`: pairs that agree in u up to a unit and in v modulo u have equivalent ideals.
+-- `reduce-class`: reduction keeps the class of a semi-reduced pair.
+-- `composed-class`: the composition of two pairs by any coefficients of e has the class of the product of their ideals.
 use Rattle.field_laws.specs.{Ring.Ring2, Field.Field2}
 use Rattle.char2_algebra.specs.{Polynomials.Polynomials, Divides.Divides, Lead.monic-of, Euclid.Bezout3}
 use Rattle.char2_algebra.proofs.{Ring.⊞-comm, Degree.one-nonzero, Product.cancel-left, Division.rem-divides}
@@ -19,10 +22,11 @@ module _ {K P : Type 0} {F : Field2 K} {A : Polynomials F P} (C : Curve A) where
 
   infixl 60 _⊞_
   infixl 70 _·_
+  -- the coordinate ring of the curve
   abbrev pub functions : Ring2 (P × P)
   functions = coordinate R f
 
-  -- the ideal of a pair
+  -- the ideal of a pair in the coordinate ring
   abbrev pub ideal : Pair P → P × P → Type 0
   ideal D = pair-ideal R (D .u) (D .v)
 
@@ -36,13 +40,11 @@ module _ {K P : Type 0} {F : Field2 K} {A : Polynomials F P} (C : Curve A) where
   pub transitive : {I J M : P × P → Type 0} → I ~ J → J ~ M → I ~ M
   transitive h k = ~-trans functions (coordinate-domain A f f-len) h k
 
-  -- pairs with u up to a unit and v modulo u
   pub same-class : (D E : Pair P) → Divides R (E .u) (D .u) → Divides R (D .u) (E .u) → Divides R (E .u) (D .v ⊞ E .v) → ideal D ~ ideal E
   same-class D E d d′ m = equal-class
       (λ x h. pair-ideal-modulo R f (E .u) (D .v) (E .v) m x (pair-ideal-divisor R f (D .u) (E .u) (D .v) d x h))
       (λ x h. pair-ideal-divisor R f (E .u) (D .u) (D .v) d′ x (pair-ideal-modulo R f (E .u) (E .v) (D .v) (divides-eq R (⊞-comm R (D .v) (E .v)) m) x h))
 
-  -- a reduction step, and reduction
   step-class : {D : Pair P} → SemiReduced C D → ideal D ~ ideal (reduction-step C D)
   unfolding reduction-step value
   step-class {D} s =
@@ -55,7 +57,6 @@ module _ {K P : Type 0} {F : Field2 K} {A : Polynomials F P} (C : Curve A) where
   pub reduce-class : {D : Pair P} → SemiReduced C D → ideal D ~ ideal (reduce C D .class)
   reduce-class {D} s = reduce-keeps C (λ E. ideal D ~ ideal E) (λ E t h. transitive h (step-class t)) D s (equal-class (λ x h. h) (λ x h. h))
 
-  -- composition
   pub composed-class : {D E : Pair P} {b : Bezout3 P} → SemiReduced C D → SemiReduced C E → Combines C D E b
       → Product functions (ideal D) (ideal E) ~ ideal (composed-monic C b D E)
   unfolding composed-monic

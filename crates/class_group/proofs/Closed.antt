@@ -1,5 +1,9 @@
--- The operations stay within the reduced classes: `neutral-reduced`, `opposite-reduced`, `sum-reduced`, `double-reduced`; a sum and a double
--- take at most two reduction steps: `sum-steps`, `double-steps`.
+-- The operations give reduced classes.
+-- `neutral-reduced`: the neutral class is reduced.
+-- `opposite-long`, `opposite-short`, `opposite-u`: the two cases of the opposite; in both u is the same.
+-- `opposite-reduced`: the opposite of a reduced class is reduced.
+-- `sum-reduced`, `sum-steps`: the sum of two reduced classes is reduced, after at most two reduction steps.
+-- `double-reduced`, `double-steps`: the double of a reduced class is reduced, after at most two reduction steps.
 use Prim.Native.Nat.{ℕ, zero, suc, _≤_, _<_}
 use mathlib.Core.Path.{_≡_, refl, sym}
 use native.Mathlib.{Omega.arith, Decide.decLe}
@@ -18,7 +22,7 @@ module _ {K P : Type 0} {F : Field2 K} {A : Polynomials F P} (C : Curve A) where
   open Ring2 (A .ring) using (add as _⊞_, nought as 𝟘, one as 𝟙)
 
   infixl 60 _⊞_
-  -- demand 2: the neutral class is one
+  -- demand 2: the neutral class is reduced
   pub neutral-reduced : Reduced C (neutral C)
   unfolding neutral
   neutral-reduced =
@@ -26,7 +30,6 @@ module _ {K P : Type 0} {F : Field2 K} {A : Polynomials F P} (C : Curve A) where
       let k : len 𝟘 ≡ 0 = len-nought A in
       record { u-monic = monic-one A; u-len = omega arith; v-len = omega arith; divides = one-divides R _ }
 
-  -- the two cases of the opposite
   pub opposite-long : (D : Pair P) → 1 < len (D .u) → opposite C D ≡ record { u = D .u; v = D .v ⊞ 𝟙 }
   unfolding opposite
   opposite-long D h = rw (lt-ltb 1 (len (D .u)) h, opposite)
@@ -35,14 +38,13 @@ module _ {K P : Type 0} {F : Field2 K} {A : Polynomials F P} (C : Curve A) where
   unfolding opposite
   opposite-short D h = rw (le-ltb 1 (len (D .u)) h, opposite)
 
-  -- in both u stays
   pub opposite-u : (D : Pair P) → opposite C D .u ≡ D .u
   opposite-u D = elim (decLe (len (D .u)) 1) [
     | yes h ↦ rw (opposite-short D h) refl
     | no h ↦ rw (opposite-long D (omega arith)) refl
   ]
 
-  -- demand 2: the opposite of a class is one
+  -- demand 2: the opposite of a class is reduced
   pub opposite-reduced : {D : Pair P} → Reduced C D → Reduced C (opposite C D)
   opposite-reduced {D} r = elim (decLe (len (D .u)) 1) [
     | yes h ↦ rw (opposite-short D h) r
@@ -65,7 +67,7 @@ module _ {K P : Type 0} {F : Field2 K} {A : Polynomials F P} (C : Curve A) where
   unfolding counted-double
   double-ended {D} r = rw (compose-double-is C r) (composed-reduces C r r (unit-combines C D))
 
-  -- demand 2: the sum of two classes is one, after at most two reduction steps
+  -- demand 2: the sum of two classes is reduced
   pub sum-reduced : {D E : Pair P} → Reduced C D → Reduced C E → Reduced C (sum C D E)
   unfolding sum
   sum-reduced r s = sum-ended r s .reduced
@@ -73,7 +75,7 @@ module _ {K P : Type 0} {F : Field2 K} {A : Polynomials F P} (C : Curve A) where
   pub sum-steps : {D E : Pair P} → Reduced C D → Reduced C E → counted-sum C D E .steps ≤ 2
   sum-steps r s = sum-ended r s .steps-le
 
-  -- demand 2: so is the double of a class
+  -- demand 2: the double of a class is reduced
   pub double-reduced : {D : Pair P} → Reduced C D → Reduced C (double C D)
   unfolding double
   double-reduced r = double-ended r .reduced

@@ -1,7 +1,11 @@
--- The composition of two semi-reduced pairs, u made monic, is semi-reduced, however the coefficients of e were found; of two reduced
--- classes it has u of degree at most 6, so its reduction ends in a reduced class after at most two steps (`composed-reduces`).
--- Cantor's composition by Euclid's rule and the composition of a double are cases of it (`compose-is`, `compose-double-is`):
--- `compose-semi`, `compose-len`, `compose-double-semi`, `compose-double-len`.
+-- The composition of two pairs by any coefficients of e, with u made monic.
+-- `composed-semi`: of two semi-reduced pairs it is semi-reduced.
+-- `composed-monic-len`: of two reduced classes it has u of degree at most 6.
+-- `composed-reduces`: its reduction ends in a reduced class after at most two steps.
+-- `compose-is`: Cantor's composition by Euclid's algorithm is a case of it.
+-- `compose-double-is`: so is the composition of a double.
+-- `compose-semi`, `compose-len`: Cantor's composition is semi-reduced, with u of degree at most 6.
+-- `compose-double-semi`, `compose-double-len`: so is the composition of a double.
 use Prim.Native.Nat.{suc, _+_, _≤_, _<_}
 use mathlib.Core.Path.{_≡_, refl, sym, _∙_, ap, ap₂}
 use native.Mathlib.Omega.{arith}
@@ -86,7 +90,7 @@ module _ {K P : Type 0} {F : Field2 K} {A : Polynomials F P} (C : Curve A) where
     unfolding composition
     composition-e = refl
 
-    -- u is not nought, and no longer than u1 u2
+    -- u is not 0, and no longer than u1 u2
     pub composed-u-divides : u₁ · u₂ ≡ e · e · composed C b D E .u
     unfolding composed
     composed-u-divides = ap₂ _·_ (B .divides-first .1) (B .divides-second .1) ∙ shuffle (B .divides-first .0) e (B .divides-second .0) ∙ ap (λ z. e · e · z) (sym u-parts)
@@ -141,7 +145,6 @@ module _ {K P : Type 0} {F : Field2 K} {A : Polynomials F P} (C : Curve A) where
           v = composed C b D E .v;
         }
 
-  -- of two reduced classes, however e was found: u of degree at most 6
   pub composed-monic-len : {D E : Pair P} {b : Bezout3 P} → Reduced C D → Reduced C E → Combines C D E b → len (composed-monic C b D E .u) ≤ 7
   unfolding composed-monic
   composed-monic-len {D} {E} {b} r s B =
@@ -154,7 +157,6 @@ module _ {K P : Type 0} {F : Field2 K} {A : Polynomials F P} (C : Curve A) where
   pub composed-reduces : {D E : Pair P} {b : Bezout3 P} → Reduced C D → Reduced C E → Combines C D E b → Ended C 2 (reduce C (composed-monic C b D E))
   composed-reduces r s B = reduce-ended C (composed-semi (semi-of-reduced C r) (semi-of-reduced C s) B) (composed-monic-len r s B)
 
-  -- Cantor's composition by Euclid's rule
   pub compose-is : {D E : Pair P} → Reduced C D → Reduced C E
       → compose C D E ≡ composed-monic C (bezout3 A (D .u) (E .u) (D .v ⊞ E .v ⊞ 𝟙)) D E
   unfolding compose

@@ -1,6 +1,11 @@
--- Composition of two pairs: if e = s₁ u₁ + s₂ u₂ + s₃ (v₁ + v₂ + 1) divides u₁, u₂ and v₁ + v₂ + 1, u = u₁ u₂ / e² and
--- v = (s₁ u₁ v₂ + s₂ u₂ v₁ + s₃ (v₁ v₂ + f)) / e, then u divides v² + v + f and the product of the ideals of (u₁, v₁) and (u₂, v₂)
--- is e times the ideal of (u, v). It does not matter how e, s₁, s₂ and s₃ were found. (u², v² + f) is composed of (u, v) twice.
+-- Composition of two pairs (u₁, v₁) and (u₂, v₂) by a divisor e of u₁, u₂ and v₁ + v₂ + 1 that is their combination
+-- s₁ u₁ + s₂ u₂ + s₃ (v₁ + v₂ + 1), found in any way: u = u₁ u₂ / e² and
+-- v = (s₁ u₁ v₂ + s₂ u₂ v₁ + s₃ (v₁ v₂ + f)) / e.
+-- `composed-divides`: u divides v² + v + f.
+-- `composed-within`, `composed-within⁻¹`: the product of the ideals of the two pairs is e times the ideal of (u, v).
+-- `~-composed`: so the product of the two ideals is equivalent to the ideal of (u, v).
+-- `composed-swap`: the two pairs may be exchanged.
+-- `composed-double`, `~-double`: (u², v² + f) is composed of (u, v) and itself.
 use mathlib.Core.Path.{_≡_, refl, sym, _∙_, ap, subst}
 use Rattle.field_laws.specs.Ring.{Ring2}
 use Rattle.char2_algebra.specs.Divides.{Divides}
@@ -19,7 +24,7 @@ module _ {P : Type 0} (R : Ring2 P) (f : P) where
   abbrev S : Ring2 (P × P)
   S = coordinate R f
 
-  -- (u, v) is composed of (u₁, v₁) and (u₂, v₂) by the divisor e of u₁, u₂ and v₁ + v₂ + 1, however it was found
+  -- (u, v) is composed of (u₁, v₁) and (u₂, v₂) by a divisor e of u₁, u₂ and v₁ + v₂ + 1, found in any way
   pub record Composed (u₁ v₁ u₂ v₂ u v : P) : Type 0 where
     pub w₁ : P
     pub w₂ : P
@@ -50,7 +55,6 @@ module _ {P : Type 0} (R : Ring2 P) (f : P) where
     combine R _ _ (by R 𝟙 (congruent-eq R f u₁ v₁ w₁ u₂ v₂ e s₁ s₂ s₃ d₁ on bezout part)) (simp (ring2, R)),
   )
 
-  -- the two pairs change places
   pub composed-swap : {u₁ v₁ u₂ v₂ u v : P} → Composed u₁ v₁ u₂ v₂ u v → Composed u₂ v₂ u₁ v₁ u v
   composed-swap {u₁} {v₁} {u₂} {v₂} C = record {
     w₁ = C .w₂;
@@ -116,7 +120,6 @@ module _ {P : Type 0} (R : Ring2 P) (f : P) where
           (cross-eq R f u₁ v₁ w₁ u₂ v₂ w₂ e s₁ s₂ s₃ v (C .on₁) (C .on₂) (C .bezout) (C .v-is)
           ∙ cross-parts R u₁ u₂ e d₁ d₂ (s₁ · w₂ ⊞ s₂ · w₁) (C .part₁) (C .part₂))
 
-      -- u divides v² + v + f
       pub composed-divides : Divides R u (v · v ⊞ v ⊞ f)
       composed-divides = (
         m₁ · m₂ ⊞ e · m,
@@ -155,7 +158,6 @@ module _ {P : Type 0} (R : Ring2 P) (f : P) where
         back₁ R u₁ v₁ u₂ v₂ e s₁ s₂ s₃ d₁ d₂ c q n (C .part₁) (C .part₂) (C .bezout) t,
       )
 
-      -- the product of the two ideals is e times I(u, v)
       pub composed-within : Within S (Product S (pair-ideal R u₁ v₁) (pair-ideal R u₂ v₂))
           (Scaled S (e, 𝟘) (pair-ideal R u v))
       composed-within =
@@ -190,7 +192,7 @@ module _ {P : Type 0} (R : Ring2 P) (f : P) where
           ~-of-scaled S (e, 𝟘) (λ h. one (ap (λ x. x .0) h)) (λ h. divisor-nonzero C (ap (λ x. x .0) h))
           composed-within composed-within⁻¹
 
-  -- Doubling: the divisor is 1, and (u², v² + f) is composed of (u, v) and itself.
+  -- doubling: the divisor is 1
   pub composed-double : (u v w : P) → ¬ (u ≡ 𝟘) → v · v ⊞ v ⊞ f ≡ w · u → Composed u v u v (u · u) (v · v ⊞ f)
   composed-double u v w u≢𝟘 on = record {
     w₁ = w;

@@ -1,12 +1,16 @@
--- The coordinate ring of y² + y = f over a commutative ring P of characteristic 2: pairs (p, q) for p + q y, with y² = y + f.
--- It is a commutative ring of characteristic 2; the conjugate of (p, q) is (p + q, q); an element times its conjugate is its norm
--- p² + p q + q² f; the norm is multiplicative.
+-- The coordinate ring of y² + y = f over a commutative ring P of characteristic 2: pairs (p, q) for p + q y.
+-- The product is by y² = y + f; the conjugate of (p, q) is (p + q, q); the norm of (p, q) is p² + p q + q² f.
+-- `coordinate`: it is a commutative ring of characteristic 2.
+-- `norm-mul`: the norm is multiplicative.
+-- `mul-conj`: an element times its conjugate is its norm.
+-- `norm-constant`, `norm-value`: the norm of p is p², that of v + y is v² + v + f.
+-- `constant-mul`: the product with an element of P.
 use mathlib.Core.Path.{_≡_}
 use mathlib.Core.HLevel.{Σ-set}
 use Rattle.field_laws.specs.Ring.{Ring2}
 use Rattle.char2_algebra.proofs.Ring.{ring2}
 
--- The identities behind the ring laws, over plain variables.
+-- The identities for the ring laws, over plain variables.
 module _ {P : Type 0} (R : Ring2 P) where
   open Ring2 R using (add as _⊞_, mul as _·_, nought as 𝟘, one as 𝟙)
 
@@ -78,10 +82,11 @@ module _ {P : Type 0} (R : Ring2 P) (f : P) where
     mul-add = λ x y z i. (distrib₀ R f (x .0) (x .1) (y .0) (y .1) (z .0) (z .1) i, distrib₁ R (x .0) (x .1) (y .0) (y .1) (z .0) (z .1) i);
   }
 
-  -- the conjugate
+  -- the conjugate of p + q y: p + q + q y
   unfoldable pub conj : P × P → P × P
   conj x = (x .0 ⊞ x .1, x .1)
 
+  -- the norm of p + q y: p² + p q + q² f
   unfoldable pub norm : P × P → P
   norm x = x .0 · x .0 ⊞ x .0 · x .1 ⊞ x .1 · x .1 · f
 
@@ -97,7 +102,6 @@ module _ {P : Type 0} (R : Ring2 P) (f : P) where
   unfolding norm
   norm-constant p = simp (ring2, R)
 
-  -- v² + v + f is the norm of v + y
   pub norm-value : (v : P) → norm (v, 𝟙) ≡ v · v ⊞ v ⊞ f
   unfolding norm
   norm-value v = simp (ring2, R)

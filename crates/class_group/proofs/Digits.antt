@@ -1,5 +1,7 @@
--- Double and add over binary digits, the highest first. One turn goes from n / 2 times an element to n times it: the double, and the element once more where n is odd
--- (`even-turn`, `odd-turn`); one digit fewer of n is left for each (`digits-left`).
+-- Double and add over binary digits, the highest first: each turn goes from n / 2 times an element to n times it.
+-- `digits-left`: n without its i + 1 lowest digits is half of n without its i lowest digits.
+-- `even-turn`: for even n, n times an element is the double of n / 2 times it.
+-- `odd-turn`: for odd n, it is that double plus the element.
 use Prim.Native.Nat.{ℕ, suc, _+_, _^_, _/_, _%_}
 use mathlib.Core.Path.{_≡_, sym, _∙_, ap}
 use native.Mathlib.{Omega.arith, Nat.pow-suc, Nat.div-div-eq-div-mul}

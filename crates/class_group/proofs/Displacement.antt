@@ -1,9 +1,15 @@
 -- Walks in a commutative group by double and add, s ↦ 2 s + d, and back by subtract and halve, s ↦ half of (s - d).
--- `forward-end`: over d1, .., dn from s it ends in 2^n s + 2^(n-1) d1 + .. + dn.
--- Where of n elements only the k-th changes, from d to e, the end moves by n - k doublings of e - d (`displacement`), and it moves where d and e differ (`changed-end`). Then
--- it is not where one doubling more would lead (`one-doubling-more`), nor the difference the other way round (`turned-difference`). `displacement-at`: the same of a list
--- whose k-th element is set; `suppression`: to the neutral one.
--- `forward-injective`: different starts have different ends. `reversible`: the two rules take each other back, so that all of proofs/Walk.antt holds of them.
+-- `forward-member`: a walk from a member over members ends in a member.
+-- `start-displacement`: a start moved by t moves the end of a walk over n elements by 2^n t.
+-- `forward-injective`: different starts have different ends.
+-- `forward-end`: the walk over d1, .., dn from s ends in 2^n s + 2^(n-1) d1 + .. + dn.
+-- `displacement`: if of n elements only the k-th changes, from d to e, the end moves by n - k doublings of e - d.
+-- `changed-end`: if d and e differ, so do the ends.
+-- `one-doubling-more`: if d and e differ, the end does not move by n - k + 1 doublings of e - d.
+-- `turned-difference`: if d and e differ, the end does not move by n - k doublings of d - e.
+-- `displacement-at`: `displacement` for a list in which the element at an index, counted from 0, is set to e.
+-- `suppression`: the same for an element that is set to the neutral one.
+-- `reversible`: the two rules undo each other, so that the theorems of lists/proofs/Walk.antt hold of them.
 use Prim.Native.Nat.{ℕ, suc, _-_, _<_}
 use mathlib.Core.Path.{_≡_, refl, sym, _∙_, ap, ap₂, subst}
 use mathlib.Core.List.{List, _∷_, _++_}
@@ -31,7 +37,6 @@ module _ {X : Type 0} {Member : X → Type 0} {_⊞_ : X → X → X} {nought : 
   pub forward-member : {s : X} {l : List X} → Member s → All Member l → Member (walked s l)
   forward-member = after-member (λ s d. double s ⊞ d) forward-closed
 
-  -- a start moved by t moves the end by 2^n t
   moved : {s t d : X} → Member s → Member t → Member d → double (s ⊞ t) ⊞ d ≡ double s ⊞ d ⊞ double t
   moved {s} {t} {d} h k m = rw (D .double-sum (G .sum-closed h k), D .double-sum h, D .double-sum k) (simp (sums, G))
 
@@ -49,7 +54,6 @@ module _ {X : Type 0} {Member : X → Type 0} {_⊞_ : X → X → X} {nought : 
       after-injective (λ s d. double s ⊞ d) forward-closed
       (λ s t d h k m e. D .double-injective h k (cancel-right G (double-member D h) (double-member D k) m e))
 
-  -- the closed form of the end
   weighted-member : {l : List X} → All Member l → Member (weighted-sum _⊞_ nought double l)
   unfolding weighted-sum
   weighted-member none = G .neutral-closed
@@ -68,7 +72,7 @@ module _ {X : Type 0} {Member : X → Type 0} {_⊞_ : X → X → X} {nought : 
   difference : {d e : X} → Member d → Member e → Member (e ⊞ minus d)
   difference hd he = G .sum-closed he (G .opposite-closed hd)
 
-  -- d at one place of the list, or e
+  -- d or e between l and m
   module _ {s d e : X} {l m : List X} (hs : Member s) (hl : All Member l) (hd : Member d) (he : Member e) (hm : All Member m) where
     before : Member (double (walked s l))
     before = double-member D (forward-member hs hl)
@@ -77,7 +81,6 @@ module _ {X : Type 0} {Member : X → Type 0} {_⊞_ : X → X → X} {nought : 
     unfolding after
     split c = after-append (λ s d. double s ⊞ d) s l (c ∷ m)
 
-    -- d and the difference make e
     replaced : double (walked s l) ⊞ e ≡ double (walked s l) ⊞ d ⊞ (e ⊞ minus d)
     replaced =
         sym
@@ -97,7 +100,7 @@ module _ {X : Type 0} {Member : X → Type 0} {_⊞_ : X → X → X} {nought : 
         cancel-left G hd he before
         (forward-injective (G .sum-closed before hd) (G .sum-closed before he) hm (sym (split d) ∙ h ∙ split e))
 
-  -- n doublings of a difference: one more gives another element, and so does the difference the other way round
+  -- n doublings of e - d equal n + 1 doublings of it, or n doublings of d - e, only where d = e
   module _ {d e : X} (hd : Member d) (he : Member e) (n : ℕ) where
     doubled-again : repeat double n (e ⊞ minus d) ≡ repeat double (suc n) (e ⊞ minus d) → d ≡ e
     unfolding repeat
@@ -141,12 +144,11 @@ module _ {X : Type 0} {Member : X → Type 0} {_⊞_ : X → X → X} {nought : 
         ∙ displaced hs (around .0) member-d member-e (all-head (around .1) .1)
         ∙ ap₂ (λ x n. walked s x ⊞ repeat double n (e ⊞ minus d)) (sym (at .was)) behind-is
 
-    -- the end moves
     pub changed-end : ¬ (d ≡ e) → ¬ (forward _⊞_ double s l ≡ forward _⊞_ double s m)
     changed-end n h =
         n (same-end hs (around .0) member-d member-e (all-head (around .1) .1) (sym (ap (walked s) (at .was)) ∙ h ∙ ap (walked s) (at .is)))
 
-    -- what it moves by is nothing else
+    -- the end moves by no other element
     moved-by : (x : X) → Member x → walked s m ≡ walked s l ⊞ x → repeat double (length l - k) (e ⊞ minus d) ≡ x
     moved-by x h same =
         cancel-left G (doublings-member D (length l - k) (difference member-d member-e)) h (forward-member hs hl) (sym displacement ∙ same)
@@ -161,7 +163,7 @@ module _ {X : Type 0} {Member : X → Type 0} {_⊞_ : X → X → X} {nought : 
         n (turned member-d member-e (length l - k)
         (moved-by _ (doublings-member D (length l - k) (difference member-e member-d)) h))
 
-  -- e at place k, counted from 0: as many doublings as there are places after it
+  -- e at index k, counted from 0: as many doublings as there are elements after it
   pub displacement-at : {s e : X} {l : List X} (k : ℕ) → k < length l → Member s → Member e → All Member l
       → walked s (set l k e) ≡ walked s l ⊞ repeat double (length l - suc k) (e ⊞ minus (getD l k nought))
   displacement-at {s} {e} {l} k b hs he hl =
@@ -170,7 +172,6 @@ module _ {X : Type 0} {Member : X → Type 0} {_⊞_ : X → X → X} {nought : 
       ∙ displaced hs (all-take k hl) (all-at k nought b hl) he (all-drop (suc k) hl)
       ∙ ap₂ (λ m n. walked s m ⊞ repeat double n (e ⊞ minus d)) (sym (split-at l k nought b)) (length-drop (suc k) l)
 
-  -- the neutral element there
   pub suppression : {s : X} {l : List X} (k : ℕ) → k < length l → Member s → All Member l
       → walked s (set l k nought) ≡ walked s l ⊞ minus (repeat double (length l - suc k) (getD l k nought))
   suppression {s} {l} k b hs hl =

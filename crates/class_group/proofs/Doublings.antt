@@ -1,6 +1,11 @@
 -- k doublings and k halvings in a commutative group.
--- `doublings-multiple`: k doublings are the 2^k-fold sum. `doublings-sum`, `doublings-opposite`: they carry over sums and opposites; `doublings-injective`:
--- they are one to one where doubling is. `halvings-doublings`, `doublings-halvings`: k halvings and k doublings undo each other.
+-- `double-multiple`: the double of an n-fold sum is the 2n-fold sum.
+-- `doublings-multiple`: k doublings are the 2^k-fold sum.
+-- `doublings-sum`, `doublings-opposite`, `doublings-neutral`: doublings of a sum, an opposite and the neutral element.
+-- `doublings-injective`: k doublings are injective.
+-- `half-double`: halving undoes doubling.
+-- `halvings-doublings`, `doublings-halvings`: k halvings and k doublings undo each other.
+-- `repeat-inner`, `repeat-member`, `repeat-back`: the same function first or last, members to members, and undone.
 use Prim.Native.Nat.{ℕ, zero, suc, _+_, _*_, _^_}
 use mathlib.Core.Path.{_≡_, refl, sym, _∙_, ap, ap₂}
 use native.Mathlib.{Omega.arith, Nat.pow-suc}
@@ -8,7 +13,6 @@ use Rattle.class_group.specs.Group.{CommutativeGroup, Doubling, Halving}
 use Rattle.class_group.specs.Multiples.{repeat, multiple}
 use Rattle.class_group.proofs.Multiples.{multiple-member, multiple-one, multiple-add, multiple-sum, multiple-opposite, multiple-neutral}
 
--- a step taken k times
 pub repeat-inner : {X : Type 0} (step : X → X) (k : ℕ) (a : X) → repeat step k (step a) ≡ step (repeat step k a)
 unfolding repeat
 repeat-inner step zero a = refl
@@ -37,7 +41,6 @@ module _ {X : Type 0} {Member : X → Type 0} {_⊞_ : X → X → X} {nought : 
   pub double-member : {a : X} → Member a → Member (double a)
   double-member h = rw (D .double-sum h) (G .sum-closed h h)
 
-  -- the double of an n-fold sum
   pub double-multiple : (n : ℕ) {a : X} → Member a → double (times n a) ≡ times (n + n) a
   double-multiple n h = D .double-sum (multiple-member G n h) ∙ sym (multiple-add G n n h)
 

@@ -1,4 +1,6 @@
 -- The square root of a polynomial without odd powers, made monic by a constant.
+-- `even-nonzero`: a polynomial that is `Even` is not 0.
+-- `even-root`: its multiple by c is the square of a monic polynomial.
 use Prim.Native.Nat.{ℕ, suc, _+_}
 use mathlib.Core.Path.{_≡_, sym, _∙_, ap}
 use Rattle.field_laws.specs.Ring.{Ring2}

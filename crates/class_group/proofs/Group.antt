@@ -1,7 +1,14 @@
--- The reduced classes are a commutative group under Cantor's sum (`classes`): `sum-comm`, `sum-assoc`, `sum-neutral`, `sum-opposite`.
--- The sum does not depend on the coefficients by which e is combined, nor on e being monic (`sum-independent`).
--- The double is the sum with itself (`double-sum`), only the neutral class doubles to it (`no-torsion`), and doubling is injective
--- (`double-injective`); `class-doubling` says both. A reduced class whose ideal is equivalent to the product is the sum (`sum-from-class`, `double-from-class`).
+-- The reduced classes are a commutative group under Cantor's sum, in which doubling is injective.
+-- `sum-adds`: the sum multiplies ideals up to equivalence.
+-- `classes`: the reduced classes are a commutative group under the sum.
+-- `sum-comm`, `sum-assoc`, `sum-neutral`, `sum-opposite`: its laws.
+-- `sum-independent`: the sum does not depend on the coefficients by which e is combined, nor on e being monic.
+-- `double-sum`: the double is the sum with itself.
+-- `sum-from-class`, `double-from-class`: a reduced class whose ideal is equivalent to the product of the ideals of two
+-- reduced classes is their sum, or the double.
+-- `no-torsion`: only the neutral class has the neutral class as its double.
+-- `double-injective`: a class is the double of at most one class.
+-- `class-doubling`: the reduced classes are a commutative group in which doubling is injective.
 use mathlib.Core.Path.{_≡_, sym, _∙_, ap}
 use native.Mathlib.{Omega.arith, Decide.decLe}
 use Rattle.field_laws.specs.{Ring.Ring2, Field.Field2}
@@ -22,7 +29,7 @@ module _ {K P : Type 0} {F : Field2 K} {A : Polynomials F P} (C : Curve A) where
   open Ring2 (A .ring) using (add as _⊞_, nought as 𝟘, one as 𝟙)
 
   infixl 60 _⊞_
-  -- compose, however e was found, and reduce
+  -- composition by any coefficients of e, and reduction
   reduced-class : {D E : Pair P} {b : Bezout3 P} → Reduced C D → Reduced C E → Combines C D E b
       → Equivalent (functions C) (Product (functions C) (ideal C D) (ideal C E)) (ideal C (reduce C (composed-monic C b D E) .class))
   reduced-class r s B =
@@ -41,7 +48,7 @@ module _ {K P : Type 0} {F : Field2 K} {A : Polynomials F P} (C : Curve A) where
     class = λ {D} {E} r s. rw (sum-is r s) (reduced-class r s (bezout3-combines C D E));
   }
 
-  -- demand 2: the reduced classes are a commutative group under sum
+  -- demand 2: the reduced classes are a commutative group under the sum
   pub classes : CommutativeGroup (Reduced C) (sum C) (neutral C) (opposite C)
   classes = adds-group C sum-adds
 
@@ -57,7 +64,7 @@ module _ {K P : Type 0} {F : Field2 K} {A : Polynomials F P} (C : Curve A) where
   pub sum-opposite : {D : Pair P} → Reduced C D → sum C D (opposite C D) ≡ neutral C
   sum-opposite r = classes .sum-opposite r
 
-  -- demand 2: any combination e of u1, u2 and v1 + v2 + 1 that divides them gives the sum; if e is not monic, u is made monic
+  -- demand 2: any combination e of u1, u2 and v1 + v2 + 1 that divides them; if e is not monic, u is made monic
   pub sum-independent : {D E : Pair P} {b : Bezout3 P} → Reduced C D → Reduced C E → Combines C D E b
       → reduce C (composed-monic C b D E) .class ≡ sum C D E
   sum-independent r s B =
@@ -69,7 +76,6 @@ module _ {K P : Type 0} {F : Field2 K} {A : Polynomials F P} (C : Curve A) where
   unfolding double counted-double
   double-sum {D} r = ap (λ z. reduce C z .class) (compose-double-is C r) ∙ sum-independent r r (unit-combines C D)
 
-  -- a reduced class whose ideal is the product's, up to equivalence, is the sum; likewise for the double
   pub sum-from-class : {D E G : Pair P} → Reduced C D → Reduced C E → Reduced C G
       → Equivalent (functions C) (Product (functions C) (ideal C D) (ideal C E)) (ideal C G) → sum C D E ≡ G
   sum-from-class r s t h = reduced-unique C (sum-reduced C r s) t (transitive C (~-sym (functions C) (sum-adds .class r s)) h)
@@ -78,7 +84,7 @@ module _ {K P : Type 0} {F : Field2 K} {A : Polynomials F P} (C : Curve A) where
       → Equivalent (functions C) (Product (functions C) (ideal C D) (ideal C D)) (ideal C G) → double C D ≡ G
   double-from-class r t h = double-sum r ∙ sum-from-class r r t h
 
-  -- demand 3: only the neutral class doubles to it: [u, v] = [u, v + 1] forces u = 1
+  -- demand 3: [u, v] = [u, v + 1] implies u = 1
   pub no-torsion : {D : Pair P} → Reduced C D → sum C D D ≡ neutral C → D ≡ neutral C
   no-torsion {D} r e = elim (decLe (len (D .u)) 1) [
     | yes h ↦ short-is-neutral C (semi-of-reduced C r) h
@@ -93,6 +99,5 @@ module _ {K P : Type 0} {F : Field2 K} {A : Polynomials F P} (C : Curve A) where
   double-injective r s e =
       doubling-injective classes (λ a m h. no-torsion m h) r s (sym (double-sum r) ∙ e ∙ double-sum s)
 
-  -- the reduced classes are a group in which doubling is one to one
   pub class-doubling : Doubling (Reduced C) (sum C) (neutral C) (opposite C) (double C)
   class-doubling = record { group = classes; double-sum = λ r. double-sum r; double-injective = λ r s e. double-injective r s e }

@@ -1,5 +1,10 @@
--- What follows from the laws of a commutative group: adding and taking away undo each other, opposites are unique, the opposite of a
--- sum and of the neutral element, and doubling is one to one where no element but the neutral one doubles to it. `simp (sums, G)` sorts sums of members.
+-- Consequences of the laws of a commutative group. `simp (sums, G)` sorts sums of members.
+-- `add-subtract`, `subtract-add`: adding and subtracting undo each other.
+-- `cancel-right`, `cancel-left`: one summand and the sum determine the other summand.
+-- `eq-of-difference`: elements whose difference is neutral are equal.
+-- `opposite-unique`: the opposite is unique. `opposite-neutral`, `opposite-sum`: that of the neutral element, of a sum.
+-- `interchange`: the middle terms of a sum of two sums may be exchanged.
+-- `doubling-injective`: doubling is injective where only the neutral element doubles to the neutral one.
 use mathlib.Core.Path.{_≡_, sym, _∙_, ap, ap₂}
 use Rattle.class_group.specs.Group.{CommutativeGroup}
 
@@ -30,14 +35,12 @@ module _ {X : Type 0} {Member : X → Type 0} {_⊞_ : X → X → X} {nought : 
   pub neutral-sum : {a : X} → Member a → nought ⊞ a ≡ a
   neutral-sum h = G .comm (G .neutral-closed) h ∙ G .sum-neutral h
 
-  -- one summand fixes the other
   pub cancel-right : {a b c : X} → Member a → Member b → Member c → a ⊞ c ≡ b ⊞ c → a ≡ b
   cancel-right {c = c} h k l e = sym (add-subtract h l) ∙ ap (λ z. z ⊞ minus c) e ∙ add-subtract k l
 
   pub cancel-left : {a b c : X} → Member a → Member b → Member c → c ⊞ a ≡ c ⊞ b → a ≡ b
   cancel-left h k l e = cancel-right h k l (G .comm h l ∙ e ∙ G .comm l k)
 
-  -- the difference is neutral only for equal elements
   pub eq-of-difference : {a b : X} → Member a → Member b → a ⊞ minus b ≡ nought → a ≡ b
   eq-of-difference h k e = cancel-right h k (G .opposite-closed k) (e ∙ sym (G .sum-opposite k))
 
@@ -47,7 +50,6 @@ module _ {X : Type 0} {Member : X → Type 0} {_⊞_ : X → X → X} {nought : 
   pub opposite-neutral : minus nought ≡ nought
   opposite-neutral = sym (opposite-unique (G .neutral-closed) (G .neutral-closed) (G .sum-neutral (G .neutral-closed)))
 
-  -- the terms of a sum of sums change places
   pub interchange : {a b c d : X} → Member a → Member b → Member c → Member d → a ⊞ b ⊞ (c ⊞ d) ≡ a ⊞ c ⊞ (b ⊞ d)
   interchange h k l m = simp (sums, G)
 

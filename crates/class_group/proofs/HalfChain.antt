@@ -1,5 +1,8 @@
--- The half of a reduced class, row by row: a chain of lifts and steps leads from u, v, w to a triple whose first polynomial is,
--- up to a constant, the square of a monic a of degree at most 3; the half is [a, v modulo a].
+-- The half of a reduced class, by the cases of the halving rule: a chain of lifts and steps leads from u, v, w to a
+-- triple whose first polynomial is, up to a constant, the square of a monic a of degree at most 3; the half is
+-- [a, v modulo a].
+-- `value-len`, `value-monic`: v² + v + f is monic of degree 7 where v has degree at most 3.
+-- `half-chain`: the half of every reduced class with u of degree at least 1 comes from such a chain.
 use Prim.Native.Nat.{ℕ, zero, suc, _≤_, _<_, _+_}
 use mathlib.Core.Path.{_≡_, refl, sym, _∙_, ap}
 use native.Mathlib.Omega.{arith}
@@ -26,7 +29,6 @@ module _ {K P : Type 0} {F : Field2 K} {A : Polynomials F P} (C : Curve A) where
 
   infixl 60 _⊞_
   infixl 70 _·_
-  -- v² + v + f is monic of degree 7 where v has degree at most 3
   short : (v : P) → len v ≤ 4 → len (v · v ⊞ v) < len f
   short v h =
       let e : len (v · v ⊞ v) ≤ 7 = len-add A (v · v) v 7 (len-mul-le A 3 4 v v h h) (omega arith) in
@@ -66,7 +68,7 @@ module _ {K P : Type 0} {F : Field2 K} {A : Polynomials F P} (C : Curve A) where
     w-len : len w + len (D .u) ≡ 9
     w-len = sym (len-mul A w (D .u) (monic-nonzero A w w-monic) u≢) ∙ ap (λ z. suc (len z)) (sym uw) ∙ ap suc (value-len (D .v) v-short)
 
-    -- what the half H of D is made of
+    -- H is [a, v modulo a], where a chain leads from the triple of D to T, and a² is c times T's first polynomial
     pub record HalfChain (H : Pair P) : Type 0 where
       pub c : K
       pub m : ℕ
@@ -76,7 +78,7 @@ module _ {K P : Type 0} {F : Field2 K} {A : Polynomials F P} (C : Curve A) where
       pub short : m ≤ 3
       pub v-is : H .v ≡ A .rem (T .v) (H .u)
 
-    -- a row of the rule: c times the first polynomial of T is a square
+    -- a case of the rule: c times the first polynomial of T is a square
     from-even : (c : K) (m : ℕ) (T : Triple P) → m ≤ 3 → Chain C (triple C D) T → Even A c m (T .u) → HalfChain (halved A c T)
     unfolding halved
     from-even c m T h k e =
@@ -129,7 +131,6 @@ module _ {K P : Type 0} {F : Field2 K} {A : Polynomials F P} (C : Curve A) where
         go (yes z) = from-even _ 2 _ (omega arith) (stepped first≢ (lifted _ start)) (row-3-square A (D .u) w e u-top (omega (arith, w-len)) w-top z)
         go (no n) = lifts n
 
-    -- every reduced class has a half by the rule
     pub half-chain : (1 < len (D .u)) → HalfChain (half C D)
     unfolding half half-by
     half-chain h = go (len (D .u)) refl

@@ -1,5 +1,10 @@
--- Halving: the half of a reduced class is a reduced class (`half-reduced`) whose double is the class (`double-half`); it is the only one
--- (`half-unique`), and halving takes doubling back (`half-double`). `class-halving`: the classes are a group with halves. Demands 2 and 3.
+-- Halving of reduced classes.
+-- `half-reduced`: the half of a reduced class is a reduced class.
+-- `double-half`: the double of the half is the class.
+-- `half-unique`: the half is the only reduced class whose double is the class.
+-- `half-double`: the half of the double is the class.
+-- `class-halving`: the reduced classes are a commutative group in which each has exactly one half.
+-- `chain-reduced`, `chain-double`: the first two for a half that is found by a chain of lifts and steps.
 use Prim.Native.Nat.{ℕ, zero, suc, _≤_, _<_}
 use mathlib.Core.Path.{_≡_, refl, sym, _∙_, ap, subst}
 use native.Mathlib.{Omega.arith, Decide.decLe}
@@ -29,7 +34,7 @@ module _ {B : Type 0} (R : Ring2 B) where
   unit-multiple : (a c i u : B) → a · a ≡ c · u → c · i ≡ 𝟙 → u ≡ i · (a · a)
   unit-multiple a c i u h k = combine R _ _ (both R (by R i h) (by R u k)) (simp (ring2, R))
 
-  -- v² + v + f with (v + r)² is r² + f + v
+  -- v² + v + f plus (v + r)² is r² + f + v
   remainder-square : (v r f : B) → v · v ⊞ v ⊞ f ⊞ (v ⊞ r) · (v ⊞ r) ≡ r · r ⊞ f ⊞ v
   remainder-square v r f = simp (ring2, R)
 
@@ -124,14 +129,14 @@ module _ {K P : Type 0} {F : Field2 K} {A : Polynomials F P} (C : Curve A) where
   double-neutral : double C (neutral C) ≡ neutral C
   double-neutral = double-sum C (neutral-reduced C) ∙ sum-neutral C (neutral-reduced C)
 
-  -- demand 2: the half is a reduced class
+  -- demand 2: the half of a class is reduced
   pub half-reduced : {D : Pair P} → Reduced C D → Reduced C (half C D)
   half-reduced {D} r = elim (decLe (len (D .u)) 1) [
     | yes h ↦ subst (Reduced C) (sym (half-short D h)) r
     | no h ↦ chain-reduced D r (half C D) (half-chain C D r (omega arith))
   ]
 
-  -- demands 2 and 3: its double is the class
+  -- demands 2 and 3: the double of the half is the class
   pub double-half : {D : Pair P} → Reduced C D → double C (half C D) ≡ D
   double-half {D} r = elim (decLe (len (D .u)) 1) [
     | yes h ↦
@@ -140,11 +145,10 @@ module _ {K P : Type 0} {F : Field2 K} {A : Polynomials F P} (C : Curve A) where
     | no h ↦ chain-double D r (half C D) (half-chain C D r (omega arith))
   ]
 
-  -- demand 3: the half is the only reduced class whose double is the class given
+  -- demand 3: no other reduced class has this class as its double
   pub half-unique : {D E : Pair P} → Reduced C D → Reduced C E → double C E ≡ D → E ≡ half C D
   half-unique r s e = double-injective C s (half-reduced r) (e ∙ sym (double-half r))
 
-  -- the reduced classes are a group in which each has one half
   pub class-halving : Halving (Reduced C) (sum C) (neutral C) (opposite C) (double C) (half C)
   class-halving = record { doubling = class-doubling C; half-closed = λ r. half-reduced r; double-half = λ r. double-half r }
 

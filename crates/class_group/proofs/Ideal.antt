@@ -1,7 +1,12 @@
--- Subsets of a commutative ring S of characteristic 2, as predicates with plain (untruncated) membership. Their product is the set of
--- sums of products: it is commutative and associative, it respects inclusion, and the whole ring is a unit for ideals.
--- Two subsets are equivalent, I ~ J, where α I = β J for some α and β that are not nought. It is an equivalence and respects products.
+-- Subsets of a commutative ring S of characteristic 2, as predicates, and their products.
 -- Equality of subsets is stated as two inclusions.
+-- `product-within`: products respect inclusion.
+-- `product-comm`, `product-assoc`, `product-assoc⁻¹`: the product is commutative and associative.
+-- `product-least`: an ideal with all products of an element of I and one of J contains the product of I and J.
+-- `product-whole`, `product-whole⁻¹`: the product of the whole ring with an ideal is the ideal.
+-- `~-of-equal`, `~-sym`, `~-trans`: equivalence is reflexive, symmetric and, without zero divisors, transitive.
+-- `~-product`: equivalence is kept by a product with a third subset.
+-- `~-of-scaled`: I and J are equivalent where I = α J.
 use mathlib.Core.Path.{_≡_, refl, sym, _∙_, ap, ap₂, subst}
 use Rattle.field_laws.specs.Ring.{Ring2}
 use Rattle.char2_algebra.proofs.Ring.{𝟘-⊞, ⊞-·, ·-𝟘, 𝟘-·, 𝟙-·, ·-left-comm}
@@ -11,15 +16,17 @@ module _ {B : Type 0} (S : Ring2 B) where
 
   infixl 60 _⊞_
   infixl 70 _·_
-  -- an ideal: closed under sums and under multiples by any element, with nought in it
+  -- an ideal: closed under sums and under multiples by any element, with zero in it
   pub record Ideal (I : B → Type 0) : Type 0 where
     pub nought : I 𝟘
     pub sum : {a b : B} → I a → I b → I (a ⊞ b)
     pub multiple : (c : B) {a : B} → I a → I (c · a)
 
+  -- the whole ring
   abbrev pub Whole : B → Type 0
   Whole a = Unit {0}
 
+  -- every element of I is in J
   abbrev pub Within : (I J : B → Type 0) → Type 0
   Within I J = (a : B) → I a → J a
 
@@ -63,12 +70,10 @@ module _ {B : Type 0} (S : Ring2 B) where
       (product-assoc z
       (product-within (λ x t. product-comm x t) (λ x t. t) z (product-comm z h))))
 
-  -- an ideal with all products of an element of I and one of J holds the product of I and J
   pub product-least : {I J M : B → Type 0} → Ideal M → ((a b : B) → I a → J b → M (a · b)) → Within (Product I J) M
   product-least {M = M} m h z (none e) = subst M (sym e) (m .nought)
   product-least {M = M} m h z (more a b c i j r e) = subst M (sym e) (m .sum (h a b i j) (product-least m h c r))
 
-  -- the product of the whole ring with an ideal is the ideal
   pub product-whole : {I : B → Type 0} → Ideal I → Within (Product Whole I) I
   product-whole h = product-least h (λ a b w i. h .multiple a i)
 
@@ -79,7 +84,7 @@ module _ {B : Type 0} (S : Ring2 B) where
   abbrev pub Carries : (α β : B) (I J : B → Type 0) → Type 0
   Carries α β I J = (a : B) → I a → (b : B) × J b × (α · a ≡ β · b)
 
-  -- I ~ J: α I = β J for some α and β that are not nought
+  -- I and J are equivalent, I ~ J: α I = β J for some α and β that are not zero
   pub record Equivalent (I J : B → Type 0) : Type 0 where
     pub α : B
     pub β : B
@@ -111,7 +116,7 @@ module _ {B : Type 0} (S : Ring2 B) where
       let s = k (r .0) (r .1) in
       (s .0, s .1, carries-trans-eq α β γ δ a (r .0) (s .0) (r .2) (s .2))
 
-  -- transitive where a product of elements other than nought is not nought
+  -- transitive where a product of elements other than zero is not zero
   pub ~-trans : {I J K : B → Type 0} → ((a b : B) → ¬ (a ≡ 𝟘) → ¬ (b ≡ 𝟘) → ¬ (a · b ≡ 𝟘))
       → Equivalent I J → Equivalent J K → Equivalent I K
   ~-trans domain h k = record {
@@ -136,7 +141,6 @@ module _ {B : Type 0} (S : Ring2 B) where
       let t = carries-product α β h c r in
       (s .0 · b ⊞ t .0, more (s .0) b (t .0) (s .1) m (t .1) refl, carries-product-eq α β z a b c (s .0) (t .0) e (s .2) (t .2))
 
-  -- equivalence is kept by a product with a third subset
   pub ~-product : {I J M : B → Type 0} → Equivalent I J → Equivalent (Product I M) (Product J M)
   ~-product h = record {
     α = h .α;
@@ -147,7 +151,7 @@ module _ {B : Type 0} (S : Ring2 B) where
     back = carries-product (h .β) (h .α) (h .back);
   }
 
-  -- α I
+  -- α I: the multiples by α of the elements of I
   abbrev pub Scaled : (α : B) (I : B → Type 0) → B → Type 0
   Scaled α I z = (a : B) × I a × (z ≡ α · a)
 
@@ -158,7 +162,6 @@ module _ {B : Type 0} (S : Ring2 B) where
     multiple = λ c s. (c · s .0, h .multiple c (s .1), ap (λ z. c · z) (s .2) ∙ ·-left-comm S c α (s .0));
   }
 
-  -- I ~ J where I = α J
   pub ~-of-scaled : {I J : B → Type 0} (α : B) → ¬ (𝟙 ≡ 𝟘) → ¬ (α ≡ 𝟘) → Within I (Scaled α J) → Within (Scaled α J) I → Equivalent I J
   ~-of-scaled α one α≢𝟘 h k = record {
     α = 𝟙;

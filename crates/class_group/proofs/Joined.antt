@@ -1,7 +1,10 @@
--- A composition does not depend on the coefficients by which e is combined (`composed-unique`), nor does Cantor's (`compose-unique`).
--- So it can be computed from any of them, and with short polynomials: with u1 = d1 e, u2 = d2 e, u1 w1 = v1² + v1 + f and
--- m = s1 (v1 + v2) + s3 w1 it is [d1 d2, v1 + d1 (m mod d2) modulo d1 d2] (`compose-joined`). Where u1 and u2 have no common divisor,
--- e = 1 and w1 is not needed (`compose-coprime`); else Euclid's rule is used twice (`compose-common`).
+-- Compositions by any coefficients of e, and by short polynomials.
+-- `composed-unique`: a composition does not depend on the coefficients by which e is combined.
+-- `compose-unique`: any coefficients of the greatest common divisor give Cantor's composition.
+-- `compose-joined`: with u1 = d1 e, u2 = d2 e, u1 w1 = v1² + v1 + f and m = s1 (v1 + v2) + s3 w1,
+-- Cantor's composition is [d1 d2, v1 + d1 (m mod d2) modulo d1 d2].
+-- `compose-coprime`: where u1 and u2 have no common divisor, e is 1 and w1 is not needed.
+-- `compose-common`: else Euclid's algorithm is used twice, on u1 and u2, then on their divisor and v1 + v2 + 1.
 use Prim.Native.Nat.{_≤_}
 use mathlib.Core.Path.{_≡_, refl, sym, _∙_, ap, ap₂}
 use Rattle.field_laws.specs.{Ring.Ring2, Field.Field2}
@@ -52,7 +55,6 @@ module _ {K P : Type 0} {F : Field2 K} {A : Polynomials F P} (C : Curve A) where
       let q : 𝟙 ≡ t .0 .1 = cancel-left A (Y .e) 𝟙 (t .0 .1) nonzero (ap (λ z. z · 𝟙) (sym h) ∙ ap (λ z. z .1) e) in
       divides-eq R (sym (ap₂ (λ y z. y ⊞ z · v′) p q) ∙ y-eq R v v′) (t .1)
 
-  -- the composition is the same for all coefficients that combine to the same e
   pub composed-unique : {D E : Pair P} {b b′ : Bezout3 P} → SemiReduced C D → SemiReduced C E → Combines C D E b → Combines C D E b′
       → b .e ≡ b′ .e → composed C b D E ≡ composed C b′ D E
   unfolding composed full-v
@@ -72,7 +74,6 @@ module _ {K P : Type 0} {F : Field2 K} {A : Polynomials F P} (C : Curve A) where
     divides-third = i .divides-third;
   }
 
-  -- so Cantor's composition is found by any coefficients of the greatest common divisor
   pub compose-unique : {D E : Pair P} {b : Bezout3 P} → SemiReduced C D → SemiReduced C E → IsBezout3 A (D .u) (E .u) (D .v ⊞ E .v ⊞ 𝟙) b
       → compose C D E ≡ composed C b D E
   unfolding compose
@@ -104,7 +105,6 @@ module _ {K P : Type 0} {F : Field2 K} {A : Polynomials F P} (C : Curve A) where
       → compose C D E ≡ joined A d₁ d₂ (D .v) (b .s1 · (D .v ⊞ E .v) ⊞ b .s3 · w₁)
   compose-joined d₁ d₂ w₁ r s i part₁ part₂ on = compose-unique r s i ∙ composed-joined d₁ d₂ w₁ r s (combines-of i) part₁ part₂ on
 
-  -- u1 and u2 without a common divisor
   pub compose-coprime : {D E : Pair P} {B : Bezout P} → Reduced C D → Reduced C E → IsBezout A (D .u) (E .u) B → len (B .g) ≤ 1
       → compose C D E ≡ joined A (D .u) (E .u) (D .v) (B .s · (D .v ⊞ E .v))
   compose-coprime {D} {E} {B} r s i h =
@@ -116,7 +116,6 @@ module _ {K P : Type 0} {F : Field2 K} {A : Polynomials F P} (C : Curve A) where
       only : (p w : P) → p ⊞ 𝟘 · w ≡ p
       only p w = simp (ring2, R)
 
-  -- and with one: Euclid's rule of u1 and u2, then of their divisor and v1 + v2 + 1
   pub compose-common : {D E : Pair P} {B B′ : Bezout P} → Reduced C D → Reduced C E → IsBezout A (D .u) (E .u) B → IsBezout A (B .g) (D .v ⊞ E .v ⊞ 𝟙) B′
       → compose C D E ≡ joined A (quot (D .u) (B′ .g)) (quot (E .u) (B′ .g)) (D .v) (B′ .s · B .s · (D .v ⊞ E .v) ⊞ B′ .t · quot (value C (D .v)) (D .u))
   compose-common {D} {E} {B} {B′} r s i i′ =

@@ -1,4 +1,4 @@
--- The theory of classes. The curve has no singular point;
+-- Theorems on classes. The curve has no singular point;
 pub mod NonSingular
 -- commutative groups: multiples, doublings, halvings, and one changed element of a walk;
 pub mod GroupLaws

@@ -1,7 +1,12 @@
 -- The two rules that move a seal, double and add, and subtract and halve, on reduced classes.
--- `moves`: they take each other back, so that all of proofs/Walk.antt and, of the first, of proofs/Displacement.antt holds of them; its parts are
--- `double-and-add-reduced`, `subtract-and-halve-reduced`, `subtract-double-and-add`, `double-subtract-and-halve`. `counted-..-class`: the rules with counted
--- reduction steps give the same classes.
+-- `moves`: each rule gives a reduced class and undoes the other; so the theorems of lists/proofs/Walk.antt hold of
+-- both, and those of proofs/Displacement.antt of the first.
+-- `double-and-add-reduced`: double and add gives a reduced class.
+-- `subtract-and-halve-reduced`: subtract and halve gives a reduced class.
+-- `subtract-double-and-add`: subtract and halve undoes double and add.
+-- `double-subtract-and-halve`: double and add undoes subtract and halve.
+-- `counted-double-and-add-class`: with counted steps, double and add gives the same class.
+-- `counted-subtract-and-halve-class`: with counted steps, subtract and halve gives the same class.
 use mathlib.Core.Path.{_≡_, refl}
 use Rattle.field_laws.specs.Field.{Field2}
 use Rattle.char2_algebra.specs.Polynomials.{Polynomials}
@@ -11,7 +16,7 @@ use Rattle.class_group.specs.Moves.{double-and-add, subtract-and-halve, 
 use Rattle.class_group.proofs.{Halving.class-halving, Displacement.reversible}
 
 module _ {K P : Type 0} {F : Field2 K} {A : Polynomials F P} (C : Curve A) where
-  -- demand 3: each rule gives a reduced class, and takes the other back
+  -- demand 3: each rule gives a reduced class, and undoes the other
   pub moves : Reversible (Reduced C) (Reduced C) (double-and-add C) (subtract-and-halve C)
   unfolding double-and-add subtract-and-halve
   moves = reversible (class-halving C)
@@ -28,7 +33,6 @@ module _ {K P : Type 0} {F : Field2 K} {A : Polynomials F P} (C : Curve A) where
   pub double-subtract-and-halve : {S D : Pair P} → Reduced C S → Reduced C D → double-and-add C (subtract-and-halve C S D) D ≡ S
   double-subtract-and-halve s d = moves .rule-back s d
 
-  -- with counted steps each rule gives the same class
   pub counted-double-and-add-class : (S D : Pair P) → counted-double-and-add C S D .class ≡ double-and-add C S D
   unfolding counted-double-and-add double-and-add sum double
   counted-double-and-add-class S D = refl

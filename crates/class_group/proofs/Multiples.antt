@@ -1,5 +1,10 @@
--- n-fold sums in a commutative group: 0 times is neutral (`multiple-zero`), once the element (`multiple-one`), (m + n) times the sum of the two
--- (`multiple-add`), m times n times is m n times (`multiple-mul`); of a sum, of the opposite, of the neutral element.
+-- n-fold sums in a commutative group.
+-- `multiple-zero`: 0 times an element is the neutral element.
+-- `multiple-one`: once an element is the element.
+-- `multiple-member`: n times a member is a member.
+-- `multiple-add`: (m + n) times an element is m times plus n times it.
+-- `multiple-mul`: m n times an element is m times n times it.
+-- `multiple-sum`, `multiple-neutral`, `multiple-opposite`: n times a sum, the neutral element and an opposite.
 use Prim.Native.Nat.{ℕ, zero, suc, _+_, _*_}
 use mathlib.Core.Path.{_≡_, refl, sym, _∙_, ap}
 use native.Mathlib.Nat.{zero-add, suc-add, zero-mul, suc-mul}

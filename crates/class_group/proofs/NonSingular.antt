@@ -1,5 +1,6 @@
--- No curve y² + y = f(x) has a singular point: the derivative of y² + y + f(x) by y is 1 everywhere, so at no point over any
--- ring of characteristic 2 with 1 ≠ 0 do both partial derivatives vanish (docs/SPECIFICATION.md, 2).
+-- Curves y² + y = f(x) have no singular point (docs/SPECIFICATION.md, 2).
+-- `derivative-by-y-is-one`: the derivative of y² + y + f(x) by y is 1 at every point.
+-- `non-singular`: no point over a ring of characteristic 2 with 1 ≠ 0 is singular.
 use mathlib.Core.{Path._≡_, Path.sym, Path._∙_, List.List}
 use Rattle.field_laws.specs.{Ring.Ring2, Field.Field2}
 use Rattle.char2_algebra.specs.Polynomials.{Polynomials}
@@ -20,7 +21,7 @@ module _ {L : Type 0} (R : Ring2 L) where
   derivative-by-y-is-one f x y = once-and-twice x y
 
 module _ {K P : Type 0} {F : Field2 K} {A : Polynomials F P} (C : Curve A) where
-  -- demand 3 ('on every accepted curve'): no curve has to be refused for its shape
+  -- demand 3 ('on every accepted curve'): no curve has to be refused as singular
   pub non-singular : {L : Type 0} (E : Over K L) (x y : L) → ¬ Singular C E x y
   unfolding equation-over
   non-singular E x y s = E .one≢nought (sym (derivative-by-y-is-one (E .ring) _ x y) ∙ s .by-y)

@@ -1,6 +1,9 @@
--- The length (degree plus one) of a norm, for f of degree 7: 2 deg p and 2 deg q + 7 are never equal, so the norm of p + q y has the
--- larger of the two degrees. Hence a norm of degree at most 6 is that of a polynomial, a norm is nought only at nought, and the coordinate
--- ring has no zero divisors.
+-- The length (degree plus one) of a norm, for f of degree 7: 2 deg p and 2 deg q + 7 are never equal.
+-- `norm-len`: the norm of p + q y, q not 0, has the larger of these two degrees.
+-- `norm-short`: a norm of degree at most 6 is that of a polynomial.
+-- `value-len`, `value-nonzero`: the length of v² + v + f, which is a norm, and that it is not 0.
+-- `norm-nonzero`: the norm is zero only at zero.
+-- `coordinate-domain`, `coordinate-one`: the coordinate ring has no zero divisors, and 1 ≠ 0 in it.
 use Prim.Native.Nat.{suc, _≤_, max, _*_, _+_}
 use mathlib.Core.Path.{_≡_, sym, _∙_, ap}
 use native.Mathlib.Omega.{arith}
@@ -59,14 +62,12 @@ module _ {K P : Type 0} {F : Field2 K} (A : Polynomials F P) (f : P) (f-len : A 
     | no m ↦ (let a : suc (len (p · p ⊞ p · q ⊞ q · q · f)) ≡ 2 * len p = long-p p q h (omega arith) in omega arith)
   ]
 
-  -- a norm of degree at most 6 is that of a polynomial
   pub norm-short : (p q : P) → len (norm R f (p, q)) ≤ 7 → q ≡ 𝟘
   norm-short p q h = elim (decLe 1 (len q)) [
     | yes l ↦ (let a : suc (len (norm R f (p, q))) ≡ max (2 * len p) (2 * len q + 7) = norm-len p q (nonzero-of-len A q l) in absurd (omega arith))
     | no m ↦ len-zero A q (omega arith)
   ]
 
-  -- u w = v² + v + f, a norm: its length
   pub value-len : (v : P) → suc (len (v · v ⊞ v ⊞ f)) ≡ max (2 * len v) 9
   value-len v =
       let a : suc (len (norm R f (v, 𝟙))) ≡ max (2 * len v) (2 * len 𝟙 + 7) = norm-len v 𝟙 (one-nonzero A) in
@@ -82,7 +83,6 @@ module _ {K P : Type 0} {F : Field2 K} (A : Polynomials F P) (f : P) (f-len : A 
       let q≡𝟘 = norm-short (x .0) (x .1) (let a : len (norm R f x) ≡ 0 = ap len z ∙ len-nought A in omega arith) in
       h (λ i. (square-nought A (x .0) (sym (norm-constant R f (x .0)) ∙ ap (λ q. norm R f (x .0, q)) (sym q≡𝟘) ∙ z) i, q≡𝟘 i))
 
-  -- no zero divisors
   pub coordinate-domain : (a b : P × P) → ¬ (a ≡ coordinate R f .nought) → ¬ (b ≡ coordinate R f .nought)
       → ¬ (coordinate R f .mul a b ≡ coordinate R f .nought)
   unfolding coordinate

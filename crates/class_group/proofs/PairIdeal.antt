@@ -1,5 +1,8 @@
--- The ideal of a pair (u, v): all (p, q) such that u divides p + q v. Where u divides v² + v + f it is an ideal of the coordinate ring.
--- It depends on v modulo u only and on u up to a unit, and for (1, 0) it is the whole ring.
+-- The ideal of a pair (u, v): all (p, q) such that u divides p + q v.
+-- `pair-ideal-ideal`: where u divides v² + v + f it is an ideal of the coordinate ring.
+-- `pair-ideal-one`: for (1, 0) it is the whole ring.
+-- `pair-ideal-modulo`: it depends on v modulo u only.
+-- `pair-ideal-divisor`: a divisor of u has the larger ideal; so the ideal depends on u up to a unit only.
 use mathlib.Core.Path.{_≡_, _∙_, ap, sym}
 use Rattle.field_laws.specs.Ring.{Ring2}
 use Rattle.char2_algebra.specs.Divides.{Divides}
@@ -12,6 +15,7 @@ module _ {P : Type 0} (R : Ring2 P) where
 
   infixl 60 _⊞_
   infixl 70 _·_
+  -- u divides p + q v
   abbrev pub pair-ideal : (u v : P) → P × P → Type 0
   pair-ideal u v x = Divides R u (x .0 ⊞ x .1 · v)
 
@@ -45,22 +49,20 @@ module _ {P : Type 0} (R : Ring2 P) (f : P) where
   pub pair-ideal-one : Within (coordinate R f) (Whole (coordinate R f)) (pair-ideal R 𝟙 𝟘)
   pair-ideal-one x h = (x .0, simp (ring2, R))
 
-  -- v modulo u
   pub pair-ideal-modulo : (u v v′ : P) → Divides R u (v ⊞ v′) → Within (coordinate R f) (pair-ideal R u v) (pair-ideal R u v′)
   pair-ideal-modulo u v v′ d x h = (_, modulo-eq R u v v′ (d .0) (x .0) (x .1) (h .0) (d .1) (h .1))
 
-  -- a divisor of u has the larger ideal; so u and u′ have the same where each divides the other
   pub pair-ideal-divisor : (u u′ v : P) → Divides R u′ u → Within (coordinate R f) (pair-ideal R u v) (pair-ideal R u′ v)
   pair-ideal-divisor u u′ v d x h = (h .0 · d .0, h .1 ∙ ap (λ z. h .0 · z) (d .1) ∙ sym (R .mul-assoc (h .0) (d .0) u′))
 
-  -- u and y + v
+  -- u and y + v are in the ideal
   pub pair-ideal-u₁ : (u v : P) → pair-ideal R u v (u, 𝟘)
   pair-ideal-u₁ u v = (𝟙, simp (ring2, R))
 
   pub pair-ideal-y₁ : (u v : P) → pair-ideal R u v (v, 𝟙)
   pair-ideal-y₁ u v = (𝟘, simp (ring2, R))
 
-  -- their multiples
+  -- and so are their multiples by an element of P
   pub pair-ideal-u : (u v a : P) → pair-ideal R u v (a · u, 𝟘)
   pair-ideal-u u v a = (a, simp (ring2, R))
 

@@ -1,4 +1,5 @@
--- One reduction step keeps the class: if v² + v + f = w u, then w I(u, v) = (y + v) I(w, v + 1).
+-- A reduction step keeps the class.
+-- `~-step`: if v² + v + f = w u, then w I(u, v) = (y + v) I(w, v + 1), so that the two ideals are equivalent.
 use mathlib.Core.Path.{_≡_, ap}
 use Rattle.field_laws.specs.Ring.{Ring2}
 use Rattle.char2_algebra.proofs.Ring.{ring2, by, both, combine}

@@ -1,5 +1,8 @@
--- The rows of the halving rule: after the lift that `half` chooses, no odd power is left in the third polynomial, and a constant
--- times its highest coefficient is one.
+-- The cases of the halving rule: after the lift that `half` chooses, the third polynomial has no odd power, and a
+-- constant times its highest coefficient is 1 (`Even`).
+-- `row-1`: degree 1. `row-2-square`, `row-2`: degree 2 with u1 zero and not zero.
+-- `row-3-square`, `row-3`: degree 3 with t zero and not zero.
+-- `first-lift-nonzero`: the third polynomial after the first lift of degree 3 is not 0.
 use Prim.Native.Nat.{ℕ, zero, suc, _≤_, _<_, _+_}
 use mathlib.Core.Path.{_≡_, refl, sym, _∙_, ap}
 use native.Mathlib.Omega.{arith}
@@ -11,12 +14,12 @@ use Rattle.char2_algebra.proofs.Degree.{coeff-nought}
 use Rattle.class_group.specs.Half.{first-lift}
 use Rattle.class_group.proofs.LiftCoefficients.{lifted, lifted-one, lifted-three, lifted-past}
 
--- p is even of degree 2m up to a factor: no odd power, nothing past 2m, and c times the highest coefficient is one.
 module _ {K P : Type 0} {F : Field2 K} (A : Polynomials F P) where
   open Polynomials A using (coeff)
   open Ring2 (F .ring) using (mul as _·_, nought as 𝟘, one as 𝟙)
 
   infixl 70 _·_
+  -- p has degree 2m and no odd power, and c times its highest coefficient is 1
   pub record Even (c : K) (m : ℕ) (p : P) : Type 0 where
     pub top : c · coeff p (m + m) ≡ 𝟙
     pub past : (i : ℕ) → m + m < i → coeff p i ≡ 𝟘
@@ -75,7 +78,7 @@ module _ {B : Type 0} (R : Ring2 B) where
   cancels-first : (a s u u' : B) → s ≡ a → u ≡ 𝟙 → a ⊞ (s · u ⊞ 𝟘 · 𝟘 · u') ≡ 𝟘
   cancels-first a s u u' h h' = combine R _ _ (both R (by R 𝟙 h) (by R s h')) (simp (ring2, R))
 
-  -- the last row: t i = 1 and q q = u + i
+  -- the last case: t i = 1 and q q = u + i
   last-one : (u i q t l : B) → l ≡ t · t → t · i ≡ 𝟙 → q · q ≡ u ⊞ i → u ⊞ i ⊞ q · i · (q · i) · l ≡ 𝟘
   last-one u i q t l h1 h2 h3 =
       combine R _ _ (both R (by R (q · q · i · i) h1) (both R (by R (q · q · (t · i ⊞ 𝟙)) h2) (by R 𝟙 h3))) (simp (ring2, R))
@@ -100,14 +103,14 @@ module _ {K P : Type 0} {F : Field2 K} (A : Polynomials F P) where
 
   infixl 60 _⊞_
   infixl 70 _·_
-  -- an even polynomial of degree at most 6 is known by its coefficients 1, 3 and 5
+  -- a polynomial of degree at most 6 has no odd power if its coefficients 1, 3 and 5 are 0
   odd-by-three : (p : P) (n : ℕ) → n ≤ 7 → ((i : ℕ) → n ≤ i → coeff p i ≡ 𝟘) → coeff p 1 ≡ 𝟘 → coeff p 3 ≡ 𝟘 → coeff p 5 ≡ 𝟘 → (i : ℕ) → coeff p (suc (i + i)) ≡ 𝟘
   odd-by-three p n h past e1 e3 e5 zero = e1
   odd-by-three p n h past e1 e3 e5 (suc zero) = e3
   odd-by-three p n h past e1 e3 e5 (suc (suc zero)) = e5
   odd-by-three p n h past e1 e3 e5 (suc (suc (suc i))) = past _ (omega arith)
 
-  -- past the lengths of w and k² u nothing is left
+  -- past the lengths of w and k² u the coefficients are 0
   lifted-ends : (u w : P) (k2 k1 k0 : K) (n : ℕ) → len w ≤ suc (suc (suc (suc n))) → len u ≤ n → (i : ℕ) → suc (suc (suc (suc n))) ≤ i → coeff (lifted A k2 k1 k0 u w) i ≡ 𝟘
   lifted-ends u w k2 k1 k0 n hw hu zero h = absurd (omega arith)
   lifted-ends u w k2 k1 k0 n hw hu (suc zero) h = absurd (omega arith)
@@ -189,7 +192,7 @@ module _ {K P : Type 0} {F : Field2 K} (A : Polynomials F P) where
           past : (j : ℕ) → 7 ≤ j → coeff (lifted A (root i) (root (coeff w 3 · i)) (root ((coeff w 1 ⊞ root (coeff w 3 · i)) · i)) u w) j ≡ 𝟘
           past = lifted-ends u w _ _ _ 3 (omega arith) (omega arith)
 
-  -- degree 3: after the first lift, and the lift by (x + q)/t, with i = 1/t and q² = u1 + i
+  -- degree 3: the third polynomial after both lifts, the second by (x + q)/t, with i = 1/t and q² = u1 + i
   unfoldable pub second-lift : P → P → K → P
   second-lift u w i = lifted A 𝟘 i (root (coeff u 1 ⊞ i) · i) (first-lift A u w) u
 

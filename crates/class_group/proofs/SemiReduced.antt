@@ -1,6 +1,10 @@
--- Semi-reduced pairs: u monic, v shorter than u, u a divisor of v² + v + f; a reduced class is one with u of length at most 4.
--- A reduction step keeps a pair semi-reduced (`step-semi`) and takes u of length 7, 6, 5 to length at most 5, 4, 4 (`step-len`). So
--- reduction ends in a reduced class after at most two steps (`reduce-ended`). What steps keep, reduction keeps (`reduce-keeps`).
+-- Semi-reduced pairs: u monic, v shorter than u, u a divisor of v² + v + f.
+-- `semi-of-reduced`, `reduced-of-semi`: the reduced classes are those with u of length at most 4.
+-- `value-congruent`, `value-one`: whether u divides v² + v + f depends on v modulo u only; v + 1 has the same value.
+-- `step-semi`: a reduction step of a semi-reduced pair is semi-reduced.
+-- `step-len`: a reduction step takes u of length 7, 6, 5 to length at most 5, 4, 4.
+-- `reduce-keeps`: a predicate that reduction steps keep is kept by reduction.
+-- `reduce-ended`: reduction of a pair with u of degree at most 6 ends in a reduced class after at most two steps.
 use Prim.Native.Nat.{ℕ, zero, suc, _+_, _≤_, _<_, _*_, max}
 use mathlib.Core.Path.{_≡_, sym, _∙_, ap}
 use native.Mathlib.{Omega.arith, Decide.decLe}
@@ -20,6 +24,7 @@ module _ {K P : Type 0} {F : Field2 K} {A : Polynomials F P} (C : Curve A) where
 
   infixl 60 _⊞_
   infixl 70 _·_
+  -- u is monic, v shorter than u, and u divides v² + v + f
   pub record SemiReduced (D : Pair P) : Type 0 where
     pub u-monic : Monic A (D .u)
     pub v-len : len (D .v) < len (D .u)
@@ -31,7 +36,6 @@ module _ {K P : Type 0} {F : Field2 K} {A : Polynomials F P} (C : Curve A) where
   pub reduced-of-semi : {D : Pair P} → SemiReduced D → len (D .u) ≤ 4 → Reduced C D
   reduced-of-semi s h = record { u-monic = s .u-monic; u-len = h; v-len = s .v-len; divides = s .divides }
 
-  -- v² + v + f depends on v modulo u only, and not on an added 1
   pub value-congruent : {u v v′ : P} → Divides R u (v ⊞ v′) → Divides R u (value C v) → Divides R u (value C v′)
   unfolding value
   value-congruent {u} {v} {v′} d e = divides-eq R (change v v′ f) (divides-add R e (divides-mul-right R (v ⊞ v′ ⊞ 𝟙) d))
@@ -77,7 +81,6 @@ module _ {K P : Type 0} {F : Field2 K} {A : Polynomials F P} (C : Curve A) where
               (divides-eq R (sym cofactor-eq ∙ sym (value-one v)) (divides-mul-right R u (monic-of-divides A w)));
         }
 
-    -- from length 7, 6, 5 to at most 5, 4, 4
     pub step-len : 4 < len u → len u ≤ 7 → (len (reduction-step C D .u) ≤ 5) × (len u ≤ 6 → len (reduction-step C D .u) ≤ 4)
     unfolding reduction-step value
     step-len h k =
@@ -96,7 +99,6 @@ module _ {K P : Type 0} {F : Field2 K} {A : Polynomials F P} (C : Curve A) where
   unfolding reduce-to
   reduce-go n steps D h = rw (lt-ltb 4 (len (D .u)) h, reduce-to)
 
-  -- what steps keep, reduction keeps
   module _ (Q : Pair P → Type 0) (keeps : (D : Pair P) → SemiReduced D → Q D → Q (reduction-step C D)) where
     reduce-to-keeps : (n steps : ℕ) (D : Pair P) → SemiReduced D → Q D → Q (reduce-to C n steps D .class)
     unfolding reduce-to
@@ -112,7 +114,7 @@ module _ {K P : Type 0} {F : Field2 K} {A : Polynomials F P} (C : Curve A) where
     unfolding reduce
     reduce-keeps D s q = reduce-to-keeps (len (D .u)) 0 D s q
 
-  -- reduction ended in a reduced class within a number of steps
+  -- reduction ended in a reduced class within so many steps
   pub record Ended (limit : ℕ) (r : Counted P) : Type 0 where
     pub reduced : Reduced C (r .class)
     pub steps-le : r .steps ≤ limit

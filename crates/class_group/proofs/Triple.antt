@@ -1,4 +1,5 @@
--- Triples u, v, w with v² + v + f = w u: lifts and steps keep the equation, and so do chains of them.
+-- Triples u, v, w with v² + v + f = w u.
+-- `lift-meets`, `step-meets`, `chain-meets`: lifts, steps and chains of them keep the equation.
 use mathlib.Core.Path.{_≡_}
 use Rattle.field_laws.specs.Ring.{Ring2}
 use Rattle.field_laws.specs.Field.{Field2}
@@ -23,7 +24,7 @@ module _ {B : Type 0} (R : Ring2 B) where
   step-identity u v w f h = combine R _ _ (by R 𝟙 h) (simp (ring2, R))
 
 module _ {K P : Type 0} {F : Field2 K} {A : Polynomials F P} (C : Curve A) where
-  -- v² + v + f = w u
+  -- the triple satisfies v² + v + f = w u
   abbrev pub Meets : Triple P → Type 0
   Meets T = value C (T .v) ≡ A .ring .mul (T .w) (T .u)
 

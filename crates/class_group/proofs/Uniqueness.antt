@@ -1,5 +1,6 @@
--- Two reduced pairs with equivalent ideals are equal: α I(u, v) = β I(u′, v′) is cleared to g I(u, v) = k I(u′, v′) with g and k in P;
--- then g and k differ by a unit, u and u′ divide each other and are monic, and v and v′ are congruent and short.
+-- Two reduced classes with equivalent ideals are equal (`unique`, and for pairs `reduced-unique`).
+-- α I(u, v) = β I(u′, v′) is brought to g I(u, v) = k I(u′, v′) with g and k in P. Then g and k differ by a unit;
+-- u and u′ divide each other and are monic; v and v′ are congruent modulo u, and shorter than u.
 use Prim.Native.Nat.{_≤_, _<_}
 use mathlib.Core.Path.{_≡_, sym, _∙_, ap, subst}
 use Rattle.field_laws.specs.{Ring.Ring2, Field.Field2}
@@ -115,7 +116,7 @@ module _ {K P : Type 0} {F : Field2 K} (A : Polynomials F P) (f : P) (f-len : A 
       pub unique : (u ≡ u′) × (v ≡ v′)
       unique = (unique-u, unique-v)
 
--- in the words of reduced classes
+-- for reduced classes
 module _ {K P : Type 0} {F : Field2 K} {A : Polynomials F P} (C : Curve A) where
   pub reduced-unique : {D E : Pair P} → Reduced C D → Reduced C E
       → Equivalent (coordinate (A .ring) (C .f)) (pair-ideal (A .ring) (D .u) (D .v)) (pair-ideal (A .ring) (E .u) (E .v)) → D ≡ E

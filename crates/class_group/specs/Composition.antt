@@ -1,4 +1,4 @@
--- Cantor's composition, in Koblitz's form for even characteristic (docs/SPECIFICATION.md, 2).
+-- Cantor's composition of two classes, in Koblitz's form for even characteristic (docs/SPECIFICATION.md, 2).
 use mathlib.Core.Path.{_≡_}
 use Rattle.field_laws.specs.{Ring.Ring2, Field.Field2}
 use Rattle.char2_algebra.specs.{Polynomials.Polynomials, Divides.Divides, Lead.monic-of, Euclid.Bezout3, Euclid.bezout3}
@@ -12,15 +12,15 @@ module _ {K P : Type 0} {F : Field2 K} {A : Polynomials F P} (C : Curve A) where
 
   infixl 60 _⊞_
   infixl 70 _·_
-  -- With e = s1 u1 + s2 u2 + s3 (v1 + v2 + 1): u = u1 u2 / e²,
-  -- v = (s1 u1 v2 + s2 u2 v1 + s3 (v1 v2 + f)) / e modulo u.
+  -- the composition by given coefficients, with e = s1 u1 + s2 u2 + s3 (v1 + v2 + 1):
+  -- u = u1 u2 / e² and v = (s1 u1 v2 + s2 u2 v1 + s3 (v1 v2 + f)) / e modulo u
   unfoldable pub composed : Bezout3 P → Pair P → Pair P → Pair P
   composed b D E =
       let u = quot (D .u · E .u) (b .e · b .e) in
       let n = b .s1 · D .u · E .v ⊞ b .s2 · E .u · D .v ⊞ b .s3 · (D .v · E .v ⊞ f) in
       record { u = u; v = rem (quot n (b .e)) u }
 
-  -- e is a combination of u1, u2 and v1 + v2 + 1 and divides them; it need not be monic
+  -- e is a combination of u1, u2 and v1 + v2 + 1 and divides each of them; it need not be monic
   pub record Combines (D E : Pair P) (b : Bezout3 P) : Type 0 where
     pub combination : b .e ≡ b .s1 · D .u ⊞ b .s2 · E .u ⊞ b .s3 · (D .v ⊞ E .v ⊞ 𝟙)
     pub divides-first : Divides ring (b .e) (D .u)
@@ -31,11 +31,11 @@ module _ {K P : Type 0} {F : Field2 K} {A : Polynomials F P} (C : Curve A) where
   unfoldable pub composed-monic : Bezout3 P → Pair P → Pair P → Pair P
   composed-monic b D E = record { u = monic-of A (composed b D E .u); v = composed b D E .v }
 
-  -- e is the greatest common divisor of u1, u2 and v1 + v2 + 1
+  -- Cantor's composition: e is the greatest common divisor of u1, u2 and v1 + v2 + 1
   unfoldable pub compose : Pair P → Pair P → Pair P
   compose D E = composed (bezout3 A (D .u) (E .u) (D .v ⊞ E .v ⊞ 𝟙)) D E
 
-  -- for a double: u², with v² + f modulo u²
+  -- the composition of a class with itself: [u², v² + f modulo u²]
   unfoldable pub compose-double : Pair P → Pair P
   compose-double D =
       let u = D .u · D .u in
@@ -47,6 +47,7 @@ module _ {K P : Type 0} {F : Field2 K} (A : Polynomials F P) where
 
   infixl 60 _⊞_
   infixl 70 _·_
-  -- the composition with short polynomials, from u1 = d1 e, u2 = d2 e and a multiple m: [d1 d2, v1 + d1 (m mod d2) modulo d1 d2]
+  -- the composition by short polynomials, from u1 = d1 e, u2 = d2 e and a polynomial m:
+  -- [d1 d2, v1 + d1 (m mod d2) modulo d1 d2]
   unfoldable pub joined : (d₁ d₂ v₁ m : P) → Pair P
   joined d₁ d₂ v₁ m = record { u = d₁ · d₂; v = rem (v₁ ⊞ d₁ · rem m d₂) (d₁ · d₂) }

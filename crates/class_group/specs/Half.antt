@@ -1,7 +1,9 @@
--- The half of a class, by rules on its coefficients, by degree (docs/SPECIFICATION.md, 2).
--- The rules need not be believed: proofs/Halving.antt shows that the half is the one reduced class whose double is the class given.
--- A triple u, v, w with u w = v² + v + f is changed by lifts and steps, which keep its class, until the first polynomial is
--- a constant times a square a²; the half is then [a, v modulo a]. Two rules divide, each by a coefficient that a test has shown not to be nought.
+-- The half of a class, by rules on its coefficients for each degree (docs/SPECIFICATION.md, 2).
+-- A triple u, v, w with u w = v² + v + f is changed by lifts and steps, which keep its class, until the first
+-- polynomial is a constant times a square a²; the half is then [a, v modulo a].
+-- Two rules divide, each by a coefficient that a test has shown not to be zero.
+-- The rules need not be believed: proofs/Halving.antt proves that the half is the only reduced class whose double is
+-- the given class.
 use Prim.Native.Nat.{ℕ, zero, suc}
 use mathlib.Core.Path.{_≡_}
 use Rattle.field_laws.specs.Ring.{Ring2}
@@ -11,6 +13,7 @@ use Rattle.char2_algebra.specs.Square.{sqrt}
 use Rattle.class_group.specs.Curve.{Curve}
 use Rattle.class_group.specs.Mumford.{Pair, value}
 
+-- three polynomials u, v, w, with u w = v² + v + f for those of a class
 pub record Triple (P : Type 0) : Type 0 where
   pub u : P
   pub v : P
@@ -26,7 +29,7 @@ module _ {K P : Type 0} {F : Field2 K} (A : Polynomials F P) where
   infixl 70 _·_
   infixl 60 _⊞ₖ_
   infixl 70 _·ₖ_
-  -- v becomes v + k u
+  -- the lift by k: v becomes v + k u, and w becomes w + k + k² u
   unfoldable pub lift : P → Triple P → Triple P
   lift k T = record { u = T .u; v = T .v ⊞ k · T .u; w = T .w ⊞ k ⊞ k · k · T .u }
 
@@ -34,7 +37,7 @@ module _ {K P : Type 0} {F : Field2 K} (A : Polynomials F P) where
   unfoldable pub step : Triple P → Triple P
   step T = record { u = T .w; v = T .v ⊞ 𝟙; w = T .u }
 
-  -- c times the first polynomial is a², a monic
+  -- [a, v modulo a], where c times the first polynomial is a²
   unfoldable pub halved : K → Triple P → Pair P
   halved c T = let a = sqrt A (con c · T .u) in record { u = a; v = rem (T .v) a }
 
@@ -42,14 +45,14 @@ module _ {K P : Type 0} {F : Field2 K} (A : Polynomials F P) where
   unfoldable pub quadratic : K → K → K → P
   quadratic k2 k1 k0 = con k0 ⊞ x · (con k1 ⊞ x · con k2)
 
-  -- degree 1: with w of degree 6, k2 = √w5, k1 = √w3, k0 = √(w1 + k1)
+  -- degree 1: the lift by k2 x² + k1 x + k0 with k2 = √w5, k1 = √w3, k0 = √(w1 + k1), and a step; w has degree 6
   unfoldable pub half-of-degree-1 : Triple P → Pair P
   half-of-degree-1 T =
       let k1 = root (coeff (T .w) 3) in
       let k = quadratic (root (coeff (T .w) 5)) k1 (root (coeff (T .w) 1 ⊞ₖ k1)) in
       halved 𝟙ₖ (step (lift k T))
 
-  -- degree 2, u1 not nought: k2 = 1/√u1, k1 = √(w3/u1), k0 = √((w1 + k1)/u1)
+  -- degree 2, u1 not zero: the lift with k2 = 1/√u1, k1 = √(w3/u1), k0 = √((w1 + k1)/u1), and a step
   unfoldable pub lifted-half-of-degree-2 : (T : Triple P) → ¬ (coeff (T .u) 1 ≡ 𝟘ₖ) → Pair P
   lifted-half-of-degree-2 T shown =
       let u1 = coeff (T .u) 1 in
@@ -58,19 +61,19 @@ module _ {K P : Type 0} {F : Field2 K} (A : Polynomials F P) where
       let k = quadratic (root i) k1 (root ((coeff (T .w) 1 ⊞ₖ k1) ·ₖ i)) in
       halved u1 (step (lift k T))
 
-  -- degree 2: where u1 is nought, u is a square
+  -- degree 2: where u1 is zero, u is a square; else by a lift
   unfoldable pub half-of-degree-2 : Triple P → Pair P
   half-of-degree-2 T = elim (discrete (coeff (T .u) 1) 𝟘ₖ) [ yes _ ↦ halved 𝟙ₖ T | no shown ↦ lifted-half-of-degree-2 T shown ]
 
-  -- degree 3: w after the lift by √w3
+  -- degree 3: the third polynomial after the lift by √w3
   unfoldable pub first-lift : P → P → P
   first-lift u w = let k = quadratic 𝟘ₖ 𝟘ₖ (root (coeff w 3)) in w ⊞ k ⊞ k · k · u
 
-  -- degree 3: the lift by √w3 and a step give the first polynomial x⁴ + e2 x² + t² x + e0
+  -- degree 3: the triple after the lift by √w3 and a step; its first polynomial is x⁴ + e2 x² + t² x + e0
   unfoldable pub stepped-of-degree-3 : Triple P → Triple P
   stepped-of-degree-3 T = step (lift (quadratic 𝟘ₖ 𝟘ₖ (root (coeff (T .w) 3))) T)
 
-  -- where t is not nought: a lift by (x + q)/t with q = √(u1 + 1/t), u1 that of the class, and a step
+  -- degree 3, t not zero: the lift by (x + q)/t with q = √(u1 + 1/t), where u1 is that of the class, and a step
   unfoldable pub lifted-half-of-degree-3 : (T : Triple P) → ¬ (root (coeff (stepped-of-degree-3 T .u) 1) ≡ 𝟘ₖ) → Pair P
   lifted-half-of-degree-3 T shown =
       let S = stepped-of-degree-3 T in
@@ -79,18 +82,18 @@ module _ {K P : Type 0} {F : Field2 K} (A : Polynomials F P) where
       let q = root (coeff (T .u) 1 ⊞ₖ i) in
       halved (t ·ₖ t) (step (lift (quadratic 𝟘ₖ i (q ·ₖ i)) S))
 
-  -- where t is nought it is a square
+  -- degree 3: where t is zero, x⁴ + e2 x² + e0 is a square; else by a second lift
   unfoldable pub half-of-degree-3 : Triple P → Pair P
   half-of-degree-3 T =
       let S = stepped-of-degree-3 T in
       elim (discrete (root (coeff (S .u) 1)) 𝟘ₖ) [ yes _ ↦ halved 𝟙ₖ S | no shown ↦ lifted-half-of-degree-3 T shown ]
 
 module _ {K P : Type 0} {F : Field2 K} {A : Polynomials F P} (C : Curve A) where
-  -- u, v and w = (v² + v + f) / u
+  -- the triple of a class: u, v and w = (v² + v + f) / u
   unfoldable pub triple : Pair P → Triple P
   triple D = record { u = D .u; v = D .v; w = A .quot (value C (D .v)) (D .u) }
 
-  -- by the length of u, its degree plus one; the neutral class is its own half
+  -- the half by the length of u, which is its degree plus one; the neutral class is its own half
   unfoldable pub half-by : ℕ → Pair P → Pair P
   half-by zero D = D
   half-by (suc zero) D = D
@@ -98,5 +101,6 @@ module _ {K P : Type 0} {F : Field2 K} {A : Polynomials F P} (C : Curve A) where
   half-by (suc (suc (suc zero))) D = half-of-degree-2 A (triple D)
   half-by (suc (suc (suc (suc n)))) D = half-of-degree-3 A (triple D)
 
+  -- the half of a class
   unfoldable pub half : Pair P → Pair P
   half D = half-by (A .len (D .u)) D

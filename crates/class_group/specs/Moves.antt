@@ -1,4 +1,4 @@
--- The two rules that move a seal (docs/SPECIFICATION.md, 2.8).
+-- The two rules that move a seal: double and add, and subtract and halve (docs/SPECIFICATION.md, 2.8).
 use Prim.Native.Nat.{_+_}
 use Rattle.field_laws.specs.Field.{Field2}
 use Rattle.char2_algebra.specs.Polynomials.{Polynomials}
@@ -9,22 +9,22 @@ use Rattle.class_group.specs.Operations.{sum, double, counted-sum, count
 use Rattle.class_group.specs.Half.{half}
 
 module _ {K P : Type 0} {F : Field2 K} {A : Polynomials F P} (C : Curve A) where
-  -- twice the seal plus the operation's class: the rule of a commit
+  -- the rule of a commit: twice the seal, plus the operation's class
   unfoldable pub double-and-add : Pair P → Pair P → Pair P
   double-and-add S D = sum C (double C S) D
 
-  -- the class is subtracted from the seal first, and the difference is halved: the rule of an undo
+  -- the rule of an undo: the operation's class is subtracted from the seal, and the difference is halved
   unfoldable pub subtract-and-halve : Pair P → Pair P → Pair P
   subtract-and-halve S D = half C (sum C S (opposite C D))
 
-  -- the same with the reduction steps of the double and of the sum together
+  -- `double-and-add` with the number of reduction steps, those of the double and of the sum
   unfoldable pub counted-double-and-add : Pair P → Pair P → Counted P
   counted-double-and-add S D =
       let twice = counted-double C S in
       let total = counted-sum C (twice .class) D in
       record { class = total .class; steps = twice .steps + total .steps }
 
-  -- the same with the reduction steps of the sum; halving makes none
+  -- `subtract-and-halve` with the number of reduction steps, those of the sum; halving makes none
   unfoldable pub counted-subtract-and-halve : Pair P → Pair P → Counted P
   counted-subtract-and-halve S D =
       let rest = counted-sum C S (opposite C D) in

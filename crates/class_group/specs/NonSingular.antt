@@ -1,6 +1,7 @@
--- What it means that a curve has no singular point (docs/SPECIFICATION.md, 2). y² + y + f(x) is a polynomial in y whose coefficients are polynomials in x; a polynomial is the
--- list of its coefficients, the lowest power first. A point may have its coordinates in any ring of characteristic 2 over K, so
--- in every field that contains K.
+-- Singular points of a curve (docs/SPECIFICATION.md, 2).
+-- y² + y + f(x) is a polynomial in y whose coefficients are polynomials in x.
+-- A polynomial is here the list of its coefficients, the lowest power's first.
+-- A point may have its coordinates in any ring of characteristic 2 over K, so in every field that contains K.
 use Prim.Native.Nat.{ℕ, zero, suc}
 use mathlib.Core.Path.{_≡_}
 use mathlib.Core.List.{List, [], _∷_, map}
@@ -9,7 +10,7 @@ use Rattle.field_laws.specs.Field.{Field2}
 use Rattle.char2_algebra.specs.Polynomials.{Polynomials}
 use Rattle.class_group.specs.{Curve.Curve, Multiples.multiple}
 
--- a ring of characteristic 2 with 1 ≠ 0, and the map that takes the coefficients to it: an inclusion of fields, or any other
+-- a ring L of characteristic 2 with 1 ≠ 0, and a map of K to L: an inclusion of fields, or any other map
 pub record Over (K L : Type 0) : Type 0 where
   pub ring : Ring2 L
   pub one≢nought : ¬ (ring .one ≡ ring .nought)
@@ -35,19 +36,20 @@ module _ {L : Type 0} (R : Ring2 L) where
 
   infixl 60 _⊞_
   infixl 70 _·_
-  -- a₀ + a₁ t + a₂ t² + .. at t
+  -- the value of a₀ + a₁ t + a₂ t² + .. at t
   unfoldable pub evaluate : List L → L → L
   evaluate [] t = 𝟘
   evaluate (a ∷ p) t = a ⊞ t · evaluate p t
 
-  -- a polynomial in x and y is the list of the coefficients of 1, y, y², ..; its value at x, y
+  -- the value at x, y of a polynomial in x and y, which is the list of the coefficients of 1, y, y², ..
   unfoldable pub evaluate-at : List (List L) → L → L → L
   evaluate-at p x y = evaluate (map (λ a. evaluate a x) p) y
 
-  -- its partial derivatives
+  -- the partial derivative by x of a polynomial in x and y
   unfoldable pub derivative-by-x : List (List L) → List (List L)
   derivative-by-x p = map (derivative (multiple _⊞_ 𝟘)) p
 
+  -- the partial derivative by y
   unfoldable pub derivative-by-y : List (List L) → List (List L)
   derivative-by-y p = derivative (λ n. map (multiple _⊞_ 𝟘 n)) p
 
@@ -59,7 +61,7 @@ module _ {K P : Type 0} {F : Field2 K} {A : Polynomials F P} (C : Curve A) where
   open Polynomials A using (coeff, len)
   open Curve C using (f)
 
-  -- the curve's equation, its coefficients taken to L
+  -- the polynomial y² + y + f of the curve, with its coefficients mapped to L
   unfoldable pub equation-over : {L : Type 0} → Over K L → List (List L)
   equation-over E = equation (E .ring) (map (E .embed) (values (len f) (coeff f)))
 

@@ -7,15 +7,18 @@ use Rattle.class_group.specs.Composition.{compose, compose-double}
 use Rattle.class_group.specs.Reduction.{Counted, reduce}
 
 module _ {K P : Type 0} {F : Field2 K} {A : Polynomials F P} (C : Curve A) where
-  -- the class, with the number of reduction steps
+  -- the sum of two classes, with the number of reduction steps
   unfoldable pub counted-sum : Pair P → Pair P → Counted P
   counted-sum D E = reduce C (compose C D E)
 
+  -- the double of a class, with the number of reduction steps
   unfoldable pub counted-double : Pair P → Counted P
   counted-double D = reduce C (compose-double C D)
 
+  -- the sum of two classes
   unfoldable pub sum : Pair P → Pair P → Pair P
   sum D E = counted-sum D E .class
 
+  -- the double of a class
   unfoldable pub double : Pair P → Pair P
   double D = counted-double D .class

@@ -1,4 +1,7 @@
--- Which counts are refused: those above the limit, with 109.
+-- Counts that are refused: those above the limit, with 109.
+-- `within-limit`: a count up to the limit is accepted.
+-- `above-limit`: a count above the limit is refused with 109.
+-- `limit-keeps`: a count that is accepted is at most the limit.
 use Prim.Native.Nat.{ℕ, _≤_, _<_}
 use mathlib.Core.Path.{_≡_}
 use lib.Dec.{lit<}

@@ -3,10 +3,10 @@ use Prim.Native.Nat.{ℕ}
 use lib.Dec.{leb}
 use Rattle.binary_field.specs.Checks.{unless}
 
--- the most operations that a register counts
+-- the largest count of operations that is accepted
 unfoldable pub count-limit : ℕ
 count-limit = 1024
 
--- 109 for a count above it
+-- 109 for a count above the limit, else 0
 unfoldable pub count-refusal : ℕ → ℕ
 count-refusal n = unless (leb n count-limit) 109

@@ -1,7 +1,8 @@
-// The limit of operations: the most that a register counts, that a row of classes has and that a stored count says.
+// The limit of operations: no register counts more, no row of classes is longer, and no stored count is larger.
 ghost use mathlib.Core.Path.{_≡_};
 ghost use Rattle.count_limit.specs.Limit.{count-refusal};
 
+// The largest count that is accepted.
 pub const COUNT_LIMIT: u64 = 1024;
 
 // 109 for a count above the limit, else 0.

@@ -1,7 +1,8 @@
--- Division: the inverse of an element that is shown not to be nought. Definitions and contracts above divide by it alone, and name no value of the
--- record's operation at nought, of which nothing is said.
+-- Division in a field of characteristic 2.
+-- Definitions and contracts divide by `inverse-of` alone, so that none depends on the value of `inverse` at zero.
 use mathlib.Core.Path.{_≡_}
 use Rattle.field_laws.specs.Field.{Field2}
 
+-- the inverse of a, which is shown not to be zero
 abbrev pub inverse-of : {A : Type 0} (F : Field2 A) (a : A) → ¬ (a ≡ F .ring .nought) → A
 inverse-of F a shown = F .inverse a

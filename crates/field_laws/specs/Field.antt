@@ -1,8 +1,9 @@
--- A field of characteristic 2 in which every element has a square root and equality is decided.
--- Nothing is said of the inverse of nought.
+-- Fields of characteristic 2 with square roots, as a record of operations and laws over a carrier.
 use mathlib.Core.Path.{_≡_}
 use Rattle.field_laws.specs.Ring.{Ring2}
 
+-- a field of characteristic 2 in which every element has a square root and equality is decidable;
+-- no law is about the inverse of zero
 pub record Field2 (A : Type 0) : Type 0 where
   pub ring : Ring2 A
   pub discrete : Discrete A

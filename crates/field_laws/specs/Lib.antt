@@ -1,4 +1,4 @@
--- The law records, a commutative ring and a field of characteristic 2, and division in such a field.
+-- Commutative rings and fields of characteristic 2 as records, and division in such a field.
 pub mod Ring
 pub mod Field
 pub mod Division

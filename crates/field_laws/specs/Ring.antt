@@ -1,7 +1,7 @@
--- A commutative ring of characteristic 2, as a record of operations and laws over a carrier.
--- There is no negation: every element is its own opposite.
+-- Commutative rings of characteristic 2, as a record of operations and laws over a carrier.
 use mathlib.Core.Path.{_≡_}
 
+-- a commutative ring of characteristic 2; there is no negation, since every element is its own opposite
 pub record Ring2 (A : Type 0) : Type 0 where
   pub add : A → A → A
   pub mul : A → A → A

@@ -1,1 +1,1 @@
-// The law records of rings and fields of characteristic 2: definitions alone, in specs/, no code.
+// Rings and fields of characteristic 2 as records of operations and laws: definitions alone, in specs/, no code.

@@ -1,3 +1,3 @@
--- The theory of lists: members of lists, and walks by a rule and back.
+-- Theorems on predicates of lists, and on walks by a rule and back.
 pub mod Lists
 pub mod Walk

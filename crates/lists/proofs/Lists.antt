@@ -1,4 +1,11 @@
--- Lists whose elements are all members: mapped, reversed, a part of one, two one after the other, the element at a place; and two that differ at one place.
+-- Lists whose elements all satisfy a predicate, and two lists that differ at one position.
+-- `every`, `all-map`: a predicate of all elements of a type, or of all values of f, holds of every list of such.
+-- `all-of`: a predicate that holds at every position holds of the list.
+-- `all-reverse`, `all-append`, `all-take`, `all-drop`: reversed, joined and cut lists keep the predicate.
+-- `all-head`, `all-split`: the first element and the rest have it, and so do both parts of a joined list.
+-- `all-at`: the element at a position within the list has it.
+-- `changed-members`: both elements at the position where two lists differ have it.
+-- `changed-map`: if two lists differ at a position, so do their images under f.
 use Prim.Native.Nat.{ℕ, zero, suc, _<_}
 use mathlib.Core.Path.{sym, _∙_, ap, subst}
 use mathlib.Core.List.{List, [], _∷_, _++_, map, map-append, reverse, reverseAux}
@@ -14,7 +21,6 @@ pub all-map : {X Y : Type 0} {P : Y → Type 0} (f : X → Y) → ((x : X) → P
 all-map f h [] = none
 all-map f h (x ∷ l) = more (h x) (all-map f h l)
 
--- what holds at every place
 pub all-of : {X : Type 0} {P : X → Type 0} (l : List X) (x : X) → ((i : ℕ) → P (getD l i x)) → All P l
 all-of [] x h = none
 all-of (a ∷ l) x h = more (h 0) (all-of l x (λ i. h (suc i)))
@@ -57,7 +63,6 @@ module _ {X : Type 0} {Member : X → Type 0} where
   changed-members at h r =
       (all-head (all-split (at .before) (subst (All Member) (at .was) h) .1) .0, all-head (all-split (at .before) (subst (All Member) (at .is) r) .1) .0)
 
--- a function of the elements keeps the place
 pub changed-map : {X Y : Type 0} (f : X → Y) {k : ℕ} {d e : X} {l m : List X} → ChangedAt k d e l m → ChangedAt k (f d) (f e) (map f l) (map f m)
 changed-map f at = record {
   before = map f (at .before);

@@ -1,7 +1,13 @@
--- Walks by a rule over a list, and back by a rule that takes it back (`Reversible`).
--- `after-reverse`: the way back over the reversed list ends at the start. `walk-reverse`: it meets the same states in reverse order. `only-start`: where it
--- ends is the only start from which the rule leads there, and `after-back`: it is one. `after-injective`: different starts have different ends. `after-state`:
--- the end is a state. `after-agrees`: rules that agree on states lead to the same.
+-- Walks by a rule over a list, and back by a rule that undoes it (`Reversible`).
+-- `after-append`: a walk over a joined list is the walk over the second part from the end of the first.
+-- `after-member`, `after-state`: a walk from a state over steps ends in a state.
+-- `after-agrees`: two rules that agree on states lead to the same end.
+-- `after-injective`: different starts have different ends, if the rule is injective at each step.
+-- `after-reverse`: the way back over the reversed list ends at the start.
+-- `walk-reverse`: the way back meets the same states in reverse order.
+-- `only-start`: the end of the way back from t is the only start from which the rule leads to t.
+-- `after-back`: from there the rule does lead to t.
+-- `turned`: the two rules may be exchanged.
 use mathlib.Core.Path.{_≡_, refl, sym, _∙_, ap}
 use mathlib.Core.List.{List, [], _∷_, _++_, reverse, reverse-cons, reverse-reverse}
 use Rattle.lists.specs.{Lists.All, Lists.none, Lists.more, Walk.after, Walk.walk, Walk.Reversible}
@@ -22,7 +28,7 @@ module _ {X Y : Type 0} (rule : X → Y → X) where
   walk-append s [] c = refl
   walk-append s (b ∷ l) c = ap (λ m. s ∷ m) (walk-append (rule s b) l c)
 
-  -- a rule that keeps the states: where it ends
+  -- a rule that maps states to states
   module _ {State : X → Type 0} {Step : Y → Type 0} (closed : (s : X) (c : Y) → State s → Step c → State (rule s c)) where
     pub after-member : {s : X} {l : List Y} → State s → All Step l → State (after rule s l)
     unfolding after
@@ -36,7 +42,6 @@ module _ {X Y : Type 0} (rule : X → Y → X) where
     after-agrees other same {s} h (more {a = c} {l = l} k r) =
         after-agrees other same (closed s c h k) r ∙ ap (λ z. after other z l) (same s c h k)
 
-    -- one to one from step to step, so from end to end
     pub after-injective : ((s t : X) (c : Y) → State s → State t → Step c → rule s c ≡ rule t c → s ≡ t)
         → {s t : X} {l : List Y} → State s → State t → All Step l → after rule s l ≡ after rule t l → s ≡ t
     unfolding after
@@ -63,15 +68,12 @@ module _ {X Y : Type 0} {State : X → Type 0} {Step : Y → Type 0} {rule back 
       ∙ ap (λ z. reverse (walk rule (rule s c) l) ++ (z ∷ [])) (ap (λ z. back z c) (after-reverse (R .rule-closed h k) r) ∙ R .back-rule h k)
       ∙ sym (reverse-cons s (walk rule (rule s c) l))
 
-  -- no other start leads there than the one that the way back finds,
   pub only-start : {s t : X} {l : List Y} → State s → All Step l → after rule s l ≡ t → s ≡ after back t (reverse l)
   only-start {l = l} h k e = sym (after-reverse h k) ∙ ap (λ z. after back z (reverse l)) e
 
-  -- the rules change places
   pub turned : Reversible State Step back rule
   turned = record { rule-closed = λ h k. R .back-closed h k; back-closed = λ h k. R .rule-closed h k; back-rule = λ h k. R .rule-back h k; rule-back = λ h k. R .back-rule h k }
 
 module _ {X Y : Type 0} {State : X → Type 0} {Step : Y → Type 0} {rule back : X → Y → X} (R : Reversible State Step rule back) where
-  -- and that one does
   pub after-back : {t : X} {l : List Y} → State t → All Step l → after rule (after back t (reverse l)) l ≡ t
   after-back {t} {l} h k = ap (after rule (after back t (reverse l))) (sym (reverse-reverse l)) ∙ after-reverse (turned R) h (all-reverse k)

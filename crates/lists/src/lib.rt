@@ -1,1 +1,2 @@
-// Lists: what holds of each element, two that differ at one place, and walks by a rule along one. Definitions and theorems alone, no code.
+// Lists: a predicate of each element, two lists that differ at one position, and walks by a rule along a list.
+// Definitions and theorems alone, no code.

@@ -1,2 +1,2 @@
--- Lists of coefficients as polynomials.
+-- The polynomial with given coefficients.
 pub mod OfList

@@ -1,4 +1,7 @@
--- What polynomial a list of coefficients stands for, in the words of the record `polynomials F`: the lists need not be trimmed.
+-- The polynomial with given coefficients, in terms of the record `polynomials F`; the lists need not be trimmed.
+-- `coeff-of`: the coefficients of `of-list F l` are the elements of l, and zero past its end.
+-- `of-nil`: the empty list is the polynomial 0.
+-- `of-cons`: a before the list p is a + x p.
 use Prim.Native.Nat.{ℕ}
 use mathlib.Core.{Path._≡_, Path.refl, List.List, List.[], List._∷_}
 use lib.ListN.{getD}

@@ -1,6 +1,7 @@
--- The trimmed lists of coefficients are the polynomials over a field: each operation is that of char2_algebra/specs/Polynomial.antt, and the
--- laws are proved there. Everything computes, where `polynomials` is unfolded and the field's operations compute: two closed polynomials that are
--- equal are so by refl.
+-- The trimmed lists of coefficients are the polynomials over a field.
+-- The operations are those of char2_algebra/specs/Polynomial.antt; the laws are proved in char2_algebra/proofs.
+-- All of it computes where `polynomials` is unfolded and the field's operations compute: two closed polynomials
+-- that are equal are so by refl.
 use mathlib.Core.Path.{refl}
 use lib.ListN.{List·getD-eq-default}
 use Rattle.field_laws.specs.{Ring.Ring2, Field.Field2}
@@ -10,6 +11,7 @@ use Rattle.char2_algebra.proofs.PolynomialRing as Laws
 use Rattle.char2_algebra.proofs.{ListCoefficients.at-last, ListDivision.division, ListDivision.divide-short}
 
 module _ {K : Type 0} (F : Field2 K) where
+  -- the ring of the trimmed lists of coefficients
   unfoldable pub ring : Ring2 (Polynomial F)
   unfolding add mul nought con Laws.ring
   ring =
@@ -30,6 +32,7 @@ module _ {K : Type 0} (F : Field2 K) where
         mul-add = laws .mul-add;
       }
 
+  -- the polynomials over F, with the trimmed lists of coefficients as the carrier
   unfoldable pub polynomials : Polynomials F (Polynomial F)
   unfolding ring coeff len con x quot rem
   polynomials =

@@ -1,1 +1,1 @@
-// No code: the trimmed lists of coefficients as the polynomials over a field.
+// The trimmed lists of coefficients as the polynomials over a field: definitions and lemmas alone, no code.

@@ -1,4 +1,5 @@
--- The identities behind composition, over plain variables: each follows from its hypotheses, taken with coefficients, by ring laws.
+-- The identities for composition, over plain variables: each follows from its hypotheses, multiplied by coefficients,
+-- by ring laws.
 use mathlib.Core.Path.{_≡_}
 use Rattle.field_laws.specs.Ring.{Ring2}
 use Rattle.char2_algebra.proofs.Ring.{ring2, by, both, combine}

@@ -1,4 +1,5 @@
--- An equivalence α I = β J, multiplied by the conjugate of β: γ I = k J with k in P. The coordinates and the norms of its equations.
+-- An equivalence α I = β J, multiplied by the conjugate of β: γ I = k J with k in P.
+-- The coordinates and the norms of its equations.
 use mathlib.Core.Path.{_≡_, sym, _∙_, ap}
 use Rattle.field_laws.specs.Ring.{Ring2}
 use Rattle.char2_algebra.specs.Divides.{Divides}

@@ -1,5 +1,6 @@
--- Where γ I(u, v) = k I(u′, v′) with k in P and deg u and deg u′ at most 3, γ lies in P: with γ u = k δ and k u′ = γ ε, the norms of
--- δ and ε have degrees that sum up to twice deg u + deg u′, at most 12, so one of them is at most 6.
+-- Where γ I(u, v) = k I(u′, v′) with k in P and deg u and deg u′ at most 3, γ lies in P.
+-- With γ u = k δ and k u′ = γ ε, the degrees of the norms of δ and ε add up to twice deg u + deg u′, at most 12;
+-- so one of them is at most 6.
 use Prim.Native.Nat.{suc, _≤_, _+_}
 use mathlib.Core.Path.{_≡_, sym, _∙_, ap}
 use native.Mathlib.Omega.{arith}

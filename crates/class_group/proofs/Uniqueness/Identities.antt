@@ -1,4 +1,4 @@
--- The identities behind uniqueness, over plain variables.
+-- The identities for uniqueness, over plain variables.
 use mathlib.Core.Path.{_≡_}
 use Rattle.field_laws.specs.Ring.{Ring2}
 use Rattle.char2_algebra.proofs.Ring.{ring2, by, both, combine}
