@@ -1,6 +1,7 @@
--- What is checked by computation of the degrees 5 and 61: squaring t d times gives t, and a list of d numbers undoes
--- a² + a up to the last digit. The list holds, for each i below d, the value at t^i of an additive map L with
--- L (t^2i + t^i) = t^i for i from 1 to d - 1, and L (1 + 1) = 0. So a² + a = 0 only for a = 0 and a = 1.
+-- Facts on the degrees 5 and 61 that are checked by computation (`certified`).
+-- Squaring t d times gives t. A list has, for each i below d, the value at t^i of an additive map L with
+-- L (t^2i + t^i) = t^i for i from 1 to d - 1, and L (1 + 1) = 0.
+-- `idempotent-lt`: so a² = a only for a = 0 and a = 1.
 use Prim.Native.Nat.{ℕ, _%_, _^_, _<_}
 use mathlib.Core.{Path._≡_, Path.refl, Path.sym, Path.ap, Path._∙_, Bool.Bool, List.List, List.[], List._∷_}
 use native.Mathlib.Omega.{arith}
@@ -9,7 +10,7 @@ use Rattle.binary_field_theory.specs.{Carryless._⊕_, Carryless.digits-
 use Rattle.binary_field_theory.proofs.{Sums.sum-self, Sums.sum-cancel, Sums.sum-odd, Sums.sum-middle, Linear.Additive, Linear.additive-zero, Linear.basis, Linear.same, Linear.same-at, Linear.combine, Linear.combine-additive, Chain.spreadings-squarings}
 use Rattle.binary_field_theory.proofs.Products
 
--- what makes the elements of degree d a field
+-- the facts from which it follows that the elements of degree d are a field
 pub record Certified (d : ℕ) : Type 0 where
   pub fits : low d < 2 ^ d
   pub fixed : squarings d d 2 ≡ 2
@@ -20,7 +21,7 @@ pub record Certified (d : ℕ) : Type 0 where
 undoes : ℕ → List ℕ → Bool
 undoes d cs = same (λ n. combine cs (square d n ⊕ n)) (λ n. n ⊕ n % 2) d
 
--- what the tests call
+-- the definitions that the tests unfold
 computing : Unit {0}
 unfolding _⊕_ digits-to digits clmul spread reduce remainder low product square undoes same combine
 computing = tt
@@ -71,7 +72,6 @@ certified =
     Products.degree-cases Certified (certify 5 (Products.low-lt 5 tt) fixed-5 values-5 undoes-5)
     (certify 61 (Products.low-lt 61 tt) fixed-61 values-61 undoes-61)
 
--- an element that is its own square is 0 or 1
 pub idempotent-lt : (d : ℕ) → Certified d → (a : ℕ) → a < 2 ^ d → square d a ≡ a → a < 2
 idempotent-lt d c a ha e =
     let same : combine (c .values) (square d a ⊕ a) ≡ a ⊕ a % 2 = basis undone cleared undone-additive cleared-additive d (c .undo) a ha in

@@ -1,4 +1,6 @@
--- Repeated spreading is repeated squaring, and the inverse by few products is the power 2^d - 2.
+-- Square roots and inverses by few products.
+-- `spreadings-squarings`: repeated spreading is repeated squaring.
+-- `chain-is-power`: the inverse by few products is the power 2^d - 2.
 use Prim.Native.Nat.{ℕ, zero, suc, _+_, _-_, _*_, _/_, _%_, _^_, _<_}
 use mathlib.Core.Path.{_≡_, refl, sym, ap, ap₂, _∙_}
 use native.Mathlib.Omega.{arith}

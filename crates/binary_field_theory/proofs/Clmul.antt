@@ -1,5 +1,8 @@
--- The product of polynomials over GF(2): additive on both sides, commutative, associative, with unit 1; it passes
--- through shifts; squaring is additive.
+-- The product of polynomials over GF(2).
+-- `clmul-sum`, `sum-clmul`: it is additive on both sides.
+-- `clmul-comm`, `clmul-assoc`, `clmul-one`: it is commutative and associative, with unit 1.
+-- `clmul-pow`, `clmul-shl`, `shl-clmul`: a power of t shifts, and shifts may be taken out of a product.
+-- `clmul-self-sum`: squaring is additive.
 use Prim.Native.Nat.{ℕ, zero, suc, _+_, _*_, _/_, _%_, _^_, _≤_, _<_}
 use mathlib.Core.Path.{_≡_, refl, sym, ap, ap₂, _∙_}
 use native.Mathlib.{Nat.le-refl, Nat.zero-mul, Nat.one-mul, Nat.mul-one, Nat.mul-zero, Nat.mul-left-comm, Nat.mul-comm, Nat.pow-suc, Nat.not-suc-le-zero, Decide.le-ind}
@@ -8,7 +11,7 @@ use lib.Arith.{bin-ind, half-le}
 use Rattle.binary_field_theory.specs.Carryless.{_⊕_, digits-to, digits, clmul}
 use Rattle.binary_field_theory.proofs.Sums.{bit-cases, bit-lt, sums, sum-comm, sum-zero, zero-sum, sum-half, sum-odd, sum-double, double-plus, bit-mul-sum, bit-sum-mul, sum-middle}
 
--- the law of Horner's rule: any number of digits to go serves that is not too small
+-- Horner's rule gives the same for every bound of the calls that is not too small
 module _ (z : ℕ) (f : ℕ → ℕ → ℕ) where
   more : (k n : ℕ) → n ≤ k → digits-to z f (suc k) n ≡ digits-to z f k n
   unfolding digits-to
@@ -26,7 +29,7 @@ module _ (z : ℕ) (f : ℕ → ℕ → ℕ) where
   digits-step h zero = sym h
   digits-step h (suc n) = ap (f (suc n)) (enough n (suc n / 2) (half-le (le-refl (suc n))))
 
--- a number is its half doubled and its last digit
+-- a number is the sum of its half, doubled, and its last digit
 pub digit-split : (n : ℕ) → n ≡ 2 * (n / 2) ⊕ n % 2
 digit-split n = let e : n ≡ 2 * (n / 2) + n % 2 = omega arith in e ∙ double-plus (n / 2) (n % 2) (bit-lt n)
 
@@ -41,7 +44,7 @@ zero-clmul b = refl
 pub one-clmul : (b : ℕ) → clmul 1 b ≡ b
 one-clmul b = clmul-step 1 b ∙ simp (one-mul, zero-clmul, sum-zero)
 
--- a digit times a polynomial
+-- the product of a digit and a polynomial
 pub bit-clmul : (x b : ℕ) → x < 2 → clmul x b ≡ x * b
 bit-clmul x b = bit-cases (λ x. clmul x b ≡ x * b) (zero-clmul b ∙ sym (zero-mul b)) (one-clmul b ∙ sym (one-mul b)) x
 
@@ -102,7 +105,6 @@ clmul-assoc a b c =
     bin-ind (λ n. clmul (clmul n b) c ≡ clmul n (clmul b c)) (simp zero-clmul)
     (λ n ih. rw (clmul-step n b, clmul-step n (clmul b c), sum-clmul, double-clmul, ih, bit-mul-clmul (n % 2) b c (bit-lt n))) a
 
--- a power of t shifts
 pub clmul-pow : (a k : ℕ) → clmul a (2 ^ k) ≡ a * 2 ^ k
 clmul-pow a zero = clmul-one a ∙ sym (mul-one a)
 clmul-pow a (suc k) =
@@ -114,6 +116,5 @@ clmul-shl a b k = rw (← clmul-pow b k, ← clmul-assoc, clmul-pow)
 pub shl-clmul : (a b k : ℕ) → clmul (a * 2 ^ k) b ≡ clmul a b * 2 ^ k
 shl-clmul a b k = clmul-comm (a * 2 ^ k) b ∙ clmul-shl b a k ∙ ap (λ x. x * 2 ^ k) (clmul-comm b a)
 
--- squaring is additive
 pub clmul-self-sum : (a b : ℕ) → clmul (a ⊕ b) (a ⊕ b) ≡ clmul a a ⊕ clmul b b
 clmul-self-sum a b = rw (sum-clmul, clmul-sum a, clmul-sum b, clmul-comm b a) (simp sums)

@@ -1,5 +1,7 @@
--- The two degrees: one that is accepted and is not 5 is 61, both lie between 2 and 64, and an element of either has at most
--- 61 digits.
+-- The two degrees.
+-- `other-degree`: an accepted degree other than 5 is 61.
+-- `digits-61`: an element of either degree has at most 61 digits.
+-- `degree-between`: both degrees are from 2 to 63.
 use mathlib.Core.Path.{_≡_, refl}
 use Prim.Native.Nat.{ℕ, _^_, _≤_, _<_}
 use native.Mathlib.Omega.{arith}

@@ -1,5 +1,8 @@
--- What a field record of the elements of degree d is made of, for d = 5 and d = 61: elements are equal by their numbers, and the
--- root and the inverse as they are computed are elements and do what they should. Nothing here rests on the inverse of 0.
+-- The laws that a field record of the elements of degree 5 or 61 needs. None depends on the inverse of 0.
+-- `element-path`: elements with the same number are equal.
+-- `spreadings-root`, `spreadings-lt`, `spreadings-square`: repeated spreading gives the square root, an element.
+-- `chain-number`, `chain-lt`: the inverse by few products is the power 2^d - 2, an element.
+-- `product-chain`: for a other than 0, a times it is 1.
 use Prim.Native.Nat.{ℕ, _-_, _^_, _<_}
 use mathlib.Core.Path.{_≡_}
 use native.Mathlib.Decide.{Fin·val-path}

@@ -1,5 +1,8 @@
--- Where squaring t d times gives t, squaring any element d times gives it back. So every element has a square root, and only
--- one.
+-- Squaring and square roots, where squaring t d times gives t.
+-- `frobenius`: squaring an element d times gives the element.
+-- `square-root`, `root-square`: square and root undo each other.
+-- `square-injective`: elements with the same square are equal.
+-- `root-lt`: the root of an element is an element.
 use Prim.Native.Nat.{ℕ, suc, _-_, _*_, _/_, _%_, _^_, _<_}
 use mathlib.Core.Path.{_≡_, sym, ap, ap₂, _∙_}
 use native.Mathlib.{Numerals.add-one, Omega.arith}
@@ -13,7 +16,7 @@ module _ (d : ℕ) (h : low d < 2 ^ d) (fixed : squarings d d 2 ≡ 2) where
   fixed-bit : (x : ℕ) → x < 2 → squarings d d x ≡ x
   fixed-bit = bit-cases (λ x. squarings d d x ≡ x) (additive-zero (squarings d d) (Power.squarings-sum d h d)) (Power.squarings-one d h d)
 
-  -- t times an element of smaller degree than d - 1
+  -- t times an element of degree below d - 1
   fixed-double : (a : ℕ) → 2 * a < 2 ^ d → squarings d d a ≡ a → squarings d d (2 * a) ≡ 2 * a
   fixed-double a ha e =
       ap (squarings d d) (sym twice) ∙ Power.squarings-product d h d 2 a ∙ ap₂ (product d) fixed e ∙ twice
@@ -42,7 +45,6 @@ module _ (d : ℕ) (h : low d < 2 ^ d) (fixed : squarings d d 2 ≡ 2) where
       ap (squarings d (d - 1)) (sym (Power.squarings-suc d 0 a ∙ ap (square d) (Power.squarings-zero d a)))
       ∙ sym (Power.squarings-add d (d - 1) 1 a) ∙ ap (λ k. squarings d k a) (add-one (d - 1) ∙ d-suc) ∙ frobenius a ha
 
-  -- two elements with the same square are equal
   pub square-injective : (a b : ℕ) → a < 2 ^ d → b < 2 ^ d → square d a ≡ square d b → a ≡ b
   square-injective a b ha hb e = sym (root-square a ha) ∙ ap (root d) e ∙ root-square b hb
 

@@ -1,5 +1,8 @@
--- Every element but 0 times its inverse is 1, for a certified degree: the power 2^d - 1 of a is its own square, hence 0 or 1,
--- and times a it is a. So a product is 0 only if a factor is, and no other element times a is 1. Nothing is said of an inverse of 0.
+-- Inverses of elements other than 0, for a certified degree.
+-- The power 2^d - 1 of a is its own square, hence 0 or 1, and times a it is a.
+-- `product-inverse`: an element other than 0 times its inverse is 1.
+-- `product-cancel`: a product of elements is 0 only if a factor is 0.
+-- `one-inverse`: no other element times a is 1.
 use Prim.Native.Nat.{ℕ, suc, _+_, _-_, _^_, _<_}
 use mathlib.Core.Path.{_≡_, refl, sym, ap, ap₂, _∙_}
 use native.Mathlib.Omega.{arith}
@@ -43,7 +46,6 @@ module _ (d : ℕ) (c : Certified d) (a : ℕ) (ha : a < 2 ^ d) where
       (idempotent-lt d c (power d a (2 ^ d - 1)) (Power.power-lt d (c .fits) a (2 ^ d - 1)) ones-idempotent) refl
 
 module _ (d : ℕ) (c : Certified d) where
-  -- a product of elements is 0 only if a factor is
   pub product-cancel : (a b : ℕ) → a < 2 ^ d → b < 2 ^ d → product d a b ≡ 0 → ¬ (a ≡ 0) → b ≡ 0
   product-cancel a b ha hb e ne =
       sym (Products.one-product d (c .fits) b hb) ∙ ap (λ x. product d x b) (sym (product-inverse d c a ha ne))

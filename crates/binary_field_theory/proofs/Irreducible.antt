@@ -1,5 +1,8 @@
--- Both moduli are irreducible: a product of two polynomials over GF(2) that is the modulus has a factor 1.
--- The degree of a product is the sum of the degrees.
+-- Both moduli are irreducible polynomials over GF(2).
+-- `degree`: a polynomial other than 0 has a degree.
+-- `degree-lt`, `degree-le`: a polynomial of degree i is a number from 2^i up to 2^(i+1) - 1.
+-- `clmul-degree`: the degree of a product is the sum of the degrees.
+-- `irreducible`: if a product of two polynomials is the modulus, one of them is 1.
 use Prim.Native.Nat.{ℕ, zero, suc, _+_, _*_, _/_, _%_, _^_, _≤_, _<_}
 use mathlib.Core.{Path._≡_, Path.refl, Path.sym, Path.ap, Path.ap₂, Path._∙_, Logic._⊎_, Logic.inl, Logic.inr}
 use native.Mathlib.Nat.{div-one, zero-add, suc-add, zero-mul, one-mul, pow-succ', div-div-eq-div-mul, div-lt-iff-lt-mul, le-div-iff-mul-le, div-eq-of-lt}

@@ -1,5 +1,5 @@
--- The laws of the elements: polynomials over GF(2) and their remainders, products and powers of elements, the theorems of
--- docs/SPECIFICATION.md, 1, and the field record. Words: how they are computed in words of 64 bits.
+-- Theorems on elements: polynomials over GF(2) and their remainders, products and powers of elements, the theorems of
+-- docs/SPECIFICATION.md, 1, and the laws that a field record needs. Words: how elements are computed in 64-bit words.
 pub mod Sums
 pub mod Clmul
 pub mod Spread

@@ -1,5 +1,8 @@
--- Additive maps on polynomials over GF(2): two that agree on t^0 .. t^(d-1) agree below 2^d. The map given by the list of
--- its values at t^0, t^1, .. is additive.
+-- Additive maps on polynomials over GF(2).
+-- `basis`: two additive maps that agree on t^0 .. t^(d-1) agree below 2^d.
+-- `same-at`: the test `same` shows that two maps agree there.
+-- `combine-additive`: the map with given values at t^0, t^1, .. is additive.
+-- `combine-drop`, `combine-at`: its values at a shifted number and at a power of t.
 use Prim.Native.Nat.{ℕ, zero, suc, _*_, _/_, _%_, _^_, _<_}
 use mathlib.Core.{Path._≡_, Path.refl, Path.sym, Path.ap, Path.ap₂, Path.subst, Path._∙_, Bool.Bool, Bool.true, Bool.false, Bool._&&_, List.List, List.[], List._∷_}
 use native.Mathlib.{Nat.zero-mul, Nat.one-mul, Nat.mul-one, Nat.pow-suc, Nat.mod-lt, Nat.le-refl, Nat.div-lt-iff-lt-mul, Decide.decLt, Omega.arith}
@@ -7,6 +10,7 @@ use lib.{Arith.lt-one, Dec.T, Dec.eqb, Dec.eqb→eq, ListN.getD, ListN.drop, Pow
 use Rattle.binary_field_theory.specs.Carryless.{_⊕_}
 use Rattle.binary_field_theory.proofs.Sums.{bit-cases, bit-lt, sum-self, sum-zero, zero-sum, sum-half, sum-odd, sum-split, sum-middle, bit-sum-mul}
 
+-- f of a sum is the sum of the values of f
 abbrev pub Additive : (ℕ → ℕ) → Type 0
 Additive f = (a b : ℕ) → f (a ⊕ b) ≡ f a ⊕ f b
 
@@ -45,7 +49,7 @@ same-at f g (suc k) t i h = at (both (eqb (f (2 ^ k)) (g (2 ^ k))) (same f g k) 
     at p rec (yes l) = rec (p .1) i l
     at p rec (no l) = let e : k ≡ i = omega arith in subst (λ (j : ℕ). f (2 ^ j) ≡ g (2 ^ j)) e (eqb→eq _ _ (p .0))
 
--- the sum of the values at the digits of n
+-- the map with given values at t^0, t^1, ..: the sum of the values at the digits 1 of n
 unfoldable pub combine : List ℕ → ℕ → ℕ
 combine [] n = 0
 combine (c ∷ cs) zero = 0
@@ -76,7 +80,6 @@ combine-additive (c ∷ cs) a b =
     )
     (sum-middle _ _ _ _)
 
--- a number moved up by k digits
 pub combine-drop : (k : ℕ) (cs : List ℕ) (n : ℕ) → combine (drop k cs) n ≡ combine cs (n * 2 ^ k)
 unfolding combine
 combine-drop zero cs n = ap (combine cs) (sym (mul-one n))
@@ -87,7 +90,6 @@ combine-drop (suc k) (c ∷ cs) n =
     let h : n * 2 ^ suc k / 2 ≡ n * 2 ^ k = omega arith in
     rw (combine-step c cs (n * 2 ^ suc k), e, h, zero-mul, zero-sum) (combine-drop k cs n)
 
--- at a power of t it is the value there
 pub combine-at : (cs : List ℕ) (k : ℕ) → combine cs (2 ^ k) ≡ getD cs k 0
 unfolding combine
 combine-at [] k = refl

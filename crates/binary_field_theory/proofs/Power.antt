@@ -1,5 +1,9 @@
--- Powers of elements, for every d with low d below 2^d: squaring k times is the power 2^k, additive and multiplicative;
--- the laws of exponents. A power of an element is an element.
+-- Powers of elements, for every d with low d below 2^d.
+-- `squarings-sum`, `squarings-product`: squaring k times is additive and multiplicative.
+-- `power-suc`, `power-add`, `power-even`, `power-odd`, `power-one`: the laws of exponents.
+-- `power-pow`: the power 2^k is squaring k times. `squarings-power`: squaring k times multiplies the exponent by 2^k.
+-- `power-lt`, `squarings-lt`: a power of an element is an element.
+-- `power-ones-add`, `ones-squared`: the powers 2^k - 1, from which the inverse is made.
 use Prim.Native.Nat.{ℕ, zero, suc, _+_, _-_, _*_, _/_, _%_, _^_, _<_}
 use mathlib.Core.{Path._≡_, Path.refl, Path.sym, Path.ap, Path._∙_, Bool.cond}
 use native.Mathlib.{Nat.zero-add, Nat.suc-add, Nat.add-zero, Nat.one-mul, Nat.mul-comm, Nat.mul-assoc, Nat.pow-succ', Omega.arith}
@@ -41,7 +45,7 @@ module _ (d : ℕ) (h : low d < 2 ^ d) where
   squarings-product (suc k) a b =
       simp squarings-suc (ap (square d) (squarings-product k a b) ∙ Products.square-product d h (squarings d k a) (squarings d k b))
 
-  -- the remainder may be taken before
+  -- a number may be replaced by its remainder before it is squared
   pub squarings-remainder : (k n : ℕ) → squarings d (suc k) (remainder d (low d) n) ≡ squarings d (suc k) n
   unfolding squarings
   squarings-remainder zero n = Products.square-remainder d h n

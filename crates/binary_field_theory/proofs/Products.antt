@@ -1,5 +1,5 @@
--- The product of elements, for every d with low d below 2^d: closed below 2^d, commutative, associative, distributive,
--- with unit 1. Squaring is additive and spreads the digits before the remainder is taken.
+-- The product of elements, for every d with low d below 2^d: below 2^d, commutative, associative, distributive,
+-- with unit 1. Squaring is additive; a square is the remainder of the spread number (`square-spread`).
 use Prim.Native.Nat.{ℕ, zero, suc, _*_, _^_, _≤_, _<_}
 use mathlib.Core.{Path._≡_, Path.sym, Path.ap, Path.subst, Path._∙_, Bool.Bool, Bool.true, Bool.false, Bool.cond, Bool._||_}
 use native.Mathlib.Omega.{arith}
@@ -36,7 +36,6 @@ zero-product d b = ap (remainder d (low d)) (Clmul.zero-clmul b) ∙ Remainder.r
 pub product-zero : (d a : ℕ) → product d a 0 ≡ 0
 product-zero d a = product-comm d a 0 ∙ zero-product d a
 
--- the square is the spread number, reduced
 pub square-spread : (d a : ℕ) → square d a ≡ remainder d (low d) (spread a)
 unfolding square product
 square-spread d a = ap (remainder d (low d)) (clmul-self a)
@@ -79,7 +78,7 @@ module _ (d : ℕ) (h : low d < 2 ^ d) where
   unfolding square product
   square-sum a b = ap (remainder d (low d)) (Clmul.clmul-self-sum a b) ∙ Remainder.remainder-sum d (low d) h (clmul a a) (clmul b b)
 
-  -- the remainder may be taken before
+  -- a number may be replaced by its remainder before it is squared
   pub square-remainder : (a : ℕ) → square d (remainder d (low d) a) ≡ square d a
   unfolding square product
   square-remainder a = Remainder.remainder-clmul-left d (low d) h a (remainder d (low d) a) ∙ Remainder.remainder-clmul d (low d) h a a

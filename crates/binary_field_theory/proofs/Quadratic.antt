@@ -1,5 +1,11 @@
--- The equation y² + y = a for a certified odd degree: a root exists exactly where the trace of a is 0, the half-trace is one then, the
--- roots are y and y + 1 and no others, and the search for the root with lowest bit 0 finds it.
+-- The equation y² + y = a for a certified odd degree.
+-- `trace-bit`: the trace is 0 or 1.
+-- `root-trace`: if there is a root, the trace of a is 0.
+-- `trace-root`: if the trace of a is 0, the half-trace is a root.
+-- `other-root`, `two-roots`: if y is a root, so is y + 1, and there are no others.
+-- `even-root-found`, `even-root-is`: the search finds the root with lowest bit 0.
+-- `even-root-none`, `none-even-root`: it finds none exactly if there is no root.
+-- `half-traces-add`: j + k terms of the half-trace from j terms and k terms.
 use Prim.Native.Nat.{ℕ, zero, suc, _+_, _*_, _/_, _%_, _^_, _<_}
 use mathlib.Core.{Path._≡_, Path.refl, Path.sym, Path.ap, Path.ap₂, Path._∙_, Bool.Bool, Bool.true, Bool.false, Bool.cond, Bool._&&_}
 use mathlib.Core.{Logic._⊎_, Logic.inl, Logic.inr, Option.Option, Option.none, Option.some, Option.Option·some-ne-none, Option.Option·some-injective}
@@ -13,7 +19,7 @@ use Rattle.binary_field_theory.proofs.{Frobenius.frobenius, Search.none
 use Rattle.binary_field_theory.proofs.Products
 use Rattle.binary_field_theory.proofs.Power
 
--- ---- what holds of every degree
+-- ---- every degree
 module _ (d : ℕ) (h : low d < 2 ^ d) where
   pub quadratic-sum : (a b : ℕ) → quadratic d (a ⊕ b) ≡ quadratic d a ⊕ quadratic d b
   unfolding quadratic
@@ -39,7 +45,7 @@ module _ (d : ℕ) (h : low d < 2 ^ d) where
       (ap (squarings d k) (ap (square d) (sym (Power.squarings-zero d a)) ∙ sym (Power.squarings-suc d 0 a))
       ∙ sym (Power.squarings-add d k 1 a) ∙ ap (λ n. squarings d n a) (add-one k))
 
-  -- a sum of two neighbours, and one that begins with the second
+  -- the middle term of x + y and y + z cancels
   meet : (x y z : ℕ) → (x ⊕ y) ⊕ (y ⊕ z) ≡ x ⊕ z
   meet x y z = simp sums
 
@@ -54,7 +60,7 @@ module _ (d : ℕ) (h : low d < 2 ^ d) where
   half-traces-lt zero a ha = pow-pos d
   half-traces-lt (suc k) a ha = sum-lt d _ _ (Power.squarings-lt d h (2 * k) a ha) (half-traces-lt k a ha)
 
-  -- y² + y of the terms: each but the first and the last comes twice
+  -- y² + y of a sum of powers: each term but the first and the last occurs twice
   quadratic-traces : (k a : ℕ) → quadratic d (traces d k a) ≡ squarings d k a ⊕ a
   unfolding traces
   quadratic-traces zero a = quadratic-zero ∙ sym (ap (λ x. x ⊕ a) (Power.squarings-zero d a) ∙ sum-self a)
@@ -66,7 +72,7 @@ module _ (d : ℕ) (h : low d < 2 ^ d) where
   traces-quadratic zero a = sym (ap (λ x. x ⊕ a) (Power.squarings-zero d a) ∙ sum-self a)
   traces-quadratic (suc k) a = ap₂ _⊕_ (squarings-quadratic k a) (traces-quadratic k a) ∙ meet _ _ _
 
-  -- y² + y of every second term is that of all
+  -- y² + y of the sum of every second power is the sum of all powers
   quadratic-half-traces : (k a : ℕ) → quadratic d (half-traces d k a) ≡ traces d (2 * k) a
   unfolding traces half-traces
   quadratic-half-traces zero a = quadratic-zero
@@ -77,7 +83,6 @@ module _ (d : ℕ) (h : low d < 2 ^ d) where
       ∙ sum-assoc (squarings d (suc (2 * k)) a) (squarings d (2 * k) a) (traces d (2 * k) a)
       ∙ sym (ap (λ n. traces d n a) e)
 
-  -- j + k terms: those of k terms, squared 2 j times, and those of j
   pub half-traces-add : (j k a : ℕ) → half-traces d (j + k) a ≡ squarings d (2 * j) (half-traces d k a) ⊕ half-traces d j a
   unfolding half-traces
   half-traces-add j zero a =
@@ -92,9 +97,8 @@ module _ (d : ℕ) (h : low d < 2 ^ d) where
       ∙ sym (sum-assoc _ _ _)
       ∙ ap (λ x. x ⊕ half-traces d j a) (sym (Power.squarings-sum d h (2 * j) (squarings d (2 * k) a) (half-traces d k a)))
 
--- ---- a certified degree: squaring d times gives an element back, and 0 and 1 alone are their own squares
+-- ---- a certified degree: squaring d times gives the element, and only 0 and 1 are their own squares
 module _ (d : ℕ) (c : Certified d) where
-  -- the trace is 0 or 1
   pub trace-bit : (a : ℕ) → a < 2 ^ d → trace d a < 2
   unfolding trace quadratic
   trace-bit a ha =
@@ -124,7 +128,6 @@ module _ (d : ℕ) (c : Certified d) where
       by : (e : ℕ) → e < 2 → y ⊕ b ≡ e → (b ≡ y) ⊎ (b ≡ y ⊕ 1)
       by = bit-cases (λ e. y ⊕ b ≡ e → (b ≡ y) ⊎ (b ≡ y ⊕ 1)) (λ e. inl (back e ∙ sum-zero y)) (λ e. inr (back e))
 
-  -- where there is a root, the trace is 0
   pub root-trace : {a y : ℕ} → Root d a y → trace d a ≡ 0
   root-trace {a} {y} r = ap (trace d) (sym (r .solves)) ∙ trace-quadratic y (r .below)
 
@@ -151,7 +154,7 @@ module _ (d : ℕ) (c : Certified d) where
       let p = even-solves (f .1) (f .2) in
       rw (← p .2) (record { root = p .0; even = p .1; other = other-root (p .0); only = λ b s. two-roots (p .0) s })
 
-  -- the root of the two whose lowest bit is 0
+  -- of the two roots, the one whose lowest bit is 0
   pub evened : {a y : ℕ} → Root d a y → Root d a (y ⊕ y % 2) × ((y ⊕ y % 2) % 2 ≡ 0)
   evened {a} {y} r = (at (y % 2) (bit-lt y), sum-odd y (y % 2) ∙ cancels (y % 2) (bit-lt y))
     where
@@ -161,7 +164,7 @@ module _ (d : ℕ) (c : Certified d) where
       cancels : (x : ℕ) → x < 2 → x ⊕ x % 2 ≡ 0
       cancels = bit-cases (λ x. x ⊕ x % 2 ≡ 0) (sum-self 0) (sum-self 1)
 
-  -- of two elements that differ in the lowest bit one is odd
+  -- of two elements that differ in the lowest bit alone, one is odd
   odd-neighbour : (y : ℕ) {i : ℕ} → i ≡ y ⊕ 1 → y % 2 ≡ 0 → i % 2 ≡ 0 → ⊥
   odd-neighbour y {i} e hy hi =
       let z : _≡_ {A = ℕ} 0 1 = sym hi ∙ ap (λ x. x % 2) e ∙ sum-odd y 1 ∙ ap (λ x. x ⊕ 1) hy ∙ zero-sum 1 in
@@ -174,7 +177,7 @@ module _ (d : ℕ) (c : Certified d) where
       at (inl p) = p
       at (inr p) = absurd (odd-neighbour y p e f)
 
-  -- the search finds a root with lowest bit 0, since no other element is one
+  -- the search finds the root with lowest bit 0, since there is only one
   pub even-root-is : {a y : ℕ} → Root d a y → y % 2 ≡ 0 → even-root d a ≡ some y
   unfolding even-root
   even-root-is {a} {y} r e =
@@ -188,7 +191,7 @@ module _ (d : ℕ) (c : Certified d) where
           let same : i ≡ y = only-even r e (p .0) (p .1) in
           absurd (omega arith)
 
-  -- and none where there is none
+  -- the search finds none exactly if there is no root
   pub even-root-none : (a : ℕ) → ((y : ℕ) → Root d a y → ⊥) → even-root d a ≡ none
   even-root-none a h = at (even-root d a) refl
     where

@@ -1,6 +1,9 @@
--- The remainder modulo t^d + low, for every d and every low below 2^d: below 2^d, additive, the identity below 2^d, and
--- blind to the remainder taken of a factor. It is the remainder of a division, and the only one. `remainder-fold` is the
--- rule of fast reduction: the digits above the d lowest, times low, are added to the d lowest.
+-- The remainder modulo t^d + low, for every d and every low below 2^d.
+-- `remainder-lt`, `remainder-small`: it is below 2^d, and a number below 2^d is its own remainder.
+-- `remainder-sum`: it is additive.
+-- `remainder-clmul`, `remainder-clmul-left`: a factor of a product may be replaced by its remainder.
+-- `remainder-fold`: the digits above the d lowest, times low, may be added to the d lowest (fast reduction).
+-- `division`, `remainder-unique`: it is the remainder of a division by t^d + low, and the only one.
 use Prim.Native.Nat.{ℕ, suc, _+_, _*_, _/_, _%_, _^_, _<_}
 use mathlib.Core.Path.{_≡_, refl, sym, ap, ap₂, _∙_}
 use native.Mathlib.{Nat.zero-div, Nat.zero-mul, Nat.one-mul, Nat.add-zero, Nat.mod-lt, Nat.div-eq-of-lt, Nat.div-self, Nat.mod-self, Nat.div-lt-iff-lt-mul, Omega.arith}
@@ -100,7 +103,6 @@ module _ (d low : ℕ) (h : low < 2 ^ d) where
       bit-cases (λ x. remainder d low (x * remainder d low b) ≡ remainder d low (x * b)) (simp zero-mul)
       (simp one-mul (remainder-idem b)) x
 
-  -- a factor may be replaced by its remainder
   pub remainder-clmul : (a b : ℕ) → remainder d low (clmul a (remainder d low b)) ≡ remainder d low (clmul a b)
   remainder-clmul a b =
       bin-ind (λ n. remainder d low (clmul n (remainder d low b)) ≡ remainder d low (clmul n b)) (simp zero-clmul)
@@ -111,7 +113,7 @@ module _ (d low : ℕ) (h : low < 2 ^ d) where
   remainder-clmul-left a b =
       ap (remainder d low) (clmul-comm (remainder d low a) b) ∙ remainder-clmul b a ∙ ap (remainder d low) (clmul-comm b a)
 
-  -- t^d is low
+  -- the remainder of t^d is low
   pub remainder-pow : remainder d low (2 ^ d) ≡ low
   remainder-pow =
       remainder-once (2 ^ d) (omega (arith, pow-pos d)) ∙ reduce-fold (2 ^ d) (omega (arith, pow-pos d))
@@ -125,7 +127,7 @@ module _ (d low : ℕ) (h : low < 2 ^ d) where
       ∙ ap (λ x. remainder d low (clmul (n / 2 ^ d) x)) remainder-pow)
       (remainder-small (n % 2 ^ d) (mod-lt n (pow-pos d)))
 
-  -- ---- division by the modulus: a multiple of it, and a rest of smaller degree
+  -- ---- division by the modulus
   pub remainder-modulus : remainder d low (2 ^ d + low) ≡ 0
   remainder-modulus =
       rw (modulus-sum, remainder-sum, remainder-pow, remainder-small low h) (sum-self low)

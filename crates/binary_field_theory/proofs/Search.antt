@@ -1,4 +1,8 @@
--- What a search in order finds: the first that is there, and none where none is.
+-- The result of a search in order.
+-- `first-zero`: a search among no candidates finds none.
+-- `none-before`, `all-none`, `none-yet`: it finds none exactly if no candidate has a value.
+-- `found-first`: if no candidate before i has a value and i has one, it finds that of i.
+-- `first-found`: a value that is found is that of a candidate before which none has a value.
 use Prim.Native.Nat.{ℕ, zero, suc, _<_}
 use mathlib.Core.{Path._≡_, Path.refl, Path.sym, Path.ap, Path._∙_, Option.Option, Option.none, Option.some, Option.Option·some-ne-none}
 use native.Mathlib.{Decide.decLt, Omega.arith}
@@ -23,7 +27,6 @@ module _ {A : Type 0} where
     unfolding first
     first-zero = refl
 
-    -- none is there
     pub none-before : (n : ℕ) → first g n ≡ none → (i : ℕ) → i < n → g i ≡ none
     unfolding first
     none-before zero e i h = absurd (omega arith)
@@ -42,7 +45,6 @@ module _ {A : Type 0} where
     all-none zero h = refl
     all-none (suc n) h = none-yet n (all-none n (λ i l. h i (omega arith))) (h n (omega arith))
 
-    -- the first that is there stays the first
     pub found-first : (i n : ℕ) {a : A} → i < n → first g i ≡ none → g i ≡ some a → first g n ≡ some a
     unfolding first
     found-first i zero h e f = absurd (omega arith)
@@ -52,7 +54,6 @@ module _ {A : Type 0} where
         at found (yes l) = some-earlier (g n) (found l)
         at found (no l) = let k : i ≡ n = omega arith in none-earlier (g n) (rw k at e) ∙ (rw k at f)
 
-    -- what is found stands at a place before which none is there
     pub first-found : (n : ℕ) {a : A} → first g n ≡ some a → (i : ℕ) × (i < n) × (g i ≡ some a) × (first g i ≡ none)
     unfolding first earlier
     first-found zero e = absurd (Option·some-ne-none _ (sym e))

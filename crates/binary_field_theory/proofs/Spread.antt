@@ -1,5 +1,8 @@
--- The square of a polynomial spreads its digits: bit i goes to bit 2i. Spreading is additive, and works on each run of
--- digits apart, which is the rule of a table of spread bytes.
+-- Squares of polynomials over GF(2) by spreading: bit i goes to bit 2i.
+-- `clmul-self`: the square of a polynomial is the spread number.
+-- `spread-sum`: spreading is additive.
+-- `spread-lt`, `spread-shl`: a number of k bits is spread to 2k bits, and a shift by k becomes one by 2k.
+-- `spread-block`: the digits above the k lowest and those below are spread separately, as by a table of spread bytes.
 use Prim.Native.Nat.{ℕ, zero, suc, _+_, _*_, _/_, _%_, _^_, _<_}
 use mathlib.Core.Path.{_≡_, refl, sym, ap, ap₂, _∙_}
 use native.Mathlib.{Nat.mul-assoc, Nat.zero-lt-suc, Omega.arith}
@@ -41,7 +44,6 @@ spread-shl k a =
     sym (clmul-self (a * 2 ^ k)) ∙ shl-clmul a (a * 2 ^ k) k ∙ ap (λ x. x * 2 ^ k) (clmul-shl a a k ∙ ap (λ x. x * 2 ^ k) (clmul-self a))
     ∙ mul-assoc (spread a) (2 ^ k) (2 ^ k) ∙ ap (λ x. spread a * x) (sym (pow-add 2 k k))
 
--- the digits above the k lowest and those below them
 pub spread-block : (k a r : ℕ) → r < 2 ^ k → spread (a * 2 ^ k + r) ≡ spread a * 2 ^ (k + k) + spread r
 spread-block k a r h =
     ap spread (sym (sum-shifted a k r h)) ∙ spread-sum (a * 2 ^ k) r ∙ ap (λ x. x ⊕ spread r) (spread-shl k a)

@@ -1,5 +1,5 @@
--- The sum _⊕_ of polynomials over GF(2): an abelian group in which every element is its own opposite, digit by digit,
--- and passing through shifts. `sums` is the set for simp that sorts and cancels sums.
+-- The sum _⊕_ of polynomials over GF(2): an abelian group in which every element is its own opposite.
+-- It works digit by digit and commutes with shifts and masks. `simp sums` sorts and cancels sums.
 use Prim.Native.Nat.{ℕ, zero, suc, _+_, _*_, _/_, _%_, _^_, _<_}
 use mathlib.Core.Path.{_≡_, refl, sym, ap, ap₂, _∙_}
 use native.Mathlib.{Nat.mod-lt, Nat.add-zero, Nat.mul-comm, Nat.zero-mul, Nat.one-mul, Omega.arith}
@@ -80,7 +80,7 @@ sum-middle a b c d = simp sums
 pub sum-cancel : (a b : ℕ) → a ⊕ b ≡ 0 → a ≡ b
 sum-cancel a b h = sym (sum-zero a) ∙ ap (λ x. a ⊕ x) (sym h) ∙ sum-self-left a b
 
--- a shifted number and one that fits below it
+-- the sum of a shifted number and a number below the shift is their integer sum
 pub sum-shifted : (a k b : ℕ) → b < 2 ^ k → (a * 2 ^ k) ⊕ b ≡ a * 2 ^ k + b
 unfolding _⊕_
 sum-shifted = xor-shifted
@@ -94,7 +94,7 @@ sum-shl a b k =
 pub sum-double : (a b : ℕ) → 2 * (a ⊕ b) ≡ 2 * a ⊕ 2 * b
 sum-double a b = mul-comm 2 (a ⊕ b) ∙ sum-shl a b 1 ∙ ap₂ _⊕_ (mul-comm a 2) (mul-comm b 2)
 
--- a digit below a doubled number
+-- the sum of a doubled number and a digit is their integer sum
 pub double-plus : (a x : ℕ) → x < 2 → 2 * a + x ≡ 2 * a ⊕ x
 double-plus a x h = ap (λ y. y + x) (mul-comm 2 a) ∙ sym (sum-shifted a 1 x h) ∙ ap (λ y. y ⊕ x) (mul-comm a 2)
 
@@ -102,11 +102,11 @@ pub double-plus-sum : (a b x y : ℕ) → x < 2 → y < 2 → 2 * (a ⊕ b) + (x
 double-plus-sum a b x y hx hy =
     rw (double-plus (a ⊕ b) (x ⊕ y) (sum-lt 1 x y hx hy), double-plus a x hx, double-plus b y hy, sum-double) (sum-middle _ _ _ _)
 
--- the high digits and the low ones
+-- a number is the sum of its high digits and its low digits
 pub sum-split : (n k : ℕ) → n ≡ (n / 2 ^ k * 2 ^ k) ⊕ (n % 2 ^ k)
 sum-split n k = sym (split n k) ∙ sym (sum-shifted (n / 2 ^ k) k (n % 2 ^ k) (mod-lt n (pow-pos k)))
 
--- a digit times a number
+-- the product of a digit and a sum
 pub bit-mul-sum : (x a b : ℕ) → x < 2 → x * (a ⊕ b) ≡ x * a ⊕ x * b
 bit-mul-sum x a b =
     bit-cases (λ x. x * (a ⊕ b) ≡ x * a ⊕ x * b) (simp (zero-mul, sum-zero)) (simp one-mul) x
@@ -117,7 +117,7 @@ bit-sum-mul x y b hx hy =
     bit-cases (λ x. (y : ℕ) → y < 2 → (x ⊕ y) * b ≡ x * b ⊕ y * b) (λ y hy. rw zero-mul)
     (bit-cases (λ y. (1 ⊕ y) * b ≡ 1 * b ⊕ y * b) (simp (zero-mul, one-mul, xor-zero-r)) (simp (zero-mul, one-mul, xor-self))) x hx y hy
 
--- a mask
+-- a mask of a sum is the sum of the masked terms
 and-sum-bits : (x : ℕ) → x < 2 → (y : ℕ) → y < 2 → (m : ℕ) → m < 2 → bitAnd (x ⊕ y) m ≡ bitAnd x m ⊕ bitAnd y m
 unfolding _⊕_
 and-sum-bits =

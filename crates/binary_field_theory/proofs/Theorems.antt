@@ -1,6 +1,15 @@
--- What docs/SPECIFICATION.md, 1, says of the elements of degree 5 and 61: every element has one square root (`one-root`); every element but 0 has one
--- inverse (`one-inverse`), and 0 has none (`zero-no-inverse`); y² + y = a has a root exactly where the trace of a is 0, and then two, y and
--- y + 1. That both moduli are irreducible is `irreducible` of Irreducible; the field laws are those of the record `field` of binary_field.
+-- Theorems of docs/SPECIFICATION.md, 1, on the elements of degree 5 and 61.
+-- That both moduli are irreducible is `irreducible` of Irreducible; the field laws are in the record `field` of
+-- binary_field.
+-- `one-root`: every element has exactly one square root.
+-- `one-inverse`: every element but 0 has exactly one inverse.
+-- `zero-no-inverse`: 0 has no inverse.
+-- `root-iff-trace`: y² + y = a has a root exactly if the trace of a is 0.
+-- `two-roots`: if y is a root, every root is y or y + 1.
+-- `even-root-found`: a root that `even-root` finds has lowest bit 0, and the roots are it and it plus 1.
+-- `even-root-none`: `even-root` finds none exactly if there is no root.
+-- `even-root-by-trace`: if the trace is 0, `even-root` finds the half-trace with its lowest bit set to 0.
+-- `none-by-trace`: if the trace is not 0, `even-root` finds none.
 use Prim.Native.Nat.{ℕ, _%_, _^_, _<_}
 use mathlib.Core.Path.{_≡_, sym, ap, _∙_}
 use mathlib.Core.{Logic._↔_, Logic._⊎_, Option.Option, Option.none, Option.some}
@@ -37,14 +46,12 @@ module _ (d : ℕ) (ok : Accepted d) where
   pub two-roots : {a y b : ℕ} → Root d a y → Root d a b → (b ≡ y) ⊎ (b ≡ y ⊕ 1)
   two-roots = Quadratic.two-roots d (certified d ok)
 
-  -- what the search for the root with lowest bit 0 says
   pub even-root-found : {a y : ℕ} → even-root d a ≡ some y → EvenRoot d a y
   even-root-found = Quadratic.even-root-found d (certified d ok)
 
   pub even-root-none : (a : ℕ) → (even-root d a ≡ none) ↔ ((y : ℕ) → Root d a y → ⊥)
   even-root-none a = (λ e y. Quadratic.none-even-root d (certified d ok) e y, λ h. Quadratic.even-root-none d (certified d ok) a h)
 
-  -- and how it is computed
   pub even-root-by-trace : (a : ℕ) → a < 2 ^ d → trace d a ≡ 0 → even-root d a ≡ some (half-trace d a ⊕ half-trace d a % 2)
   even-root-by-trace a ha e =
       let p = Quadratic.evened d (certified d ok) (Quadratic.trace-root d (certified d ok) (odd d ok) a ha e) in

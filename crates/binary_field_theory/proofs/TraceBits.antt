@@ -1,6 +1,7 @@
--- The trace of an element of degree 5 or 61 is the sum of its digits at places 0 and d - 2. That sum is the same for an element and for its
--- square, which is tested at the powers of t. So for the trace, a sum of d such powers, it is that of the element, as d is odd; and the
--- trace, which is 0 or 1, is its own digit at place 0.
+-- The trace of an element of degree 5 or 61 is the sum of its digits at positions 0 and d - 2 (`trace-two-digits`).
+-- That sum is the same for an element and for its square, which is tested at the powers of t.
+-- So it is the same for an element and for the trace, a sum of d such powers, as d is odd (`odd`).
+-- The trace is 0 or 1, and so equal to that sum of its own digits (`one-digit`).
 use Prim.Native.Nat.{ℕ, zero, suc, _-_, _*_, _/_, _%_, _^_, _<_}
 use mathlib.Core.{Path._≡_, Path.refl, Path.sym, Path.ap, Path.ap₂, Path._∙_, Bool.Bool}
 use native.Mathlib.{Nat.zero-mul, Nat.one-mul, Omega.arith}
@@ -10,7 +11,7 @@ use Rattle.binary_field_theory.specs.Quadratic.{traces, trace}
 use Rattle.binary_field_theory.proofs.{Sums.bit-cases, Sums.bit-lt, Sums.sum-zero, Sums.zero-sum, Sums.sum-self, Sums.sum-shr, Sums.sum-odd, Sums.sum-middle, Linear.Additive, Linear.additive-zero, Linear.basis, Linear.same, Linear.same-at, Certificate.certified}
 use Rattle.binary_field_theory.proofs.{Products.low-lt, Products.degree-cases, Products.square-sum, Power.squarings-zero, Power.squarings-suc, Power.squarings-lt, Quadratic.trace-bit}
 
--- the digits at 0 and d - 2, added
+-- the sum of the digits at positions 0 and d - 2
 unfoldable pub two-digits : ℕ → ℕ → ℕ
 two-digits d a = (a ⊕ a / 2 ^ (d - 2)) % 2
 

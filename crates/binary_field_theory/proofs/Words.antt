@@ -1,5 +1,5 @@
--- Elements in words of 64 bits, on plain numbers: carry-less products by integer products, from base-16 digits up to two words and
--- their remainder; squares and multisquares by tables; roots, inverses and half-traces.
+-- Elements in words of 64 bits, on plain numbers: carry-less products by integer products, from base-16 digits up to
+-- two words and their remainder; squares and repeated squares by tables; roots, inverses and half-traces.
 pub mod Sixteens
 pub mod Parts
 pub mod Columns

@@ -33,7 +33,7 @@ module _ {K P : Type 0} {F : Field2 K} (A : Polynomials F P) where
   unfoldable pub lift : P → Triple P → Triple P
   lift k T = record { u = T .u; v = T .v ⊞ k · T .u; w = T .w ⊞ k ⊞ k · k · T .u }
 
-  -- a reduction step that does not reduce v: u and w change places
+  -- a step: u and w are exchanged, and v becomes v + 1, not reduced modulo the new u
   unfoldable pub step : Triple P → Triple P
   step T = record { u = T .w; v = T .v ⊞ 𝟙; w = T .u }
 

@@ -1,4 +1,7 @@
--- Repeated squaring as the loop makes it, and the powers 2^k - 1 of an element, from which its inverse is made.
+-- Repeated squaring as the loop computes it, and the powers 2^k - 1 of an element, from which its inverse is made.
+-- `none-squared`, `once-more`, `six-more`, `all-squared`: the loop's invariant at the start, after a turn, at the end.
+-- `joins`: the power 2^(j+k) - 1 from the powers 2^j - 1 and 2^k - 1. `first`: the power 2^1 - 1 is the element.
+-- `last`: the square of the power 2^(d-1) - 1 is the power 2^d - 2.
 use mathlib.Core.Path.{_≡_, ap, ap₂, sym, _∙_}
 use Prim.Native.Nat.{ℕ, _+_, _-_, _*_, _^_, _<_, _≤_}
 use native.Mathlib.{Numerals.add-one, Omega.arith}
@@ -27,7 +30,6 @@ all-squared d a {i} {k} h p q =
 pub multiplied : (d x y : ℕ) {s r : ℕ} → Accepted d → s ≡ x → r ≡ product d s y → (r ≡ product d x y) × (r < 2 ^ d)
 multiplied d x y {s} hd e f = (f ∙ ap (λ (u : ℕ). product d u y) e, rw f (product-lt d (low-lt d hd) s y))
 
--- the power 2^(j+k) - 1 from the powers 2^j - 1 and 2^k - 1
 pub joins : (d a j k : ℕ) {x y r : ℕ} → Accepted d → x ≡ power d a (2 ^ j - 1) → y ≡ power d a (2 ^ k - 1) → r ≡ product d (squarings d k x) y
     → r ≡ power d a (2 ^ (j + k) - 1)
 joins d a j k hd ex ey er =
@@ -36,6 +38,5 @@ joins d a j k hd ex ey er =
 pub first : (d a : ℕ) → Accepted d → a < 2 ^ d → a ≡ power d a (2 ^ 1 - 1)
 first d a hd h = sym (power-one d (low-lt d hd) a h)
 
--- the square of the last is the power 2^d - 2
 pub last : (d a : ℕ) {x r : ℕ} → Accepted d → x ≡ power d a (2 ^ (d - 1) - 1) → r ≡ square d x → r ≡ power d a (2 ^ d - 2)
 last d a hd ex er = er ∙ ap (square d) ex ∙ sym (ones-squared d (low-lt d hd) a)

@@ -1,5 +1,5 @@
--- Two numbers of 32 bits by their parts: the sixteen products of parts, those of one place modulo 4 added and masked, add up to
--- the carry-less product.
+-- Products of two 32-bit numbers by their parts.
+-- `joined`: the sixteen products of parts, added and masked by their position modulo 4, give the carry-less product.
 use mathlib.Core.Path.{_≡_, refl, sym, ap₂, _∙_}
 use Prim.Native.Nat.{ℕ, _*_, _^_, _<_}
 use native.Mathlib.Nat.{mod-eq-of-lt}
@@ -15,7 +15,7 @@ parts a h =
     sym (mod-eq-of-lt h) ∙ sym (and-mask a 32) ∙ sum-mask a 0x3333_3333 0xcccc_cccc
     ∙ ap₂ _⊕_ (sum-mask a 0x1111_1111 0x2222_2222) (sum-mask a 0x4444_4444 0x8888_8888)
 
--- one term for each part of the first number
+-- the sum of one term for each part of the first number
 abbrev pub column : (ℕ → ℕ → ℕ) → ℕ → ℕ → ℕ → ℕ → ℕ
 column f i j k l = (f 0 i ⊕ f 1 j) ⊕ (f 2 k ⊕ f 3 l)
 
@@ -23,7 +23,7 @@ masked : (m : ℕ) (f g : ℕ → ℕ → ℕ) (i j k l : ℕ) → bitAnd (f 0 i
     → bitAnd (f 3 l) m ≡ g 3 l → bitAnd (column f i j k l) m ≡ column g i j k l
 masked m f g i j k l p q r s = simp and-sum (ap₂ _⊕_ (ap₂ _⊕_ p q) (ap₂ _⊕_ r s))
 
--- the products of two sums of four
+-- the product of two sums of four terms
 expand : (f g : ℕ → ℕ)
     → (column (λ i j. clmul (f i) (g j)) 0 3 2 1 ⊕ column (λ i j. clmul (f i) (g j)) 1 0 3 2)
     ⊕ (column (λ i j. clmul (f i) (g j)) 2 1 0 3 ⊕ column (λ i j. clmul (f i) (g j)) 3 2 1 0)
@@ -31,10 +31,11 @@ expand : (f g : ℕ → ℕ)
 expand f g = simp (clmul-sum, sum-clmul, sums)
 
 module _ (a b : ℕ) where
-  -- the integer product of a part of a and a part of b, and the carry-less one
+  -- the integer product of a part of a and a part of b
   abbrev pub whole : ℕ → ℕ → ℕ
   whole i j = part i a * part j b
 
+  -- their carry-less product
   abbrev carryless : ℕ → ℕ → ℕ
   carryless i j = clmul (part i a) (part j b)
 

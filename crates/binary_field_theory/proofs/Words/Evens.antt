@@ -1,5 +1,9 @@
--- The digits at even places: the code brings them together in ever longer runs; and a number is its digits at even places,
--- spread, and those at odd places, spread and moved up by one. Both are equations of additive maps, tested at each power of t.
+-- The digits at even positions.
+-- `gathered-evens`: the code joins them in runs that double in length.
+-- `evens-parts`: a number is the sum of its digits at even positions, spread, and of those at odd positions, spread and
+-- shifted up by one.
+-- `evens-le`, `evens-lt`: the joined digits are at most the number, and have half as many bits.
+-- The first two are equations of additive maps, which are compared at each power of t.
 use mathlib.Core.Path.{_≡_, refl, sym}
 use Prim.Native.Nat.{ℕ, zero, suc, _+_, _*_, _/_, _^_, _<_, _≤_}
 use native.Mathlib.Omega.{arith}
@@ -9,7 +13,7 @@ use Rattle.binary_field_theory.proofs.Sums.{bit-lt, sum-half, sum-odd, 
 use Rattle.binary_field_theory.proofs.{Linear.Additive, Linear.basis, Linear.same, Linear.same-at, Spread.spread-sum}
 
 -- ---- the operations are additive
--- runs of s digits that stand s apart are joined two by two
+-- runs of s digits, each followed by s zeros, are joined in pairs
 unfoldable pub gather : ℕ → ℕ → ℕ → ℕ
 gather s m n = bitAnd (n ⊕ (n / 2 ^ s)) m
 
@@ -23,6 +27,7 @@ evens-additive zero a b = sym (sum-self 0)
 evens-additive (suc k) a b =
     rw (sum-shr a b 2, evens-additive k, sum-odd) (double-plus-sum _ _ _ _ (bit-lt a) (bit-lt b))
 
+-- the 32 digits at even positions of a word, joined as the code does it
 unfoldable pub gathered : ℕ → ℕ
 gathered n =
     gather 16 0xffff_ffff (gather 8 0x0000_ffff_0000_ffff (gather 4 0x00ff_00ff_00ff_00ff
@@ -37,7 +42,7 @@ pub gathered-evens : (n : ℕ) → n < 2 ^ 64 → gathered n ≡ evens 32 n
 unfolding same gathered gather evens _⊕_
 gathered-evens = basis gathered (evens 32) gathered-additive (evens-additive 32) 64 (same-at gathered (evens 32) 64 tt)
 
--- ---- a number is its digits at even places, spread, and those at odd places, spread and moved up by one
+-- ---- a number from its digits at even and at odd positions
 parts : ℕ → ℕ
 parts n = spread (evens 32 n) ⊕ 2 * spread (evens 32 (n / 2))
 

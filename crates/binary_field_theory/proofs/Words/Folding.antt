@@ -1,5 +1,8 @@
--- Folding in two rounds, modulo t^d + low where d = e + k. Of the digits from d on, those from d + k on are taken first, times low:
--- what of these multiples lies below d is added there, and what reaches past it to the digits that are left, which are taken then.
+-- Reduction modulo t^d + low in two rounds of folding, where d = e + k.
+-- The digits from position d + k on are multiplied by low first: the part of the multiple below d is added there,
+-- and the part from d on is added to the remaining digits, which are multiplied by low in the second round.
+-- `two-rounds`: both rounds give the remainder, if the multiple of the second round is below 2^d.
+-- `left-61`, `fold-61`: the rounds of the code for degree 61. `left-5`, `fold-5`: those for degree 5.
 use mathlib.Core.Path.{_≡_, sym, ap, ap₂, _∙_}
 use Prim.Native.Nat.{ℕ, _+_, _-_, _*_, _/_, _%_, _^_, _<_}
 use native.Mathlib.{Omega.arith, Nat.add-comm, Nat.add-zero, Nat.lt-of-lt-of-le}
@@ -8,7 +11,7 @@ use Rattle.binary_field_theory.specs.Carryless.{_⊕_, clmul, remainder}
 use Rattle.binary_field_theory.proofs.Sums.{sums, zero-sum, sum-lt, sum-split}
 use Rattle.binary_field_theory.proofs.{Clmul.sum-clmul, Clmul.shl-clmul, Remainder.remainder-fold, Remainder.remainder-sum, Remainder.remainder-small, Words.Sizes.clmul-lt}
 
--- digits moved up by k: those from e + k on, and those below
+-- digits shifted up by k: those from position e + k on, and those below
 moved-high : (e k n : ℕ) → n * 2 ^ k / 2 ^ (e + k) ≡ n / 2 ^ e
 moved-high e k n =
     ap (λ j. n * 2 ^ k / 2 ^ j) (add-comm e k) ∙ sym (shr-shr (n * 2 ^ k) k e) ∙ ap (λ x. x / 2 ^ e) (shl-shr n k)
@@ -20,7 +23,7 @@ moved-low e k n =
     ∙ add-zero _
 
 module _ (e k m : ℕ) (l : m < 2 ^ (e + k)) where
-  -- the first round: hi by its digits from k on, and those below
+  -- the first round: the digits of hi from k on, and those below
   first-round : (hi : ℕ)
       → remainder (e + k) m (clmul hi m)
       ≡ remainder (e + k) m (clmul (hi % 2 ^ k ⊕ clmul (hi / 2 ^ k) m / 2 ^ e) m) ⊕ clmul (hi / 2 ^ k) m % 2 ^ e * 2 ^ k
@@ -36,7 +39,6 @@ module _ (e k m : ℕ) (l : m < 2 ^ (e + k)) where
       ∙ ap (λ x. x ⊕ remainder (e + k) m (clmul (hi % 2 ^ k) m)) moved
       ∙ simp (sum-clmul, remainder-sum (e + k) m l, sums)
 
-  -- both rounds, where the multiples of the second do not reach past d
   pub two-rounds : (hi lo : ℕ) {first second : ℕ} → lo < 2 ^ (e + k) → first ≡ clmul (hi / 2 ^ k) m
       → second ≡ clmul (hi % 2 ^ k ⊕ first / 2 ^ e) m → second < 2 ^ (e + k)
       → (lo ⊕ first % 2 ^ e * 2 ^ k) ⊕ second ≡ remainder (e + k) m (hi * 2 ^ (e + k) + lo)
@@ -48,9 +50,9 @@ module _ (e k m : ℕ) (l : m < 2 ^ (e + k)) where
       ∙ ap (λ x. x ⊕ lo) (first-round hi)
       ∙ rw (← ef, ← es, small) (simp sums))
 
--- ---- what the code computes for degree 61: the bits from t^117 on are taken first
+-- ---- degree 61: the bits from t^117 on are folded first
 module _ (hi first : ℕ) (hh : hi < 2 ^ 61) (ef : first ≡ clmul (hi / 2 ^ 56) 39) where
-  -- the bits that are left are 56
+  -- 56 bits are left for the second round
   pub left-61 : bitAnd hi (2 ^ 56 - 1) ⊕ first / 2 ^ 5 < 2 ^ 56
   left-61 =
       let l : first < 2 ^ 10 = rw ef (clmul-lt 5 5 (hi / 2 ^ 56) 39 (omega arith) (lit< tt)) in
@@ -63,9 +65,9 @@ module _ (hi first : ℕ) (hh : hi < 2 ^ 61) (ef : first ≡ clmul (hi / 2 ^ 56)
       ap (λ x. (lo ⊕ x) ⊕ second) p
       ∙ two-rounds 5 56 39 (lit< tt) hi lo hl ef (rw (and-mask hi 56) at es) (rw es (clmul-lt 56 5 _ 39 left-61 (lit< tt)))
 
--- ---- and for degree 5: all bits from t^5 on are taken first
+-- ---- degree 5: all bits from t^5 on are folded first
 module _ (n first : ℕ) (hn : n < 2 ^ 10) (ef : first ≡ clmul (n / 2 ^ 5) 5) where
-  -- and two are left
+  -- two bits are left for the second round
   pub left-5 : first / 2 ^ 5 < 2 ^ 2
   left-5 = let l : first < 2 ^ 7 = rw ef (clmul-lt 5 2 (n / 2 ^ 5) 5 (omega arith) (lit< tt)) in omega arith
 

@@ -1,4 +1,7 @@
--- A number spread by its halves, as the code joins them in a word, and one of 61 digits spread to two words.
+-- Numbers spread by their halves.
+-- `spread-parts`: the k lowest digits and the rest are spread separately.
+-- `spread-joined`: the two results joined in a word, as the code does it.
+-- `spread-words`: a number of 61 digits spread to two words, the digits below position 61 and those from 61 on.
 use mathlib.Core.Path.{_≡_, ap, sym, _∙_}
 use Prim.Native.Nat.{ℕ, _+_, _-_, _*_, _/_, _%_, _^_, _<_, _≤_}
 use native.Mathlib.{Nat.mod-lt, Omega.arith}
@@ -6,12 +9,10 @@ use lib.{Pow.pow-pos, Pow.split, Pow.shl-exact, Pow.shr-lt, Bits.bitXor, Bits.bi
 use Rattle.binary_field_theory.specs.Carryless.{spread}
 use Rattle.binary_field_theory.proofs.Spread.{spread-block, spread-lt}
 
--- the k lowest digits and the rest are spread apart
 pub spread-parts : (k w : ℕ) → spread (w / 2 ^ k) * 2 ^ (k + k) + spread (bitAnd w (2 ^ k - 1)) ≡ spread w
 spread-parts k w =
     rw (and-mask w k) (sym (spread-block k (w / 2 ^ k) (w % 2 ^ k) (mod-lt w (pow-pos k))) ∙ ap spread (split w k))
 
--- and joined in a word
 pub spread-joined : (k w : ℕ) → w < 2 ^ (k + k) → k + k + (k + k) ≤ 64
     → bitXor (spread (w / 2 ^ k) * 2 ^ (k + k) % 2 ^ 64) (spread (bitAnd w (2 ^ k - 1))) ≡ spread w
 spread-joined k w h e =
@@ -21,7 +22,6 @@ spread-joined k w h e =
     )
     (spread-parts k w)
 
--- what the two halves of a number of 61 digits spread to, taken as the digits below 61 and those from 61 on
 pub spread-words : (a : ℕ) {high low : ℕ} → a < 2 ^ 61 → high ≡ spread (a / 2 ^ 32) → low ≡ spread (bitAnd a (2 ^ 32 - 1))
     → bitXor (high * 8 % 2 ^ 64) (low / 2 ^ 61) * 2 ^ 61 + bitAnd low (2 ^ 61 - 1) ≡ spread a
 spread-words a {high} {low} ha eh el =

@@ -1,4 +1,4 @@
--- Karatsuba's rule for carry-less products, and its result as two words of 61 bits.
+-- Karatsuba's rule for carry-less products (`karatsuba`), and its result as two words of 61 bits (`words`).
 use mathlib.Core.Path.{_≡_, sym, ap, ap₂, _∙_}
 use Prim.Native.Nat.{ℕ, _+_, _-_, _*_, _/_, _%_, _^_, _<_}
 use native.Mathlib.{Omega.arith, Nat.div-eq-of-lt, Nat.lt-of-lt-of-le}
@@ -12,7 +12,7 @@ pub karatsuba : (k a0 a1 b0 b1 : ℕ)
     ≡ clmul a1 b1 * 2 ^ k * 2 ^ k ⊕ ((clmul (a0 ⊕ a1) (b0 ⊕ b1) ⊕ (clmul a0 b0 ⊕ clmul a1 b1)) * 2 ^ k ⊕ clmul a0 b0)
 karatsuba k a0 a1 b0 b1 = simp (clmul-sum, sum-clmul, clmul-shl, shl-clmul, sum-shl, sums)
 
--- the digits from 61 on
+-- the high word: the digits from position 61 on
 high : (l m h : ℕ) → l < 2 ^ 61 → h < 2 ^ 63
     → (h * 2 ^ 31 * 2 ^ 31 ⊕ (m * 2 ^ 31 ⊕ l)) / 2 ^ 61 ≡ (m / 2 ^ 30) ⊕ (h * 2 ^ 1 % 2 ^ 64)
 high l m h hl hh =
@@ -22,7 +22,7 @@ high l m h hl hh =
     ∙ ap₂ _⊕_ p (sum-shr (m * 2 ^ 31) l 61 ∙ ap₂ _⊕_ q (div-eq-of-lt hl) ∙ sum-zero (m / 2 ^ 30))
     ∙ sum-comm (h * 2 ^ 1 % 2 ^ 64) (m / 2 ^ 30)
 
--- the digits below
+-- the low word: the digits below position 61
 low : (l m h : ℕ) → (h * 2 ^ 31 * 2 ^ 31 ⊕ (m * 2 ^ 31 ⊕ l)) % 2 ^ 61 ≡ bitAnd (l ⊕ (m * 2 ^ 31 % 2 ^ 64)) (2 ^ 61 - 1)
 low l m h =
     let p : h * 2 ^ 31 * 2 ^ 31 % 2 ^ 61 ≡ 0 = omega arith in
@@ -34,7 +34,7 @@ low l m h =
 halves : (a : ℕ) → (a / 2 ^ 31 * 2 ^ 31) ⊕ bitAnd a (2 ^ 31 - 1) ≡ a
 halves a = ap (λ x. a / 2 ^ 31 * 2 ^ 31 ⊕ x) (and-mask a 31) ∙ sym (sum-split a 31)
 
--- what wide_product computes: l, h and s are the products of the low halves, of the high halves and of their sums
+-- the result of wide_product: l, h and s are the products of the low halves, of the high halves and of their sums
 module _ (a b l h s : ℕ) (ha : a < 2 ^ 61) (hb : b < 2 ^ 61)
     (el : l ≡ clmul (bitAnd a (2 ^ 31 - 1)) (bitAnd b (2 ^ 31 - 1))) (eh : h ≡ clmul (a / 2 ^ 31) (b / 2 ^ 31))
     (es : s ≡ clmul (bitAnd a (2 ^ 31 - 1) ⊕ a / 2 ^ 31) (bitAnd b (2 ^ 31 - 1) ⊕ b / 2 ^ 31)) where

@@ -1,6 +1,8 @@
--- Multiples that do not meet. Where the ones of a number stand more than b places apart, its integer product with a number of b + 1
--- bits carries nothing, and is their carry-less product. What masks of such ones pick from a number, each part times the other,
--- adds up to the carry-less product of the two where the masks make up all its bits.
+-- Integer products of numbers whose ones are far apart.
+-- `no-carry`: if the ones of a mask are more than b positions apart, the integer product of the masked number with a
+-- number of b + 1 bits carries nothing, and is their carry-less product.
+-- `parts-joined`, `all-picked`: such products for masks that together select all bits of a number add up to the
+-- carry-less product of the two.
 use mathlib.Core.{Path._≡_, Path.sym, Path.ap, Path.ap₂, Path._∙_, Bool.Bool, Bool._&&_, Bool._||_, Logic._⊎_, Logic.inl, Logic.inr}
 use Prim.Native.Nat.{ℕ, zero, suc, _+_, _-_, _*_, _/_, _%_, _^_, _<_}
 use native.Mathlib.{Omega.arith, Nat.zero-mul, Nat.mod-eq-of-lt, Nat.pow-suc}
@@ -9,7 +11,7 @@ use mir.Facts.{and-yes, or-yes}
 use Rattle.binary_field_theory.specs.Carryless.{_⊕_, clmul}
 use Rattle.binary_field_theory.proofs.{Sums.bit-lt, Sums.bit-cases, Sums.sum-comm, Sums.sum-shifted, Sums.zero-sum, Sums.sum-mask, Clmul.clmul-step, Clmul.zero-clmul, Clmul.sum-clmul}
 
--- n has k bits, and after each one at least b zeros
+-- n has at most k bits, and each one is followed by at least b zeros
 unfoldable pub apart : ℕ → ℕ → ℕ → Bool
 apart b zero n = eqb n 0
 apart b (suc k) n = (eqb (n % 2) 0 || eqb (n / 2 % 2 ^ b) 0) && apart b k (n / 2)
@@ -18,7 +20,7 @@ module _ (b m : ℕ) (hm : m < 2 ^ suc b) where
   bit-multiple : (x : ℕ) → x < 2 → x * m < 2 ^ suc b
   bit-multiple = bit-cases (λ x. x * m < 2 ^ suc b) (omega arith) (omega arith)
 
-  -- the multiple of the lowest bit and the others: one of them is 0, or they do not meet
+  -- the multiples of the lowest bit and of the others do not overlap, or one of them is 0
   meets-none : (x y : ℕ) → x < 2 → (x ≡ 0) ⊎ (y % 2 ^ b ≡ 0) → x * m ⊕ 2 * (y * m) ≡ (2 * y + x) * m
   meets-none x y hx (inl e) =
       let f : x * m ≡ 0 = rw e (zero-mul m) in
@@ -30,7 +32,6 @@ module _ (b m : ℕ) (hm : m < 2 ^ suc b) where
       ap (λ z. x * m ⊕ z) p ∙ sum-comm (x * m) (q * m * 2 ^ suc b) ∙ sum-shifted (q * m) (suc b) (x * m) (bit-multiple x hx)
       ∙ omega (arith, p)
 
-  -- the ones of n that a mask picks whose ones stand apart
   pub no-carry : (k n mask : ℕ) → T (apart b k mask) → bitAnd n mask * m ≡ clmul (bitAnd n mask) m
   unfolding apart
   no-carry zero n mask t =
@@ -53,11 +54,10 @@ module _ (b m : ℕ) (hm : m < 2 ^ suc b) where
       cases half (inr t) = inr (ap (λ y. y % 2 ^ b) half ∙ and-mod (n / 2) (mask / 2) b ∙ rw (eqb→eq (mask / 2 % 2 ^ b) 0 t) (and-zero-r (n / 2 % 2 ^ b)))
 
 module _ (n m : ℕ) where
-  -- what two masks pick, and what they make up together
   pub parts-joined : (p q : ℕ) {x y : ℕ} → x ≡ clmul (bitAnd n p) m → y ≡ clmul (bitAnd n q) m → x ⊕ y ≡ clmul (bitAnd n (p ⊕ q)) m
   parts-joined p q ex ey =
       ap₂ _⊕_ ex ey ∙ sym (sum-clmul (bitAnd n p) (bitAnd n q) m) ∙ ap (λ z. clmul z m) (sym (sum-mask n p q))
 
-  -- a mask of k ones picks all bits of a number of k bits
+  -- a mask of k ones selects all bits of a number of k bits
   pub all-picked : (k mask : ℕ) {x : ℕ} → n < 2 ^ k → mask ≡ 2 ^ k - 1 → x ≡ clmul (bitAnd n mask) m → x ≡ clmul n m
   all-picked k mask h e ex = ex ∙ ap (λ z. clmul z m) (ap (bitAnd n) e ∙ and-mask n k ∙ mod-eq-of-lt h)

@@ -1,5 +1,8 @@
--- The table of the elements squared six times. Squaring is additive, so the rule is tested at the powers of t alone, which are the
--- digits 1, 2, 4 and 8 at each place: each is the one before it times t^64. Every other entry is tested to be the sum of those.
+-- The table of the elements squared six times.
+-- `by-tests`: the rule holds if two computed tests pass. Squaring is additive, so that the rule is tested at the powers
+-- of t alone, which are the digits 1, 2, 4 and 8 at each position: each value is t^64 times the one before it.
+-- Every other entry is tested to be the sum of those.
+-- `no-digit`, `place-lt`, `one-digit-more`, `all-digits`: the loop over the digits, the lowest first.
 use mathlib.Core.{Path._≡_, Path.refl, Path.ap, Path.sym, Path._∙_, Bool.Bool, Bool.true, Bool._&&_, List.List, List.[], List._∷_}
 use Prim.Native.Nat.{ℕ, zero, suc, _+_, _*_, _/_, _%_, _^_, _<_, _≤_}
 use native.Mathlib.{Nat.mod-lt, Nat.mod-eq-of-lt, Nat.lt-of-lt-of-le, Nat.add-zero, Nat.zero-add, Nat.le-of-suc-le-suc, Nat.not-suc-le-zero, Omega.arith}
@@ -8,12 +11,12 @@ use lib.ListN.{length, getD, drop}
 use Rattle.binary_field_theory.specs.{Carryless._⊕_, Carryless.digits-to, Carryless.digits, Carryless.spread, Carryless.reduce, Carryless.remainder, Element.low, Element.product, Element.squarings, Chain.spreadings, Spreading.every, Multisquaring.Multisquares}
 use Rattle.binary_field_theory.proofs.{Sums.sum-comm, Sums.sum-shifted, Linear.additive-zero, Linear.basis, Linear.both, Linear.combine, Linear.combine-additive, Linear.combine-at, Linear.combine-drop, Chain.spreadings-squarings, Products.low-lt, Products.two-product, Power.squarings-sum, Power.squarings-one, Power.squarings-product, Power.squarings-remainder, Words.Table.each-entry}
 
--- the entries of the digits 1, 2, 4 and 8 at k places
+-- the entries of the digits 1, 2, 4 and 8 at k positions
 unfoldable pub powers : ℕ → List ℕ → List ℕ
 powers zero xs = []
 powers (suc k) xs = getD xs 1 0 ∷ getD xs 2 0 ∷ getD xs 4 0 ∷ getD xs 8 0 ∷ powers k (drop 16 xs)
 
--- the number of which an entry is the power: a digit at its place
+-- the number that entry n squares six times: a digit at its position
 digit : ℕ → ℕ
 digit n = n % 16 * 2 ^ (4 * (n / 16))
 
@@ -22,12 +25,12 @@ unfolding digit
 digit-lt n h =
     lt-of-lt-of-le (shl-lt 4 (4 * (n / 16)) (omega arith)) (pow-mono {j = 64} (omega arith))
 
--- the test at the powers of t: each value is v, and the next is 0x138, which is t^64, times it
+-- the test at the powers of t: the first value is v, and each is 0x138, which is t^64, times the one before it
 unfoldable pub powers-test : ℕ → List ℕ → Bool
 powers-test v [] = true
 powers-test v (x ∷ xs) = eqb x v && powers-test (product 61 0x138 x) xs
 
--- the test of all entries
+-- the test of all entries: each is the sum of the entries of its digit's bits
 unfoldable pub sums-test : List ℕ → Bool
 sums-test xs = let vs = powers 16 xs in every (λ n. combine (drop (4 * (n / 16)) vs) (n % 16)) 0 xs
 
@@ -69,7 +72,7 @@ module _ (xs : List ℕ) (e : length xs ≡ 256) (t : T (powers-test 1 (powers 1
             ∙ combine-drop (4 * (n / 16)) (powers 16 xs) (n % 16) ∙ sym (combined (digit n) (digit-lt n h));
       }
 
--- ---- the loop over the digits, the lowest first
+-- ---- the loop over the digits
 pub no-digit : (a : ℕ) → 0 ≡ squarings 61 6 (a % 2 ^ (4 * 0))
 no-digit a =
     let e : a % 2 ^ 0 ≡ 0 = omega arith in

@@ -1,5 +1,5 @@
--- The parts of a 32-bit number: the bits whose places are i modulo 4, as a mask picks them. The integer product of two parts, masked
--- in turn, is their carry-less product.
+-- The parts of a 32-bit number: the bits at the positions that are i modulo 4, which a mask selects.
+-- `near`, `far`: the integer product of two parts, masked, is their carry-less product.
 use mathlib.Core.Path.{_≡_, sym, ap, ap₂, _∙_}
 use Prim.Native.Nat.{ℕ, zero, suc, _+_, _*_, _/_, _%_, _^_}
 use native.Mathlib.{Omega.arith, Nat.mod-lt, Nat.add-zero}
@@ -8,12 +8,12 @@ use Rattle.binary_field_theory.specs.Carryless.{clmul}
 use Rattle.binary_field_theory.proofs.Clmul.{clmul-shl, shl-clmul}
 use Rattle.binary_field_theory.proofs.Words.Sixteens.{lows, Digits, lows-digits, digits-more, lows-shift, product-carryless}
 
--- k digits 1 in base 16
+-- the number with k base-16 digits, all 1
 unfoldable pub ones : ℕ → ℕ
 ones zero = 0
 ones (suc k) = ones k * 16 + 1
 
--- the bits of n at the places i, i + 4, .., i + 28
+-- the bits of n at the positions i, i + 4, .., i + 28
 unfoldable pub part : ℕ → ℕ → ℕ
 part i n = bitAnd n (ones 8 * 2 ^ i)
 
@@ -28,7 +28,7 @@ and-ones (suc k) n =
     ∙ ap₂ (λ u v. u * 16 + v) (and-ones k (n / 16)) (and-mask (n % 16) 1 ∙ f)
     ∙ omega arith
 
--- a mask of k ones from bit i on
+-- a mask of k ones, four apart, from bit i on
 and-part : (k i n : ℕ) → bitAnd n (ones k * 2 ^ i) ≡ lows k (n / 2 ^ i) * 2 ^ i
 and-part k i n =
     ap₂ bitAnd (sym (split n i)) (sym (add-zero (ones k * 2 ^ i)))
@@ -50,7 +50,7 @@ sixteen : (v s c : ℕ) → s ≡ c + 4 → v * 2 ^ s ≡ 16 * v * 2 ^ c
 sixteen v s c e = rw (e, pow-add 2 c 4) (omega arith)
 
 module _ (i j a b : ℕ) (da : Digits 1 8 a) (db : Digits 1 8 b) where
-  -- the places of the two parts add up to the mask's place
+  -- the positions i and j of the two parts add up to that of the mask
   near-lows : bitAnd ((a * 2 ^ i) * (b * 2 ^ j)) (ones 16 * 2 ^ (i + j)) ≡ clmul (a * 2 ^ i) (b * 2 ^ j)
   near-lows =
       ap (λ v. bitAnd v (ones 16 * 2 ^ (i + j))) (swap a b i j)
@@ -59,7 +59,7 @@ module _ (i j a b : ℕ) (da : Digits 1 8 a) (db : Digits 1 8 b) where
       (ap (lows 16) (shl-shr (a * b) (i + j)) ∙ product-carryless 8 8 a b (lit≤ tt) da (digits-more 1 8 b db) .lowest)
       ∙ sym (shift-both i j a b)
 
-  -- or to that and a whole base-16 digit
+  -- the positions i and j add up to that of the mask plus one base-16 digit
   far-lows : (c : ℕ) → i + j ≡ c + 4 → bitAnd ((a * 2 ^ i) * (b * 2 ^ j)) (ones 16 * 2 ^ c) ≡ clmul (a * 2 ^ i) (b * 2 ^ j)
   far-lows c e =
       ap (λ v. bitAnd v (ones 16 * 2 ^ c)) (swap a b i j ∙ sixteen (a * b) (i + j) c e)
@@ -69,7 +69,7 @@ module _ (i j a b : ℕ) (da : Digits 1 8 a) (db : Digits 1 8 b) where
       ∙ ap (λ v. 16 * v) (product-carryless 8 7 a b (lit≤ tt) da db .lowest))
       ∙ sym (shift-both i j a b ∙ sixteen (clmul a b) (i + j) c e)
 
--- the same of the parts of any two numbers
+-- the same for the parts of any two numbers
 module _ (a b i j : ℕ) where
   pub near : bitAnd (part i a * part j b) (ones 16 * 2 ^ (i + j)) ≡ clmul (part i a) (part j b)
   near =

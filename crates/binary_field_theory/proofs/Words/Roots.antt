@@ -1,4 +1,8 @@
--- The square root as the code makes it, of the digits at even and odd places and the root of t.
+-- The square root as the code computes it, from the digits at even and at odd positions and the root of t.
+-- `times-root`: the square of n times a root of t is t times the square of n.
+-- `root-made`: the result of the code is the root.
+-- `odd-below`: the digits at odd positions, joined, are an element of at most 30 digits.
+-- `root-5`, `root-61`: the roots of t for both degrees.
 use mathlib.Core.Path.{_≡_, refl, ap, ap₂, sym, _∙_}
 use Prim.Native.Nat.{ℕ, _*_, _/_, _^_, _<_}
 use native.Mathlib.Omega.{arith}
@@ -6,7 +10,7 @@ use lib.Bits.{bitXor}
 use Rattle.binary_field_theory.specs.{Carryless._⊕_, Carryless.clmul, Carryless.spread, Carryless.reduce, Carryless.remainder, Carryless.digits, Carryless.digits-to, Element.Accepted, Element.low, Element.product, Element.square, Element.root, Spreading.evens}
 use Rattle.binary_field_theory.proofs.{Sums.sum-lt, Remainder.remainder-sum, Remainder.remainder-small, Remainder.remainder-double, Remainder.remainder-idem, Products.low-lt, Products.product-lt, Products.product-comm, Products.two-product, Products.square-sum, Products.square-product, Products.square-spread, Certificate.certified, Frobenius.square-root, Frobenius.square-injective, Frobenius.root-lt, Degrees.digits-61, Words.Evens.evens-parts, Words.Evens.evens-le, Words.Evens.evens-lt}
 
--- the square of what the code makes is the element
+-- the square of the code's result is the element
 module _ (d : ℕ) (hd : Accepted d) where
   fits : low d < 2 ^ d
   fits = low-lt d hd
@@ -17,7 +21,6 @@ module _ (d : ℕ) (hd : Accepted d) where
       ∙ remainder-double d (low d) (remainder d (low d) (spread o))
       ∙ ap (λ (x : ℕ). reduce d (low d) (2 * x)) (remainder-idem d (low d) fits (spread o)) ∙ sym (remainder-double d (low d) (spread o))
 
-  -- a root of t times n: its square is t times that of n
   pub times-root : (n s : ℕ) {p : ℕ} → square d s ≡ 2 → p ≡ product d n s → (square d p ≡ product d 2 (square d n)) × (p < 2 ^ d)
   times-root n s e f =
       (ap (square d) f ∙ square-product d fits n s ∙ ap (product d (square d n)) e ∙ product-comm d (square d n) 2, rw f (product-lt d fits n s))
@@ -29,7 +32,6 @@ module _ (d : ℕ) (hd : Accepted d) where
       ∙ sym (remainder-sum d (low d) fits (spread (evens 32 a)) (2 * spread (evens 32 (a / 2))))
       ∙ ap (remainder d (low d)) (evens-parts a (omega (arith, digits-61 a d hd ha))) ∙ remainder-small d (low d) fits a ha
 
-  -- and so what the code makes is the root
   pub root-made : (a e o p : ℕ) → a < 2 ^ d → e ≡ evens 32 a → o ≡ evens 32 (a / 2)
       → (square d p ≡ product d 2 (square d o)) × (p < 2 ^ d) → bitXor e p ≡ root d a
   unfolding _⊕_
@@ -40,12 +42,10 @@ module _ (d : ℕ) (hd : Accepted d) where
       (sum-lt d (evens 32 a) p (omega (arith, evens-le 32 a)) hp) (root-lt d fits f a ha)
       (root-squared a p ha (rw eo at ep) ∙ sym (square-root d fits f a ha)))
 
--- the digits at odd places
 pub odd-below : (d a o : ℕ) → Accepted d → a < 2 ^ d → o ≡ evens 32 (a / 2) → (o < 2 ^ d) × (o < 2 ^ 30)
 odd-below d a o hd ha e =
     (omega (arith, evens-le 32 (a / 2)), rw e (evens-lt 32 30 (a / 2) (omega (arith, digits-61 a d hd ha))))
 
--- the roots of t
 pub root-5 : square 5 0x1b ≡ 2
 unfolding square product remainder reduce clmul low digits digits-to _⊕_
 root-5 = refl

@@ -1,5 +1,6 @@
--- The carry-less product of a number and the root of t, as the code makes it in two words: times 1 + t, 1 + t^2, .. and moved up for
--- the run of 32 powers, and the few other powers one by one. Both sides are additive maps, tested at each power of t.
+-- The carry-less product of a number and the root of t, as the code computes it in two words (`wide-words`).
+-- The root has a run of 32 powers, computed by factors 1 + t, 1 + t^2, .. and a shift, and four other powers.
+-- Both sides are additive maps, which are compared at each power of t.
 use mathlib.Core.Path.{_≡_, ap, sym, _∙_}
 use Prim.Native.Nat.{ℕ, _+_, _-_, _*_, _/_, _%_, _^_, _<_}
 use lib.Bits.{bitAnd, mask-lt}
@@ -7,7 +8,7 @@ use Rattle.binary_field_theory.specs.Carryless.{_⊕_, clmul, digits, di
 use Rattle.binary_field_theory.proofs.{Sums.sum-shl, Sums.sum-mod, Sums.sum-shr, Sums.sum-middle, Sums.sum-shifted, Sums.and-sum, Clmul.sum-clmul}
 use Rattle.binary_field_theory.proofs.Linear.{Additive, basis, same, same-at}
 
--- moved up by k places in a word
+-- n shifted up by k bits in a word
 unfoldable pub up : ℕ → ℕ → ℕ
 up k n = n * 2 ^ k % 2 ^ 64
 
@@ -15,7 +16,7 @@ up-additive : (k : ℕ) → Additive (up k)
 unfolding up
 up-additive k a b = ap (λ x. x % 2 ^ 64) (sum-shl a b k) ∙ sum-mod (a * 2 ^ k) (b * 2 ^ k) 64
 
--- times 1 + t^k
+-- n times 1 + t^k in a word
 unfoldable pub doubled : ℕ → ℕ → ℕ
 doubled k n = n ⊕ up k n
 
@@ -23,6 +24,7 @@ doubled-additive : (k : ℕ) → Additive (doubled k)
 unfolding doubled
 doubled-additive k a b = rw (up-additive k a b) (sum-middle a b (up k a) (up k b))
 
+-- n times 1 + t + .. + t^31 in a word
 unfoldable pub run : ℕ → ℕ
 run n = doubled 16 (doubled 8 (doubled 4 (doubled 2 (doubled 1 n))))
 
@@ -30,6 +32,7 @@ run-additive : Additive run
 unfolding run
 run-additive a b = rw (doubled-additive 1, doubled-additive 2, doubled-additive 4, doubled-additive 8, doubled-additive 16)
 
+-- n times the other powers of the root, t + t^4 + t^5 + t^6, in a word
 unfoldable pub rest : ℕ → ℕ
 rest n = (up 1 n ⊕ up 4 n) ⊕ (up 5 n ⊕ up 6 n)
 
@@ -38,6 +41,7 @@ unfolding rest
 rest-additive a b =
     rw (up-additive 1, up-additive 4, up-additive 5, up-additive 6, sum-middle (up 1 a), sum-middle (up 5 a)) (sum-middle _ _ _ _)
 
+-- the 61 lowest bits of the product
 unfoldable pub low-word : ℕ → ℕ
 low-word n = bitAnd (up 31 (run n) ⊕ rest n) (2 ^ 61 - 1)
 

@@ -1,5 +1,6 @@
--- Integer products as carry-less ones. Where each base-16 digit of A and B is 0 or 1 and A has at most 15 digits, no digit of A * B
--- exceeds 15, so that nothing is carried, and the lowest bits of the digits are the carry-less product of A and B.
+-- Integer products as carry-less products.
+-- `product-carryless`: if each base-16 digit of a and b is 0 or 1 and a has at most 15 digits, no digit of a * b
+-- exceeds 15, so that nothing is carried, and the lowest bits of the digits are the carry-less product of a and b.
 use mathlib.Core.Path.{_≡_, refl, sym, ap, ap₂, subst, _∙_}
 use Prim.Native.Nat.{ℕ, zero, suc, _+_, _*_, _/_, _%_, _^_, _<_, _≤_, zero-le}
 use native.Mathlib.{Omega.arith, Nat.add-mod, Nat.mod-lt, Nat.zero-add, Nat.suc-add, Nat.add-suc, Nat.zero-mul, Nat.div-add-mod, Numerals.one-add}
@@ -7,12 +8,12 @@ use lib.{Dec.lit<, Bits.xor-block}
 use Rattle.binary_field_theory.specs.Carryless.{_⊕_, clmul}
 use Rattle.binary_field_theory.proofs.{Sums.bit-cases, Clmul.clmul-step, Clmul.double-clmul, Clmul.zero-clmul}
 
--- the lowest bits of the k lowest base-16 digits of n, each in its place
+-- the lowest bits of the k lowest base-16 digits of n, each at the position of its digit
 unfoldable pub lows : ℕ → ℕ → ℕ
 lows zero n = 0
 lows (suc k) n = n % 2 + 16 * lows k (n / 16)
 
--- n has k base-16 digits, and each is at most c
+-- n has at most k base-16 digits, and each is at most c
 unfoldable pub Digits : ℕ → ℕ → ℕ → Type 0
 Digits c zero n = n ≡ 0
 Digits c (suc k) n = (n % 16 ≤ c) × Digits c k (n / 16)
@@ -24,7 +25,7 @@ lows-digits (suc k) n =
     let e : (n % 2 + 16 * lows k (n / 16)) / 16 ≡ lows k (n / 16) = omega arith in
     (omega arith, subst (Digits 1 k) (sym e) (lows-digits k (n / 16)))
 
--- a number of digits 0 and 1 is its own
+-- a number whose digits are 0 and 1 stays the same
 lows-same : (k n : ℕ) → Digits 1 k n → lows k n ≡ n
 unfolding lows Digits
 lows-same zero n d = sym d
@@ -43,7 +44,7 @@ unfolding Digits
 digits-more c zero n d = subst (Digits c 1) (sym d) (digits-zero c 1)
 digits-more c (suc k) n d = (d .0, digits-more c k (n / 16) (d .1))
 
--- sums with nothing carried
+-- the digits of a sum in which nothing is carried
 digits-add : (p q k m n : ℕ) → p + q ≤ 15 → Digits p k m → Digits q k n → Digits (p + q) k (m + n)
 unfolding Digits
 digits-add p q zero m n h d e = omega arith
@@ -58,7 +59,7 @@ unfolding _⊕_
 bit-xor x y hx hy =
     bit-cases (λ x. x ⊕ y ≡ (x + y) % 2) (omega arith) (bit-cases (λ y. 1 ⊕ y ≡ (1 + y) % 2) refl refl y hy) x hx
 
--- exclusive or works on the lowest base-16 digit and on the rest apart
+-- exclusive or works separately on the lowest base-16 digit and on the rest
 xor-digit : (x y m n : ℕ) → x < 2 → y < 2 → (x + 16 * m) ⊕ (y + 16 * n) ≡ (x + y) % 2 + 16 * (m ⊕ n)
 xor-digit x y m n hx hy =
     let ex : x + 16 * m ≡ m * 2 ^ 4 + x = omega arith in
@@ -79,7 +80,7 @@ lows-add p q (suc k) m n h d e =
     ∙ ap (λ v. (m % 2 + n % 2) % 2 + 16 * v) (lows-add p q k (m / 16) (n / 16) h (d .1) (e .1))
     ∙ sym (xor-digit (m % 2) (n % 2) (lows k (m / 16)) (lows k (n / 16)) (mod-lt m (lit< tt)) (mod-lt n (lit< tt)))
 
--- times 16: a 0 before the digits
+-- times 16: a digit 0 before the others
 digits-shift : (c k n : ℕ) → Digits c k n → Digits c (suc k) (16 * n)
 unfolding Digits
 digits-shift c k n d = let e : n ≡ 16 * n / 16 = omega arith in (omega arith, subst (Digits c k) e d)
@@ -91,7 +92,7 @@ lows-shift k n =
     let f : 16 * n % 2 ≡ 0 = omega arith in
     ap₂ (λ u v. u + 16 * lows k v) f e ∙ omega arith
 
--- a digit 0 or 1 times a number
+-- the product of a digit 0 or 1 and a number
 digits-times : (x k n : ℕ) → x ≤ 1 → Digits 1 k n → Digits 1 k (x * n)
 digits-times zero k n h d = subst (Digits 1 k) (omega arith) (digits-zero 1 k)
 digits-times (suc zero) k n h d = subst (Digits 1 k) (omega arith) d
@@ -101,7 +102,7 @@ digits-extend : (c j k n : ℕ) → Digits c k n → Digits c (j + k) n
 digits-extend c zero k n d = rw zero-add d
 digits-extend c (suc j) k n d = rw suc-add (digits-more c (j + k) n (digits-extend c j k n d))
 
--- one base-16 digit of the first factor, which is 0 or 1
+-- one step: the lowest base-16 digit of the first factor is 0 or 1
 clmul-digit : (a b : ℕ) → a % 16 ≤ 1 → clmul a b ≡ (a % 16) * b ⊕ 16 * clmul (a / 16) b
 clmul-digit a b h =
     let e : a / 2 ≡ 2 * (2 * (2 * (a / 16))) = omega arith in

@@ -1,4 +1,6 @@
--- The rule of a constant table, proved at all of its entries by one computed test.
+-- Constant tables: the rule of a table is proved for all entries by one computed test.
+-- `each-entry`: if the test passes, every entry is the value of f at its index.
+-- `by-test`: the table of spread bytes.
 use mathlib.Core.{Path._≡_, Path.ap, Path.sym, Path._∙_, List.List, List.[], List._∷_}
 use Prim.Native.Nat.{ℕ, zero, suc, _+_, _<_}
 use native.Mathlib.Nat.{add-zero, zero-add, add-suc, suc-add, le-of-suc-le-suc, not-suc-le-zero}
