@@ -1,6 +1,7 @@
 -- Both moduli are irreducible polynomials over GF(2).
 -- `degree`: a polynomial other than 0 has a degree.
--- `degree-lt`, `degree-le`: a polynomial of degree i is a number from 2^i up to 2^(i+1) - 1.
+-- `degree-lt`: a polynomial of degree i is a number below 2^(i+1).
+-- `degree-le`: it is at least 2^i.
 -- `clmul-degree`: the degree of a product is the sum of the degrees.
 -- `irreducible`: if a product of two polynomials is the modulus, one of them is 1.
 use Prim.Native.Nat.{ℕ, zero, suc, _+_, _*_, _/_, _%_, _^_, _≤_, _<_}

@@ -1,9 +1,13 @@
 -- The operations give reduced classes.
 -- `neutral-reduced`: the neutral class is reduced.
--- `opposite-long`, `opposite-short`, `opposite-u`: the two cases of the opposite; in both u is the same.
+-- `opposite-long`: the opposite of a pair with u of degree at least 1 is [u, v + 1].
+-- `opposite-short`: any other pair is its own opposite.
+-- `opposite-u`: a pair and its opposite have the same u.
 -- `opposite-reduced`: the opposite of a reduced class is reduced.
--- `sum-reduced`, `sum-steps`: the sum of two reduced classes is reduced, after at most two reduction steps.
--- `double-reduced`, `double-steps`: the double of a reduced class is reduced, after at most two reduction steps.
+-- `sum-reduced`: the sum of two reduced classes is reduced.
+-- `sum-steps`: it takes at most two reduction steps.
+-- `double-reduced`: the double of a reduced class is reduced.
+-- `double-steps`: it takes at most two reduction steps.
 use Prim.Native.Nat.{ℕ, zero, suc, _≤_, _<_}
 use mathlib.Core.Path.{_≡_, refl, sym}
 use native.Mathlib.{Omega.arith, Decide.decLe}

@@ -4,8 +4,10 @@
 -- `composed-reduces`: its reduction ends in a reduced class after at most two steps.
 -- `compose-is`: Cantor's composition by Euclid's algorithm is a case of it.
 -- `compose-double-is`: so is the composition of a double.
--- `compose-semi`, `compose-len`: Cantor's composition is semi-reduced, with u of degree at most 6.
--- `compose-double-semi`, `compose-double-len`: so is the composition of a double.
+-- `compose-semi`: Cantor's composition of reduced classes is semi-reduced.
+-- `compose-len`: it has u of degree at most 6.
+-- `compose-double-semi`: the composition of a double is semi-reduced.
+-- `compose-double-len`: it has u of degree at most 6.
 use Prim.Native.Nat.{suc, _+_, _≤_, _<_}
 use mathlib.Core.Path.{_≡_, refl, sym, _∙_, ap, ap₂}
 use native.Mathlib.Omega.{arith}

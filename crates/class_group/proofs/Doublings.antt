@@ -1,11 +1,16 @@
 -- k doublings and k halvings in a commutative group.
 -- `double-multiple`: the double of an n-fold sum is the 2n-fold sum.
 -- `doublings-multiple`: k doublings are the 2^k-fold sum.
--- `doublings-sum`, `doublings-opposite`, `doublings-neutral`: doublings of a sum, an opposite and the neutral element.
+-- `doublings-sum`: k doublings of a sum are the sum of k doublings of each term.
+-- `doublings-opposite`: k doublings of the opposite are the opposite of k doublings.
+-- `doublings-neutral`: k doublings of the neutral element are the neutral element.
 -- `doublings-injective`: k doublings are injective.
 -- `half-double`: halving undoes doubling.
--- `halvings-doublings`, `doublings-halvings`: k halvings and k doublings undo each other.
--- `repeat-inner`, `repeat-member`, `repeat-back`: the same function first or last, members to members, and undone.
+-- `halvings-doublings`: k halvings undo k doublings.
+-- `doublings-halvings`: k doublings undo k halvings.
+-- `repeat-inner`: a function applied once and then k times is the same as k times and then once.
+-- `repeat-member`: a function that maps members to members does so if it is applied k times.
+-- `repeat-back`: a function that undoes another at each step undoes k applications of it in k applications.
 use Prim.Native.Nat.{ℕ, zero, suc, _+_, _*_, _^_}
 use mathlib.Core.Path.{_≡_, refl, sym, _∙_, ap, ap₂}
 use native.Mathlib.{Omega.arith, Nat.pow-suc}

@@ -1,11 +1,14 @@
 -- The reduced classes are a commutative group under Cantor's sum, in which doubling is injective.
 -- `sum-adds`: the sum multiplies ideals up to equivalence.
 -- `classes`: the reduced classes are a commutative group under the sum.
--- `sum-comm`, `sum-assoc`, `sum-neutral`, `sum-opposite`: its laws.
+-- `sum-comm`: the sum is commutative.
+-- `sum-assoc`: the sum is associative.
+-- `sum-neutral`: the sum with the neutral class is the class.
+-- `sum-opposite`: the sum with the opposite is the neutral class.
 -- `sum-independent`: the sum does not depend on the coefficients by which e is combined, nor on e being monic.
 -- `double-sum`: the double is the sum with itself.
--- `sum-from-class`, `double-from-class`: a reduced class whose ideal is equivalent to the product of the ideals of two
--- reduced classes is their sum, or the double.
+-- `sum-from-class`: a reduced class whose ideal is equivalent to the product of the ideals of two classes is their sum.
+-- `double-from-class`: a reduced class whose ideal is equivalent to the square of the ideal of a class is its double.
 -- `no-torsion`: only the neutral class has the neutral class as its double.
 -- `double-injective`: a class is the double of at most one class.
 -- `class-doubling`: the reduced classes are a commutative group in which doubling is injective.

@@ -4,7 +4,8 @@
 -- `half-unique`: the half is the only reduced class whose double is the class.
 -- `half-double`: the half of the double is the class.
 -- `class-halving`: the reduced classes are a commutative group in which each has exactly one half.
--- `chain-reduced`, `chain-double`: the first two for a half that is found by a chain of lifts and steps.
+-- `chain-reduced`: a half that is found by a chain of lifts and steps is reduced.
+-- `chain-double`: the double of such a half is the class.
 use Prim.Native.Nat.{ℕ, zero, suc, _≤_, _<_}
 use mathlib.Core.Path.{_≡_, refl, sym, _∙_, ap, subst}
 use native.Mathlib.{Omega.arith, Decide.decLe}

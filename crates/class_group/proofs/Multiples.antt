@@ -4,7 +4,9 @@
 -- `multiple-member`: n times a member is a member.
 -- `multiple-add`: (m + n) times an element is m times plus n times it.
 -- `multiple-mul`: m n times an element is m times n times it.
--- `multiple-sum`, `multiple-neutral`, `multiple-opposite`: n times a sum, the neutral element and an opposite.
+-- `multiple-sum`: n times a sum is the sum of n times each term.
+-- `multiple-neutral`: n times the neutral element is the neutral element.
+-- `multiple-opposite`: n times the opposite is the opposite of n times the element.
 use Prim.Native.Nat.{ℕ, zero, suc, _+_, _*_}
 use mathlib.Core.Path.{_≡_, refl, sym, _∙_, ap}
 use native.Mathlib.Nat.{zero-add, suc-add, zero-mul, suc-mul}

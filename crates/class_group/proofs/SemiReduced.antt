@@ -1,6 +1,8 @@
 -- Semi-reduced pairs: u monic, v shorter than u, u a divisor of v² + v + f.
--- `semi-of-reduced`, `reduced-of-semi`: the reduced classes are those with u of length at most 4.
--- `value-congruent`, `value-one`: whether u divides v² + v + f depends on v modulo u only; v + 1 has the same value.
+-- `semi-of-reduced`: a reduced class is semi-reduced.
+-- `reduced-of-semi`: a semi-reduced pair with u of degree at most 3 is a reduced class.
+-- `value-congruent`: whether u divides v² + v + f depends on v modulo u only.
+-- `value-one`: v² + v + f is the same for v and v + 1.
 -- `step-semi`: a reduction step of a semi-reduced pair is semi-reduced.
 -- `step-len`: a reduction step takes u of length 7, 6, 5 to length at most 5, 4, 4.
 -- `reduce-keeps`: a predicate that reduction steps keep is kept by reduction.

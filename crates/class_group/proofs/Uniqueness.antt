@@ -1,4 +1,4 @@
--- Two reduced classes with equivalent ideals are equal (`unique`, and for pairs `reduced-unique`).
+-- Two reduced classes with equivalent ideals are equal (`unique`; `reduced-unique` says it of pairs).
 -- α I(u, v) = β I(u′, v′) is brought to g I(u, v) = k I(u′, v′) with g and k in P. Then g and k differ by a unit;
 -- u and u′ divide each other and are monic; v and v′ are congruent modulo u, and shorter than u.
 use Prim.Native.Nat.{_≤_, _<_}
@@ -48,7 +48,7 @@ module _ {K P : Type 0} {F : Field2 K} (A : Polynomials F P) (f : P) (f-len : A 
         d-v = (s .1 .0, cancel-left A k _ _ k≢𝟘 (multiple-v-eq R g k (y .1) u′ v v′ (y .0) (s .1 .0) d-is (ap (λ z. z .0) e) (s .1 .1)));
       }
 
-  -- the other way round as well: d is a unit
+  -- with the inclusion the other way round as well, d is a unit
   module _ {u v u′ v′ g k : P} (g≢𝟘 : ¬ (g ≡ 𝟘)) (forth : Multiple u v u′ v′ g k) (back : Multiple u′ v′ u v k g) where
     unit : back .d · forth .d ≡ 𝟙
     unit = cancel-left A g _ _ g≢𝟘 (unit-eq R g k (forth .d) (back .d) (forth .d-is) (back .d-is))
@@ -59,7 +59,7 @@ module _ {K P : Type 0} {F : Field2 K} (A : Polynomials F P) (f : P) (f-len : A 
     divides-v : Divides R u′ (v ⊞ v′)
     divides-v = (_, unit-divides R u′ (v ⊞ v′) (forth .d) (back .d) (forth .d-v .0) unit (forth .d-v .1))
 
-  -- Two reduced pairs with equivalent ideals are equal.
+  -- u and u′ are equal, and v and v′
   module _ (u v u′ v′ : P) (u-monic : Monic A u) (u′-monic : Monic A u′) (u-len : len u ≤ 4) (u′-len : len u′ ≤ 4)
       (v-len : len v < len u) (v′-len : len v′ < len u′)
       (d : Divides R u (v · v ⊞ v ⊞ f)) (d′ : Divides R u′ (v′ · v′ ⊞ v′ ⊞ f))
@@ -116,7 +116,6 @@ module _ {K P : Type 0} {F : Field2 K} (A : Polynomials F P) (f : P) (f-len : A 
       pub unique : (u ≡ u′) × (v ≡ v′)
       unique = (unique-u, unique-v)
 
--- for reduced classes
 module _ {K P : Type 0} {F : Field2 K} {A : Polynomials F P} (C : Curve A) where
   pub reduced-unique : {D E : Pair P} → Reduced C D → Reduced C E
       → Equivalent (coordinate (A .ring) (C .f)) (pair-ideal (A .ring) (D .u) (D .v)) (pair-ideal (A .ring) (E .u) (E .v)) → D ≡ E

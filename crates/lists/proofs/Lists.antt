@@ -1,9 +1,14 @@
 -- Lists whose elements all satisfy a predicate, and two lists that differ at one position.
--- `every`, `all-map`: a predicate of all elements of a type, or of all values of f, holds of every list of such.
--- `all-of`: a predicate that holds at every position holds of the list.
--- `all-reverse`, `all-append`, `all-take`, `all-drop`: reversed, joined and cut lists keep the predicate.
--- `all-head`, `all-split`: the first element and the rest have it, and so do both parts of a joined list.
--- `all-at`: the element at a position within the list has it.
+-- `every`: a predicate of all elements of a type holds of every list.
+-- `all-map`: a predicate of all values of f holds of every list that f is mapped over.
+-- `all-of`: a predicate that holds at every index holds of the list.
+-- `all-reverse`: a reversed list keeps the predicate.
+-- `all-append`: two lists with the predicate, one after the other, have it.
+-- `all-take`: the first k elements keep it.
+-- `all-drop`: so do the elements after the first k.
+-- `all-head`: the first element and the rest have it.
+-- `all-split`: both parts of a joined list have it.
+-- `all-at`: the element at an index below the length has it.
 -- `changed-members`: both elements at the position where two lists differ have it.
 -- `changed-map`: if two lists differ at a position, so do their images under f.
 use Prim.Native.Nat.{ℕ, zero, suc, _<_}

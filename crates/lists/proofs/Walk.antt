@@ -1,6 +1,7 @@
 -- Walks by a rule over a list, and back by a rule that undoes it (`Reversible`).
 -- `after-append`: a walk over a joined list is the walk over the second part from the end of the first.
--- `after-member`, `after-state`: a walk from a state over steps ends in a state.
+-- `after-member`: a walk from a state over steps ends in a state, if the rule maps states to states.
+-- `after-state`: the same for the first rule of a `Reversible`.
 -- `after-agrees`: two rules that agree on states lead to the same end.
 -- `after-injective`: different starts have different ends, if the rule is injective at each step.
 -- `after-reverse`: the way back over the reversed list ends at the start.

@@ -2,7 +2,10 @@
 -- The digits from position d + k on are multiplied by low first: the part of the multiple below d is added there,
 -- and the part from d on is added to the remaining digits, which are multiplied by low in the second round.
 -- `two-rounds`: both rounds give the remainder, if the multiple of the second round is below 2^d.
--- `left-61`, `fold-61`: the rounds of the code for degree 61. `left-5`, `fold-5`: those for degree 5.
+-- `left-61`: for degree 61, at most 56 bits are left for the second round.
+-- `fold-61`: the code's two rounds give the remainder for degree 61.
+-- `left-5`: for degree 5, at most two bits are left for the second round.
+-- `fold-5`: the code's two rounds give the remainder for degree 5.
 use mathlib.Core.Path.{_≡_, sym, ap, ap₂, _∙_}
 use Prim.Native.Nat.{ℕ, _+_, _-_, _*_, _/_, _%_, _^_, _<_}
 use native.Mathlib.{Omega.arith, Nat.add-comm, Nat.add-zero, Nat.lt-of-lt-of-le}
@@ -52,7 +55,6 @@ module _ (e k m : ℕ) (l : m < 2 ^ (e + k)) where
 
 -- ---- degree 61: the bits from t^117 on are folded first
 module _ (hi first : ℕ) (hh : hi < 2 ^ 61) (ef : first ≡ clmul (hi / 2 ^ 56) 39) where
-  -- 56 bits are left for the second round
   pub left-61 : bitAnd hi (2 ^ 56 - 1) ⊕ first / 2 ^ 5 < 2 ^ 56
   left-61 =
       let l : first < 2 ^ 10 = rw ef (clmul-lt 5 5 (hi / 2 ^ 56) 39 (omega arith) (lit< tt)) in
@@ -67,7 +69,6 @@ module _ (hi first : ℕ) (hh : hi < 2 ^ 61) (ef : first ≡ clmul (hi / 2 ^ 56)
 
 -- ---- degree 5: all bits from t^5 on are folded first
 module _ (n first : ℕ) (hn : n < 2 ^ 10) (ef : first ≡ clmul (n / 2 ^ 5) 5) where
-  -- two bits are left for the second round
   pub left-5 : first / 2 ^ 5 < 2 ^ 2
   left-5 = let l : first < 2 ^ 7 = rw ef (clmul-lt 5 2 (n / 2 ^ 5) 5 (omega arith) (lit< tt)) in omega arith
 
