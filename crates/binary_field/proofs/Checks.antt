@@ -1,4 +1,4 @@
--- One check, and one after the other: what follows where none refuses, and which refusal is due.
+-- Checks in order: what holds where none refuses, and which refusal comes first.
 use Prim.Native.Nat.{ℕ, zero, suc, _<_}
 use mathlib.Core.{Path._≡_, Path.refl, Bool.Bool, Bool.true, Bool.false}
 use native.Mathlib.Omega.{arith}

@@ -1,4 +1,4 @@
--- The degrees: 106 is due to those that are not accepted, and the bound is 2^d for the others.
+-- Degrees: 106 for those that are not accepted, and the bound 2^d for the others.
 use Prim.Native.Nat.{ℕ, _^_}
 use mathlib.Core.{Path._≡_, Path.refl, Bool.Bool, Bool.true, Bool.false, Bool.cond}
 use native.Mathlib.Omega.{arith}
@@ -30,7 +30,7 @@ bound-accepted d = go (is-degree d)
     go true t = refl
     go false t = absurd t
 
--- no element, no degree
+-- a degree whose bound is 0 is refused
 pub bound-zero : (d : ℕ) → bound d ≡ 0 → 106 ≡ degree-refusal d
 unfolding bound degree-refusal unless
 bound-zero d = go (is-degree d)

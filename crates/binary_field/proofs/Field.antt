@@ -1,5 +1,10 @@
--- The numbers that the field's operations give, and the element that a number stands for. Under `unfolding field element computing`
--- closed operations compute.
+-- The numbers of the field's operations, and the element of a number.
+-- `add-number`, `mul-number`, `inverse-number`, `root-number`: the number of a sum, a product, an inverse, a square
+-- root.
+-- `nought-number`, `one-number`: the numbers of 0 and 1.
+-- `element-small`: the element of a number below 2^d has that number.
+-- `element-number`: an element is the element of its number.
+-- `computing`: under `unfolding field element computing` operations on closed elements compute.
 use Prim.Native.Nat.{ℕ, _^_, _<_}
 use mathlib.Core.Path.{_≡_, refl}
 use native.Mathlib.Decide.{ℕ-discrete, Fin-discrete}
@@ -24,7 +29,7 @@ module _ (d : ℕ) (ok : Accepted d) where
   unfolding field
   one-number = refl
 
-  -- nothing is said of an inverse of 0
+  -- for an element other than 0
   pub inverse-number : (x : Element d) (ne : ¬ (x .0 ≡ 0)) → (field d ok .inverse x) .0 ≡ inverse d (x .0) ne
   unfolding field
   inverse-number x ne = chain-number d ok (x .0) (x .1)
@@ -40,7 +45,7 @@ module _ (d : ℕ) (ok : Accepted d) where
   pub element-number : (x : Element d) → element d ok (x .0) ≡ x
   element-number x = element-path d (element-small (x .0) (x .1))
 
--- what the operations call, opened by one name
+-- one name that unfolds what the operations use
 unfoldable pub computing : Unit {0}
 unfolding _⊕_ digits-to digits clmul spread reduce remainder low product spreadings chain-turn chain chain-inverse ℕ-discrete Fin-discrete
 computing = tt

@@ -1,6 +1,10 @@
--- What the answers of the calls on elements come to: the refusal where there is one, and else what the field's operation gives, or the root of
--- y² + y = a with lowest bit 0 where there is one (`quadratic-means`). The inverse of an element other than 0 is the only one whose product with it is 1
--- (`inverse-means`), and 0 is refused with 117 (`inverse-zero-refused`).
+-- The answers of the calls on elements.
+-- `sum-replies`, `product-replies`, `square-replies`, `root-replies`: the answer for elements of an accepted degree.
+-- `sum-in-field`, `product-in-field`, `square-in-field`, `root-in-field`, `inverse-in-field`: the calls answer with the
+-- numbers of the field's operations.
+-- `inverse-means`: an inverse's answer is the only element whose product with a is 1, or the refusal.
+-- `inverse-zero-refused`: the inverse of 0 is refused with 117 in each field.
+-- `quadratic-means`: the answer is the root of y² + y = a with lowest bit 0, that there is no root, or the refusal.
 use mathlib.Core.{Path._≡_, Path.refl, Path.ap, Path.sym, Path._∙_, Bool.Bool, Bool.true, Bool.false, Bool._&&_, List.[], List._∷_, Option.Option, Option.none, Option.some}
 use Prim.Native.Nat.{ℕ, zero, suc, _-_, _%_, _^_, _<_}
 use native.Mathlib.Omega.{arith}
@@ -21,11 +25,11 @@ unfolding answered
 refusal-of zero v h = absurd (h refl)
 refusal-of (suc k) v h = refl
 
--- a refusal is answered where there is one
+-- a refusal other than 0 is answered
 pub refuses : {k n : ℕ} (v : ℕ) → k ≡ n → (k ≡ 0 → ⊥) → refusal k ≡ answered n v
 refuses {k} v e h = refusal-of k v h ∙ ap (λ (x : ℕ). answered x v) e
 
--- and else the element
+-- where nothing is refused, the element is answered
 pub replies : {k n u v : ℕ} → k ≡ n → k ≡ 0 → u ≡ v → element u ≡ answered n v
 unfolding answered
 replies e h f = rw (← e, h) (ap element f)
@@ -36,7 +40,7 @@ both-pass true true e = (tt, tt)
 both-pass true false e = absurd (omega arith)
 both-pass false y e = absurd (omega arith)
 
--- no refusal: the degree is accepted and the numbers are in range
+-- where nothing is refused, the degree is accepted and the numbers are in range
 pub none-refused : (d a b : ℕ) {k : ℕ} → k ≡ element-refusal d (a ∷ b ∷ []) → k ≡ 0 → Accepted d × (a < 2 ^ d) × (b < 2 ^ d)
 unfolding element-refusal degree-refusal below
 none-refused d a b e h =
@@ -44,7 +48,7 @@ none-refused d a b e h =
     let y = both (ltb a (2 ^ d)) (ltb b (2 ^ d) && true) (z .1) in
     (z .0, ltb→lt _ _ (y .0), ltb→lt _ _ (both (ltb b (2 ^ d)) true (y .1) .0))
 
--- a call on one number tests it twice
+-- a call on one number tests it twice, with the refusal of one test
 pub refusal-twice : (d a : ℕ) → element-refusal d (a ∷ a ∷ []) ≡ element-refusal d (a ∷ [])
 unfolding element-refusal below
 refusal-twice d a = ap (λ (x : Bool). degree-refusal d or-else unless x 110) (twice (ltb a (2 ^ d)))
@@ -57,7 +61,7 @@ of-T : (x : Bool) → T x → x ≡ true
 of-T true t = refl
 of-T false t = absurd t
 
--- the degree is accepted and the numbers are in range: the answer is the element
+-- the answer for an accepted degree and numbers in range is the element
 module _ (d a : ℕ) (hd : Accepted d) (ha : a < 2 ^ d) where
   none-one : element-refusal d (a ∷ []) ≡ 0
   unfolding element-refusal degree-refusal below unless _or-else_
@@ -99,7 +103,7 @@ zero-due : (d : ℕ) → ¬ (inverse-refusal d 0 ≡ 0)
 unfolding inverse-refusal unless
 zero-due d = nonzero-due (element-refusal d (0 ∷ []))
 
--- no refusal: the number is an element of an accepted degree, and not 0
+-- where nothing is refused, the number is an element of an accepted degree, and not 0
 pub inverse-unrefused : (d a : ℕ) {k : ℕ} → k ≡ inverse-refusal d a → k ≡ 0 → Accepted d × (a < 2 ^ d) × ¬ (a ≡ 0)
 unfolding inverse-refusal
 inverse-unrefused d a e h =
@@ -165,7 +169,7 @@ module _ (d : ℕ) (ok : Accepted d) (a : ℕ) (ha : a < 2 ^ d) where
       inverse-replies d a ok ha not-zero
       ∙ ap element (sym (inverse-number d ok (at d ok a) (λ e. not-zero (sym small ∙ e)) ∙ ap (λ n. power d n (2 ^ d - 2)) small))
 
--- for a caller that takes the answer apart: its element is the one that the reply says, and it is no refusal
+-- for a caller that matches on the answer: an element is the reply's element, and there is no refusal
 pub element-is : {x : Answer} {n v : ℕ} → x ≡ Element n → reply x ≡ element v → n ≡ v
 element-is {x} {n} {v} e f =
     let g : reply x ≡ element n = ap reply e in
@@ -188,7 +192,7 @@ pub quadratic-refused : (d a : ℕ) {k : ℕ} → k ≡ element-refusal d (a ∷
 unfolding quadratic-answer
 quadratic-refused d a {k} e h = refused-of k (even-root d a) h ∙ ap (λ (n : ℕ). solved n (even-root d a)) (e ∙ refusal-twice d a)
 
--- the degree is accepted and the number is an element: the answer is what the search finds, which trace and half-trace say
+-- for an element of an accepted degree the answer is what the search finds, by trace and half-trace
 module _ (d a : ℕ) (ok : Accepted d) (ha : a < 2 ^ d) where
   quadratic-solved : quadratic-answer d a ≡ solved 0 (even-root d a)
   unfolding quadratic-answer

@@ -1,5 +1,8 @@
--- Demand 1 of the calls on elements: what their checks say is 0 or one of 106, 110 and 117 (`element-refusal-told`, `inverse-refusal-told`). 117 is said of an inverse
--- exactly where the degree is accepted and the element is 0 (`inverse-refusal-zero`), and of no other call (`element-refusal-other`).
+-- Demand 1 of the calls on elements: every refusal is valid.
+-- `element-refusal-told`: the refusal of a call on elements is 0 or one of 106, 110 and 117.
+-- `inverse-refusal-told`: so is the refusal of an inverse.
+-- `element-refusal-other`: no call on elements but the inverse refuses with 117.
+-- `inverse-refusal-zero`: an inverse is refused with 117 exactly where the degree is accepted and the element is 0.
 use Prim.Native.Nat.{ℕ, zero, suc, _^_}
 use mathlib.Core.{Path._≡_, Path.refl, Path.ap, Path._∙_, Bool.Bool, Bool.true, Bool.false, List.List, List.[], List._∷_, Logic._↔_, Logic.inl, Logic.inr}
 use native.Mathlib.Omega.{arith}

@@ -1,4 +1,4 @@
--- What the calls on elements answer (docs/SPECIFICATION.md, 1 and 6).
+-- The answers of the calls on elements (docs/SPECIFICATION.md, 1 and 6).
 use Prim.Native.Nat.{ℕ, zero, suc, _^_}
 use mathlib.Core.{Path._≡_, Bool.Bool, Bool.true, Bool.cond, Bool._&&_, List.List, List.[], List._∷_, Logic._⊎_, Option.Option, Option.none, Option.some}
 use native.Mathlib.Omega.{arith}
@@ -10,12 +10,12 @@ use Rattle.binary_field.specs.declared.Solution.the-variants as solution
 use Rattle.binary_field_theory.specs.Quadratic as equation
 use Rattle.binary_field_theory.specs.{Carryless._⊕_, Element.is-degree, Element.product, Element.square, Element.root, Element.inverse, Element.OneInverse, Quadratic.even-root}
 
--- an answer is an element or a refusal with its number
+-- an answer: an element, or a refusal with its number
 pub data Reply : Type 0 where
   element : ℕ → Reply
   refusal : ℕ → Reply
 
--- what each case of the code's answer says
+-- the code's answer as a reply
 abbrev pub reply : Answer → Reply
 reply (Element n) = element n
 reply (Refused k) = refusal k
@@ -25,19 +25,19 @@ unfoldable pub below : ℕ → List ℕ → Bool
 below m [] = true
 below m (n ∷ ns) = ltb n m && below m ns
 
--- 106 for a degree other than 5 and 61
+-- 106 for a degree other than 5 and 61, else 0
 unfoldable pub degree-refusal : ℕ → ℕ
 degree-refusal d = unless (is-degree d) 106
 
--- how many elements the field of degree d has: they are the numbers below 2^d; 0 where the degree is refused
+-- the number of elements of the field of degree d, which are the numbers below 2^d; 0 for a refused degree
 unfoldable pub bound : ℕ → ℕ
 bound d = cond (is-degree d) (2 ^ d) 0
 
--- the refusal of a call on elements, and 0 where there is none: 106 for the degree, then 110 for a number of 2^d or more
+-- the refusal of a call on elements: 106 for the degree, then 110 for a number of 2^d or more, else 0
 unfoldable pub element-refusal : ℕ → List ℕ → ℕ
 element-refusal d ns = degree-refusal d or-else unless (below (2 ^ d) ns) 110
 
--- that of an inverse: then 117 for 0, which has none
+-- the refusal of an inverse: 106, then 110, then 117 for 0, which has no inverse; else 0
 unfoldable pub inverse-refusal : ℕ → ℕ → ℕ
 inverse-refusal d a = element-refusal d (a ∷ []) or-else unless (ltb 0 a) 117
 
@@ -45,22 +45,22 @@ inverse-refusal d a = element-refusal d (a ∷ []) or-else unless (ltb 0 a) 117
 unfoldable pub element-refusals : List ℕ
 element-refusals = 106 ∷ 110 ∷ 117 ∷ []
 
--- what their checks say: 0, or one of these
+-- a valid refusal of a call on elements: 0, or one of these numbers
 unfoldable pub ElementTold : ℕ → Type 0
 ElementTold n = (n ≡ 0) ⊎ (listed n element-refusals ≡ true)
 
--- the refusal where there is one, else the element
+-- the refusal where it is not 0, else the element v
 unfoldable pub answered : ℕ → ℕ → Reply
 answered zero v = element v
 answered (suc k) v = refusal (suc k)
 
 -- ---- the six calls
 
--- the sum is bitwise exclusive or
+-- the sum: bitwise exclusive or
 unfoldable pub sum-reply : ℕ → ℕ → ℕ → Reply
 sum-reply d a b = answered (element-refusal d (a ∷ b ∷ [])) (a ⊕ b)
 
--- the product modulo the modulus of the degree
+-- the product, reduced by the modulus of the degree
 unfoldable pub product-reply : ℕ → ℕ → ℕ → Reply
 product-reply d a b = answered (element-refusal d (a ∷ b ∷ [])) (product d a b)
 
@@ -68,31 +68,32 @@ product-reply d a b = answered (element-refusal d (a ∷ b ∷ [])) (product d a
 unfoldable pub square-reply : ℕ → ℕ → Reply
 square-reply d a = answered (element-refusal d (a ∷ [])) (square d a)
 
--- the square root: every element has one
+-- the square root, which every element has
 unfoldable pub root-reply : ℕ → ℕ → Reply
 root-reply d a = answered (element-refusal d (a ∷ [])) (root d a)
 
--- the inverse of an element other than 0; for 0 there is no element to answer
+-- the inverse of an element other than 0; 0 is refused
 unfoldable pub inverse-reply : ℕ → ℕ → Reply
 inverse-reply d zero = refusal (inverse-refusal d zero)
 inverse-reply d (suc n) = answered (inverse-refusal d (suc n)) (inverse d (suc n) (λ e. omega arith))
 
--- what each case says: the only element whose product with a is 1, or the refusal
+-- the meaning of an inverse's answer: b is the only element whose product with a is 1; or k is the refusal
 abbrev pub InverseMeans : ℕ → ℕ → Reply → Type 0
 InverseMeans d a (element b) = (inverse-refusal d a ≡ 0) × OneInverse d a b
 InverseMeans d a (refusal k) = (k ≡ inverse-refusal d a) × ¬ (k ≡ 0)
 
--- the refusal where there is one, else the root where there is one
+-- the refusal where it is not 0, else the root, or that there is none
 unfoldable pub solved : ℕ → Option ℕ → Solution
 solved zero (some y) = Root y
 solved zero none = NoRoot
 solved (suc k) o = solution.Refused (suc k)
 
--- the root of y² + y = a with lowest bit 0
+-- the root of y² + y = a with lowest bit 0, that there is no root, or the refusal
 unfoldable pub quadratic-answer : ℕ → ℕ → Solution
 quadratic-answer d a = solved (element-refusal d (a ∷ [])) (even-root d a)
 
--- what each case of the answer says: the root with lowest bit 0, and that its neighbour is the only other one; that no element is a root; or the refusal
+-- the meaning of the answer: y is the root with lowest bit 0, and its neighbour is the only other root;
+-- no element is a root; or k is the refusal
 abbrev pub Means : ℕ → ℕ → Solution → Type 0
 Means d a (Root y) = (element-refusal d (a ∷ []) ≡ 0) × equation.EvenRoot d a y
 Means d a NoRoot = (element-refusal d (a ∷ []) ≡ 0) × ((y : ℕ) → equation.Root d a y → ⊥)

@@ -1,5 +1,6 @@
--- The field of elements of degree d, for d = 5 and d = 61, as the record of laws that upper crates use (docs/SPECIFICATION.md, 1),
--- and the element that a number stands for. Its operations compute; which number each gives is said in proofs/Field.
+-- The field of elements of degree d, for d = 5 and d = 61, as the record of laws that other crates use
+-- (docs/SPECIFICATION.md, 1), and the element of a number. The operations compute; proofs/Field.antt says which number
+-- each gives.
 use Prim.Native.Nat.{ℕ, _-_, _^_}
 use mathlib.Core.{Path._≡_, Path.ap, HLevel.hedberg}
 use native.Mathlib.{Decide.Fin-discrete, Omega.arith}
@@ -13,6 +14,7 @@ use Rattle.binary_field_theory.proofs.Elements
 use Rattle.binary_field_theory.proofs.{Products.low-lt, Elements.element-path}
 
 module _ (d : ℕ) (ok : Accepted d) where
+  -- the ring of elements: sum, product, 0 and 1, with their laws
   unfoldable pub ring : Ring2 (Element d)
   ring =
       record {
@@ -31,6 +33,7 @@ module _ (d : ℕ) (ok : Accepted d) where
         mul-add = λ x y z. element-path d (Products.product-sum d (low-lt d ok) (x .0) (y .0) (z .0));
       }
 
+  -- the field: the ring with inverses and square roots
   unfoldable pub field : Field2 (Element d)
   unfolding ring
   field =
@@ -44,6 +47,6 @@ module _ (d : ℕ) (ok : Accepted d) where
         root-square = λ x. element-path d (Elements.spreadings-square d ok (x .0) (x .1));
       }
 
-  -- the element that a number stands for
+  -- the element of a number: its remainder by the modulus
   unfoldable pub element : ℕ → Element d
   element n = (remainder d (low d) n, Remainder.remainder-lt d (low d) (low-lt d ok) n)

@@ -1,13 +1,16 @@
-// The product of two elements without a table or a branch: carry-less products by integer multiplication, and the remainder, in
-// which each high bit is a factor 0 or 1 of the modulus. The multiple's leading term takes away the bit; what is added is the rest.
+// The product of two elements without a table or a branch, by carry-less products made of integer products.
+// The remainder multiplies the modulus by each high bit, 0 or 1. The leading term of the multiple cancels the bit, so
+// that
+// only its other terms are added.
 ghost use mathlib.Core.Path.{_≡_};
 ghost use Prim.Native.Nat.{_+_, _*_, _^_, _<_};
 ghost use Rattle.binary_field_theory.specs.Carryless.{clmul, remainder};
 ghost use Rattle.binary_field_theory.specs.Element.{Accepted, low, product};
 
-// The carry-less product of two 32-bit numbers. Each is cut into four parts by the places of its bits modulo 4. In the integer
-// product of two parts at most eight ones meet in a place, so their count stays within the four bits up to the next place, and its
-// lowest bit is their exclusive or.
+// The carry-less product of two 32-bit numbers. Each is cut into four parts by bit position modulo 4.
+// In the integer product of two parts at most eight ones meet at a position, so that their count fits the four bits up
+// to
+// the next position. The lowest bit of the count is the exclusive or of the ones.
 pub(crate) fn clmul32(a: u64, b: u64) -> u64
     requires { ⌜ (a < 2 ^ 32) × (b < 2 ^ 32) ⌝ }
     ensures { λ r. ⌜ r ≡ clmul a b ⌝ }
@@ -34,7 +37,7 @@ pub(crate) struct Words {
     pub(crate) hi: u64,
 }
 
-// The carry-less product of two 61-bit numbers, by Karatsuba's rule: halves of 31 and 30 bits, and three products of halves.
+// The carry-less product of two 61-bit numbers by Karatsuba's rule: three products of halves of 31 and 30 bits.
 pub(crate) fn wide_product(a: u64, b: u64) -> Words
     requires { ⌜ (a < 2 ^ 61) × (b < 2 ^ 61) ⌝ }
     ensures { λ r. ⌜ (r .lo < 2 ^ 61) × (r .hi * 2 ^ 61 + r .lo ≡ clmul a b) ⌝ }
@@ -53,9 +56,9 @@ pub(crate) fn wide_product(a: u64, b: u64) -> Words
     }
 }
 
-// The bits of a number, each a factor 0 or 1 of m, and its multiple added where it belongs: the carry-less product. Bits that are
-// six places apart share an integer product: m has six bits, so that their multiples do not meet, and nothing is carried. Two
-// octal digits are six bits.
+// The carry-less product of bits and m, by integer products of bits six apart.
+// m has six bits, so that multiples by bits six apart do not overlap and nothing is carried. Two octal digits are six
+// bits.
 fn multiples(bits: u64, m: u64) -> u64
     requires { ⌜ (bits < 2 ^ 58) × (m < 2 ^ 6) ⌝ }
     ensures { λ r. ⌜ r ≡ clmul bits m ⌝ }
@@ -69,7 +72,7 @@ fn multiples(bits: u64, m: u64) -> u64
     ((m0 ^ m1) ^ (m2 ^ m3)) ^ (m4 ^ m5)
 }
 
-// The remainder modulo t^5 + t^2 + 1. What the multiples of the high bits have past t^4 is folded once more.
+// The remainder modulo t^5 + t^2 + 1. The bits of the multiples above t^4 are folded once more.
 pub(crate) fn fold_5(n: u64) -> u64
     requires { ⌜ n < 2 ^ 10 ⌝ }
     ensures { λ r. ⌜ r ≡ remainder 5 (low 5) n ⌝ }
@@ -79,8 +82,8 @@ pub(crate) fn fold_5(n: u64) -> u64
     ((n & 0x1f) ^ (first & 0x1f)) ^ second
 }
 
-// The remainder modulo t^61 + t^5 + t^2 + t + 1. The bits from t^117 on, whose multiples reach past t^60, are folded first, one by
-// one: no two of them share a product. Then those below, with what the first multiples have past t^60.
+// The remainder modulo t^61 + t^5 + t^2 + t + 1. The bits from t^117 on, whose multiples reach above t^60, are folded
+// first, each by a product of its own. Then the bits below are folded, with those of the first multiples above t^60.
 pub(crate) fn fold_61(w: Words) -> u64
     requires { ⌜ (w .lo < 2 ^ 61) × (w .hi * 2 ^ 61 + w .lo < 2 ^ 122) ⌝ }
     ensures { λ r. ⌜ r ≡ remainder 61 (low 61) (w .hi * 2 ^ 61 + w .lo) ⌝ }
@@ -92,7 +95,7 @@ pub(crate) fn fold_61(w: Words) -> u64
     (lo ^ ((first & 0x1f) << 56)) ^ second
 }
 
-// The product of two elements. The degree is asked for first, so that no branch follows; no loop end or index hangs on an element.
+// The product of two elements. Only the degree is tested: no branch, no loop end and no index depends on an element.
 pub(crate) fn product_of(d: u8, a: u64, b: u64) -> u64
     requires { ⌜ Accepted d × (a < 2 ^ d) × (b < 2 ^ d) ⌝ }
     ensures { λ r. ⌜ r ≡ product d a b ⌝ }

@@ -1,5 +1,6 @@
-// The inverse of an element other than 0, its power 2^d - 2 = 2 (2^(d-1) - 1), by an addition chain (Itoh and Tsujii): from the powers
-// 2^j - 1 and 2^k - 1 of a, k squarings and one product make the power 2^(j+k) - 1.
+// The inverse of an element a other than 0: its power 2^d - 2 = 2 (2^(d-1) - 1), by an addition chain (Itoh and
+// Tsujii).
+// From the powers 2^j - 1 and 2^k - 1 of a, k squarings and one product make the power 2^(j+k) - 1.
 ghost use mathlib.Core.Path.{_≡_};
 ghost use Prim.Native.Nat.{_-_, _*_, _<_, _^_};
 ghost use Rattle.binary_field_theory.specs.Element.{Accepted, product, squarings, power};
@@ -23,7 +24,7 @@ fn joined(d: u8, x: u64, k: u8, y: u64, table: &[u16; 256]) -> u64
     carryless::product_of(d, r, y)
 }
 
-// The chain 1, 2, 4.
+// The inverse in GF(2^5), by the chain 1, 2, 4.
 fn inverse_5(a: u64, table: &[u16; 256]) -> u64
     requires { ⌜ (a < 2 ^ 5) × Spreads (now table) ⌝ }
     ensures { λ r. ⌜ r ≡ power 5 a (2 ^ 5 - 2) ⌝ }
@@ -33,7 +34,7 @@ fn inverse_5(a: u64, table: &[u16; 256]) -> u64
     squaring::square_of(5, a4, table)
 }
 
-// x squared 6 n times, six times at once, times y.
+// x squared 6 n times, by n steps of six squarings, times y.
 fn joined_sixfold(x: u64, n: u8, y: u64, sixfold: &[u64; 256]) -> u64
     requires { ⌜ (x < 2 ^ 61) × (y < 2 ^ 61) × Multisquares (now sixfold) ⌝ }
     ensures { λ r. ⌜ (r ≡ product 61 (squarings 61 (n * 6) x) y) × (r < 2 ^ 61) ⌝ }
@@ -42,7 +43,7 @@ fn joined_sixfold(x: u64, n: u8, y: u64, sixfold: &[u64; 256]) -> u64
     carryless::product_of(61, power, y)
 }
 
-// The chain 1, 2, 3, 6, 12, 24, 48, 60, whose squarings come in sixes from 6 on.
+// The inverse in GF(2^61), by the chain 1, 2, 3, 6, 12, 24, 48, 60. From 6 on, six squarings are made at once.
 fn inverse_61(a: u64, table: &[u16; 256], sixfold: &[u64; 256]) -> u64
     requires { ⌜ (a < 2 ^ 61) × Spreads (now table) × Multisquares (now sixfold) ⌝ }
     ensures { λ r. ⌜ r ≡ power 61 a (2 ^ 61 - 2) ⌝ }

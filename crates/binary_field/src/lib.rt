@@ -1,5 +1,6 @@
 // Elements of GF(2^5) and GF(2^61): numbers below 2^d whose bit i is the coefficient of t^i.
-// A call refuses a degree other than 5 and 61 with 106, then a number of 2^d or more with 110; the inverse then refuses 0 with 117.
+// A call refuses with 106 for a degree other than 5 and 61, then with 110 for a number of 2^d or more.
+// The inverse then refuses 0 with 117.
 ghost use mathlib.Core.Path.{_≡_};
 ghost use mathlib.Core.List.{[], _∷_};
 ghost use Rattle.binary_field.specs.Checks.{unless};
@@ -13,19 +14,20 @@ mod rooting;
 mod spreading;
 mod squaring;
 
+// An element, or a refusal with its number.
 pub enum Answer {
     Element(u64),
     Refused(u32),
 }
 
-// What is answered to an equation that may have no root.
+// The answer to an equation that may have no root.
 pub enum Solution {
     Root(u64),
     NoRoot,
     Refused(u32),
 }
 
-// How many elements the field of degree d has, 2^d; 0 where the degree is refused.
+// The number of elements of the field of degree d, 2^d; 0 for a refused degree.
 pub fn bound(d: u8) -> u64
     ensures { λ r. ⌜ r ≡ bound d ⌝ }
 {
@@ -60,7 +62,7 @@ fn range_refusal(m: u64, a: u64, b: u64) -> u32
     110
 }
 
-// The refusal of a call on two numbers, and 0 where there is none: the degree is tested first.
+// The refusal of a call on two numbers, or 0. The degree is tested first.
 fn refusal(d: u8, a: u64, b: u64) -> u32
     ensures { λ r. ⌜ r ≡ element-refusal d (a ∷ b ∷ []) ⌝ }
 {
@@ -71,7 +73,7 @@ fn refusal(d: u8, a: u64, b: u64) -> u32
     range_refusal(bound(d), a, b)
 }
 
-// The refusal of an inverse, and 0 where there is none: 117 for 0, after the others.
+// The refusal of an inverse, or 0: 117 for 0, after the other tests.
 fn inverse_refusal(d: u8, a: u64) -> u32
     ensures { λ r. ⌜ r ≡ inverse-refusal d a ⌝ }
 {
@@ -129,7 +131,7 @@ pub fn square_root(d: u8, a: u64) -> Answer
     Answer::Element(rooting::root_of(d, a))
 }
 
-// The inverse of an element other than 0, which is refused.
+// The inverse of an element. 0 has none and is refused.
 pub fn inverse(d: u8, a: u64) -> Answer
     ensures { λ r. ⌜ reply r ≡ inverse-reply d a ⌝ }
 {
@@ -141,7 +143,7 @@ pub fn inverse(d: u8, a: u64) -> Answer
     Answer::Element(inverting::inverse_of(d, a, &table))
 }
 
-// The root of y² + y = a whose lowest bit is 0: the half-trace of a, with that bit cleared, where the trace of a is 0.
+// The root of y² + y = a with lowest bit 0: the half-trace of a with that bit cleared, if the trace of a is 0.
 pub fn quadratic_root(d: u8, a: u64) -> Solution
     ensures { λ r. ⌜ r ≡ quadratic-answer d a ⌝ }
 {

@@ -1,5 +1,5 @@
-// Six squarings of an element of GF(2^61) at once. Squaring is additive, so the result is the sum of what each hexadecimal digit
-// of the element gives at its place, which a table of 256 entries has.
+// Six squarings of an element of GF(2^61) at once. Squaring is additive, so the result is the sum of what each
+// hexadecimal digit of the element gives at its position. A table of 256 entries holds these.
 ghost use mathlib.Core.Path.{_≡_};
 ghost use Prim.Native.Nat.{_*_, _<_, _^_};
 ghost use Rattle.binary_field_theory.specs.Element.{squarings};
@@ -265,14 +265,14 @@ const MULTISQUARES: [u64; 256] = [
     0x1a5d_bd1a_8acd_5c2e,
 ];
 
-// The table, to be bound once and lent: each use of the constant itself copies it.
+// The table. Bind it once and lend it: each use of the constant copies it.
 pub(crate) fn multisquares() -> [u64; 256]
     ensures { λ r. ⌜ Multisquares r ⌝ }
 {
     MULTISQUARES
 }
 
-// An element squared six times: the sum of the entries of its sixteen digits.
+// An element squared six times: the sum of the table's entries for its sixteen hexadecimal digits.
 pub(crate) fn multisquare(a: u64, table: &[u64; 256]) -> u64
     requires { ⌜ Multisquares (now table) ⌝ }
     ensures { λ r. ⌜ r ≡ squarings 61 6 a ⌝ }
@@ -288,7 +288,7 @@ pub(crate) fn multisquare(a: u64, table: &[u64; 256]) -> u64
     r
 }
 
-// An element squared 6 n times, six times at once.
+// An element squared 6 n times, by n steps of six squarings.
 pub(crate) fn multisquare_times(a: u64, n: u8, table: &[u64; 256]) -> u64
     requires { ⌜ (a < 2 ^ 61) × Multisquares (now table) ⌝ }
     ensures { λ r. ⌜ (r ≡ squarings 61 (n * 6) a) × (r < 2 ^ 61) ⌝ }

@@ -1,4 +1,4 @@
-// Trace and half-trace of an element a, which say whether y² + y = a has a root, and give one.
+// Trace and half-trace of an element a: they say whether y² + y = a has a root, and give one.
 ghost use mathlib.Core.Path.{_≡_};
 ghost use Prim.Native.Nat.{_*_, _<_, _^_};
 ghost use Rattle.binary_field_theory.specs.Carryless.{_⊕_};
@@ -10,7 +10,7 @@ use crate::multisquaring;
 use crate::spreading;
 use crate::squaring;
 
-// The trace, which is the sum of the digits at places 0 and d - 2.
+// The trace: the sum of bits 0 and d - 2.
 pub(crate) fn trace_of(d: u8, a: u64) -> u64
     requires { ⌜ Accepted d × (a < 2 ^ d) ⌝ }
     ensures { λ r. ⌜ r ≡ trace d a ⌝ }
@@ -35,7 +35,7 @@ fn multisquare_plus(x: u64, n: u8, y: u64, sixfold: &[u64; 256]) -> u64
     multisquaring::multisquare_times(x, n, sixfold) ^ y
 }
 
-// The three terms a + a^4 + a^16.
+// The half-trace in GF(2^5): the three terms a + a^4 + a^16.
 fn half_trace_5(a: u64, table: &[u16; 256]) -> u64
     requires { ⌜ (a < 2 ^ 5) × Spreads (now table) ⌝ }
     ensures { λ r. ⌜ r ≡ half-trace 5 a ⌝ }
@@ -44,8 +44,8 @@ fn half_trace_5(a: u64, table: &[u16; 256]) -> u64
     fourth_power_plus(5, h2, a, table)
 }
 
-// The 31 terms a + a^4 + .. + a^(2^60), by the chain 1, 2, 3, 6, 12, 24, 30, 31: from j and k terms, 2 j squarings of the k and a sum make
-// those of j + k.
+// The half-trace in GF(2^61): the 31 terms a + a^4 + .. + a^(2^60), by the chain 1, 2, 3, 6, 12, 24, 30, 31.
+// From j terms and k terms, 2 j squarings of the k terms and a sum make j + k terms.
 fn half_trace_61(a: u64, table: &[u16; 256], sixfold: &[u64; 256]) -> u64
     requires { ⌜ (a < 2 ^ 61) × Spreads (now table) × Multisquares (now sixfold) ⌝ }
     ensures { λ r. ⌜ r ≡ half-trace 61 a ⌝ }

@@ -1,5 +1,5 @@
-// The square root of an element a = e^2 + t o^2, where e has the digits of a at even places and o those at odd places: e plus o times
-// the root of t.
+// The square root of an element a = e^2 + t o^2: e plus o times the root of t.
+// e has the bits of a at even positions, o those at odd positions.
 ghost use mathlib.Core.Path.{_≡_};
 ghost use Prim.Native.Nat.{_+_, _*_, _<_, _^_};
 ghost use Rattle.binary_field_theory.specs.Carryless.{clmul};
@@ -8,7 +8,7 @@ ghost use Rattle.binary_field_theory.specs.Spreading.{evens};
 use crate::carryless;
 use crate::carryless::Words;
 
-// The digits at even places, brought together in ever longer runs.
+// The bits at even positions, gathered in runs of doubling length.
 fn evens_of(n: u64) -> u64
     ensures { λ r. ⌜ r ≡ evens 32 n ⌝ }
 {
@@ -20,8 +20,10 @@ fn evens_of(n: u64) -> u64
     (sixteens ^ (sixteens >> 16)) & 0xffff_ffff
 }
 
-// The carry-less product of a number of thirty digits and t^62 + t^61 + .. + t^31 + t^6 + t^5 + t^4 + t, whose square is t modulo the
-// modulus of degree 61. The run of 32 powers is the product of 1 + t, 1 + t^2, 1 + t^4, 1 + t^8 and 1 + t^16.
+// The carry-less product of n, of thirty bits, and r = t^62 + t^61 + .. + t^31 + t^6 + t^5 + t^4 + t.
+// The square of r is t modulo the modulus of degree 61. The run of 32 powers of t is the product of t^31, 1 + t, 1 +
+// t^2,
+// 1 + t^4, 1 + t^8 and 1 + t^16.
 fn wide_times_root(n: u64) -> Words
     requires { ⌜ n < 2 ^ 30 ⌝ }
     ensures { λ r. ⌜ (r .lo < 2 ^ 61) × (r .hi * 2 ^ 61 + r .lo ≡ clmul n 0x7fff_ffff_8000_0072) ⌝ }
@@ -38,7 +40,7 @@ fn wide_times_root(n: u64) -> Words
     }
 }
 
-// The square root of t times n: its square is t times that of n.
+// n times the square root of t: its square is t times the square of n.
 fn times_root_of_t(d: u8, n: u64) -> u64
     requires { ⌜ Accepted d × (n < 2 ^ d) × (n < 2 ^ 30) ⌝ }
     ensures { λ r. ⌜ (square d r ≡ product d 2 (square d n)) × (r < 2 ^ d) ⌝ }
@@ -49,7 +51,7 @@ fn times_root_of_t(d: u8, n: u64) -> u64
     carryless::fold_61(wide_times_root(n))
 }
 
-// The square root of an element, from its digits at even and at odd places.
+// The square root of an element, from its bits at even and at odd positions.
 pub(crate) fn root_of(d: u8, a: u64) -> u64
     requires { ⌜ Accepted d × (a < 2 ^ d) ⌝ }
     ensures { λ r. ⌜ r ≡ root d a ⌝ }

@@ -1,10 +1,10 @@
-// Spreading the digits of a number, bit i to bit 2i, by a table of 256 entries that spreads a byte to sixteen bits.
+// Spreading the bits of a number, bit i to bit 2 i, by a table of 256 entries that spreads a byte to sixteen bits.
 ghost use mathlib.Core.Path.{_≡_};
 ghost use Prim.Native.Nat.{_<_, _^_};
 ghost use Rattle.binary_field_theory.specs.Carryless.{spread};
 ghost use Rattle.binary_field_theory.specs.Spreading.{Spreads};
 
-// Bit i of a byte goes to bit 2i.
+// Entry w is the byte w with its bit i moved to bit 2 i.
 const SPREAD: [u16; 256] = [
     0,
     1,
@@ -264,14 +264,14 @@ const SPREAD: [u16; 256] = [
     21845,
 ];
 
-// The table, to be bound once and lent: each use of the constant itself copies it.
+// The table. Bind it once and lend it: each use of the constant copies it.
 pub(crate) fn spreads() -> [u16; 256]
     ensures { λ r. ⌜ Spreads r ⌝ }
 {
     SPREAD
 }
 
-// A byte, spread: its entry of the table.
+// A byte spread, by its entry of the table.
 fn spread_8(w: u64, table: &[u16; 256]) -> u64
     requires { ⌜ Spreads (now table) × (w < 2 ^ 8) ⌝ }
     ensures { λ r. ⌜ r ≡ spread w ⌝ }
@@ -280,7 +280,7 @@ fn spread_8(w: u64, table: &[u16; 256]) -> u64
     table[i] as u64
 }
 
-// Sixteen digits, spread byte by byte.
+// Sixteen bits spread, byte by byte.
 fn spread_16(w: u64, table: &[u16; 256]) -> u64
     requires { ⌜ Spreads (now table) × (w < 2 ^ 16) ⌝ }
     ensures { λ r. ⌜ r ≡ spread w ⌝ }
@@ -288,7 +288,7 @@ fn spread_16(w: u64, table: &[u16; 256]) -> u64
     (spread_8(w >> 8, table) << 16) ^ spread_8(w & 0xff, table)
 }
 
-// Thirty-two digits, spread half by half.
+// Thirty-two bits spread, half by half.
 pub(crate) fn spread_32(w: u64, table: &[u16; 256]) -> u64
     requires { ⌜ Spreads (now table) × (w < 2 ^ 32) ⌝ }
     ensures { λ r. ⌜ r ≡ spread w ⌝ }

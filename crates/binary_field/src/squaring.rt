@@ -1,4 +1,4 @@
-// The square of an element: its digits are spread, and the result is folded.
+// The square of an element: its bits are spread, and the result is folded by the modulus.
 ghost use mathlib.Core.Path.{_≡_};
 ghost use Prim.Native.Nat.{_<_, _^_};
 ghost use Rattle.binary_field_theory.specs.Element.{Accepted, square};
@@ -7,7 +7,7 @@ use crate::carryless;
 use crate::carryless::Words;
 use crate::spreading;
 
-// The low half of a spreads to the digits below 64, the high half to those above.
+// The square of an element. The low 32 bits of a spread to the bits below 64, the others to those above.
 pub(crate) fn square_of(d: u8, a: u64, table: &[u16; 256]) -> u64
     requires { ⌜ Accepted d × (a < 2 ^ d) × Spreads (now table) ⌝ }
     ensures { λ r. ⌜ r ≡ square d a ⌝ }

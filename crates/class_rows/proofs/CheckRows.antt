@@ -1,4 +1,4 @@
--- The check of rows of any numbers: what each test shows where it holds, and what fails where it does not.
+-- The check of rows of any numbers: what each test shows where it holds and where it fails.
 use Prim.Native.Nat.{ℕ, _+_, _-_, _≤_, _<_, _^_}
 use mathlib.Core.{Path._≡_, Path.refl, Path.sym, Path._∙_, Path.ap, Path.subst, Bool.Bool, Bool.true, Bool.false, Bool.true≢false, List.List}
 use native.Mathlib.{Omega.arith, Decide.decLe}
@@ -81,7 +81,7 @@ module _ {d : ℕ} {f : List ℕ} {a : RowPair} where
         pair = record { u-range = r .u-range; v-range = r .v-range; u-monic = r .reduced .u-monic; u-len = r .reduced .u-len; v-len = r .reduced .v-len };
       }
 
-  -- the division tells whether it is a divisor
+  -- the division decides whether the pair is a divisor
   pub division-decides : {n : ℕ} {l rest : List ℕ} (h : FormedRows d f a)
       → Stands d l (𝔸 d .ring .add (𝔸 d .ring .add (𝔸 d .ring .mul (poly d (a .v)) (poly d (a .v))) (poly d (a .v))) (poly d f))
       → Stands d rest (𝔸 d .rem (poly d l) (poly d (a .u)))

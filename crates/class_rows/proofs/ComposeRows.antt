@@ -108,7 +108,7 @@ module _ (d : ℕ) where
         ∙ sym (compose-coprime C (reduced-on d A on) (reduced-on d B on) (I .bezout) h))
         J
 
-  -- and with one: the rows of u1 and u2, of v1 + v2, 1 and v1 + v2 + 1, and Euclid's rule used twice
+  -- u1 and u2 with a common divisor: the rows of u1, u2, v1 + v2, 1 and v1 + v2 + 1, and Euclid's rule used twice
   pub record Common (f : List ℕ) (a b : RowPair) (g s t sum one c e s′ t′ : List ℕ) : Type 0 where
     pub reduced₁ : ReducedRows d f a
     pub reduced₂ : ReducedRows d f b

@@ -1,4 +1,5 @@
--- The composition of a double by rows, and its cofactor: what the functions of a double require of each other, and what they promise.
+-- The composition of a double by rows, and its cofactor: what the functions of a double require of each other, and what
+-- they promise.
 use Prim.Native.Nat.{ℕ, suc, _+_, _≤_, _<_}
 use mathlib.Core.{Path._≡_, Path.sym, Path._∙_, Path.ap, Path.ap₂, Path.subst, List.List}
 use native.Mathlib.Omega.{arith}
@@ -90,7 +91,7 @@ module _ (d : ℕ) where
     quotient-on on =
         S .quotient-stands .stands ∙ ap (λ z. quot (poly d (a .v) · poly d (a .v) ⊞ z) (poly d (a .u) · poly d (a .u))) (on .is-f)
 
-    -- for u of degree 2 and 3 the squares fit
+    -- the squares fit a row for u of degree 2 or 3
     module _ (h : 2 < row-len d (a .u)) where
       pub cofactor-fits : {w : List ℕ} → CofactorRow d f a w → row-len d w ≤ 6
       unfolding rows-pair

@@ -1,4 +1,5 @@
--- The two rules that move a seal, on rows: what each step hands to the next is a reduced class, and the last one stands for the rule's result.
+-- The two rules that move a seal, on rows: each step gives the next one a reduced class, and the last stands for the
+-- rule's result.
 use Prim.Native.Nat.{ℕ, _+_, _≤_}
 use mathlib.Core.{Path.ap₂, Path.subst, List.List}
 use Rattle.class_group.specs.Curve as Theory

@@ -1,5 +1,5 @@
--- Rows that stand for semi-reduced pairs: what the functions of a reduction require of each other, and what they promise, from what
--- the functions on rows promise.
+-- Rows that stand for semi-reduced pairs: what the functions of a reduction require of each other and promise, from the
+-- promises of the functions on rows.
 use Prim.Native.Nat.{ℕ, _≤_, _<_}
 use mathlib.Core.{Path._≡_, Path.refl, Path.sym, Path._∙_, Path.ap, Path.ap₂, Path.subst, List.List}
 use native.Mathlib.Omega.{arith}

@@ -1,8 +1,11 @@
--- Demand 3 of rows, for every degree, every row f of a curve and all rows that are a reduced divisor of it. What `unary_rows` and `binary_rows`
--- answer is taken at its contract, and each answer is given to the next call.
--- `half-accepted`, `double-accepted`: the half and the double of a divisor are not refused, and are divisors. `double-of-half`, `half-of-double`:
--- doubling and halving undo each other. `only-half`: the half is the only divisor whose double is the one given. `subtract-of-add`,
--- `add-of-subtract`: the two rules that move a seal undo each other, with the same second pair.
+-- Demand 3 of rows, for every degree, every row f of a curve and all rows that are a reduced divisor of it.
+-- The answers of `unary_rows` and `binary_rows` are those of their contracts, and each is given to the next call.
+-- `half-accepted`, `double-accepted`: the half and the double of a divisor are not refused, and are divisors.
+-- `double-of-half`: the double of the half is the divisor.
+-- `half-of-double`: the half of the double is the divisor.
+-- `only-half`: the half is the only divisor whose double is the one given.
+-- `subtract-of-add`: subtract and halve undoes double and add with the same second pair.
+-- `add-of-subtract`: double and add undoes subtract and halve with the same second pair.
 use Prim.Native.Nat.{ℕ}
 use mathlib.Core.{Path._≡_, Path.sym, Path._∙_, Path.ap, Bool.true, List.List}
 use lib.ListN.{getD}
@@ -30,7 +33,7 @@ module _ (d : ℕ) where
   pair-of-same {a} {b} s j = record { u = poly-of-numbers (a .u) (b .u) (s .u-same) j; v = poly-of-numbers (a .v) (b .v) (s .v-same) j }
 
 module _ {d : ℕ} {f : List ℕ} where
-  -- ---- what stands for a class of the curve of a divisor
+  -- ---- rows that stand for a class of the curve of a divisor
   self-pair : {a : RowPair} → Divisor d f a → StandsPair d a (rows-pair d a)
   unfolding rows-pair
   self-pair h = record { u-stands = self-stands d _ (h .reduced .u-range); v-stands = self-stands d _ (h .reduced .v-range) }

@@ -19,7 +19,7 @@ pub record ReducedRows (d : ℕ) (f : List ℕ) (a : RowPair) : Type 0 where
   pub v-range : InRange d (a .v)
   pub reduced : Reduced C (rows-pair d a)
 
--- the rows and the count are those of a reduction
+-- the rows and the number of steps are those of a reduction
 pub record StandsCounted (d : ℕ) (r : CountedRows) (c : Counted (Poly d)) : Type 0 where
   pub pair-stands : StandsPair d (r .pair) (c .class)
   pub steps-is : r .steps ≡ c .steps

@@ -1,4 +1,4 @@
--- What the private functions require and promise. Nothing open to callers speaks of these.
+-- Definitions for the contracts of private functions; no contract of an open function cites them.
 pub mod Bezout
 pub mod Check
 pub mod Cofactor

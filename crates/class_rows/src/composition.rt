@@ -1,4 +1,4 @@
-// Cantor's composition for a sum, from the coefficients of any greatest common divisor and with short polynomials.
+// Cantor's composition for a sum, from the coefficients of any greatest common divisor, with short polynomials.
 ghost use mathlib.Core.Path.{_≡_};
 ghost use Rattle.binary_field_theory.specs.Element.{Accepted};
 ghost use Rattle.class_group.specs.Composition.{compose};
@@ -33,7 +33,7 @@ fn joined_rows(d: u8, d1: Row, d2: Row, v1: Row, m: Row) -> RowPair
     RowPair { u, v }
 }
 
-// s1 (v1 + v2) + s3 w1, from the coefficients of the two uses of Euclid's rule.
+// The row of s1 (v1 + v2) + s3 w1, from the coefficients of the two uses of Euclid's rule.
 fn multiple_row(d: u8, sum: Row, w: Row, first: Combination, second: Combination) -> Row
     requires { ⌜ Accepted d × Short d 3 sum × Short d 8 w × Short d 4 (first .s) × Short d 4 (second .s) × Short d 4 (second .t) ⌝ }
     ensures { λ r. ⌜ Stands d r (multiple d sum w (first .s) (second .s) (second .t)) ⌝ }
@@ -47,7 +47,7 @@ fn multiple_row(d: u8, sum: Row, w: Row, first: Combination, second: Combination
     add_rows(d, p, q)
 }
 
-// The composition where u1 and u2 have a common divisor: e is the greatest that v1 + v2 + 1 has too.
+// The composition where u1 and u2 have a common divisor: e is the greatest common divisor of these and v1 + v2 + 1.
 fn compose_common(d: u8, f: Row, a: RowPair, b: RowPair, first: Combination) -> RowPair
     requires { ⌜ Accepted d × ReducedRows d f a × ReducedRows d f b × Combines d (a .u) (b .u) first ⌝ }
     ensures { λ r. ⌜ ((C : TheoryCurve (𝔸 d)) → OnCurve d f C → StandsPair d r (compose C (rows-pair d a) (rows-pair d b))) ⌝ }
@@ -71,7 +71,7 @@ fn compose_common(d: u8, f: Row, a: RowPair, b: RowPair, first: Combination) -> 
     joined_rows(d, d1, d2, v1, m)
 }
 
-// The composition of two reduced pairs. Where u1 and u2 have no common divisor, nothing else is needed than the coefficient of u1.
+// The composition of two reduced pairs. Where u1 and u2 have no common divisor, only the coefficient of u1 is needed.
 pub(crate) fn compose_rows(d: u8, f: Row, a: RowPair, b: RowPair) -> RowPair
     requires { ⌜ Accepted d × ReducedRows d f a × ReducedRows d f b ⌝ }
     ensures { λ r. ⌜ ((C : TheoryCurve (𝔸 d)) → OnCurve d f C → StandsPair d r (compose C (rows-pair d a) (rows-pair d b))) ⌝ }

@@ -1,4 +1,5 @@
-// Is a pair a reduced divisor of the curve of f? The division that tells yields the cofactor w = (v² + v + f) / u besides.
+// Is a pair a reduced divisor of the curve of f? The division that decides also gives the cofactor w = (v² + v + f) /
+// u.
 ghost use Prim.Native.Nat.{_≤_};
 ghost use Rattle.class_group.specs.{Curve.Curve as TheoryCurve};
 ghost use Rattle.binary_field_theory.specs.Element.{Accepted};
@@ -13,7 +14,7 @@ use crate::row::divide;
 use crate::row::length;
 use crate::row::square_row;
 
-// The verdict on a pair, and its cofactor where it is a divisor.
+// Whether a pair is a divisor, and if so its cofactor.
 pub(crate) struct Check {
     pub divisor: bool,
     pub w: Row,
@@ -84,7 +85,7 @@ fn is_pair(d: u8, a: RowPair) -> bool
     is_monic(d, u)
 }
 
-// All that is asked of f and the pair before a division.
+// Are the degree, f and the pair in form? This is all that is checked before the division.
 fn in_form(d: u8, f: Row, a: RowPair) -> bool
     ensures { λ t. ⌜ Decides t (FormedRows d f a) ⌝ }
 {
@@ -97,7 +98,7 @@ fn in_form(d: u8, f: Row, a: RowPair) -> bool
     is_pair(d, a)
 }
 
-// v² + v + f.
+// The row of v² + v + f.
 pub(crate) fn curve_value(d: u8, f: Row, v: Row) -> Row
     requires { ⌜ Accepted d × InRange d f × InRange d v × (row-len d v ≤ 6) ⌝ }
     ensures { λ r. ⌜ Stands d r (𝔸 d .ring .add (𝔸 d .ring .add (𝔸 d .ring .mul (poly d v) (poly d v)) (poly d v)) (poly d f)) ⌝ }

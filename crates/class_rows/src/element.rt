@@ -1,4 +1,4 @@
-// Elements, through the element crate's calls: each function requires numbers in range and takes the answer apart.
+// Elements, by the calls of binary_field: each function requires numbers in range, so that the call is not refused.
 ghost use Prim.Native.Nat.{ℕ, _<_, _^_};
 ghost use mathlib.Core.Path.{_≡_};
 ghost use Rattle.binary_field_theory.specs.Element.{Accepted};
@@ -6,7 +6,7 @@ ghost use Rattle.binary_field.specs.Answer.{element, reply};
 ghost use Rattle.row_theory.specs.{Field.degree-of, Field.F, Field.el, internal.Elements.Is, internal.Elements.Inverts};
 use binary_field::Answer;
 
-// The number of an answer that is no refusal.
+// The number of an answer that is not a refusal.
 fn number(answer: Answer) -> u64
     ensures { λ r. ⌜ ((n : ℕ) → reply answer ≡ element n → r ≡ n) ⌝ }
 {
@@ -24,7 +24,7 @@ pub(crate) fn plus(d: u8, a: u64, b: u64) -> u64
     number(binary_field::sum(d, a, b))
 }
 
-// The product; none is made where a factor is 0 or 1.
+// The product. No call is made where a factor is 0 or 1.
 pub(crate) fn times(d: u8, a: u64, b: u64) -> u64
     requires { ⌜ Accepted d × (a < 2 ^ degree-of d) × (b < 2 ^ degree-of d) ⌝ }
     ensures { λ r. ⌜ Is d r (F d .ring .mul (el d a) (el d b)) ⌝ }
@@ -60,7 +60,7 @@ pub(crate) fn root_of(d: u8, a: u64) -> u64
     number(binary_field::square_root(d, a))
 }
 
-// The inverse of an element that is shown not to be 0: every division goes through this function. 1 is its own inverse.
+// The inverse of an element that is shown not to be 0; 1 is its own inverse. Every division goes through this function.
 pub(crate) fn inverted(d: u8, a: u64) -> u64
     requires { ⌜ Accepted d × (a < 2 ^ degree-of d) × ¬ (a ≡ 0) ⌝ }
     ensures { λ r. ⌜ Inverts d r (el d a) ⌝ }

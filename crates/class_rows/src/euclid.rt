@@ -1,4 +1,4 @@
-// Extended Euclid: recursion on the remainder, whose degree falls at each call.
+// Euclid's extended rule: recursion on the remainder, whose degree falls at each call.
 ghost use Prim.Native.Nat.{ℕ, _+_, _≤_, _<_, _^_};
 ghost use mathlib.Core.Path.{_≡_};
 ghost use mathlib.Core.List.{List};
@@ -14,7 +14,7 @@ use crate::row::multiply;
 use crate::row::one;
 use crate::row::scale;
 
-// g = s a + t b.
+// A common divisor g = s a + t b.
 pub(crate) struct Combination {
     pub g: Row,
     pub s: Row,
@@ -29,7 +29,7 @@ pub(crate) fn constant(d: u8, c: u64) -> Row
     [c, 0, 0, 0, 0, 0, 0, 0, 0, 0, 0, 0]
 }
 
-// The divisor of a and 0: a made monic.
+// The greatest common divisor of a and 0: a made monic.
 fn bezout_nought(d: u8, a: Row) -> Combination
     requires { ⌜ Accepted d × InRange d a ⌝ }
     ensures { λ r. ⌜ ((b : List ℕ) → row-len d b ≡ 0 → Combines d a b r) ⌝ }
@@ -50,7 +50,7 @@ fn bezout_nought(d: u8, a: Row) -> Combination
     Combination { g, s, t: zero }
 }
 
-// The divisor of any polynomial and a constant other than 0: 1.
+// The greatest common divisor of any polynomial and a constant other than 0: 1.
 fn bezout_constant(d: u8, b: Row) -> Combination
     requires { ⌜ Accepted d × InRange d b × (row-len d b ≡ 1) ⌝ }
     ensures { λ r. ⌜ ((a : List ℕ) → Combines d a b r) ⌝ }
@@ -63,7 +63,7 @@ fn bezout_constant(d: u8, b: Row) -> Combination
     Combination { g, s, t }
 }
 
-// From g = s b + t r and a = q b + r: g = t a + (s + t q) b.
+// One step back: from g = s b + t r and a = q b + r, g = t a + (s + t q) b.
 fn substituted(d: u8, q: Row, r: Combination) -> Combination
     requires { ⌜ Accepted d × InRange d q × InRange d (r .s) × InRange d (r .t) × (row-len d (r .t) + row-len d q ≤ 13) ⌝ }
     ensures { λ c. ⌜ (c .g ≡ r .g) × (c .s ≡ r .t) × Stands d (c .t) (𝔸 d .ring .add (poly d (r .s)) (𝔸 d .ring .mul (poly d (r .t)) (poly d q))) ⌝ }
@@ -76,7 +76,9 @@ fn substituted(d: u8, q: Row, r: Combination) -> Combination
     Combination { g, s, t }
 }
 
-// The monic greatest common divisor of a and b as a combination of them; what the rules leave free of s and t is promised by what holds of them.
+// The monic greatest common divisor of a and b, as a combination of them. s and t are not unique: the contract says
+// what
+// holds of them.
 pub(crate) fn bezout(d: u8, a: Row, b: Row) -> Combination
     requires { ⌜ Accepted d × InRange d a × InRange d b × (row-len d a ≤ 4) × (row-len d b ≤ 4) ⌝ }
     ensures { λ r. ⌜ Combines d a b r ⌝ }

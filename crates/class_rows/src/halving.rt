@@ -1,4 +1,4 @@
-// The half of a class, by rules on its coefficients, by degree.
+// The half of a class, computed from its coefficients by a rule for each degree.
 ghost use Prim.Native.Nat.{_+_, _≤_, _<_, _^_};
 ghost use mathlib.Core.Path.{_≡_};
 ghost use lib.ListN.{getD};
@@ -27,7 +27,7 @@ use crate::row::one;
 use crate::row::root_row;
 use crate::row::scale;
 
-// k2 x² + k1 x + k0.
+// The row of k2 x² + k1 x + k0.
 fn quadratic_row(d: u8, k2: u64, k1: u64, k0: u64) -> Row
     requires { ⌜ (k2 < 2 ^ degree-of d) × (k1 < 2 ^ degree-of d) × (k0 < 2 ^ degree-of d) ⌝ }
     ensures { λ r. ⌜ Stands d r (quadratic (𝔸 d) (el d k2) (el d k1) (el d k0)) ⌝ }
@@ -35,7 +35,7 @@ fn quadratic_row(d: u8, k2: u64, k1: u64, k0: u64) -> Row
     [k0, k1, k2, 0, 0, 0, 0, 0, 0, 0, 0, 0]
 }
 
-// m2 x⁴ + m1 x² + m0.
+// The row of m2 x⁴ + m1 x² + m0.
 fn quartic_row(d: u8, m2: u64, m1: u64, m0: u64) -> Row
     requires { ⌜ (m2 < 2 ^ degree-of d) × (m1 < 2 ^ degree-of d) × (m0 < 2 ^ degree-of d) ⌝ }
     ensures { λ r. ⌜ Stands d r (even-quartic (𝔸 d) (el d m2) (el d m1) (el d m0)) ⌝ }
@@ -43,7 +43,7 @@ fn quartic_row(d: u8, m2: u64, m1: u64, m0: u64) -> Row
     [m0, 0, m1, 0, m2, 0, 0, 0, 0, 0, 0, 0]
 }
 
-// a + k b, for a short k: no product where a coefficient is 0 or 1.
+// The row of a + k b for a short k. No product is computed where a coefficient is 0 or 1.
 fn add_product(d: u8, a: Row, k: Row, b: Row) -> Row
     requires { ⌜ Accepted d × InRange d a × InRange d k × InRange d b × (row-len d k + row-len d b ≤ 13) ⌝ }
     ensures { λ r. ⌜ Stands d r (𝔸 d .ring .add (poly d a) (𝔸 d .ring .mul (poly d k) (poly d b))) ⌝ }
@@ -52,7 +52,7 @@ fn add_product(d: u8, a: Row, k: Row, b: Row) -> Row
     add_rows(d, a, p)
 }
 
-// w + k + m u: the third polynomial of a lift, where m stands for k².
+// The row of w + k + m u: the third polynomial of a lift, where m stands for k².
 fn lifted_row(d: u8, w: Row, k: Row, m: Row, u: Row) -> Row
     requires { ⌜ Accepted d × InRange d w × InRange d k × InRange d m × InRange d u × (row-len d m + row-len d u ≤ 13) ⌝ }
     ensures { λ r. ⌜ Stands d r (𝔸 d .ring .add (𝔸 d .ring .add (poly d w) (poly d k)) (𝔸 d .ring .mul (poly d m) (poly d u))) ⌝ }
@@ -61,7 +61,7 @@ fn lifted_row(d: u8, w: Row, k: Row, m: Row, u: Row) -> Row
     add_product(d, s, m, u)
 }
 
-// v + k u + 1: the second polynomial after a lift and a step.
+// The row of v + k u + 1: the second polynomial after a lift and a step.
 fn stepped_row(d: u8, v: Row, k: Row, u: Row) -> Row
     requires { ⌜ Accepted d × InRange d v × InRange d k × InRange d u × (row-len d k + row-len d u ≤ 13) ⌝ }
     ensures { λ r. ⌜ Stands d r (𝔸 d .ring .add (𝔸 d .ring .add (poly d v) (𝔸 d .ring .mul (poly d k) (poly d u))) (𝔸 d .ring .one)) ⌝ }
@@ -71,7 +71,7 @@ fn stepped_row(d: u8, v: Row, k: Row, u: Row) -> Row
     add_rows(d, s, unit)
 }
 
-// [a, v modulo a] for a square p = a².
+// The pair [a, v modulo a] for a square p = a².
 fn root_pair(d: u8, p: Row, v: Row) -> RowPair
     requires { ⌜ Accepted d × InRange d p × InRange d v × ¬ (sqrt (𝔸 d) (poly d p) ≡ 𝔸 d .ring .nought) ⌝ }
     ensures { λ r. ⌜ StandsPair d r (root-pair (𝔸 d) (poly d p) (poly d v)) ⌝ }
@@ -149,7 +149,9 @@ fn first_lift(d: u8, u: Row, w: Row, r: u64) -> Row
     lifted_row(d, w, k, m, u)
 }
 
-// Degree 3, the square after the second lift, by (x + q)/t: t² u + t x + t q + (x² + q²) s, where t² is the coefficient of x in s and g is q².
+// Degree 3, the square after the second lift by (x + q)/t: t² u + t x + t q + (x² + g) s, where t² is the coefficient
+// of
+// x in s and g is q².
 fn second_square(d: u8, u: Row, s: Row, t: u64, q: u64, g: u64) -> Row
     requires { ⌜ Accepted d × InRange d u × InRange d s × (t < 2 ^ degree-of d) × (q < 2 ^ degree-of d) × (g < 2 ^ degree-of d) × (row-len d s ≤ 5) ⌝ }
     ensures { λ r. ⌜ Stands d r (second-square (𝔸 d) (poly d u) (poly d s) (el d t) (el d q) (el d g)) ⌝ }
@@ -162,7 +164,7 @@ fn second_square(d: u8, u: Row, s: Row, t: u64, q: u64, g: u64) -> Row
     lifted_row(d, eu, k, m, s)
 }
 
-// Degree 3, v + r (u + a) + i z, where z is (x + q) s modulo a.
+// Degree 3, the second polynomial: v + r (u + a) + i z, where z is (x + q) s modulo a.
 fn second_remainder(d: u8, u: Row, v: Row, s: Row, a: Row, r: u64, i: u64, q: u64) -> Row
     requires { ⌜ Accepted d × InRange d u × InRange d v × InRange d s × InRange d a × (r < 2 ^ degree-of d) × (i < 2 ^ degree-of d) × (q < 2 ^ degree-of d) × (row-len d u ≤ 4) × (row-len d a ≡ 4) ⌝ }
     ensures { λ o. ⌜ Stands d o (second-remainder (𝔸 d) (poly d u) (poly d v) (poly d s) (poly d a) (el d r) (el d i) (el d q)) ⌝ }
@@ -203,7 +205,7 @@ fn half_of_degree_3(d: u8, u: Row, v: Row, w: Row) -> RowPair
     RowPair { u: a, v: o }
 }
 
-// The half of a reduced pair, with w at hand. The neutral class is its own half.
+// The half of a reduced pair, given its cofactor w. The neutral class is its own half.
 pub(crate) fn half_of_reduced(d: u8, f: Row, a: RowPair, w: Row) -> RowPair
     requires { ⌜ Accepted d × ReducedRows d f a × CofactorRow d f a w ⌝ }
     ensures { λ r. ⌜ ((C : TheoryCurve (𝔸 d)) → OnCurve d f C → StandsPair d r (half C (rows-pair d a))) ⌝ }

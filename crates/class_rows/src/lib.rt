@@ -1,6 +1,7 @@
-// Pairs of rows of coefficients, for the calls on classes by value in the crate above: whether a pair is a reduced divisor of the curve of the row
-// f, and the operations on one such pair and on two. Each function checks its rows itself, by one division for each pair, whose quotient
-// w = (v² + v + f) / u serves the double and the half; where a check fails the answer says so.
+// Pairs of rows of coefficients, for the calls on classes by value in the crate above: whether a pair is a reduced
+// divisor
+// of the curve of the row f, and the operations on one such pair and on two. Each function checks its rows, by one
+// division for each pair. The quotient w = (v² + v + f) / u serves the double and the half.
 ghost use mathlib.Core.{Path._≡_, Bool.false};
 ghost use Rattle.class_rows.specs.Checked.{Decides, Divisor, UnaryAnswer, BinaryAnswer};
 
@@ -21,21 +22,21 @@ use crate::row::RowPair;
 use crate::sums::binary_of_reduced;
 use crate::sums::unary_of_reduced;
 
-// What is asked of one pair.
+// The operations on one pair.
 pub enum Unary {
     Opposite,
     Double,
     Half,
 }
 
-// What is asked of two pairs.
+// The operations on two pairs.
 pub enum Binary {
     Sum,
     DoubleAndAdd,
     SubtractAndHalve,
 }
 
-// Are the rows given divisors? If so, the pair that was asked for, with the number of reduction steps.
+// Whether the rows given are divisors, and if so the resulting pair with the number of reduction steps.
 pub struct RowsAnswer {
     pub divisor: bool,
     pub rows: CountedRows,

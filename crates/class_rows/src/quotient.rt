@@ -1,4 +1,4 @@
-// The quotient alone: where a division is exact, or its remainder is not wanted, half of its products are spared.
+// The quotient alone, with half of the products of a division, where the division is exact or the remainder not needed.
 ghost use Prim.Native.Nat.{ℕ, _<_};
 ghost use mathlib.Core.Path.{_≡_};
 ghost use lib.ListN.{getD};

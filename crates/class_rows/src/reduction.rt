@@ -1,5 +1,6 @@
-// Cantor's reduction, and the double. The cofactor w = (v² + v + f) / u is found once for each step, by an exact division, and for a double
-// from that of the class by squares, so that a double divides no polynomial of degree 10.
+// Cantor's reduction, and the double. The cofactor w = (v² + v + f) / u is found once for each step, by an exact
+// division.
+// For a double it is computed from that of the class by squares, so that no polynomial of degree 10 is divided.
 ghost use Prim.Native.Nat.{_<_};
 ghost use Rattle.binary_field_theory.specs.Element.{Accepted};
 ghost use Rattle.class_group.specs.Curve.{Curve as TheoryCurve};
@@ -32,7 +33,7 @@ struct Squared {
     pub quotient: Row,
 }
 
-// (v² + v + f) / u.
+// The cofactor (v² + v + f) / u.
 pub(crate) fn cofactor(d: u8, f: Row, a: RowPair) -> Row
     requires { ⌜ Accepted d × SemiReducedRows d f a ⌝ }
     ensures { λ r. ⌜ CofactorRow d f a r ⌝ }
@@ -43,7 +44,7 @@ pub(crate) fn cofactor(d: u8, f: Row, a: RowPair) -> Row
     quotient(d, value, u)
 }
 
-// One reduction step, with w at hand.
+// One reduction step, given the cofactor w.
 fn step(d: u8, f: Row, a: RowPair, w: Row) -> RowPair
     requires { ⌜ Accepted d × SemiReducedRows d f a × CofactorRow d f a w ⌝ }
     ensures { λ r. ⌜ ((C : TheoryCurve (𝔸 d)) → OnCurve d f C → StandsPair d r (reduction-step C (rows-pair d a))) ⌝ }
@@ -57,7 +58,7 @@ fn step(d: u8, f: Row, a: RowPair, w: Row) -> RowPair
     RowPair { u: next, v: rest }
 }
 
-// The reduction of a pair of degree 4 to 6, with w at hand.
+// The reduction of a pair of degree 4 to 6, given the cofactor w.
 fn reduce_with(d: u8, f: Row, a: RowPair, w: Row) -> CountedRows
     requires { ⌜ Accepted d × SemiReducedRows d f a × (4 < row-len d (a .u)) × CofactorRow d f a w ⌝ }
     ensures { λ r. ⌜ ((C : TheoryCurve (𝔸 d)) → OnCurve d f C → StandsCounted d r (reduce C (rows-pair d a))) ⌝ }
@@ -128,7 +129,7 @@ fn squared_cofactor(d: u8, f: Row, a: RowPair, w: Row, s: Squared) -> Row
     add_rows(d, sum, product)
 }
 
-// The double of a reduced pair, with w at hand.
+// The double of a reduced pair, given its cofactor w.
 pub(crate) fn double_of_reduced(d: u8, f: Row, a: RowPair, w: Row) -> CountedRows
     requires { ⌜ Accepted d × ReducedRows d f a × CofactorRow d f a w ⌝ }
     ensures { λ r. ⌜ ((C : TheoryCurve (𝔸 d)) → OnCurve d f C → StandsCounted d r (counted-double C (rows-pair d a))) ⌝ }

@@ -19,19 +19,19 @@ pub struct RowPair {
     pub v: Row,
 }
 
-// Quotient and remainder.
+// The quotient and the remainder of a division.
 pub(crate) struct Division {
     pub quotient: Row,
     pub remainder: Row,
 }
 
-// Where the leading coefficient stands, and its inverse.
+// The index of the leading coefficient, and its inverse.
 pub(crate) struct Lead {
     pub top: usize,
     pub inverse: u64,
 }
 
-// One past the last number that is not 0: the degree plus one.
+// One more than the index of the last number that is not 0: the degree plus one.
 pub fn length(a: Row) -> usize
     ensures { λ n. ⌜ n ≡ places a ⌝ }
 {
@@ -52,7 +52,7 @@ pub(crate) fn one() -> Row
     [1, 0, 0, 0, 0, 0, 0, 0, 0, 0, 0, 0]
 }
 
-// The leading coefficient's place and inverse. 1 is not inverted.
+// The index and the inverse of the leading coefficient. 1 is not inverted.
 pub(crate) fn leading(d: u8, a: Row) -> Lead
     requires { ⌜ Accepted d × InRange d a × ¬ (poly d a ≡ 𝔸 d .ring .nought) ⌝ }
     ensures { λ r. ⌜ (row-len d a ≡ suc (r .top)) × Inverts d (r .inverse) (lead (𝔸 d) (poly d a)) ⌝ }
@@ -70,7 +70,7 @@ pub(crate) fn add_rows(d: u8, a: Row, b: Row) -> Row
     add_multiple(d, a, 1, b, 0)
 }
 
-// a + c x^shift b. No product where c is 0 or 1.
+// The row of a + c x^shift b. No product is computed where c is 0 or 1.
 pub(crate) fn add_multiple(d: u8, a: Row, c: u64, b: Row, shift: usize) -> Row
     requires { ⌜ Accepted d × InRange d a × (c < 2 ^ degree-of d) × InRange d b × (row-len d b + shift ≤ 12) ⌝ }
     ensures { λ r. ⌜ Stands d r (𝔸 d .ring .add (poly d a) (𝔸 d .ring .mul (𝔸 d .con (el d c)) (𝔸 d .ring .mul (x-power d shift) (poly d b)))) ⌝ }
@@ -89,7 +89,7 @@ pub(crate) fn add_multiple(d: u8, a: Row, c: u64, b: Row, shift: usize) -> Row
     r
 }
 
-// c a.
+// The row of c a.
 pub(crate) fn scale(d: u8, c: u64, a: Row) -> Row
     requires { ⌜ Accepted d × (c < 2 ^ degree-of d) × InRange d a ⌝ }
     ensures { λ r. ⌜ Stands d r (𝔸 d .ring .mul (𝔸 d .con (el d c)) (poly d a)) ⌝ }
@@ -97,7 +97,7 @@ pub(crate) fn scale(d: u8, c: u64, a: Row) -> Row
     add_multiple(d, [0; 12], c, a, 0)
 }
 
-// The square: the squares of the coefficients at the even powers.
+// The square: the squares of the coefficients, at the even powers.
 pub(crate) fn square_row(d: u8, a: Row) -> Row
     requires { ⌜ Accepted d × InRange d a × (row-len d a ≤ 6) ⌝ }
     ensures { λ r. ⌜ Stands d r (𝔸 d .ring .mul (poly d a) (poly d a)) ⌝ }

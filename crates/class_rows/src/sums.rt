@@ -1,4 +1,4 @@
-// The operations on reduced pairs: sum and opposite, the two rules that move a seal, and each by its name.
+// The operations on reduced pairs: sum and opposite, the two rules that move a seal, and the choice of an operation.
 ghost use Rattle.binary_field_theory.specs.Element.{Accepted};
 ghost use Rattle.class_group.specs.Curve.{Curve as TheoryCurve};
 ghost use Rattle.class_group.specs.{Mumford.opposite, Operations.counted-sum, Moves.counted-double-and-add, Moves.counted-subtract-and-halve};
@@ -28,7 +28,7 @@ pub(crate) fn sum_of_reduced(d: u8, f: [u64; 12], a: RowPair, b: RowPair) -> Cou
     reduce_rows(d, f, composed)
 }
 
-// The opposite; the neutral pair is its own.
+// The opposite. The neutral pair is its own opposite.
 pub(crate) fn opposite_of_reduced(d: u8, a: RowPair) -> RowPair
     requires { ⌜ Accepted d × InRange d (a .u) × InRange d (a .v) ⌝ }
     ensures { λ r. ⌜ ((C : TheoryCurve (𝔸 d)) → StandsPair d r (opposite C (rows-pair d a))) ⌝ }

@@ -1,8 +1,16 @@
--- The calls by value, in terms of their answers, for accepted classes (docs/SPECIFICATION.md, 2 and 11).
--- What each call answers stands for what the theory says (`half-gives` and its like) and is accepted in turn (`half-accepts` and its like).
--- The double of the half is the class (`double-of-half`), the half of the double too (`half-of-double`), and no other accepted class doubles
--- to it (`only-half`, and of the theory's double `half-is-only`). Sums are those of a commutative group: `sum-answer-comm`, `sum-answer-assoc`,
--- `sum-answer-neutral`, `sum-answer-opposite`.
+-- The calls by value on accepted classes, in terms of their answers (docs/SPECIFICATION.md, 2 and 11).
+-- `opposite-gives`, `double-gives`, `half-gives`, `sum-gives`: the answer is the class of the theory's result.
+-- `opposite-accepts`, `double-accepts`, `half-accepts`, `sum-accepts`: the class of the answer is accepted.
+-- `opposite-degree`: a class and its opposite have the same degree.
+-- `double-of-half`: the double of the half is the class.
+-- `half-of-double`: the half of the double is the class.
+-- `only-half`: the half is the only accepted class whose double is the class.
+-- `half-is-only`: the same of the theory's double, as a record.
+-- `neutral-accepts`: the neutral class is accepted on an accepted curve.
+-- `only-neutral`: no other accepted class has degree 0.
+-- `sum-answer-comm`, `sum-answer-assoc`: the sum is commutative and associative.
+-- `sum-answer-neutral`: a class plus the neutral one is the class.
+-- `sum-answer-opposite`: a class plus its opposite is neutral.
 use Prim.Native.Nat.{ℕ, _-_}
 use mathlib.Core.Path.{_≡_, sym, _∙_, ap, subst}
 use Rattle.char2_algebra.proofs.Degree.{len-one}
@@ -26,7 +34,7 @@ module _ (c : Curve) where
   pub reduced : {a : Class} → Accepts c a → Reduced C (pair d a)
   reduced {a} h = accepted-reduced c a h
 
-  -- both classes of a call on two
+  -- a call on two accepted classes is not refused
   pub accepts-two : {a b : Class} → Accepts c a → Accepts c b → refusal-of-two c a b ≡ 0
   unfolding refusal-of-two
   accepts-two h k = zero-then _ _ (h .none) (accepts-class k)
@@ -49,11 +57,11 @@ module _ (c : Curve) where
   pub class-pair : {r : Result} (D : Pair (Poly d)) → Reduced C D → r ≡ gives (class-of d D) → pair d (r .class) ≡ D
   class-pair D t e = ap (λ (r : Result). pair d (r .class)) e ∙ pair-class-of d C D t
 
-  -- a class by value is the value of its pair
+  -- an accepted class is the class of its pair
   pub value-is : {a : Class} {D : Pair (Poly d)} → Accepts c a → D ≡ pair d a → gives (class-of d D) ≡ gives a
   value-is {a} h e = ap gives (ap (class-of d) e ∙ class-of-pair c a h)
 
-  -- ---- what each call answers to accepted classes, and that it is accepted in turn
+  -- ---- what each call answers for accepted classes, and that its class is accepted
   pub opposite-gives : {a : Class} → Accepts c a → result (opposite-answer c a) ≡ gives (class-of d (opposite C (pair d a)))
   unfolding opposite-answer
   opposite-gives h = answered-none _ _ (h .none)
@@ -108,7 +116,7 @@ module _ (c : Curve) where
   only-half h k e =
       sym (ap (λ (r : Result). r .class) (half-of-double k)) ∙ ap (λ (r : Result). half-answer c (r .class) .class) e
 
-  -- the same in one record, of the theory's double
+  -- the same of the theory's double, as a record
   pub half-is-only : {a : Class} → Accepts c a → Only c (IsHalf c a) (half-answer c a .class)
   half-is-only h =
       record {
@@ -140,7 +148,7 @@ module _ (c : Curve) where
   neutral-pair : pair d neutral-class ≡ neutral C
   neutral-pair = ap (pair d) (sym neutral-value) ∙ pair-class-of d C (neutral C) (neutral-reduced C)
 
-  -- the neutral class changes nothing
+  -- a class plus the neutral one is the class
   pub sum-answer-neutral : {a : Class} → Accepts c a → result (sum-answer c a neutral-class) ≡ gives a
   sum-answer-neutral {a} h =
       sum-gives h (neutral-accepts (accepts-curve h))

@@ -1,4 +1,6 @@
--- What the operations on classes call, opened by one name: under `unfolding computing` a closed sum, double, half or answer of a call computes.
+-- `computing` unfolds what the operations on classes use: under `unfolding computing` a closed sum, double, half or
+-- answer
+-- computes.
 use Rattle.binary_field.specs.Field.{field, element}
 use Rattle.binary_field.proofs.Field.{computing as numbers-computing}
 use Rattle.char2_algebra.specs.Polynomial.{of-list}

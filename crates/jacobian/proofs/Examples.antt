@@ -1,5 +1,5 @@
--- Every row of the table of examples holds, over either field: `examples`. The rows are computed, and the numbers that come out compared
--- with those of the table.
+-- `examples`: every row of the table of examples holds, over either field.
+-- The rows are computed, and the numbers compared with those of the table.
 use Prim.Native.Nat.{ℕ}
 use mathlib.Core.Bool.{Bool, true, _&&_}
 use mathlib.Core.List.{List, [], _∷_}

@@ -1,9 +1,11 @@
--- The accepted classes of an accepted curve, with what the calls answer, are a commutative group (`group`) in which doubling is one to one (`doubling`), so that all of
--- class_group's laws of groups hold of the calls (docs/SPECIFICATION.md, 11). The laws one by one, as equations between answers, are in Calls; the same as equations between
--- classes are the fields of these records.
--- No such call is refused: a sum, an opposite, a difference and each of k doublings of accepted classes gives a class (`sum-given`, `opposite-given`, `difference-given`,
--- `doublings-give`), which is accepted in turn (`difference-accepts`, `doublings-accept`; `sum-accepts`, `opposite-accepts` of Calls). k doublings are the 2^k-fold sum
--- (`doublings-sum`), and double and add is the sum with the double (`double-and-add-is`).
+-- The calls by value as a group (docs/SPECIFICATION.md, 11). Calls.antt has the laws one by one, between answers.
+-- `group`: the accepted classes of an accepted curve are a commutative group under what the calls answer.
+-- `doubling`: doubling in it is one to one, so that class_group's laws of such groups hold of the calls.
+-- `sum-given`, `opposite-given`, `difference-given`: these calls on accepted classes are not refused.
+-- `difference-accepts`: a difference of accepted classes is accepted.
+-- `doublings-give`, `doublings-accept`: none of k doublings is refused, and their class is accepted.
+-- `doublings-sum`: k doublings are the 2^k-fold sum.
+-- `double-and-add-is`: double and add is the sum with the double.
 use Prim.Native.Nat.{ℕ, suc, _^_}
 use mathlib.Core.Path.{_≡_, sym, _∙_, ap}
 use Rattle.class_group.specs.{Group.CommutativeGroup, Group.Doubling, Multiples.repeat, Multiples.multiple, Operations.sum, Moves.double-and-add}

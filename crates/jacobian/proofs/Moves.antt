@@ -1,6 +1,9 @@
--- The rules by which a commit and an undo move a seal, by value, for accepted classes (docs/SPECIFICATION.md, 11): what they answer is accepted in turn
--- (`double-and-add-accepts`, `subtract-and-halve-accepts`), they take each other back (`subtract-of-double-and-add`, `double-of-subtract-and-halve`), and
--- what the second answers is the only accepted class that the first takes back (`subtract-and-halve-is-only`).
+-- The rules by which a commit and an undo move a seal, by value, on accepted classes (docs/SPECIFICATION.md, 11).
+-- `double-and-add-gives`, `subtract-and-halve-gives`: the answer is the class of the theory's result.
+-- `double-and-add-accepts`, `subtract-and-halve-accepts`: the class of the answer is accepted.
+-- `subtract-of-double-and-add`: the half of (2 a + b) - b is a.
+-- `double-of-subtract-and-halve`: twice the half of a - b, plus b, is a.
+-- `subtract-and-halve-is-only`: subtract and halve answers the only accepted class that double and add takes to a.
 use mathlib.Core.Path.{_≡_, sym, _∙_, ap}
 use Rattle.class_group.specs.{Operations.sum, Operations.double, Moves.double-and-add, Moves.subtract-and-halve, Moves.counted-double-and-add, Moves.counted-subtract-and-halve}
 use Rattle.class_group.proofs.Moves.{double-and-add-reduced, subtract-and-halve-reduced, subtract-double-and-add, double-subtract-and-halve}
@@ -46,7 +49,7 @@ module _ {c : Curve} {a b : Class} (h : Accepts c a) (k : Accepts c b) where
   pub double-of-subtract-and-halve : result (double-and-add-answer c (subtract-and-halve-answer c a b .class) b) ≡ gives a
   double-of-subtract-and-halve = double-and-add-gives (subtract-and-halve-accepts h k) k ∙ value-is c h (returned h k)
 
--- the only accepted class that double_and_add of b takes to a
+-- the only accepted class that double_and_add with b takes to a
 pub subtract-and-halve-is-only : {c : Curve} {a b : Class} → Accepts c a → Accepts c b
     → Only c (Precedes c a b) (subtract-and-halve-answer c a b .class)
 subtract-and-halve-is-only {c} {a} {b} h k =

@@ -1,7 +1,9 @@
--- What the checks say is 0 or the number of a refusal: of one check (`told-unless`), of one after the other (`told-or-else`), and so of a verdict
--- (`refused-told`). Every refusal's number is above 100 (`above-100`), so no length up to that is taken for one. None is 117, of a number that a check
--- says (`never-117`), of a verdict and of an answer by value (`verdict-never-117`, `reply-never-117`): no call that is told apart by them hands on that an element
--- inverted was 0.
+-- Refusals: 0 or a listed number, and never 117.
+-- `told-none`, `told-unless`, `told-or-else`: no refusal, one check, and one check after another are valid refusals.
+-- `refused-told`: a verdict of a valid refusal refuses with a listed number.
+-- `above-100`: every listed number is above 100, so that no length up to 100 is one.
+-- `never-117`: no valid refusal is 117.
+-- `verdict-never-117`, `reply-never-117`: no valid verdict and no valid reply refuses with 117.
 use Prim.Native.Nat.{ℕ, zero, suc, _<_}
 use mathlib.Core.{Path._≡_, Path.refl, Path.sym, Path.ap, Path.subst, Bool.Bool, Bool.true, Bool.false, Bool.true≢false, Bool.false≢true, Bool._||_, Bool._&&_, List.List, List.[], List._∷_, Logic._⊎_, Logic.inl, Logic.inr}
 use native.Mathlib.Omega.{arith}
@@ -35,7 +37,7 @@ pub above-100 : (n : ℕ) → IsRefusal n → 100 < n
 unfolding IsRefusal refusals all-above
 above-100 n e = listed-above 100 n refusals refl e
 
--- ---- 117 is none of them
+-- ---- 117 is not in the list
 not-listed : ¬ IsRefusal 117
 unfolding IsRefusal refusals listed
 not-listed e = false≢true e
@@ -67,7 +69,7 @@ number : Verdict → ℕ
 number accepted = 0
 number (refused n) = n
 
--- a verdict and an answer by value do not refuse with 117
+-- no valid verdict and no valid reply refuses with 117
 pub verdict-never-117 : {v : Verdict} → VerdictTold v → ¬ (v ≡ refused 117)
 unfolding Told number
 verdict-never-117 told.VerdictTold.acceptance e = accepted-not-refused e
@@ -77,7 +79,7 @@ pub reply-never-117 : {r : Reply} → ReplyTold r → ¬ (r .outcome ≡ refused
 reply-never-117 (told.ReplyTold.acceptance a n) = verdict-never-117 told.VerdictTold.acceptance
 reply-never-117 (told.ReplyTold.refusal n i) = verdict-never-117 (told.VerdictTold.refusal n i)
 
--- a verdict refuses with the number of a refusal
+-- a verdict of a valid refusal refuses with a listed number
 pub refused-told : (m n : ℕ) → Told m → verdict-of m ≡ refused n → IsRefusal n
 unfolding Told verdict-of number
 refused-told zero n t e = absurd (accepted-not-refused e)

@@ -1,5 +1,10 @@
--- Classes by value and reduced classes: on an accepted curve the values that no check refuses are those that stand for reduced classes, and every
--- reduced class has exactly one such value. The value of a reduced class stands for it on every curve: `pair-class-of` of Form.
+-- Classes by value and reduced classes determine each other.
+-- `accepted-reduced`: an accepted value stands for a reduced class.
+-- `class-of-accepted`: the value of a reduced class is accepted.
+-- `class-of-pair`: an accepted value is the value of the class that it stands for.
+-- `pair-injective`: two accepted values that stand for the same class are equal.
+-- `accepted-iff`: on an accepted curve the accepted values are those of the reduced classes.
+-- Form.antt has `pair-class-of`: the value of a reduced class stands for that class.
 use Prim.Native.Nat.{ℕ, _<_, _^_}
 use mathlib.Core.Path.{_≡_, sym, _∙_, ap}
 use mathlib.Core.List.{List}
@@ -29,7 +34,7 @@ module _ (c : Curve) (ok : curve-refusal c ≡ 0) where
   range-in : (r : List ℕ) → InRange (c .degree) r → (i : ℕ) → getD r i 0 < 2 ^ c .degree
   range-in r h i = rw bound-is at (h i)
 
-  -- what is accepted is of the right form, and what is of the right form is accepted where u divides v² + v + f
+  -- an accepted class is in form, and one in form is accepted where u divides v² + v + f
   accepted-formed : (a : Class) → class-refusal c a ≡ 0 → Formed (c .degree) a
   accepted-formed a e =
       let p = class-passes c a e in
@@ -49,7 +54,7 @@ module _ (c : Curve) (ok : curve-refusal c ≡ 0) where
         divides = ap (P .len) (rem-of-divides P (D .u) nonzero (value (curve c) (D .v)) k) ∙ len-nought P;
       })
 
--- ---- what is accepted: a curve and a class that no check refuses
+-- ---- acceptance: neither the curve nor the class is refused
 pub accepts-curve : {c : Curve} {a : Class} → Accepts c a → curve-refusal c ≡ 0
 unfolding refusal
 accepts-curve h = then-zero _ _ (h .none) .0
@@ -64,27 +69,27 @@ accepts-both c a ok e = record { none = zero-then _ _ ok e }
 
 -- ---- the theorems
 module _ (c : Curve) where
-  -- what is accepted stands for a reduced class
+  -- an accepted value stands for a reduced class
   pub accepted-reduced : (a : Class) → Accepts c a → Reduced (curve c) (pair (c .degree) a)
   accepted-reduced a e =
       formed-reduced (c .degree) a (accepted-formed c (accepts-curve e) a (accepts-class e)) (curve c) (class-passes c a (accepts-class e) .divides)
 
-  -- the value of a reduced class is accepted, and stands for it
+  -- the value of a reduced class is accepted
   pub class-of-accepted : curve-refusal c ≡ 0 → (D : Pair (Poly (c .degree))) → Reduced (curve c) D → Accepts c (class-of (c .degree) D)
   class-of-accepted ok D h =
       accepts-both c _ ok
       (formed-accepted c ok (class-of (c .degree) D) (class-of-is-formed (c .degree) (curve c) D h)
       (rw (pair-class-of (c .degree) (curve c) D h) (h .divides)))
 
-  -- what is accepted is the value of the class that it stands for
+  -- an accepted value is the value of the class that it stands for
   pub class-of-pair : (a : Class) → Accepts c a → class-of (c .degree) (pair (c .degree) a) ≡ a
   class-of-pair a e = class-of-formed (c .degree) a (accepted-formed c (accepts-curve e) a (accepts-class e))
 
-  -- so a reduced class has one value only
+  -- a reduced class has only one accepted value
   pub pair-injective : (a b : Class) → Accepts c a → Accepts c b → pair (c .degree) a ≡ pair (c .degree) b → a ≡ b
   pair-injective a b h k e = sym (class-of-pair a h) ∙ ap (class-of (c .degree)) e ∙ class-of-pair b k
 
-  -- on an accepted curve the values that are accepted are those of the reduced classes
+  -- on an accepted curve the accepted values are those of the reduced classes
   pub accepted-iff : curve-refusal c ≡ 0 → (a : Class)
       → Accepts c a ↔ ((D : Pair (Poly (c .degree))) × Reduced (curve c) D × (a ≡ class-of (c .degree) D))
   accepted-iff ok a = (

@@ -1,6 +1,11 @@
--- Demand 1 of the calls by value: each answers an acceptance or a refusal with one of the numbers, and with a refusal the neutral class and no step
--- (`curve-told`, `membership-told`, `unary-told` of opposite, double and half, `binary-told` of sum and of the two rules that move a seal). What the
--- checks say is 0 or one of the numbers: `curve-refusal-told`, `class-refusal-told`, `refusal-told`, `refusal-of-two-told`.
+-- Demand 1 of the calls by value: every answer is valid.
+-- `curve-refusal-told`, `class-refusal-told`, `refusal-told`, `refusal-of-two-told`: a refusal of the checks is 0 or
+-- listed.
+-- `verdict-told`: the verdict of a valid refusal is valid.
+-- `curve-told`, `membership-told`: a curve or class is accepted, or refused with a listed number.
+-- `unary-told`: an opposite, double or half is accepted, or refused with a listed number, the neutral class and no
+-- step.
+-- `binary-told`: so are a sum and the two rules that move a seal.
 use Prim.Native.Nat.{ℕ, zero, suc}
 use mathlib.Core.{Path.refl, Logic.inl, Logic.inr}
 use native.Mathlib.Omega.{arith}

@@ -1,5 +1,5 @@
--- How a call's checks are said (docs/SPECIFICATION.md, 6): one after the other, and the first that fails gives the refusal's number.
--- The words are those of the calls on elements.
+-- The checks of a call (docs/SPECIFICATION.md, 6): they are made in order, and the first that fails gives the refusal.
+-- `unless` and `_or-else_` are those of the calls on elements.
 use Prim.Native.Nat.{ℕ}
 use mathlib.Core.{Bool.Bool, Bool.true, Bool._&&_, List.List, List.[], List._∷_}
 use lib.Dec.{eqb}

@@ -7,15 +7,15 @@ use Rattle.row_theory.specs.Field.{Poly, 𝔸, poly}
 use Rattle.jacobian.specs.{Checks.unless, Checks._or-else_, Checks.blank, Curves.curve, declared.Curve.Curve, declared.Class.Class}
 use Rattle.binary_field.specs.Answer.{below}
 
--- u, the lowest coefficient first, with its leading 1, which is not in the row of the class
+-- the coefficients of u, the lowest first, with the leading 1, which a class by value does not contain
 unfoldable pub u-row : Class → List ℕ
 u-row a = take (a .degree) (a .u) ++ 1 ∷ []
 
--- the pair [u, v]
+-- the pair [u, v] of a class
 unfoldable pub pair : (d : ℕ) → Class → Pair (Poly d)
 pair d a = record { u = poly d (u-row a); v = poly d (a .v) }
 
--- the numbers of a polynomial below x^n, in a row of three
+-- the coefficients of a polynomial below x^n, as a row of three numbers
 unfoldable pub numbers : (d : ℕ) → ℕ → Poly d → List ℕ
 numbers d n p = at 0 ∷ at 1 ∷ at 2 ∷ []
   where
@@ -28,26 +28,27 @@ class-of d D =
     let n = 𝔸 d .len (D .u) - 1 in
     record { degree = n; u = numbers d n (D .u); v = numbers d n (D .v) }
 
--- three numbers agree
+-- two rows of three numbers are equal
 unfoldable pub same-row : List ℕ → List ℕ → Bool
 same-row r s = eqb (getD r 0 0) (getD s 0 0) && (eqb (getD r 1 0) (getD s 1 0) && eqb (getD r 2 0) (getD s 2 0))
 
+-- two classes by value are equal
 unfoldable pub same-class : Class → Class → Bool
 same-class a b = eqb (a .degree) (b .degree) && (same-row (a .u) (b .u) && same-row (a .v) (b .v))
 
--- three numbers, 0 at place n and past it
+-- a row of three numbers that are 0 from index n on
 unfoldable pub padded : ℕ → List ℕ → Bool
 padded n r = eqb (length r) 3 && blank (drop n r)
 
--- 104 for a degree above 3 or a row that is not three numbers, 0 at and past the degree
+-- 104 for a degree above 3, or for a row that is not three numbers with 0 from the degree on; else 0
 unfoldable pub shape-refusal : Class → ℕ
 shape-refusal a = unless (leb (a .degree) 3 && padded (a .degree) (a .u) && padded (a .degree) (a .v)) 104
 
--- 110 for a number of 2^d or more
+-- 110 for a number of 2^d or more, else 0
 unfoldable pub range-refusal : ℕ → Class → ℕ
 range-refusal d a = unless (below (2 ^ d) (a .u) && below (2 ^ d) (a .v)) 110
 
--- 104, then 110, then 111 where u does not divide v² + v + f; 0 where the class is accepted
+-- the refusal of a class: 104, then 110, then 111 where u does not divide v² + v + f, else 0
 unfoldable pub class-refusal : Curve → Class → ℕ
 class-refusal c a =
     let d = c .degree in

@@ -1,5 +1,5 @@
--- A curve by value: which are refused, and the f of those that are not (docs/SPECIFICATION.md, 2, 3 and 6).
--- Of the definitions only `coefficients`, `curve-with` and `f-row` name the fields f3, f1 and f0.
+-- A curve by value: its refusal, and the f of one that is accepted (docs/SPECIFICATION.md, 2, 3 and 6).
+-- Only `coefficients`, `curve-with` and `f-row` name the fields f3, f1 and f0.
 use Prim.Native.Nat.{ℕ, _^_}
 use mathlib.Core.List.{List, [], _∷_}
 use lib.ListN.{getD, replicate}
@@ -10,7 +10,7 @@ use Rattle.binary_field.specs.Answer.{below}
 unfoldable pub use Rattle.binary_field.specs.Answer.{degree-refusal}
 use Rattle.class_group.specs.Curve as Theory
 
--- how many coefficients a curve has
+-- the number of coefficients of a curve
 abbrev pub coefficient-count : ℕ
 coefficient-count = 3
 
@@ -26,15 +26,15 @@ curve-with d cs = record { degree = d; f3 = getD cs 0 0; f1 = getD cs 1 0; f0 = 
 unfoldable pub f-row : Curve → List ℕ
 f-row c = c .f0 ∷ c .f1 ∷ 0 ∷ c .f3 ∷ 0 ∷ 0 ∷ 0 ∷ 1 ∷ []
 
--- the curve that a refused reading holds
+-- the curve in the answer of a refused reading
 unfoldable pub blank-curve : Curve
 blank-curve = curve-with 5 (replicate coefficient-count 0)
 
--- 107 for a coefficient of 2^d or more
+-- 107 for a coefficient of 2^d or more, else 0
 unfoldable pub coefficient-refusal : Curve → ℕ
 coefficient-refusal c = unless (below (2 ^ c .degree) (coefficients c)) 107
 
--- 106, then 107; 0 where the curve is accepted
+-- the refusal of a curve: 106, then 107, else 0
 unfoldable pub curve-refusal : Curve → ℕ
 curve-refusal c = degree-refusal (c .degree) or-else coefficient-refusal c
 

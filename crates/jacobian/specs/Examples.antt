@@ -1,4 +1,4 @@
--- The twelve examples (docs/SPECIFICATION.md, 2.9) as one table, and what a row of it says of the definitions.
+-- The twelve examples (docs/SPECIFICATION.md, 2.9) as one table, and what each row of it says.
 -- proofs/Examples.antt proves that every row holds over either field.
 use Prim.Native.Nat.{ℕ}
 use mathlib.Core.Path.{_≡_}
@@ -13,33 +13,38 @@ use Rattle.jacobian.specs.Curves.{curve, curve-with}
 use Rattle.jacobian.specs.Classes.{pair}
 use Rattle.jacobian.specs.Answer.{Result, result, accepted, refused, membership-answer, double-answer, half-answer, sum-answer}
 
--- A row: on a curve, twice a class, the half of a class, or the sum of two is the class that comes last, and the double of that half takes so many
--- reduction steps; a class is on the first curve and not on the second.
+-- a row of the table: on a curve, twice a class is the last class (`twice-is`), the half of a class is the last class,
+-- and
+-- doubling that takes so many reduction steps (`half-is`), or the sum of two classes is the last class (`sum-is`);
+-- or a class is on the first curve and not on the second (`on-and-not-on`)
 pub data Example : Type 0 where
   twice-is : Curve → Class → Class → Example
   half-is : Curve → Class → Class → ℕ → Example
   sum-is : Curve → Class → Class → Class → Example
   on-and-not-on : Curve → Curve → Class → Example
 
--- an operation's pair is the pair of the class r, and the call by value answers r
+-- the operation's pair is the pair of the class r, and the call by value answers r
 abbrev pub Gives : (c : Curve) → Pair (Poly (c .degree)) → Result → Class → Type 0
 Gives c D s r = (D ≡ pair (c .degree) r) × (s ≡ record { outcome = accepted; class = r })
 
--- what a row says; 111 is the refusal where u does not divide v² + v + f
+-- the statement of a row; 111 is the refusal where u does not divide v² + v + f
 abbrev pub Holds : Example → Type 0
 Holds (twice-is c a r) = Gives c (double (curve c) (pair (c .degree) a)) (result (double-answer c a)) r
 Holds (half-is c a r n) = Gives c (half (curve c) (pair (c .degree) a)) (result (half-answer c a)) r × (double-answer c r .steps ≡ n)
 Holds (sum-is c a b r) = Gives c (sum (curve c) (pair (c .degree) a) (pair (c .degree) b)) (result (sum-answer c a b)) r
 Holds (on-and-not-on c e a) = (membership-answer c a ≡ accepted) × (membership-answer e a ≡ refused 111)
 
--- f = x^7, and f = x^7 + 1
+-- the curve of f = x^7
 abbrev pub A : ℕ → Curve
 A d = curve-with d (0 ∷ 0 ∷ 0 ∷ [])
 
+-- the curve of f = x^7 + 1
 abbrev pub B : ℕ → Curve
 B d = curve-with d (0 ∷ 0 ∷ 1 ∷ [])
 
--- The classes [u, v] by value: the degree of u, the coefficients of u below its leading term and those of v, the lowest power first.
+-- the classes [u, v] by value: the degree of u, the coefficients of u below its leading term, and those of v, the
+-- lowest
+-- power first
 abbrev pub [1|0] : Class
 [1|0] = record { degree = 0; u = 0 ∷ 0 ∷ 0 ∷ []; v = 0 ∷ 0 ∷ 0 ∷ [] }
 

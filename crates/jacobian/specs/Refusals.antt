@@ -3,14 +3,15 @@ use Prim.Native.Nat.{ℕ}
 use mathlib.Core.{Path._≡_, Bool.true, List.List, List.[], List._∷_, Logic._⊎_}
 unfoldable pub use Rattle.binary_field.specs.Checks.{listed}
 
--- one for each check of curves, classes, stamps, multiples, registers, stored form and areas; 117 is of calls on elements alone, whose numbers are
--- `element-refusals` of binary_field
+-- one number for each check of curves, classes, stamps, multiples, registers, stored form and byte areas;
+-- 117 is not among them, since only calls on elements refuse with it (`element-refusals` of binary_field)
 unfoldable pub refusals : List ℕ
 refusals = 101 ∷ 102 ∷ 103 ∷ 104 ∷ 105 ∷ 106 ∷ 107 ∷ 108 ∷ 109 ∷ 110 ∷ 111 ∷ 112 ∷ 113 ∷ 114 ∷ 115 ∷ 116 ∷ 118 ∷ 119 ∷ []
 
+-- n is the number of a refusal
 unfoldable pub IsRefusal : ℕ → Type 0
 IsRefusal n = listed n refusals ≡ true
 
--- what a check says: 0, or the number of a refusal
+-- a valid refusal: 0, or the number of a refusal
 unfoldable pub Told : ℕ → Type 0
 Told n = (n ≡ 0) ⊎ IsRefusal n

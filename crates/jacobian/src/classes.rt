@@ -16,7 +16,7 @@ use class_rows::is_divisor;
 use class_rows::row;
 use class_rows::row::RowPair;
 
-// Is every number from place n on 0?
+// Is every number from index n on 0?
 fn blank_from(n: u64, r: [u64; 3]) -> bool
     ensures { λ t. ⌜ t ≡ padded n r ⌝ }
 {
@@ -43,7 +43,7 @@ fn all_below(m: u64, r: [u64; 3]) -> bool
     r[2] < m
 }
 
-// Do three numbers agree?
+// Are two rows of three numbers equal?
 pub fn same_row(r: [u64; 3], s: [u64; 3]) -> bool
     ensures { λ x. ⌜ x ≡ same-row r s ⌝ }
 {
@@ -56,7 +56,7 @@ pub fn same_row(r: [u64; 3], s: [u64; 3]) -> bool
     r[2] == s[2]
 }
 
-// Are two classes the same?
+// Are two classes equal?
 pub fn same_class(a: Class, b: Class) -> bool
     ensures { λ r. ⌜ r ≡ same-class a b ⌝ }
 {
@@ -73,7 +73,7 @@ pub fn same_class(a: Class, b: Class) -> bool
     same_row(v, z)
 }
 
-// The first n numbers, then 1.
+// The first n numbers, then 1, in a row of twelve.
 fn leading_one(n: u64, r: [u64; 3]) -> [u64; 12]
     requires { ⌜ n ≤ 3 ⌝ }
     ensures { λ t. ⌜ t ≡ filled (take n r ++ 1 ∷ []) ⌝ }
@@ -92,14 +92,14 @@ fn leading_one(n: u64, r: [u64; 3]) -> [u64; 12]
     [low, middle, r[2], 1, 0, 0, 0, 0, 0, 0, 0, 0]
 }
 
-// The three numbers in a longer row.
+// The three numbers in a row of twelve, with 0 after them.
 fn widened(r: [u64; 3]) -> [u64; 12]
     ensures { λ t. ⌜ t ≡ filled r ⌝ }
 {
     [r[0], r[1], r[2], 0, 0, 0, 0, 0, 0, 0, 0, 0]
 }
 
-// The pair of a class.
+// The pair of a class, as rows.
 pub(crate) fn to_rows(a: Class) -> RowPair
     requires { ⌜ a .degree ≤ 3 ⌝ }
     ensures { λ r. ⌜ RowsOf a r ⌝ }
@@ -111,7 +111,7 @@ pub(crate) fn to_rows(a: Class) -> RowPair
     RowPair { u: u, v: v }
 }
 
-// The numbers below place n of a row, in a row of three.
+// The numbers of a row below index n, in a row of three.
 fn narrowed(n: u64, r: [u64; 12]) -> [u64; 3]
     requires { ⌜ 1 ≤ n ⌝ }
     ensures { λ t. ⌜ t ≡ first n r ⌝ }
@@ -127,7 +127,7 @@ fn narrowed(n: u64, r: [u64; 12]) -> [u64; 3]
     [low, middle, r[2]]
 }
 
-// The class of a pair.
+// The class of a pair of rows.
 pub(crate) fn from_rows(a: RowPair) -> Class
     ensures { λ r. ⌜ ((d : ℕ) → InRange d (a .u) → InRange d (a .v) → r ≡ class-of d (rows-pair d a)) ⌝ }
 {
@@ -147,7 +147,7 @@ pub(crate) fn from_rows(a: RowPair) -> Class
     }
 }
 
-// 104 for a degree above 3 or a number other than 0 at or past the degree, else 0.
+// 104 for a degree above 3 or a number other than 0 from the degree on, else 0.
 fn shape_refusal(a: Class) -> u32
     ensures { λ r. ⌜ r ≡ shape-refusal a ⌝ }
 {
@@ -182,7 +182,7 @@ fn range_refusal(d: u8, a: Class) -> u32
     0
 }
 
-// What is due to a class before a division: 104, then 110, else 0.
+// The refusal of a class before the division: 104, then 110, else 0.
 pub(crate) fn form_refusal(d: u8, a: Class) -> u32
     requires { ⌜ Accepted d ⌝ }
     ensures { λ r. ⌜ r ≡ form-refusal d a ⌝ }
@@ -194,7 +194,7 @@ pub(crate) fn form_refusal(d: u8, a: Class) -> u32
     range_refusal(d, a)
 }
 
-// The refusal that is due to a class in form: 111 where u does not divide v² + v + f, else 0.
+// The refusal of a class in form: 111 where u does not divide v² + v + f, else 0.
 pub(crate) fn divisor_refusal(c: Curve, a: Class) -> u32
     requires { ⌜ (curve-refusal c ≡ 0) × (form-refusal (c .degree) a ≡ 0) ⌝ }
     ensures { λ r. ⌜ r ≡ class-refusal c a ⌝ }

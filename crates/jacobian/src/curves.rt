@@ -1,5 +1,5 @@
-// A curve by value: its coefficients, its checks, and its f as a row. Of the functions of this crate only `coefficients`, `curve_with` and `f_row` name
-// the struct's f3, f1 and f0.
+// A curve by value: its coefficients, its checks, and its f as a row.
+// Only `coefficients`, `curve_with` and `f_row` name the struct's f3, f1 and f0.
 ghost use mathlib.Core.Path.{_≡_};
 ghost use Rattle.jacobian.specs.Checks.{unless};
 ghost use Rattle.binary_field.specs.Answer.{below};
@@ -7,7 +7,7 @@ ghost use Rattle.jacobian.specs.Curves.{coefficients, curve-with, blank-
 ghost use Rattle.row_theory.specs.Row.{filled};
 use crate::Curve;
 
-// How many coefficients a curve has.
+// The number of coefficients of a curve.
 pub const COEFFICIENTS: usize = 3;
 
 // The coefficients in the stored order, the highest power first.
@@ -36,7 +36,7 @@ pub fn f_row(c: Curve) -> [u64; 12]
     [c.f0, c.f1, 0, c.f3, 0, 0, 0, 1, 0, 0, 0, 0]
 }
 
-// The curve that a refused reading holds.
+// The curve in the answer of a refused reading.
 pub fn blank_curve() -> Curve
     ensures { λ r. ⌜ r ≡ blank-curve ⌝ }
 {
@@ -58,7 +58,7 @@ fn coefficients_refusal(m: u64, c: Curve) -> u32
     0
 }
 
-// The refusal that is due to a curve, and 0 where none is.
+// The refusal of a curve, or 0.
 pub fn curve_refusal(c: Curve) -> u32
     ensures { λ r. ⌜ r ≡ curve-refusal c ⌝ }
 {

@@ -1,5 +1,5 @@
 // Reduced divisor classes on y² + y = f(x) over GF(2^5) and GF(2^61), by value.
-// A refusal is the first that is due in the stored order: 106 and 107 for the curve, then 104, 110 and 111 for each class.
+// The checks come in the stored order: 106 and 107 for the curve, then 104, 110 and 111 for each class.
 // On a refusal the class of the answer is the neutral one, and no step was made.
 ghost use Prim.Native.Nat.{ℕ};
 ghost use mathlib.Core.Path.{_≡_};
@@ -19,7 +19,7 @@ use class_rows::binary_rows;
 use class_rows::row::RowPair;
 use class_rows::unary_rows;
 
-// The layout of a curve and of a class is C's: a register in C's layout holds them.
+// A curve. Curves and classes have C's layout, since a register in C's layout contains them.
 #[repr(C)]
 pub struct Curve {
     pub degree: u8,
@@ -28,6 +28,7 @@ pub struct Curve {
     pub f0: u64,
 }
 
+// A class: the degree of u, the coefficients of u below its leading 1, and those of v, the lowest power first.
 #[repr(C)]
 pub struct Class {
     pub degree: u64,
@@ -35,19 +36,20 @@ pub struct Class {
     pub v: [u64; 3],
 }
 
+// Acceptance, or a refusal with its number.
 pub enum Outcome {
     Accepted,
     Refused(u32),
 }
 
-// A class with the number of reduction steps that led to it.
+// The answer of a call: the outcome, and a class with the number of reduction steps that led to it.
 pub struct ClassAnswer {
     pub outcome: Outcome,
     pub class: Class,
     pub steps: u32,
 }
 
-// The number of a refusal, and 0 for an acceptance.
+// The number of a refusal; 0 for an acceptance.
 pub fn outcome_refusal(o: Outcome) -> u32
     ensures { λ r. ⌜ r ≡ outcome-refusal o ⌝ }
 {
@@ -57,7 +59,7 @@ pub fn outcome_refusal(o: Outcome) -> u32
     }
 }
 
-// The refusal with a number, and acceptance for 0.
+// The refusal n, or acceptance for 0.
 fn outcome_of(n: u32) -> Outcome
     ensures { λ r. ⌜ verdict r ≡ verdict-of n ⌝ }
 {
@@ -78,7 +80,7 @@ pub fn neutral() -> Class
     }
 }
 
-// What is due to a call on one class before a division, and 0 where nothing is.
+// The refusal of a call on one class before the division, or 0.
 fn curve_and_form_refusal(c: Curve, a: Class) -> u32
     ensures { λ r. ⌜ r ≡ (curve-refusal c or-else form-refusal (c .degree) a) ⌝ }
 {
@@ -89,7 +91,7 @@ fn curve_and_form_refusal(c: Curve, a: Class) -> u32
     classes::form_refusal(c.degree, a)
 }
 
-// The refusal that is due to a call on one class, and 0 where none is.
+// The refusal of a call on one class, or 0.
 pub fn class_refusal(c: Curve, a: Class) -> u32
     ensures { λ r. ⌜ r ≡ refusal c a ⌝ }
 {
@@ -100,8 +102,8 @@ pub fn class_refusal(c: Curve, a: Class) -> u32
     classes::divisor_refusal(c, a)
 }
 
-// The refusal that is due to a call on two classes, and 0 where both are in form, divisors or not. The first class's 111 comes before the
-// second's 104 and 110.
+// The refusal of a call on two classes, or 0 where both are in form, divisors or not.
+// The first class's 111 comes before the second's 104 and 110.
 fn form_refusal_of_two(c: Curve, a: Class, b: Class) -> u32
     ensures { λ r. ⌜ FormRefusalOfTwo c a b r ⌝ }
 {
@@ -132,7 +134,7 @@ pub fn refused(n: u32) -> ClassAnswer
     }
 }
 
-// The class of a pair, with its steps, where the rows that it was made of are divisors, else 111.
+// The class of a pair with its steps where the rows that were checked are divisors, else refusal 111.
 fn settled(divisor: bool, pair: RowPair, steps: u32) -> ClassAnswer
     ensures { λ r. ⌜ ((d : ℕ) (D : Counted (Poly d)) → (divisor ≡ true → StandsCounted d (record { pair = pair; steps = steps }) D) → reply r ≡ answered d (unless divisor 111) D) ⌝ }
 {
@@ -213,14 +215,14 @@ pub fn sum(curve: Curve, a: Class, b: Class) -> ClassAnswer
     on_two(Binary::Sum, curve, a, b)
 }
 
-// Twice a class plus another, as a commit takes a seal to the next.
+// Twice a class plus another, as a commit moves a seal.
 pub fn double_and_add(curve: Curve, a: Class, b: Class) -> ClassAnswer
     ensures { λ r. ⌜ reply r ≡ double-and-add-answer curve a b ⌝ }
 {
     on_two(Binary::DoubleAndAdd, curve, a, b)
 }
 
-// The half of a class less another, as an undo takes a seal to the one before.
+// The half of a class less another, as an undo moves a seal back.
 pub fn subtract_and_halve(curve: Curve, a: Class, b: Class) -> ClassAnswer
     ensures { λ r. ⌜ SubtractAndHalveAnswers curve a b (reply r) ⌝ }
 {

@@ -1,5 +1,8 @@
--- Extended Euclid on rows: what holds of the rows where the rule stops (`nought-rows`, `blank-rows`, `constant-rows`) and of one step
--- back from the remainder (`step-rows`).
+-- Euclid's extended rule on rows.
+-- `nought-rows`: the rows where b is 0. `blank-rows`: those where a and b are 0.
+-- `constant-rows`: the rows where b is another constant.
+-- `step-rows`: the rows of a and b from those of b and the remainder.
+-- `remainder-less`, `quotient-le`: the remainder is shorter than b, and the quotient no longer than a.
 use Prim.Native.Nat.{ℕ, max, _≤_, _<_}
 use mathlib.Core.{Path._≡_, Path.sym, Path.ap, Path.subst, List.List}
 use native.Mathlib.Omega.{arith}
@@ -23,7 +26,7 @@ module _ (d : ℕ) where
     t-len = let e = stands-len d T in omega (arith, m, e);
   }
 
-  -- where b is 0: a made monic, or 0
+  -- where b is 0 and a is not: a made monic
   pub nought-rows : (a : List ℕ) {c : ℕ} {g s t : List ℕ} → Inverts d c (lead (𝔸 d) (poly d a)) → Stands d g (𝔸 d .ring .mul (𝔸 d .con (el d c)) (poly d a))
       → Stands d s (𝔸 d .con (el d c)) → Stands d t (𝔸 d .con (el d 0)) → (b : List ℕ) → row-len d b ≡ 0 → BezoutRows d a b g s t
   nought-rows a {c} C G S T b e =

@@ -1,4 +1,4 @@
--- The halving rule in the words in which it is computed.
+-- The halving rule, as it is computed.
 pub mod Rows
 pub mod Squares
 pub mod Degrees12

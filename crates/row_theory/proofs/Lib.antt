@@ -1,4 +1,4 @@
--- Rows of coefficients: loops over them, division, Euclid's rule and the halving rule, in the words in which they are computed.
+-- Rows of coefficients, as they are computed: loops over them, division, Euclid's rule and the halving rule.
 pub mod Rows
 pub mod Bezout
 pub mod ReductionSteps

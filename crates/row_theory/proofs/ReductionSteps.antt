@@ -1,5 +1,7 @@
--- Reduction written out, step by step: `reduce-none`, `reduce-once`, `reduce-twice`. The cofactor of the composition of a double from
--- that of the class: with v² + v + f = w u and v² + f = q u² + r, r² + r + f = (w² + q + q² u²) u² (`double-cofactor`), and its lengths.
+-- Reduction step by step, and the cofactor of the composition of a double.
+-- `reduce-none`, `reduce-once`, `reduce-twice`: a reduction with no step, one step and two steps.
+-- `double-cofactor`: with v² + v + f = w u and v² + f = q u² + r, r² + r + f = (w² + q + q² u²) u².
+-- `square-len`, `cofactor-short`, `quotient-short`: the lengths of u², w and q.
 use Prim.Native.Nat.{ℕ, zero, suc, _≤_, _<_, _+_, _*_, max}
 use mathlib.Core.Path.{_≡_, refl, _∙_, ap}
 use native.Mathlib.Omega.{arith}
@@ -29,7 +31,7 @@ module _ {K P : Type 0} {F : Field2 K} {A : Polynomials F P} (C : Curve A) where
 
   infixl 60 _⊞_
   infixl 70 _·_
-  -- no step is made, whatever the count of steps that are enough
+  -- no step is made, however many are allowed
   stop : (n steps : ℕ) (D : Pair P) → len (D .u) ≤ 4 → reduce-to C n steps D ≡ record { class = D; steps = steps }
   unfolding reduce-to
   stop zero steps D h = refl
@@ -57,7 +59,7 @@ module _ {K P : Type 0} {F : Field2 K} {A : Polynomials F P} (C : Curve A) where
   twice-to (suc zero) D p h k l = absurd (omega arith)
   twice-to (suc (suc n)) D p h k l = reduce-go C (suc n) 0 D h ∙ reduce-go C n 1 (reduction-step C D) k ∙ stop n 2 (reduction-step C (reduction-step C D)) l
 
-  -- of degree 6 the first step leads to at most 4, and the second to at most 3
+  -- from degree 6 the first step leads to at most 4, and the second to at most 3
   pub reduce-twice : (D : Pair P)
       → SemiReduced C D
       → len (D .u) ≤ 7

@@ -4,29 +4,30 @@ use mathlib.Core.{Path._≡_, List.List, List.[], List._∷_, List._++_}
 use lib.ListN.{length, getD, replicate}
 use Rattle.row_theory.specs.Field.{degree-of, Poly, 𝔸, poly}
 
--- every number is an element of degree d
+-- every number of the row is an element of degree d
 abbrev pub InRange : ℕ → List ℕ → Type 0
 InRange d r = (i : ℕ) → getD r i 0 < 2 ^ degree-of d
 
--- a row that stands for a polynomial
+-- the row r is in range and stands for the polynomial p
 pub record Stands (d : ℕ) (r : List ℕ) (p : Poly d) : Type 0 where
   pub in-range : InRange d r
   pub stands : poly d r ≡ p
 
--- a row of twelve places: the numbers, and 0 after them
+-- a row of twelve numbers: those given, with 0 after them
 unfoldable pub filled : List ℕ → List ℕ
 filled r = r ++ replicate (12 - length r) 0
 
--- one past the last number that is not 0
+-- `places` of a row from that of its tail, k, and its first number, n
 unfoldable pub after : ℕ → ℕ → ℕ
 after (suc k) n = suc (suc k)
 after zero zero = 0
 after zero (suc n) = 1
 
+-- one more than the index of the last number that is not 0; 0 where there is none
 unfoldable pub places : List ℕ → ℕ
 places [] = 0
 places (n ∷ r) = after (places r) n
 
--- the degree plus one of the polynomial that a row stands for
+-- the length, degree plus one, of the polynomial that a row stands for
 abbrev pub row-len : ℕ → List ℕ → ℕ
 row-len d r = 𝔸 d .len (poly d r)

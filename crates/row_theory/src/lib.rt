@@ -1,1 +1,1 @@
-// Rows of coefficients and the polynomials that they stand for: definitions and theorems alone, in specs/ and proofs/, no code.
+// Rows of coefficients and the polynomials that they stand for: definitions in specs/, theorems in proofs/, no code.

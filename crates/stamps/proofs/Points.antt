@@ -1,5 +1,6 @@
--- The class of a point of the curve is accepted. A polynomial is a multiple of the variable plus a, and its value at a; so where y² + y = f(x), the variable plus x
--- divides y² + y + f.
+-- The class of a point of the curve is accepted. A polynomial is a multiple of the variable plus a, plus its value at
+-- a;
+-- so where y² + y = f(x), the variable plus x divides y² + y + f.
 use Prim.Native.Nat.{ℕ, zero, suc, _≤_, _<_, _^_}
 use mathlib.Core.{Path._≡_, Path.refl, Path.sym, Path.ap, Path.ap₂, Path._∙_, List.List, List.[], List._∷_, List.map}
 use native.Mathlib.Omega.{arith}
@@ -39,7 +40,7 @@ module _ {K P : Type 0} {F : Field2 K} (A : Polynomials F P) where
   shifted : (a c k q t : P) → c ⊞ t · (q · (a ⊞ t) ⊞ k) ≡ (t · q ⊞ k) · (a ⊞ t) ⊞ (c ⊞ a · k)
   shifted a c k q t = simp (ring2, R)
 
-  -- from the quotient and the value of p those of c + x p
+  -- quotient and value of c + x p, from those of p
   next-value : (a c k : K) (p q : P) → p ≡ q · (con a ⊞ x) ⊞ con k → con c ⊞ x · p ≡ (x · q ⊞ con k) · (con a ⊞ x) ⊞ con (c ⊞ₖ a ·ₖ k)
   next-value a c k p q e =
       ap (λ z. con c ⊞ x · z) e ∙ shifted (con a) (con c) (con k) q x
@@ -48,7 +49,7 @@ module _ {K P : Type 0} {F : Field2 K} (A : Polynomials F P) where
   cancelled : (y q u : P) → y · y ⊞ y ⊞ (q · u ⊞ (y · y ⊞ y)) ≡ q · u
   cancelled y q u = simp (ring2, R)
 
-  -- where y² + y is the value, y² + y + f is a multiple
+  -- y² + y + f is a multiple of u where y² + y is the constant remainder of f by u
   root-divides : (y k : K) (f u q : P) → y ·ₖ y ⊞ₖ y ≡ k → f ≡ q · u ⊞ con k → con y · con y ⊞ con y ⊞ f ≡ q · u
   root-divides y k f u q e g =
       ap (λ z. con y · con y ⊞ con y ⊞ z)
@@ -90,7 +91,7 @@ module _ (d : ℕ) where
       go (suc (suc zero)) = el-zero d ∙ sym (𝔸 d .coeff-con-suc (el d n) 1)
       go (suc (suc (suc i))) = el-zero d ∙ sym (𝔸 d .coeff-con-suc (el d n) (suc (suc i)))
 
-  -- a polynomial is a multiple of the variable plus a, and its value at a
+  -- a polynomial is a multiple of the variable plus a, plus its value at a
   nothing-left : (u : Poly d) → 𝟘 ≡ 𝟘 · u ⊞ 𝟘
   nothing-left u = simp (ring2, R)
 

@@ -1,4 +1,4 @@
--- The candidates of a stamp in order, and what is answered.
+-- The search over the candidates of a stamp in order, and the answer of the call.
 use Prim.Native.Nat.{ℕ, zero, suc, _+_, _-_, _*_, _^_, _≤_, _<_}
 use mathlib.Core.{Path._≡_, Path.refl, Path.sym, Path.ap, Path.subst, Path.fun-ext, Path._∙_, List.List, Option.Option, Option.none, Option.some, Option.Option·map}
 use native.Mathlib.{Numerals.add-one, Omega.arith}
@@ -49,7 +49,7 @@ module _ (d : ℕ) (f : List ℕ) (x : ℕ) where
   unfolding class-at
   class-none e = ap (Option·map (point-class x)) e
 
-  -- what the call on its value says of it
+  -- what `quadratic_root` answers for the candidate's value
   module _ (ok : Accepted d) {v : ℕ} (is : v ≡ value-at d f x) where
     v-lt : v < 2 ^ d
     v-lt = rw is (value-lt d ok f x)
@@ -71,7 +71,7 @@ module _ (d : ℕ) (f : List ℕ) (x : ℕ) where
 -- ---- the search
 
 module _ (d : ℕ) (f : List ℕ) (s : ℕ) where
-  -- none of the first i
+  -- none of the first i candidates has a class
   abbrev pub NoneYet : ℕ → Type 0
   NoneYet i = first (λ j. class-at d f (8 * s + j)) i ≡ none
 
@@ -89,7 +89,7 @@ module _ (d : ℕ) (f : List ℕ) (s : ℕ) where
   unfolding first-class
   found-none i h k e = let z : i ≡ 8 = omega arith in sym (rw z at e)
 
--- ---- what is answered
+-- ---- the answer
 
 pub too-large : (c : Curve) (s : ℕ) {n m : ℕ} → n ≡ curve-refusal c → n ≡ 0 → m ≡ 2 ^ (c .degree - 3) → m ≤ s → 115 ≡ stamp-refusal c s
 unfolding stamp-refusal unless
@@ -121,7 +121,7 @@ answered-last c s {n} {f} e z g h =
     (fun-ext (λ x. ap (λ k. value-at d k x) g ∙ value-filled d (f-row c) x))
     ∙ ap (λ m. stamped m (first (λ i. Option·map (point-class (8 * s + i)) (even-root d (value-at d (f-row c) (8 * s + i)))) 8)) (sym z ∙ e)
 
--- what is not refused before the search: the curve is accepted, and the stamp is below the bound
+-- a stamp that is not refused before the search: the curve is accepted, and the stamp is below the bound
 pub passed : (c : Curve) (s : ℕ) {n : ℕ} → n ≡ stamp-refusal c s → n ≡ 0 → (curve-refusal c ≡ 0) × (s < 2 ^ (c .degree - 3))
 unfolding stamp-refusal
 passed c s e z =

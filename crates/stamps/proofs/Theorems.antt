@@ -1,7 +1,13 @@
--- What the call on a stamp answers (docs/SPECIFICATION.md, 2 and 6). An accepted stamp's class is that of its first candidate with a root (`stamp-gives`), is accepted on the curve
--- and has degree 1 (`stamp-accepts`); two accepted stamps of a curve have different classes (`stamp-injective`). A stamp is refused with 116 exactly where the curve
--- is accepted, the stamp is below 2^(d-3) and none of its eight candidates has a root (`stamp-rootless`), and with 115 where the curve is accepted and the stamp is not below
--- (`stamp-too-large`). Every answer is a class or a refusal with one of the numbers (`stamp-told`).
+-- The answers of the call on a stamp (docs/SPECIFICATION.md, 2 and 6).
+-- `stamp-told`: every answer is a class, or a refusal with a listed number, the neutral class and no step.
+-- `stamp-refuses`: a refused stamp is refused with a listed number.
+-- `stamp-gives`: an accepted stamp's class is that of its first candidate with a root.
+-- `stamp-accepts`: it is accepted on the curve and has degree 1.
+-- `stamp-too-large`: on an accepted curve a stamp of 2^(d-3) or more is refused with 115.
+-- `stamp-rootless`: a stamp is refused with 116 exactly where the curve is accepted, the stamp is below 2^(d-3) and
+-- none
+-- of its eight candidates has a root.
+-- `stamp-injective`: two accepted stamps of a curve with the same class are equal.
 use Prim.Native.Nat.{ℕ, zero, suc, _+_, _-_, _*_, _/_, _^_, _≤_, _<_}
 use mathlib.Core.{Path._≡_, Path.refl, Path.sym, Path.ap, Path.subst, Path._∙_, Bool.Bool, Bool.true, Bool.false, Logic._↔_, Logic.inl, Logic.inr, List.[], List._∷_, List.List, Option.Option, Option.none, Option.some, Option.Option·map, Option.map-eq-none-iff, Option.map-eq-some-iff}
 use native.Mathlib.Omega.{arith}
@@ -15,7 +21,7 @@ use Rattle.jacobian.proofs.{Refusals.told-unless, Refusals.told-or-else, Told.c
 use Rattle.stamps.specs.Stamps.{value-at, point-class, class-at, first-class, stamp-refusal, stamped, stamp-answer, Rootless, FirstClass}
 use Rattle.stamps.proofs.{Search.candidate-lt, Search.passed, Points.point-accepts}
 
--- ---- told apart
+-- ---- every answer is valid
 
 accepted-not-refused : {n : ℕ} → _≡_ {A = Verdict} (refused n) accepted → ⊥
 accepted-not-refused e = let z : _≡_ {A = ℕ} 0 1 = cc in omega arith
@@ -82,7 +88,7 @@ module _ (c : Curve) (s : ℕ) where
   abbrev d : ℕ
   d = c .degree
 
-  -- no candidate without a root has a class
+  -- a candidate without a class has no root
   none-rootless : (x : ℕ) → Accepted d → class-at d (f-row c) x ≡ none → Rootless c x
   unfolding class-at
   none-rootless x ok e = even-root-none d ok _ .0 (map-eq-none-iff (point-class x) _ .0 e)

@@ -37,7 +37,7 @@ module _ (d : ℕ) where
   unfolding value-at
   value-lt ok f x = subst (λ (n : ℕ). value-at d f x < 2 ^ n) (degree-is d ok) ((evaluate (F d .ring) (map (el d) f) (el d x)) .1)
 
-  -- noughts at the end change nothing
+  -- zeros at the end change nothing
   zeros : (n : ℕ) (t : K d) → evaluate (F d .ring) (map (el d) (replicate n 0)) t ≡ F d .ring .nought
   unfolding evaluate
   zeros zero t = refl
@@ -52,7 +52,7 @@ module _ (d : ℕ) where
   unfolding value-at filled
   value-filled f x = ap (λ (e : K d). e .0) (filled-zeros f (12 - length f) (el d x))
 
--- ---- the loop, from the last place down
+-- ---- the loop, from the last index down
 drop-all : (f : List ℕ) (n : ℕ) → length f ≡ n → drop n f ≡ []
 drop-all [] zero e = refl
 drop-all [] (suc n) e = refl
@@ -83,7 +83,7 @@ module _ (d : ℕ) (f : List ℕ) (x : ℕ) where
   pub all-places : {i r : ℕ} → i ≤ 0 → r ≡ value-at d (drop i f) x → r ≡ value-at d f x
   all-places {i} h e = let z : i ≡ 0 = omega arith in e ∙ ap (λ j. value-at d (drop j f) x) z
 
--- the product of Horner's step, as it is answered
+-- the product in a step of Horner's rule, as the call answers it
 pub nought-times : (d x a : ℕ) {r : ℕ} → r ≡ 0 → a ≡ a ⊕ product d x r
 nought-times d x a e = sym (ap (λ z. a ⊕ product d x z) e ∙ ap (λ z. a ⊕ z) (product-zero d x) ∙ sum-zero a)
 

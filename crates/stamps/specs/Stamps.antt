@@ -15,28 +15,29 @@ value-at d f x = (evaluate (F d .ring) (map (el d) f) (el d x)) .0
 unfoldable pub point-class : ℕ → ℕ → Class
 point-class x y = record { degree = 1; u = x ∷ 0 ∷ 0 ∷ []; v = y ∷ 0 ∷ 0 ∷ [] }
 
--- that with the root y of y² + y = f(x) whose lowest bit is 0, where there is a root
+-- the class of the point (x, y) for the root y of y² + y = f(x) with lowest bit 0, where there is a root
 unfoldable pub class-at : ℕ → List ℕ → ℕ → Option Class
 class-at d f x = Option·map (point-class x) (even-root d (value-at d f x))
 
--- the candidates of a stamp are x = 8 s + i for i from 0 to 7; the first that has a class
+-- the class of the first candidate that has one; the candidates of a stamp s are 8 s + i for i from 0 to 7
 unfoldable pub first-class : ℕ → List ℕ → ℕ → Option Class
 first-class d f s = first (λ i. class-at d f (8 * s + i)) 8
 
--- 106, then 107, then 115 for a stamp of 2^(d-3) or more; 0 where none is due
+-- the refusal of a stamp: 106, then 107, then 115 for a stamp of 2^(d-3) or more, else 0
 unfoldable pub stamp-refusal : Curve → ℕ → ℕ
 stamp-refusal c s = curve-refusal c or-else unless (ltb s (2 ^ (c .degree - 3))) 115
 
--- the refusal that is due, else the class, after no reduction step, else 116
+-- the refusal where it is not 0, else the class with no reduction step, or 116 where there is none
 unfoldable pub stamped : ℕ → Option Class → Reply
 stamped zero (some a) = record { outcome = accepted; class = a; steps = 0 }
 stamped zero none = refusing 116
 stamped (suc n) o = refusing (suc n)
 
+-- the answer of the call on a stamp
 unfoldable pub stamp-answer : Curve → ℕ → Reply
 stamp-answer c s = stamped (stamp-refusal c s) (first-class (c .degree) (f-row c) s)
 
--- ---- what is proved of it
+-- ---- what the theorems name
 
 -- y² + y = f(x) has no root
 abbrev pub Rootless : Curve → ℕ → Type 0

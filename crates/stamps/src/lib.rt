@@ -1,5 +1,8 @@
-// The class of a stamp, by value: of eight candidates x the first for which y² + y = f(x) has a root, and the root with lowest bit 0.
-// A refusal is the first that is due: 106 and 107 for the curve, 115 for the stamp, 116 where no candidate has a root.
+// The class of a stamp, by value: of eight candidates x the first for which y² + y = f(x) has a root, with the root
+// whose
+// lowest bit is 0. The checks come in this order: 106 and 107 for the curve, 115 for the stamp, and 116 where no
+// candidate
+// has a root.
 ghost use Prim.Native.Nat.{_-_, _*_, _+_, _<_, _^_};
 ghost use mathlib.Core.Path.{_≡_};
 ghost use mathlib.Core.Option.{some};
@@ -14,10 +17,10 @@ use jacobian::ClassAnswer;
 use jacobian::Curve;
 use jacobian::Outcome;
 
-// How many candidates a stamp has.
+// The number of candidates of a stamp.
 const CANDIDATES: u64 = 8;
 
-// r x + a; no product is made where r is 0.
+// r x + a. No product is computed where r is 0.
 fn times_plus(d: u8, r: u64, x: u64, a: u64) -> u64
     requires { ⌜ Accepted d × (r < 2 ^ d) × (x < 2 ^ d) × (a < 2 ^ d) ⌝ }
     ensures { λ s. ⌜ s ≡ a ⊕ product d x r ⌝ }
@@ -46,7 +49,7 @@ fn value_at(d: u8, f: [u64; 12], x: u64) -> u64
     r
 }
 
-// The class of the point (x, y), which no reduction step led to.
+// The class of the point (x, y), with no reduction step.
 fn point(x: u64, y: u64) -> ClassAnswer
     ensures { λ r. ⌜ reply r ≡ stamped 0 (some (point-class x y)) ⌝ }
 {
@@ -61,7 +64,7 @@ fn point(x: u64, y: u64) -> ClassAnswer
     }
 }
 
-// The class of the first candidate that has one, else 116.
+// The class of the first candidate that has one, else refusal 116.
 fn first_class(d: u8, f: [u64; 12], s: u64) -> ClassAnswer
     requires { ⌜ Accepted d × InRange d f × (s < 2 ^ (d - 3)) ⌝ }
     ensures { λ r. ⌜ reply r ≡ stamped 0 (first-class d f s) ⌝ }
@@ -78,7 +81,7 @@ fn first_class(d: u8, f: [u64; 12], s: u64) -> ClassAnswer
     jacobian::refused(116)
 }
 
-// One past the largest stamp of a degree: eight candidates of each one below it make up the field.
+// One more than the largest stamp of a degree: the candidates of all smaller numbers make up the field.
 fn limit(d: u8) -> u64
     requires { ⌜ Accepted d ⌝ }
     ensures { λ r. ⌜ r ≡ 2 ^ (d - 3) ⌝ }
@@ -86,7 +89,7 @@ fn limit(d: u8) -> u64
     binary_field::bound(d) / CANDIDATES
 }
 
-// The refusal that is due before any candidate is tried, and 0 where none is.
+// The refusal of a stamp before any candidate is tried, or 0.
 fn stamp_refusal(curve: Curve, s: u64) -> u32
     ensures { λ r. ⌜ r ≡ stamp-refusal curve s ⌝ }
 {

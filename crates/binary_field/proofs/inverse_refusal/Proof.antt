@@ -1,4 +1,4 @@
--- `inverse_refusal` meets its contract: 0 is looked for where no other refusal is due.
+-- `inverse_refusal` meets its contract: 0 is tested for after the other refusals.
 use mathlib.Core.Path.{sym, ap, _∙_}
 use native.Mathlib.Omega.{arith}
 use lib.Dec.{ltb}
@@ -9,7 +9,7 @@ use Rattle.binary_field.proofs.Replies.{refusal-twice}
 use Rattle.binary_field.proofs.inverse_refusal.Statement.{statement}
 use Rattle.binary_field.proofs.inverse_refusal.Tie as tie
 
--- 0
+-- the element 0
 returns : tie.Need-returns
 unfolding inverse-refusal unless
 returns c =
@@ -24,7 +24,7 @@ returns-2 c =
     let none = c .before .if1 .taken in
     next-due (n .refusal .ensures ∙ refusal-twice _ _) none (none ∙ sym (ap (λ b. unless b 117) (lt-ltb 0 (n .before .args .a) (omega (arith, c .if2 .left)))))
 
--- no element
+-- a number that is refused before
 returns-3 : tie.Need-returns-3
 unfolding inverse-refusal
 returns-3 c = first-due _ (c .before .refusal .ensures ∙ refusal-twice _ _) (c .if1 .left)

@@ -1,4 +1,4 @@
--- From a reduced class by rows to the rows that the halving rule takes, and from the rule's pair to the half of the class.
+-- From a reduced class by rows to the rows that the halving rule requires, and from its pair to the half of the class.
 use Prim.Native.Nat.{ℕ, zero, suc, _≤_, _<_, _+_}
 use mathlib.Core.{Path._≡_, Path.sym, Path._∙_, Path.ap, Path.subst, List.List}
 use native.Mathlib.Omega.{arith}
@@ -67,7 +67,7 @@ module _ (d : ℕ) {f : List ℕ} {a : RowPair} where
         ∙ sym (len-quot-exact (𝔸 d) (poly d (a .u)) (monic-nonzero (𝔸 d) _ u-monic) _ (nonzero-of-len (𝔸 d) _ (omega (arith, value-len E (poly d (a .v)) v-short))) (c .reduced .reduced .divides))
         ∙ ap suc (value-len E (poly d (a .v)) v-short)
 
-    -- what the halving rule takes
+    -- the rows that the halving rule requires
     pub halving-rows : (m : ℕ) → n ≡ m → HalvingRows d m (a .u) (a .v) w
     halving-rows m e =
         record {
@@ -81,7 +81,7 @@ module _ (d : ℕ) {f : List ℕ} {a : RowPair} where
           w-len = omega (arith, w-len, c .length-is);
         }
 
-    -- what it gives is the half on every curve of f
+    -- its result is the half on every curve of f
     module _ (C : Theory.Curve (𝔸 d)) (o : OnCurve d f C) where
       triple-path : rows-triple d (a .u) (a .v) w ≡ triple C (rows-pair d a)
       unfolding triple rows-pair rows-triple

@@ -1,4 +1,4 @@
--- What extended Euclid promises of its rows.
+-- The promise of Euclid's extended rule on rows.
 use Prim.Native.Nat.{ℕ}
 use mathlib.Core.List.{List}
 use Rattle.row_theory.specs.internal.Bezout.{BezoutRows}

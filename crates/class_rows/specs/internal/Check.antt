@@ -1,4 +1,4 @@
--- What the private functions of the check promise.
+-- The promises of the private functions of the check.
 use Prim.Native.Nat.{ℕ, _≤_, _<_}
 use mathlib.Core.{Path._≡_, Bool.true, List.List}
 use Rattle.binary_field_theory.specs.Element.{Accepted}
@@ -8,7 +8,7 @@ use Rattle.row_theory.specs.{Field.𝔸, Field.poly, Row.InRange, Row.row-len}
 use Rattle.class_rows.specs.{Core.OnCurve, Checked.Decides, internal.Cofactor.CofactorRow}
 use Rattle.class_rows.specs.declared.{row.RowPair.RowPair, divisor.Check.Check}
 
--- u monic of degree at most 3, v of smaller degree
+-- the pair is in range, u is monic of degree at most 3, and v has a smaller degree
 pub record FormedPair (d : ℕ) (a : RowPair) : Type 0 where
   pub u-range : InRange d (a .u)
   pub v-range : InRange d (a .v)
@@ -16,13 +16,13 @@ pub record FormedPair (d : ℕ) (a : RowPair) : Type 0 where
   pub u-len : row-len d (a .u) ≤ 4
   pub v-len : row-len d (a .v) < row-len d (a .u)
 
--- all but the division
+-- all that is checked before the division: the degree, f and the pair
 pub record FormedRows (d : ℕ) (f : List ℕ) (a : RowPair) : Type 0 where
   pub degree : Accepted d
   pub curve : (C : Theory.Curve (𝔸 d)) × OnCurve d f C
   pub pair : FormedPair d a
 
--- the verdict, true exactly where what is asked holds, and then the cofactor of the pair
+-- `divisor` is true exactly where `asked` holds, and then w is the cofactor of the pair
 pub record CheckedRows (d : ℕ) (f : List ℕ) (asked : Type 0) (a : RowPair) (r : Check) : Type 0 where
   pub decides : Decides (r .divisor) asked
   pub cofactor : r .divisor ≡ true → CofactorRow d f a (r .w)

@@ -1,4 +1,4 @@
--- What the answers of the calls come to: the refusal where one is due, and else the class.
+-- The answers of the calls: the refusal where there is one, else the class.
 use Prim.Native.Nat.{ℕ, zero, suc}
 use mathlib.Core.Path.{_≡_, refl, sym, _∙_, ap}
 use native.Mathlib.Omega.{arith}
@@ -7,7 +7,7 @@ use Rattle.row_theory.specs.Field.{Poly}
 use Rattle.jacobian.specs.{Answer.refused, Answer.verdict, Answer.verdict-of, Answer.outcome-refusal, Answer.refusal, Answer.Reply, Answer.refusing, Answer.answered, declared.Curve.Curve, declared.Class.Class, declared.Outcome.Outcome, declared.Outcome.the-variants.Accepted, declared.Outcome.the-variants.Refused}
 use Rattle.jacobian.proofs.ByValue.Checks.{CurvePasses, ClassPasses, then-zero, curve-passes, class-passes}
 
--- the number of an outcome is the refusal that was due
+-- the number of an outcome is the refusal of the call
 pub outcome-refusal-is : (o : Outcome) (n : ℕ) → verdict o ≡ verdict-of n → outcome-refusal o ≡ n
 unfolding verdict-of
 outcome-refusal-is Accepted zero e = refl
@@ -26,7 +26,7 @@ module _ (d : ℕ) (D : Counted (Poly d)) where
   refused-answered zero h = absurd (h refl)
   refused-answered (suc n) h = refl
 
-  -- what is answered at one number is answered at its equal
+  -- equal refusals give the same answer
   pub at-refusal : {n m : ℕ} → n ≡ m → {r : Reply} → r ≡ answered d n D → r ≡ answered d m D
   at-refusal e h = h ∙ ap (λ k. answered d k D) e
 

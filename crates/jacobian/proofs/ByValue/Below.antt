@@ -1,4 +1,4 @@
--- The numbers of a row below a bound, and those that are 0 from a place on, tested one after the other.
+-- The numbers of a row below a bound, and those that are 0 from an index on, tested one after the other.
 use Prim.Native.Nat.{ℕ, zero, suc, _+_, _≤_, _<_}
 use mathlib.Core.Path.{_≡_, refl, sym, subst, _∙_}
 use mathlib.Core.{Bool.Bool, Bool.true, Bool.false, Bool._&&_, Bool.and-false, List.List, List.[], List._∷_}
@@ -12,7 +12,7 @@ use Rattle.binary_field.specs.Answer.{below}
 use Rattle.jacobian.specs.{Checks.blank, Classes.padded}
 use Rattle.jacobian.proofs.ByValue.Checks.{blank-past}
 
--- the numbers before place i are below m
+-- the numbers before index i are below m
 pub record BelowTo (m : ℕ) (r : List ℕ) (i : ℕ) : Type 0 where
   pub at : (j : ℕ) → j < i → getD r j 0 < m
 
@@ -38,7 +38,7 @@ below-fails m [] i h k = absurd (omega arith)
 below-fails m (n ∷ r) zero h k = rw (le-ltb n m k)
 below-fails m (n ∷ r) (suc i) h k = rw (below-fails m r i (omega arith) k, and-false)
 
--- the numbers from place n to place i are 0
+-- the numbers from index n up to index i are 0
 pub record BlankTo (n : ℕ) (r : List ℕ) (i : ℕ) : Type 0 where
   pub at : (j : ℕ) → n ≤ j → j < i → getD r j 0 ≡ 0
 

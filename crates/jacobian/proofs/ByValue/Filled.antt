@@ -1,4 +1,4 @@
--- A row filled with noughts stands for the same polynomial.
+-- A row filled with zeros stands for the same polynomial.
 use Prim.Native.Nat.{ℕ, zero, suc, _-_}
 use mathlib.Core.Path.{_≡_, refl, sym, _∙_, ap}
 use mathlib.Core.List.{List, [], _∷_, _++_}

@@ -1,4 +1,4 @@
--- The numbers of a row below a place, and the class by value of a pair of rows.
+-- The numbers of a row below an index, and the class by value of a pair of rows.
 use Prim.Native.Nat.{ℕ, _-_, _≤_}
 use mathlib.Core.Path.{_≡_, _∙_, ap, ap₂}
 use mathlib.Core.List.{List, [], _∷_}

@@ -1,4 +1,4 @@
--- The refusals of a call on classes in form: what class_rows says of their rows decides between 111 and none.
+-- The refusals of a call on classes in form: whether their rows are divisors decides between 111 and 0.
 use Prim.Native.Nat.{ℕ, zero, suc}
 use mathlib.Core.Path.{_≡_, refl, sym, _∙_, ap, ap₂}
 use mathlib.Core.{Bool.Bool, Bool.true, Bool.false, Bool._&&_, List.List}

@@ -13,6 +13,6 @@ by-three P h (x ∷ y ∷ []) e = absurd (omega arith)
 by-three P h (x ∷ y ∷ z ∷ []) e = h x y z
 by-three P h (x ∷ y ∷ z ∷ w ∷ r) e = absurd (omega arith)
 
--- what is left of the numbers up to three
+-- a number up to 3 that is not 0, 1 or 2 is 3
 pub is-three : {n : ℕ} → n ≤ 3 → ¬ (n ≡ 0) → ¬ (n ≡ 1) → ¬ (n ≡ 2) → n ≡ 3
 is-three h a b d = omega arith

@@ -1,5 +1,9 @@
--- Classes by value of the right form, and the pairs that they stand for: u monic of the degree's length and v shorter; the value of the pair is the
--- one given. The value of a reduced class is of the right form and stands for it.
+-- Classes by value that are in form, and their pairs.
+-- `u-len`, `u-monic`, `v-len`: u is monic of the class's degree, and v is of lower degree.
+-- `formed-reduced`: the pair is reduced where u divides v² + v + f.
+-- `class-of-formed`: a value in form is the value of its pair.
+-- `class-of-is-formed`: the value of a reduced class is in form.
+-- `pair-class-of`: the value of a reduced class stands for that class.
 use Prim.Native.Nat.{ℕ, zero, suc, _-_, _≤_, _<_, _^_}
 use mathlib.Core.Path.{_≡_, refl, sym, _∙_, ap, ap₂}
 use mathlib.Core.List.{List, [], _∷_, _++_}
@@ -20,7 +24,7 @@ use Rattle.jacobian.specs.Classes.{u-row, pair, numbers, class-of}
 use Rattle.jacobian.proofs.ByValue.Checks.{ShapePasses, RangePasses}
 use Rattle.binary_field_theory.specs.Element.{Accepted}
 
--- the form of a class by value: rows of three numbers in range, 0 at and past the degree, which is at most 3
+-- a class in form: a degree of at most 3, and rows of three numbers in range that are 0 from the degree on
 pub record Formed (d : ℕ) (a : Class) : Type 0 where
   pub shape : ShapePasses a
   pub u-range : InRange d (a .u)
@@ -100,7 +104,7 @@ module _ (d : ℕ) (a : Class) (h : Formed d a) where
         divides = divides-of-rem (𝔸 d) (pair d a .u) (monic-nonzero (𝔸 d) (pair d a .u) u-monic) (value C (pair d a .v)) (len-zero (𝔸 d) _ e);
       }
 
--- what passes the checks of shape and range is of the right form
+-- a class that passes the checks of shape and range is in form
 pub passes-formed : (d : ℕ) → Accepted d → (a : Class) → ShapePasses a → RangePasses d a → Formed d a
 passes-formed d ok a shape range =
     record {

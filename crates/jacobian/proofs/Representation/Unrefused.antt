@@ -1,4 +1,4 @@
--- What passes every check is not refused: the other direction of ByValue/Checks.antt.
+-- A curve or class that passes every check is not refused: the converse of ByValue/Checks.antt.
 use Prim.Native.Nat.{ℕ, zero, suc}
 use mathlib.Core.Path.{_≡_, refl, sym}
 use mathlib.Core.Bool.{Bool, true, false, true≢false}

@@ -1,4 +1,4 @@
--- `class_refusal` meets its contract: the division after all else.
+-- `class_refusal` meets its contract: the division comes last.
 use mathlib.Core.Path.{refl, sym, _∙_}
 use Rattle.jacobian.specs.Answer.{refusal}
 use Rattle.jacobian.proofs.{ByValue.Checks.then-zero, ByValue.Checks.next-due, ByValue.Refusals.form-first}

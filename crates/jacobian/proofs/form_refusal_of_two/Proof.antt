@@ -7,7 +7,7 @@ use borrow.Author.Needs.{needs}
 use Rattle.jacobian.proofs.form_refusal_of_two.Statement.{statement}
 use Rattle.jacobian.proofs.form_refusal_of_two.Tie as tie
 
--- a refusal that is due
+-- a refusal other than 0
 refuses : {c : Curve} {a b : Class} {n : ℕ} → ¬ (n ≡ 0) → n ≡ refusal-of-two c a b → FormRefusalOfTwo c a b n
 refuses h e = record { refused = λ _. e; none = λ z. absurd (h z) }
 

@@ -1,4 +1,4 @@
--- `on_one` meets its contract: what no check before the division refuses goes through the rows, and the division settles it.
+-- `on_one` meets its contract: where no check before the division refuses, the division of the rows decides.
 use mathlib.Core.Path.{sym, _∙_}
 use Rattle.class_rows.specs.Operations.{unary}
 use Rattle.jacobian.specs.{Curves.curve, Classes.pair}

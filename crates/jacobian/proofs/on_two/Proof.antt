@@ -1,4 +1,4 @@
--- `on_two` meets its contract: what no check before the divisions refuses goes through the rows, and the divisions settle it.
+-- `on_two` meets its contract: where no check before the divisions refuses, the divisions of the rows decide.
 use mathlib.Core.Path.{_∙_}
 use Rattle.class_rows.specs.Operations.{binary}
 use Rattle.jacobian.specs.{Curves.curve, Classes.pair}

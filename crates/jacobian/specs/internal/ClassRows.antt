@@ -14,6 +14,6 @@ pub record RowsOf (a : Class) (r : RowPair) : Type 0 where
   pub u-is : r .u ≡ filled (u-row a)
   pub v-is : r .v ≡ filled (a .v)
 
--- the numbers of a row below place n, in a row of three
+-- the numbers of a row below index n, as a row of three
 abbrev pub first : ℕ → List ℕ → List ℕ
 first n r = cond (ltb 0 n) (getD r 0 0) 0 ∷ cond (ltb 1 n) (getD r 1 0) 0 ∷ cond (ltb 2 n) (getD r 2 0) 0 ∷ []

@@ -1,4 +1,4 @@
--- What the calls in the half of degree 2 promise, and what follows of the pair that they lead to.
+-- The half of degree 2: the promises of its calls, and the pair that follows from them.
 use Prim.Native.Nat.{ℕ}
 use mathlib.Core.{Path._≡_, Path.sym, Path._∙_, Path.ap, Path.ap₂, List.List}
 use native.Mathlib.Omega.{arith}

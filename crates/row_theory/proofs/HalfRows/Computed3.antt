@@ -1,4 +1,4 @@
--- What the calls in the half of degree 3 promise, and what follows of the pair that they lead to.
+-- The half of degree 3: the promises of its calls, and the pair that follows where the first lift is a square.
 use Prim.Native.Nat.{ℕ, _≤_}
 use mathlib.Core.{Path._≡_, Path.sym, Path._∙_, Path.ap, Path.ap₂, Path.subst, List.List}
 use native.Mathlib.Omega.{arith}

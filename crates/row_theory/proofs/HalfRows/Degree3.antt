@@ -1,5 +1,6 @@
--- The half of a class of degree 3: the first lift and its square where it is one; else the square after the second lift, with no
--- division, and the second polynomial of the half with the remainders taken early, so that no product of degree 5 is divided.
+-- The half of a class of degree 3: the first lift, and its square root where it is a square. Else the square after the
+-- second lift, without a division, and the second polynomial of the half. Its remainders are taken early, so that no
+-- product of degree 5 is divided.
 use Prim.Native.Nat.{ℕ, suc, _≤_, _<_}
 use mathlib.Core.Path.{_≡_, refl, sym, _∙_, ap, ap₂, subst}
 use native.Mathlib.{Omega.arith, Decide.decLe}

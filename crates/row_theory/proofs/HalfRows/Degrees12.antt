@@ -1,5 +1,5 @@
--- The half of a class of degree 1 or 2: the pair of the rule as the square root of a polynomial that takes no division by a constant,
--- and that this root can be divided by.
+-- The half of a class of degree 1 or 2: the rule's pair as the square root of a polynomial without a division by a
+-- constant, and that this root is not 0.
 use mathlib.Core.Path.{_≡_, refl, _∙_, ap}
 use Rattle.field_laws.specs.{Ring.Ring2, Field.Field2, Division.inverse-of}
 use Rattle.char2_algebra.specs.{Polynomials.Polynomials, Lead.Monic, Square.sqrt}

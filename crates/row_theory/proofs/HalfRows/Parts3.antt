@@ -1,4 +1,6 @@
--- What the functions of the half of degree 3 promise: the first lift, the square after the second, and the second polynomial.
+-- The promises of the functions of the half of degree 3: the first lift, the square after the second lift, and the
+-- second
+-- polynomial.
 use Prim.Native.Nat.{ℕ, _≤_, _<_}
 use mathlib.Core.{Path._≡_, Path.sym, Path._∙_, Path.ap, Path.ap₂, Path.subst, List.List}
 use native.Mathlib.Omega.{arith}

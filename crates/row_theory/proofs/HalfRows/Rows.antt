@@ -42,7 +42,7 @@ module _ (d : ℕ) where
   con-zero : 𝔸 d .con (el d 0) ≡ 𝟘
   con-zero = ap (𝔸 d .con) (el-zero d) ∙ con-nought (𝔸 d)
 
-  -- a 0 before a row: x times it, and nothing before nothing
+  -- a 0 before a row: x times its polynomial
   zero-stands : {r : List ℕ} {p : Poly d} → Stands d r p → Stands d (0 ∷ r) (𝔸 d .x · p)
   zero-stands {r} {p} s =
       stands-eq d (ap (λ z. z ⊞ 𝔸 d .x · p) con-zero ∙ 𝔸 d .ring .add-comm 𝟘 _ ∙ ⊞-𝟘 (𝔸 d .ring) _) (cons-stands (zero-lt d) s)

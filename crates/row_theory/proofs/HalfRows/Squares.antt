@@ -1,5 +1,5 @@
--- The rows of the halving rule with the constant multiplied out: the square c (w + k + k² u) as c w + c k + (c k²) u, where c k² has
--- even powers alone, so that no coefficient is squared or divided.
+-- The rows of the halving rule with the constant multiplied out: the square c (w + k + k² u) as c w + c k + (c k²) u.
+-- c k² has only even powers, so that no coefficient is squared or divided.
 use Prim.Native.Nat.{ℕ, _≤_}
 use mathlib.Core.Path.{_≡_, sym, _∙_, ap, ap₂}
 use native.Mathlib.Omega.{arith}
@@ -89,7 +89,7 @@ module _ {K P : Type 0} {F : Field2 K} (A : Polynomials F P) where
   pub one-square : (k m : K) → k ·ₖ k ≡ m → 𝟙ₖ ·ₖ (k ·ₖ k) ≡ m
   one-square k m e = 𝟙-· (F .ring) (k ·ₖ k) ∙ e
 
-  -- [a, v modulo a] for c times the first polynomial a square p = a²
+  -- the pair [a, v modulo a], where c times the first polynomial is a square p = a²
   pub halved-pair : (c : K) (T : Triple P) (p v : P) → con c · T .u ≡ p → T .v ≡ v → halved A c T ≡ root-pair A p v
   unfolding halved root-pair
   halved-pair c T p v e h = ap₂ (root-pair A) e h

@@ -1,4 +1,5 @@
--- What the element crate's calls answer, as numbers that stand for elements; and products with 0 and 1, which need no call.
+-- The answers of the calls on elements, as numbers that stand for elements; and products with 0 and 1, which need no
+-- call.
 use Prim.Native.Nat.{ℕ, _<_, _^_}
 use mathlib.Core.Path.{_≡_, sym, _∙_, ap, ap₂}
 use Rattle.field_laws.specs.Division.{inverse-of}
@@ -62,6 +63,6 @@ module _ (d : ℕ) where
   pub inverts-eq : {n : ℕ} {a b : K d} → a ≡ b → Inverts d n a → Inverts d n b
   inverts-eq {n} e s = record { in-range = s .in-range; unit = ap (λ z. F d .ring .mul z (el d n)) (sym e) ∙ s .unit }
 
-  -- what inverts stands for the inverse
+  -- a number that inverts an element stands for its inverse
   pub inverts-is : {n : ℕ} {e : K d} (ne : ¬ (e ≡ F d .ring .nought)) → Inverts d n e → el d n ≡ inverse-of (F d) e ne
   inverts-is {n} {e} ne s = inverse-only (F d) e (el d n) ne (s .unit)

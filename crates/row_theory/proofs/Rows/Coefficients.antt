@@ -1,4 +1,6 @@
--- The polynomial that a row stands for, by its coefficients: the i-th is the element of the i-th number. Length from the noughts at the end.
+-- The polynomial of a row by its coefficients: the i-th is the element of the i-th number. Its length, from the zeros
+-- at
+-- the end of the row.
 use Prim.Native.Nat.{ℕ, suc, _≤_}
 use mathlib.Core.{Path._≡_, Path.refl, Path.sym, Path._∙_, Path.ap, List.List, List.map}
 use native.Mathlib.Omega.{arith}
@@ -40,7 +42,7 @@ module _ (d : ℕ) where
   pub row-len-length : (r : List ℕ) (n : ℕ) → length r ≡ n → row-len d r ≤ n
   row-len-length r n e = row-len-le r n (λ i h. List·getD-eq-default r 0 (omega arith))
 
-  -- past the length stand noughts
+  -- the numbers from the length on are 0
   pub zero-past : (r : List ℕ) (i : ℕ) → InRange d r → row-len d r ≤ i → getD r i 0 ≡ 0
   zero-past r i h k = zero-of-nought d (getD r i 0) (h i) (sym (coeff-poly r i) ∙ 𝔸 d .len-past (poly d r) i k)
 

@@ -1,5 +1,5 @@
--- A row that is written from the front, number by number: below k its numbers stand for the coefficients of p, which the loop computes, and from
--- k on for those of q, what was there before. The loops over a row have this for their invariant.
+-- A row written from the front, number by number: below k its numbers stand for the coefficients of p, which the loop
+-- computes, and from k on for those of q, which it had before. This is the invariant of the loops over a row.
 use Prim.Native.Nat.{ℕ, zero, suc, _+_, _≤_, _<_, _^_}
 use mathlib.Core.{Path._≡_, Path.refl, Path.sym, Path._∙_, Path.ap, Path.subst, List.List}
 use native.Mathlib.{Omega.arith, Decide.decLe, Decide.ℕ-discrete}
@@ -57,7 +57,7 @@ module _ {d : ℕ} where
   pub filled-to : {r : List ℕ} {k l : ℕ} {p q : Poly d} → k ≡ l → Filled d r k p q → Filled d r l p q
   filled-to {r} {k} {l} {p} {q} e s = subst (λ z. Filled d r z p q) e s
 
-  -- one more place that stays as it is
+  -- one more number that stays as it is
   pub filled-skip : {r : List ℕ} {k : ℕ} {p q : Poly d} → Filled d r k p q → 𝔸 d .coeff q k ≡ 𝔸 d .coeff p k → Filled d r (k + 1) p q
   filled-skip {r} {k} {p} {q} s e =
       record {

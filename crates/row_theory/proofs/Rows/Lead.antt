@@ -1,4 +1,4 @@
--- The leading number of a row that does not stand for 0: where it stands, and the row without it.
+-- The leading number of a row that does not stand for 0: its index, and the row without it.
 use Prim.Native.Nat.{ℕ, suc, _-_, _≤_, _<_}
 use mathlib.Core.{Path._≡_, Path.sym, Path._∙_, Path.ap, List.List}
 use native.Mathlib.{Omega.arith, Decide.ℕ-discrete}
@@ -10,7 +10,7 @@ use Rattle.row_theory.specs.{Field.Poly, Field.𝔸, Field.el, Field.pol
 use Rattle.row_theory.proofs.{Rows.Elements.zero-lt, Rows.Coefficients.coeff-poly, Rows.Coefficients.row-len-le, Rows.Shift.poly-strike}
 use Rattle.row_theory.proofs.{Rows.Coefficients.row-len-length, Rows.Coefficients.zero-past, Rows.Coefficients.top-nonzero, Rows.Fill.range-set}
 
--- the leading number stands at top
+-- the leading number has index top
 pub record Leads (d : ℕ) (r : List ℕ) (top : ℕ) : Type 0 where
   pub size : length r ≡ 12
   pub range : InRange d r

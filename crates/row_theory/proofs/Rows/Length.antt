@@ -1,4 +1,4 @@
--- The length of a row: from where on its numbers are 0.
+-- The length of a row: the index from which on its numbers are 0.
 use Prim.Native.Nat.{ℕ, zero, suc, _-_, _≤_, _<_}
 use mathlib.Core.{Path._≡_, Path.refl, Path.sym, Path._∙_, Path.ap, List.List, List.[], List._∷_}
 use native.Mathlib.{Omega.arith, Decide.decLe}
@@ -17,7 +17,7 @@ pub blank-less : {r : List ℕ} {n : ℕ} → Blank r n → getD r (n - 1) 0 ≡
 blank-less {r} {n} b e =
     record { zeros = λ i h. elim (decLe n i) [ yes k ↦ b .zeros i k | no k ↦ ap (λ j. getD r j 0) (omega arith) ∙ e ] }
 
--- `places` is the one number from which on all are 0 and before which one is not
+-- `places` is the only index from which on all numbers are 0 and before which one is not
 past-after :
     (r : List ℕ)
     → ((i : ℕ) → places r ≤ i → getD r i 0 ≡ 0)
@@ -70,7 +70,7 @@ places-is {r} {n} b t =
       | no a ↦ absurd (t (omega arith) (places-past r (n - 1) (omega arith)))
     ]
 
--- of numbers in range it is the degree plus one
+-- for numbers in range it is the degree plus one
 pub places-len : (r : List ℕ) {n : ℕ} → n ≡ places r → (d : ℕ) → InRange d r → n ≡ row-len d r
 places-len r {n} e d h =
     elim (decLe n 0) [

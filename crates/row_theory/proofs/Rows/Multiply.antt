@@ -1,4 +1,5 @@
--- The product of two rows, coefficient by coefficient of the first: after i turns the row stands for the part of a below x^i, times b.
+-- The product of two rows, by the coefficients of the first: after i turns the row stands for the part of a below x^i,
+-- times b.
 use Prim.Native.Nat.{ℕ, _+_, _≤_, _<_}
 use mathlib.Core.{Path._≡_, Path.sym, Path._∙_, Path.ap, Path.ap₂, List.List}
 use native.Mathlib.{Omega.arith, Decide.ℕ-discrete, Decide.decLe}

@@ -69,7 +69,7 @@ module _ (d : ℕ) where
       go j (yes w) = rw w (ap (el d) (getD-set-same r i v 0 h) ∙ e ∙ ap₂ (F d .ring .add) (sym (coeff-poly d r i)) (sym (monomial-at a i)))
       go j (no w) = ap (el d) (getD-set-other r i j v 0 w) ∙ sym (coeff-poly d r j) ∙ sym (⊞-𝟘 (F d .ring) _) ∙ ap (F d .ring .add (𝔸 d .coeff (poly d r) j)) (sym (monomial-off a i j w))
 
-  -- a 0 filled in, and a number struck out
+  -- a number replaced by 0, or put where 0 was
   pub poly-set-zero :
       (r : List ℕ) (i v : ℕ)
       → i < length r

@@ -1,4 +1,4 @@
--- Coefficients of the square and of the square root of a row's polynomial, in the words of the loops that compute them.
+-- Coefficients of the square and of the square root of a row's polynomial, as the loops compute them.
 use Prim.Native.Nat.{ℕ, zero, suc, _+_, _≤_}
 use mathlib.Core.{Path._≡_, Path.sym, Path._∙_, Path.ap, Path.ap₂, List.List}
 use native.Mathlib.Omega.{arith}

@@ -1,4 +1,4 @@
--- What the functions of a composition require of their rows, and the polynomial by which v differs from v1.
+-- What the functions of a composition require of their rows, and the polynomial m of v = v1 + d1 m modulo d1 d2.
 use Prim.Native.Nat.{ℕ, _≤_}
 use mathlib.Core.List.{List}
 use Rattle.field_laws.specs.Ring.{Ring2}
@@ -14,6 +14,6 @@ module _ (d : ℕ) where
 
   infixl 60 _⊞_
   infixl 70 _·_
-  -- s1 (v1 + v2) + s3 w1, where g = s u1 + t u2 and e = s′ g + t′ (v1 + v2 + 1), so that s1 = s′ s and s3 = t′
+  -- m = s1 (v1 + v2) + s3 w1, where g = s u1 + t u2 and e = s′ g + t′ (v1 + v2 + 1), so that s1 = s′ s and s3 = t′
   unfoldable pub multiple : (sum w s s′ t′ : List ℕ) → Poly d
   multiple sum w s s′ t′ = poly d s′ · poly d s · poly d sum ⊞ poly d t′ · poly d w

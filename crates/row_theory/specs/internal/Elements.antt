@@ -1,14 +1,14 @@
--- What the private functions on numbers promise, and powers of x.
+-- Promises of the private functions on numbers, and powers of x.
 use Prim.Native.Nat.{ℕ, zero, suc, _<_, _^_}
 use mathlib.Core.Path.{_≡_}
 use Rattle.row_theory.specs.Field.{degree-of, K, F, Poly, 𝔸, el}
 
--- a number that stands for an element
+-- the number n is in range and stands for the element e
 pub record Is (d : ℕ) (n : ℕ) (e : K d) : Type 0 where
   pub in-range : n < 2 ^ degree-of d
   pub stands : el d n ≡ e
 
--- a number that stands for the inverse of an element: their product is one
+-- the number n is in range and stands for the inverse of e: their product is 1
 pub record Inverts (d : ℕ) (n : ℕ) (e : K d) : Type 0 where
   pub in-range : n < 2 ^ degree-of d
   pub unit : F d .ring .mul e (el d n) ≡ F d .ring .one

@@ -1,5 +1,5 @@
--- What the private functions of the halving rule require of their rows, and the polynomials in whose words they promise. Nothing open to
--- callers speaks of these: `half_of_reduced` promises the half of class_group.
+-- What the private functions of the halving rule require of their rows, and the polynomials of their promises.
+-- No contract of an open function cites these: `half_of_reduced` promises the half of class_group.
 use Prim.Native.Nat.{ℕ, _+_, _<_}
 use mathlib.Core.{Path._≡_, List.List}
 use Rattle.field_laws.specs.{Ring.Ring2, Field.Field2}
@@ -13,20 +13,20 @@ module _ {K P : Type 0} {F : Field2 K} (A : Polynomials F P) where
 
   infixl 60 _⊞_
   infixl 70 _·_
-  -- m2 x⁴ + m1 x² + m0
+  -- the polynomial m2 x⁴ + m1 x² + m0
   unfoldable pub even-quartic : K → K → K → P
   even-quartic m2 m1 m0 = con m0 ⊞ x · (x · (con m1 ⊞ x · (x · con m2)))
 
-  -- [√p, v modulo √p]
+  -- the pair [√p, v modulo √p]
   unfoldable pub root-pair : P → P → Pair P
   root-pair p v = let a = sqrt A p in record { u = a; v = rem v a }
 
-  -- degree 3, the square after the second lift: t² u + t x + t q + (x² + g) s, where t² is the coefficient of x in s
+  -- in degree 3, the square after the second lift: t² u + t x + t q + (x² + g) s, where t² is the coefficient of x in s
   unfoldable pub second-square : P → P → K → K → K → P
   second-square u s t q g =
       con (coeff s 1) · u ⊞ quadratic A (F .ring .nought) t (F .ring .mul t q) ⊞ even-quartic (F .ring .nought) (F .ring .one) g · s
 
-  -- degree 3, the second polynomial of the half: v + r (u + a) + i z, where z is (x + q) s modulo a
+  -- in degree 3, the second polynomial of the half: v + r (u + a) + i z, where z is (x + q) s modulo a
   unfoldable pub second-remainder : P → P → P → P → K → K → K → P
   second-remainder u v s a r i q =
       v ⊞ con r · (u ⊞ a) ⊞ con i · rem (quadratic A (F .ring .nought) (F .ring .one) q · rem s a) a

@@ -14,7 +14,7 @@ Inv-loop d f s i₀ i = (i ≤ 8) × NoneYet d f s i
 abbrev μ-loop : tie.MeasureT-loop
 μ-loop d f s i₀ i = 8 - i
 
--- the root's case is none of the others
+-- the case of a root is none of the others
 no-key : (_≡_ {A = ℕ} 0 1) ⊎ (_≡_ {A = ℕ} 0 2) → ⊥
 no-key (inl e) = omega arith
 no-key (inr e) = omega arith

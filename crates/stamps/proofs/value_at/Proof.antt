@@ -1,4 +1,4 @@
--- `value_at` meets its contract: the loop holds the value of the coefficients from place i on.
+-- `value_at` meets its contract: the loop holds the value of the coefficients from index i on.
 use mathlib.Core.Path.{_≡_}
 use Prim.Native.Nat.{_≤_}
 use lib.ListN.{drop}

@@ -1,4 +1,4 @@
--- `multiples` meets its contract: each mask's ones stand apart, and the six masks make up 60 ones.
+-- `multiples` meets its contract: the ones of each mask are six apart, and the six masks together have 60 ones.
 use mathlib.Core.Path.{_≡_, refl}
 use Prim.Native.Nat.{ℕ, _*_, _^_, _<_}
 use native.Mathlib.{Omega.arith, Nat.lt-of-le-of-lt}

@@ -1,4 +1,5 @@
--- `multisquares` meets its contract: the table's rule is tested at the powers of t, and the other entries are sums of theirs.
+-- `multisquares` meets its contract: the table's rule is tested at the powers of t, and the other entries are sums of
+-- these.
 use mathlib.Core.Path.{refl}
 use Rattle.binary_field_theory.specs.Carryless.{_⊕_, clmul, reduce, remainder, digits, digits-to}
 use Rattle.binary_field_theory.specs.Element.{low, product}

@@ -1,4 +1,4 @@
--- `checked` meets its contract: the division tells, and its quotient is the cofactor.
+-- `checked` meets its contract: the division decides, and its quotient is the cofactor.
 use mathlib.Core.{Path.refl, Path.sym, Bool.true≢false}
 use native.Mathlib.Omega.{arith}
 use borrow.Author.Tests.{not-true, not-false}
@@ -10,7 +10,7 @@ use Rattle.class_rows.proofs.{CheckRows.denied, CheckRows.no-it-is-not,
 use Rattle.class_rows.proofs.divisor.checked.Statement.{statement}
 use Rattle.class_rows.proofs.divisor.checked.Tie as tie
 
--- all but the division
+-- all that is checked before the division
 formed : (c : tie.Else1) → FormedRows (c .before .before .args .d) (c .before .before .args .f) (c .before .before .args .a)
 formed c = c .before .in-form .ensures .0 (not-false _ (c .if1 .left))
 

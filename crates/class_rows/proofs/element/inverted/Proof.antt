@@ -1,4 +1,4 @@
--- `element::inverted` meets its contract: the element is not 0, so that the call is answered, with the inverse. Assumes nothing.
+-- `element::inverted` meets its contract: the element is not 0, so that the call answers its inverse.
 use mathlib.Core.Path.{_∙_}
 use Rattle.row_theory.proofs.Rows.{Elements.el-nonzero, Answers.inverse-one, Answers.inverse-answers, Answers.inverse-inverts}
 use borrow.Author.Needs.{needs}

@@ -1,4 +1,4 @@
--- `element::number` meets its contract: the number is that of the answer's element. Assumes nothing.
+-- `element::number` meets its contract: the number is that of the answer's element.
 use borrow.Author.Needs.{needs}
 use Rattle.binary_field.proofs.Replies.{element-is, no-refusal}
 use Rattle.class_rows.proofs.element.number.Statement.{statement}

@@ -1,4 +1,4 @@
--- `element::plus` meets its contract: the call is answered, with the sum. Assumes nothing.
+-- `element::plus` meets its contract: the call answers the sum.
 use mathlib.Core.Path.{_∙_}
 use Rattle.row_theory.proofs.Rows.Answers.{sum-answers, number-is}
 use borrow.Author.Needs.{needs}

@@ -1,4 +1,4 @@
--- `element::root_of` meets its contract: the call is answered, with the square root. Assumes nothing.
+-- `element::root_of` meets its contract: the call answers the square root.
 use mathlib.Core.Path.{_∙_}
 use Rattle.row_theory.proofs.Rows.Answers.{root-answers, number-is}
 use borrow.Author.Needs.{needs}

@@ -1,4 +1,4 @@
--- `element::squared` meets its contract: the call is answered, with the square. Assumes nothing.
+-- `element::squared` meets its contract: the call answers the square.
 use mathlib.Core.Path.{_∙_}
 use Rattle.row_theory.proofs.Rows.Answers.{square-answers, number-is}
 use borrow.Author.Needs.{needs}

@@ -1,4 +1,4 @@
--- `element::times` meets its contract: the call is answered, with the product. Assumes nothing.
+-- `element::times` meets its contract: the call answers the product.
 use mathlib.Core.Path.{_∙_}
 use Rattle.row_theory.proofs.Rows.Answers.{zero-times, times-zero, one-times, times-one, product-answers, number-is}
 use borrow.Author.Needs.{needs}

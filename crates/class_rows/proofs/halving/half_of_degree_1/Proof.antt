@@ -1,4 +1,5 @@
--- `half_of_degree_1` meets its contract: its calls give the lift of the rule (row_theory, proofs/HalfRows/Computed1.antt).
+-- `half_of_degree_1` meets its contract: its calls give the lift of the rule (row_theory,
+-- proofs/HalfRows/Computed1.antt).
 use native.Mathlib.Omega.{arith}
 use borrow.Author.Needs.{needs}
 use Rattle.row_theory.proofs.HalfRows.{Rows.quadratic-fits, Rows.quartic-fits, Computed1.Computed1, Computed1.root-nonzero-1, Computed1.result-1}

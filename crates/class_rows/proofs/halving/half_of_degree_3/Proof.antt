@@ -1,5 +1,5 @@
--- `half_of_degree_3` meets its contract: the first lift is a square where t is 0, else the second lift gives one (row_theory,
--- proofs/HalfRows/Computed3.antt, Lifted3.antt).
+-- `half_of_degree_3` meets its contract: the first lift is a square where t is 0, else the second lift gives one
+-- (row_theory, proofs/HalfRows/Computed3.antt, Lifted3.antt).
 use native.Mathlib.Omega.{arith}
 use borrow.Author.Needs.{needs}
 use Rattle.row_theory.proofs.HalfRows.{Rows.quadratic-fits, Lifted3.Lifted3, Lifted3.root-len, Lifted3.result-3}

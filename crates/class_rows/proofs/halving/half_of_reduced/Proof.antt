@@ -1,4 +1,4 @@
--- `half_of_reduced` gives the half: the class itself where it is neutral, else what the row of the rule for its degree gives.
+-- `half_of_reduced` gives the half: the class itself where it is neutral, else the pair of the rule for its degree.
 use native.Mathlib.Omega.{arith}
 use borrow.Author.Needs.{needs}
 use Rattle.class_rows.proofs.HalfRows.Class.{NonNeutral, half-neutral, halving-rows, half-1, half-2, half-3}

@@ -1,4 +1,5 @@
--- `lifted_half_of_degree_2` meets its contract: its calls give the lift of the rule (row_theory, proofs/HalfRows/Computed2.antt).
+-- `lifted_half_of_degree_2` meets its contract: its calls give the lift of the rule (row_theory,
+-- proofs/HalfRows/Computed2.antt).
 use native.Mathlib.Omega.{arith}
 use borrow.Author.Needs.{needs}
 use Rattle.row_theory.proofs.Rows.Elements.{one-lt}

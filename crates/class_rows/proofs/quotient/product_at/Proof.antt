@@ -1,4 +1,4 @@
--- `quotient::product_at` meets its contract. The invariant: the sum is that of the terms from the coefficients of q below j.
+-- `quotient::product_at` meets its contract. The invariant: the sum is that of the terms from q's coefficients below j.
 use Prim.Native.Nat.{_+_, _-_}
 use native.Mathlib.Omega.{arith}
 use Rattle.row_theory.proofs.QuotientRows.{Partial, partial-start, partial-turn, partial-end}

@@ -1,4 +1,4 @@
--- `cofactor` promises (v² + v + f) / u.
+-- `cofactor` meets its contract: the quotient of v² + v + f by u.
 use native.Mathlib.Omega.{arith}
 use Rattle.class_rows.proofs.ReductionRows.{cofactor-row}
 use Rattle.class_rows.proofs.reduction.cofactor.Statement.{statement}

@@ -1,4 +1,4 @@
--- `reduce_rows` promises the definition's reduction: none where u is no longer than 4, and else what `reduce_with` promises.
+-- `reduce_rows` meets its contract: no step where u has at most four coefficients, else what `reduce_with` promises.
 use native.Mathlib.Omega.{arith}
 use Rattle.class_rows.proofs.ReductionRows.{none-counted}
 use Rattle.row_theory.proofs.Rows.Length.{places-len}

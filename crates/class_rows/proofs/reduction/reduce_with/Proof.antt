@@ -1,4 +1,4 @@
--- `reduce_with` promises the definition's reduction: one step, and a second where u is still longer than 4.
+-- `reduce_with` meets its contract: one step, and a second where u still has more than four coefficients.
 use native.Mathlib.Omega.{arith}
 use Rattle.class_rows.proofs.ReductionRows.{stepped-rows, once-counted, twice-counted}
 use Rattle.row_theory.proofs.Rows.Length.{places-len}

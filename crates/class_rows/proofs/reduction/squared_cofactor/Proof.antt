@@ -1,4 +1,4 @@
--- `squared_cofactor` promises the cofactor of a double's composition: the lengths fit, and the sum is w² + q + q² u².
+-- `squared_cofactor` meets its contract: the lengths fit, and the sum is w² + q + q² u².
 use Rattle.class_rows.proofs.ReductionRows.{cofactor-row-range}
 use Rattle.class_rows.proofs.DoubleRows.{reduced-semi, cofactor-fits, quotient-fits, product-fits, squared-cofactor}
 use Rattle.class_rows.proofs.reduction.squared_cofactor.Statement.{statement}

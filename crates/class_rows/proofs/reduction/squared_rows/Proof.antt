@@ -1,4 +1,4 @@
--- `squared_rows` promises the composition of a double and the quotient beside it.
+-- `squared_rows` meets its contract: the composition of a double, with the quotient.
 use native.Mathlib.Omega.{arith}
 use Rattle.class_rows.proofs.DoubleRows.{reduced-len, squared-nonzero, squared}
 use Rattle.class_rows.proofs.reduction.squared_rows.Statement.{statement}

@@ -1,4 +1,4 @@
--- `step` promises the definition's reduction step: w made monic, and the remainder of v + 1.
+-- `step` meets its contract: w made monic, and the remainder of v + 1.
 use mathlib.Core.Path.{sym, _∙_}
 use Rattle.char2_algebra.proofs.Lead.{monic-of-nonzero}
 use Rattle.row_theory.specs.Field.{𝔸}

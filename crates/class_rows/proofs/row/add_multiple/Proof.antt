@@ -1,5 +1,5 @@
--- `row::add_multiple` meets its contract. The invariant: the numbers below shift + i are those of a + c x^shift b, the others those of a.
--- Assumes nothing.
+-- `row::add_multiple` meets its contract. The invariant: the numbers below shift + i are those of a + c x^shift b, the
+-- others those of a.
 use Prim.Native.Nat.{_+_, _-_, _≤_}
 use native.Mathlib.Omega.{arith}
 use Rattle.row_theory.specs.{Field.𝔸, Field.el, Field.poly, internal.Elements.x-power}

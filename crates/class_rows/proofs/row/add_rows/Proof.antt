@@ -1,4 +1,4 @@
--- `row::add_rows` meets its contract: a sum is a multiple added with factor 1 and no shift. Assumes nothing.
+-- `row::add_rows` meets its contract: a sum is a multiple added with factor 1 and no shift.
 use native.Mathlib.Omega.{arith}
 use Rattle.row_theory.proofs.{Rows.Elements.one-lt, Rows.Coefficients.row-len-length, Rows.Coefficients.stands-eq, Rows.Sums.multiple-one}
 use Rattle.class_rows.proofs.row.add_rows.Statement.{statement}

@@ -1,4 +1,4 @@
--- `row::divide` meets its contract. The invariant: a = q b + r, and r has no numbers from k on. Assumes nothing.
+-- `row::divide` meets its contract. The invariant: a = q b + r, and r has no numbers from k on.
 use Prim.Native.Nat.{_≤_}
 use native.Mathlib.Omega.{arith}
 use Rattle.row_theory.specs.Field.{poly}
@@ -13,7 +13,7 @@ Inv-loop d top inverse low q₀ r₀ k₀ q r k = (k ≤ 12) × Dividing d low t
 abbrev μ-loop : tie.MeasureT-loop
 μ-loop d top inverse low q₀ r₀ k₀ q r k = k
 
--- the leading number of b stands at top
+-- the leading number of b has index top
 at-top : (c : tie.After-leading Inv-loop μ-loop) → Leads (c .before .args .d) (c .before .args .b) (c .leading .result .top)
 at-top c = leads-at _ _ (c .before .good .1 .1 .0 .1 .0 .1) (c .before .pre .2) (c .leading .ensures .0)
 

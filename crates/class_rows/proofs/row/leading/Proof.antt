@@ -1,4 +1,4 @@
--- `row::leading` meets its contract: the leading number stands one below the length.
+-- `row::leading` meets its contract: the index of the leading number is one below the length.
 use Prim.Native.Nat.{_-_}
 use mathlib.Core.Path.{sym}
 use native.Mathlib.Omega.{arith}

@@ -1,4 +1,4 @@
--- `row::length` meets its contract. The invariant: the numbers from n on are 0. Assumes nothing.
+-- `row::length` meets its contract. The invariant: the numbers from n on are 0.
 use Prim.Native.Nat.{_≤_}
 use mathlib.Core.Path.{_≡_, sym, _∙_}
 use native.Mathlib.Omega.{arith}

@@ -1,10 +1,10 @@
--- `row::monic` meets its contract. The leading number becomes 1 without a product. Assumes nothing.
+-- `row::monic` meets its contract. The leading number becomes 1 without a product.
 use native.Mathlib.Omega.{arith}
 use Rattle.row_theory.proofs.Rows.{Lead.Leads, Lead.leads-at, Lead.low-range, Monic.monic-already, Monic.monic-made}
 use Rattle.class_rows.proofs.row.monic.Statement.{statement}
 use Rattle.class_rows.proofs.row.monic.Tie as tie
 
--- the leading number stands at top
+-- the leading number has index top
 at-top : (c : tie.After-leading) → Leads (c .before .args .d) (c .before .args .a) (c .leading .result .top)
 at-top c = leads-at _ _ (c .before .good .1 .0 .1 .0 .1) (c .before .pre .1) (c .leading .ensures .0)
 

@@ -1,4 +1,4 @@
--- `row::multiply` meets its contract. The invariant: the row stands for the part of a below x^i, times b. Assumes nothing.
+-- `row::multiply` meets its contract. The invariant: the row stands for the part of a below x^i, times b.
 use Prim.Native.Nat.{_-_, _≤_}
 use native.Mathlib.Omega.{arith}
 use Rattle.row_theory.proofs.{Rows.Length.length-le, Rows.Multiply.Partial, Rows.Multiply.partial-start, Rows.Multiply.partial-turn, Rows.Multiply.partial-end}

@@ -1,4 +1,4 @@
--- `row::root_row` meets its contract. The invariant: the numbers below i are those of the square root, the others 0. Assumes nothing.
+-- `row::root_row` meets its contract. The invariant: the numbers below i are those of the square root, the others 0.
 use Prim.Native.Nat.{_-_, _≤_}
 use mathlib.Core.Path.{refl, sym, _∙_}
 use native.Mathlib.Omega.{arith}

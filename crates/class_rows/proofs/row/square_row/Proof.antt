@@ -1,4 +1,4 @@
--- `row::square_row` meets its contract. The invariant: the numbers below 2 i are those of a², the others 0. Assumes nothing.
+-- `row::square_row` meets its contract. The invariant: the numbers below 2 i are those of a², the others 0.
 use Prim.Native.Nat.{_+_, _-_, _≤_}
 use mathlib.Core.Path.{refl, sym, _∙_}
 use native.Mathlib.Omega.{arith}

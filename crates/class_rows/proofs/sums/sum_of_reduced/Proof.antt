@@ -1,4 +1,4 @@
--- `sum_of_reduced` meets its contract: the composition of two reduced pairs is to be reduced, and its reduction is their sum.
+-- `sum_of_reduced` meets its contract: the reduction of the composition of two reduced pairs is their sum.
 use mathlib.Core.Path.{subst}
 use Rattle.class_group.specs.{Operations.counted-sum, Reduction.reduce}
 use Rattle.class_group.proofs.Composed.{compose-semi, compose-len}

@@ -1,4 +1,4 @@
--- `blank_from` meets its contract. The invariant: the numbers from place n to place i are 0.
+-- `blank_from` meets its contract. The invariant: the numbers from index n up to index i are 0.
 use Prim.Native.Nat.{_-_, _≤_}
 use native.Mathlib.Omega.{arith}
 use Rattle.jacobian.proofs.ByValue.Below.{BlankTo, blank-none, blank-more, padded-all, padded-fails}

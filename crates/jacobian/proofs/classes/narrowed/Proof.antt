@@ -1,4 +1,4 @@
--- `narrowed` meets its contract, by the number of places.
+-- `narrowed` meets its contract, for each n.
 use mathlib.Core.Path.{sym}
 use native.Mathlib.Omega.{arith}
 use Rattle.jacobian.proofs.ByValue.Pairs.{first-one, first-two, first-three}

@@ -1,4 +1,4 @@
--- `coefficients_refusal` meets its contract. The invariant: the numbers before place i are below m.
+-- `coefficients_refusal` meets its contract. The invariant: the numbers before index i are below m.
 use Prim.Native.Nat.{_-_, _≤_}
 use lib.ListN.{getD}
 use native.Mathlib.Omega.{arith}
