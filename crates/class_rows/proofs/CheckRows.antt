@@ -17,7 +17,7 @@ use Rattle.row_theory.proofs.{Rows.Elements.degree-is, Rows.Elements.zero-lt, R
 use Rattle.class_rows.proofs.ReductionRows.{reduced-on, value-stands}
 use Rattle.class_rows.specs.declared.{row.RowPair.RowPair, reduction.CountedRows.CountedRows, RowsAnswer.RowsAnswer}
 
--- ---- tests
+-- ---- tests that decide a statement
 pub yes-it-is : {P : Type 0} → P → Decides true P
 yes-it-is p = (λ _. p, λ _. refl)
 
@@ -110,7 +110,7 @@ module _ {d : ℕ} {f : List ℕ} {a : RowPair} where
       })
       (λ D. same ∙ ap (𝔸 d .len) (rem-of-divides (𝔸 d) (poly d (a .u)) nonzero (value C (poly d (a .v))) (reduced-on d (D .reduced) (h .curve .1) .divides)) ∙ len-nought (𝔸 d))
 
--- ---- what an open function answers
+-- ---- the answer of an open function
 module _ {d : ℕ} {f : List ℕ} {asked : Type 0} {a : RowPair} {t : Bool} (h : Decides t asked) {of : Theory.Curve (𝔸 d) → Counted (Poly d)} where
   pub rows-refused : {r : RowsAnswer} → t ≡ false → r ≡ record { divisor = false; rows = record { pair = a; steps = 0 } } → Gives d f asked a of r
   rows-refused e k =

@@ -20,7 +20,7 @@ module _ (d : ℕ) where
 
   infixl 60 _⊞_
   infixl 70 _·_
-  -- the pair that is joined
+  -- the joined pair
   module _ (d₁ d₂ m : List ℕ) {u k : List ℕ} (U : Stands d u (poly d d₁ · poly d d₂)) (h₁ : ¬ (poly d d₁ ≡ 𝟘)) (h₂ : ¬ (poly d d₂ ≡ 𝟘)) (K : Stands d k (rem (poly d m) (poly d d₂))) where
     pub joined-nonzero : ¬ (poly d u ≡ 𝟘)
     joined-nonzero z = mul-nonzero (𝔸 d) (poly d d₁) (poly d d₂) h₁ h₂ (sym (U .stands) ∙ z)
@@ -47,7 +47,7 @@ module _ (d : ℕ) where
   unfolding multiple
   multiple-stands sum w s s′ t′ S P Q = stands-eq d (ap₂ _⊞_ (P .stands ∙ ap (λ z. z · poly d sum) (S .stands)) (Q .stands))
 
-  -- two reduced pairs of rows, and Euclid's rule of their u
+  -- a reduced pair of rows
   module _ {f : List ℕ} {a : RowPair} (A : ReducedRows d f a) where
     pub u-nonzero : ¬ (poly d (a .u) ≡ 𝟘)
     unfolding rows-pair
@@ -86,7 +86,7 @@ module _ (d : ℕ) where
 
   module _ {f : List ℕ} {a b : RowPair} (A : ReducedRows d f a) (B : ReducedRows d f b) {g s t : List ℕ} (I : BezoutRows d (a .u) (b .u) g s t)
       {sum : List ℕ} (S : Stands d sum (poly d (a .v) ⊞ poly d (b .v))) where
-    -- v1 + v2, and s1
+    -- the lengths of v1 + v2 and of s
     pub sum-len : row-len d sum ≤ 3
     sum-len =
         let l = reduced-len d A in

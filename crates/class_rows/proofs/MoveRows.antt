@@ -11,17 +11,17 @@ use Rattle.class_rows.specs.declared.{row.RowPair.RowPair, reduction.Cou
 use Rattle.class_rows.proofs.ReductionRows.{pair-eq, reduced-on, reduced-rows}
 
 module _ (d : ℕ) {f : List ℕ} {a b : RowPair} (h : ReducedRows d f a) (k : ReducedRows d f b) where
-  -- what the functions of a sum, a double and an opposite promise
+  -- the promise of the function of a sum
   abbrev Sums : RowPair → CountedRows → Type 0
   Sums e t = (C : Theory.Curve (𝔸 d)) → OnCurve d f C → StandsCounted d t (counted-sum C (rows-pair d a) (rows-pair d e))
 
-  -- a sum of reduced classes is one
+  -- a sum of reduced classes is reduced
   pub summed-reduced : {t : CountedRows} → Sums b t → ReducedRows d f (t .pair)
   unfolding sum
   summed-reduced s =
       reduced-rows d (h .on-curve) (sum-reduced (h .C) (h .reduced) (reduced-on d k (h .on-curve))) (s (h .C) (h .on-curve) .pair-stands)
 
-  -- after at most two steps
+  -- a sum makes at most two steps
   pub summed-steps : {t : CountedRows} → Sums b t → t .steps ≤ 2
   summed-steps s = rw (s (h .C) (h .on-curve) .steps-is) (sum-steps (h .C) (h .reduced) (reduced-on d k (h .on-curve)))
 
@@ -34,7 +34,7 @@ module _ (d : ℕ) {f : List ℕ} {a : RowPair} (h : ReducedRows d f a) where
   pub opposed-reduced : {r : RowPair} → ((C : Theory.Curve (𝔸 d)) → StandsPair d r (opposite C (rows-pair d a))) → ReducedRows d f r
   opposed-reduced s = reduced-rows d (h .on-curve) (opposite-reduced (h .C) (h .reduced)) (s (h .C))
 
-  -- at most two steps
+  -- a double makes at most two steps
   pub doubled-steps : {t : CountedRows} → ((C : Theory.Curve (𝔸 d)) → OnCurve d f C → StandsCounted d t (counted-double C (rows-pair d a))) → t .steps ≤ 2
   doubled-steps s = rw (s (h .C) (h .on-curve) .steps-is) (double-steps (h .C) (h .reduced))
 

@@ -1,4 +1,5 @@
 -- The opposite of a pair of rows.
+-- `opposite-short`: the neutral pair is its own opposite. `opposite-long`: another pair's is [u, v + 1].
 use Prim.Native.Nat.{ℕ, _≤_, _<_}
 use mathlib.Core.{Path._≡_, Path.refl, Path._∙_, Path.ap, List.List}
 use borrow.Author.Tests.{lt-ltb, le-ltb}

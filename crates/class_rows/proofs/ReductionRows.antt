@@ -15,7 +15,7 @@ use Rattle.row_theory.proofs.ReductionSteps.{reduce-none, reduce-once, reduce-t
 use Rattle.class_rows.specs.{Pair.StandsPair, Pair.rows-pair, Core.OnCurve, Core.ReducedRows, Core.StandsCounted}
 use Rattle.class_rows.specs.{internal.Cofactor.CofactorRow, internal.Cofactor.SemiReducedRows, declared.row.RowPair.RowPair}
 
--- v² + v + f on a curve of f
+-- the row of v² + v + f stands for the value of v on a curve of f
 pub value-stands :
     (d : ℕ) (v : List ℕ) {f r : List ℕ} {C : Theory.Curve (𝔸 d)} → OnCurve d f C
     → Stands d r (𝔸 d .ring .add (𝔸 d .ring .add (𝔸 d .ring .mul (poly d v) (poly d v)) (poly d v)) (poly d f))
@@ -29,7 +29,7 @@ module _ (d : ℕ) where
 
   infixl 60 _⊞_
   infixl 70 _·_
-  -- what two rows stand for is the pair
+  -- the pair of two rows is the pair that they stand for
   pub pair-eq : {b : RowPair} {D : Pair (Poly d)} → StandsPair d b D → rows-pair d b ≡ D
   unfolding rows-pair
   pair-eq t = λ i. record { u = t .u-stands .stands i; v = t .v-stands .stands i }
@@ -50,8 +50,7 @@ module _ (d : ℕ) where
     unfolding value
     same-value c e v = ap (λ z. v · v ⊞ v ⊞ z) (sym (c .is-f) ∙ e .is-f)
 
-    -- the rows are semi-reduced, or reduced, on every curve of f
-    -- rows that stand for a reduced class of the curve of f
+    -- rows that stand for a reduced class of the curve of f are reduced rows
     pub reduced-rows : {b : RowPair} {C : Theory.Curve (𝔸 d)} {D : Pair (Poly d)} → OnCurve d f C → Reduced C D → StandsPair d b D → ReducedRows d f b
     reduced-rows {C = C} on r t =
         record {
@@ -62,17 +61,19 @@ module _ (d : ℕ) where
           reduced = subst (Reduced C) (sym (pair-eq t)) r;
         }
 
+    -- the pair is semi-reduced on every curve of f
     pub semi-on : {a : RowPair} → SemiReducedRows d f a → {C : Theory.Curve (𝔸 d)} → OnCurve d f C → SemiReduced C (rows-pair d a)
     unfolding rows-pair
     semi-on {a} s c = record { u-monic = s .u-monic; v-len = s .v-len; divides = divides-eq R (same-value (s .on-curve) c (poly d (a .v))) (s .divides) }
 
+    -- the pair is reduced on every curve of f
     pub reduced-on : {a : RowPair} → ReducedRows d f a → {C : Theory.Curve (𝔸 d)} → OnCurve d f C → Reduced C (rows-pair d a)
     unfolding rows-pair
     reduced-on {a} s c =
         let r = s .reduced in
         record { u-monic = r .u-monic; u-len = r .u-len; v-len = r .v-len; divides = divides-eq R (same-value (s .on-curve) c (poly d (a .v))) (r .divides) }
 
-    -- rows that stand for a semi-reduced pair of degree at most 6
+    -- rows that stand for a semi-reduced pair of degree at most 6 are semi-reduced rows
     pub semi-rows : {b : RowPair} {D : Pair (Poly d)} {C : Theory.Curve (𝔸 d)}
         → OnCurve d f C → SemiReduced C D → len (D .u) ≤ 7 → StandsPair d b D → SemiReducedRows d f b
     unfolding rows-pair
@@ -122,7 +123,7 @@ module _ (d : ℕ) where
           };
         }
 
-    -- it leads to rows of a semi-reduced pair
+    -- a reduction step leads to rows of a semi-reduced pair
     pub stepped-rows : {a b : RowPair} → SemiReducedRows d f a → 4 < row-len d (a .u) → Stepped f a b → SemiReducedRows d f b
     unfolding rows-pair
     stepped-rows {a} s h t =
@@ -130,7 +131,7 @@ module _ (d : ℕ) where
         let k : len (reduction-step (s .C) (rows-pair d a) .u) ≤ 5 = step-len (s .C) r h (s .u-len) .0 in
         semi-rows (s .on-curve) (step-semi (s .C) r) (omega arith) (t (s .C) (s .on-curve))
 
-    -- the reduction of rows, by the number of its steps
+    -- the reduction of rows with no step, one step and two steps
     pub none-counted : {a : RowPair} → SemiReducedRows d f a → row-len d (a .u) ≤ 4 → (C : Theory.Curve (𝔸 d)) → OnCurve d f C
         → StandsCounted d (record { pair = a; steps = 0 }) (reduce C (rows-pair d a))
     unfolding rows-pair

@@ -1,8 +1,8 @@
 -- Demand 1 of the calls by value: every answer is valid.
--- `curve-refusal-told`, `class-refusal-told`, `refusal-told`, `refusal-of-two-told`: a refusal of the checks is 0 or
--- listed.
+-- `curve-refusal-told`, `class-refusal-told`: the refusal of a curve and of a class is valid, 0 or a listed number.
+-- `refusal-told`, `refusal-of-two-told`: so is the refusal of a call on one class and on two.
 -- `verdict-told`: the verdict of a valid refusal is valid.
--- `curve-told`, `membership-told`: a curve or class is accepted, or refused with a listed number.
+-- `curve-told`, `membership-told`: a curve or a class is accepted, or refused with a listed number.
 -- `unary-told`: an opposite, double or half is accepted, or refused with a listed number, the neutral class and no
 -- step.
 -- `binary-told`: so are a sum and the two rules that move a seal.

@@ -35,6 +35,7 @@ module _ (d : ℕ) where
       bezout-rows a b _ _ _ G S (zero-stands d T)
       (bezout-scaled-is (𝔸 d) (poly d a) (poly d b) (el d c) (C .unit) (len-zero (𝔸 d) (poly d b) e)) (omega arith) (omega arith)
 
+  -- where a and b are 0: 0
   pub blank-rows : (a : List ℕ) {z : List ℕ} → Stands d z (𝔸 d .con (el d 0)) → row-len d a ≡ 0 → (b : List ℕ) → row-len d b ≡ 0
       → BezoutRows d a b z z z
   blank-rows a Z h b e =
@@ -50,7 +51,7 @@ module _ (d : ℕ) where
       let m : 𝔸 d .len (𝔸 d .ring .nought) ≡ 0 = len-nought (𝔸 d) in
       bezout-rows a b _ _ _ G (zero-stands d S) T (bezout-constant-is (𝔸 d) (poly d a) (poly d b) (el d c) e (C .unit)) (omega arith) (omega arith)
 
-  -- one step back
+  -- one step back, from the remainder r of a by b
   module _ (a b : List ℕ) {q r : List ℕ} (h : ¬ (poly d b ≡ 𝔸 d .ring .nought)) (Q : Stands d q (𝔸 d .quot (poly d a) (poly d b))) (R : Stands d r (𝔸 d .rem (poly d a) (poly d b))) where
     pub remainder-less : row-len d r < row-len d b
     remainder-less = omega (arith, stands-len d R, 𝔸 d .rem-len (poly d a) (poly d b) h)
@@ -58,7 +59,7 @@ module _ (d : ℕ) where
     pub quotient-le : row-len d q ≤ row-len d a
     quotient-le = omega (arith, stands-len d Q, len-quot-le (𝔸 d) (poly d a) (poly d b) h)
 
-    -- from g = s b + t r
+    -- from g = s b + t r, g = t a + (s + t q) b
     pub step-rows : {g s t t′ : List ℕ} → BezoutRows d b r g s t → Stands d t′ (𝔸 d .ring .add (poly d s) (𝔸 d .ring .mul (poly d t) (poly d q))) → BezoutRows d a b g t t′
     step-rows {g} {s} {t} B T =
         let i : IsBezout (𝔸 d) (poly d b) (𝔸 d .rem (poly d a) (poly d b)) (record { g = poly d g; s = poly d s; t = poly d t }) =

@@ -17,13 +17,13 @@ pub record Stands (d : ℕ) (r : List ℕ) (p : Poly d) : Type 0 where
 unfoldable pub filled : List ℕ → List ℕ
 filled r = r ++ replicate (12 - length r) 0
 
--- `places` of a row from that of its tail, k, and its first number, n
+-- the length of a row, from the length of its tail and its first number
 unfoldable pub after : ℕ → ℕ → ℕ
 after (suc k) n = suc (suc k)
 after zero zero = 0
 after zero (suc n) = 1
 
--- one more than the index of the last number that is not 0; 0 where there is none
+-- the length of a row: one more than the index of its last number that is not 0, and 0 where there is none
 unfoldable pub places : List ℕ → ℕ
 places [] = 0
 places (n ∷ r) = after (places r) n

@@ -1,4 +1,4 @@
--- The class of a stamp: how it is computed, and that it is an accepted class of its own for each stamp.
+-- The class of a stamp: how it is computed, that it is accepted, and that different stamps have different classes.
 pub mod Values
 pub mod Search
 pub mod Points

@@ -1,4 +1,8 @@
 -- The search over the candidates of a stamp in order, and the answer of the call.
+-- `candidate-lt`: the candidates of a stamp below 2^(d-3) are elements.
+-- `class-found`, `class-missed`: a candidate has a class exactly where its equation has a root.
+-- `found-at`, `found-none`: the search finds the first candidate with a class, or none.
+-- `refused-first`, `answered-last`: the answer is the refusal before the search, or what the search finds.
 use Prim.Native.Nat.{ℕ, zero, suc, _+_, _-_, _*_, _^_, _≤_, _<_}
 use mathlib.Core.{Path._≡_, Path.refl, Path.sym, Path.ap, Path.subst, Path.fun-ext, Path._∙_, List.List, Option.Option, Option.none, Option.some, Option.Option·map}
 use native.Mathlib.{Numerals.add-one, Omega.arith}

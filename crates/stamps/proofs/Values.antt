@@ -1,4 +1,5 @@
 -- The value of a polynomial at an element, as Horner's rule computes it.
+-- `value-step`: the value of a + x f, from that of f. `value-filled`: zeros at the end change nothing.
 use Prim.Native.Nat.{ℕ, zero, suc, _+_, _-_, _^_, _≤_, _<_}
 use mathlib.Core.{Path._≡_, Path.refl, Path.sym, Path.ap, Path.ap₂, Path.subst, Path._∙_, List.List, List.[], List._∷_, List._++_, List.map}
 use native.Mathlib.Omega.{arith}

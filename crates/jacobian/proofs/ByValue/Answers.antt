@@ -30,7 +30,7 @@ module _ (d : ℕ) (D : Counted (Poly d)) where
   pub at-refusal : {n m : ℕ} → n ≡ m → {r : Reply} → r ≡ answered d n D → r ≡ answered d m D
   at-refusal e h = h ∙ ap (λ k. answered d k D) e
 
--- the curve and the class of a call that is not refused
+-- the curve and the class of a call that is not refused pass their checks
 pub passes : (c : Curve) (a : Class) {n : ℕ} → n ≡ refusal c a → n ≡ 0 → CurvePasses c × ClassPasses c a
 unfolding refusal
 passes c a e h = let z = then-zero _ _ (sym e ∙ h) in (curve-passes c (z .0), class-passes c a (z .1))

@@ -39,7 +39,7 @@ blank-past (suc n) [] e i h = refl
 blank-past (suc n) (x ∷ r) e zero h = absurd (omega arith)
 blank-past (suc n) (x ∷ r) e (suc i) h = blank-past n r e i (omega arith)
 
--- a row a0, a1, 0, a3, 0, 0, 0, 1
+-- every number of a row a0, a1, 0, a3, 0, 0, 0, 1
 eight : (P : ℕ → Type 0) {a b d : ℕ} → P a → P b → P 0 → P d → P 1 → (i : ℕ) → P (getD (a ∷ b ∷ 0 ∷ d ∷ 0 ∷ 0 ∷ 0 ∷ 1 ∷ []) i 0)
 eight P a b z d o zero = a
 eight P a b z d o (suc zero) = b

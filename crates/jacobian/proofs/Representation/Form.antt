@@ -142,7 +142,7 @@ module _ (d n : ℕ) (p : Poly d) where
 
 -- ---- a formed value is that of its pair
 module _ (d : ℕ) (a : Class) (h : Formed d a) where
-  -- the numbers of a polynomial that has a row's coefficients below the degree
+  -- the numbers of a polynomial with a row's coefficients below the degree are the row
   row-back : (r : List ℕ) (p : Poly d) → length r ≡ 3 → InRange d r → ((i : ℕ) → a .degree ≤ i → getD r i 0 ≡ 0)
       → ((i : ℕ) → i < a .degree → 𝔸 d .coeff p i ≡ el d (getD r i 0)) → numbers d (a .degree) p ≡ r
   row-back r p l range blank same = ext-getD 0 (numbers d (a .degree) p) r (numbers-length d (a .degree) p ∙ sym l) (λ i _. at i (decLe (a .degree) i))
@@ -192,7 +192,7 @@ module _ (d : ℕ) (C : Theory.Curve (𝔸 d)) (D : Pair (Poly d)) (h : Reduced 
         v-range = numbers-range d n (D .v) degree-le-3;
       }
 
-  -- the element of a number of the value is the coefficient
+  -- the element of each number of the value is the coefficient
   back : (p : Poly d) (i : ℕ) → i < 𝔸 d .len (D .u) - 1 → el d (getD (numbers d (𝔸 d .len (D .u) - 1) p) i 0) ≡ 𝔸 d .coeff p i
   back p i k = ap (el d) (numbers-below d (𝔸 d .len (D .u) - 1) p i k degree-le-3) ∙ el-of d (𝔸 d .coeff p i)
 

@@ -1,4 +1,6 @@
--- The half of degree 1: the promises of its calls, and the pair that follows from them.
+-- The half of degree 1, from the promises of its calls (`Computed1`).
+-- `root-nonzero-1`: the root that v is divided by is not 0.
+-- `result-1`: the pair is the half of the rule.
 use Prim.Native.Nat.{ℕ}
 use mathlib.Core.{Path._≡_, Path.sym, Path._∙_, Path.ap, Path.ap₂, List.List}
 use native.Mathlib.Omega.{arith}

@@ -1,4 +1,6 @@
--- The half of degree 2: the promises of its calls, and the pair that follows from them.
+-- The half of degree 2, from the promises of its calls (`Computed2`).
+-- `root-nonzero-2-square`, `root-nonzero-2`: the root that v is divided by is not 0, where u1 is 0 and where it is not.
+-- `result-2-square`, `result-2`: the pair is the half of the rule, in these two cases.
 use Prim.Native.Nat.{ℕ}
 use mathlib.Core.{Path._≡_, Path.sym, Path._∙_, Path.ap, Path.ap₂, List.List}
 use native.Mathlib.Omega.{arith}
@@ -40,7 +42,7 @@ module _ (d : ℕ) (u v w : List ℕ) where
   w-at : (i : ℕ) → el d (getD w i 0) ≡ 𝔸 d .coeff (poly d w) i
   w-at i = sym (coeff-poly d w i)
 
-  -- u1 = 0
+  -- the case u1 = 0
   module _ (z : getD u 1 0 ≡ 0) where
     u1-zero : 𝔸 d .coeff (poly d u) 1 ≡ F d .ring .nought
     u1-zero = coeff-poly d u 1 ∙ ap (el d) z ∙ el-zero d
@@ -52,7 +54,7 @@ module _ (d : ℕ) (u v w : List ℕ) where
     unfolding rows-triple
     result-2-square = sym (pair-2-square (𝔸 d) T u1-zero)
 
-  -- u1 ≠ 0
+  -- the case u1 ≠ 0
   module _ {i k2 y k1 s z k0 : ℕ} {k m cw ck p q : List ℕ} (c : Computed2 i k2 y k1 s z k0 k m cw ck p q) (h : HalvingRows d 3 u v w) (n : ¬ (getD u 1 0 ≡ 0)) where
     u1≢ : ¬ (𝔸 d .coeff (poly d u) 1 ≡ F d .ring .nought)
     u1≢ e = el-nonzero d (getD u 1 0) (h .u-range 1) n (u-at 1 ∙ e)

@@ -1,4 +1,6 @@
--- The half of degree 3: the promises of its calls, and the pair that follows where the first lift is a square.
+-- The half of degree 3, from the promises of the calls up to the first lift (`Computed3`).
+-- `root-nonzero-3-square`: where t is 0, the root that v is divided by is not 0.
+-- `result-3-square`: where t is 0, the pair is the half of the rule.
 use Prim.Native.Nat.{ℕ, _≤_}
 use mathlib.Core.{Path._≡_, Path.sym, Path._∙_, Path.ap, Path.ap₂, Path.subst, List.List}
 use native.Mathlib.Omega.{arith}
@@ -43,7 +45,7 @@ module _ (d : ℕ) (u v w : List ℕ) where
     pub t-path : el d t ≡ F d .root (𝔸 d .coeff L 1)
     t-path = c .t-is .stands ∙ ap (F d .root) (sym (coeff-poly d s 1) ∙ ap (λ p. 𝔸 d .coeff p 1) (c .s-is .stands))
 
-    -- t = 0
+    -- the case t = 0, in which the first lift is a square
     module _ (z : t ≡ 0) where
       t-zero : F d .root (𝔸 d .coeff L 1) ≡ F d .ring .nought
       t-zero = sym t-path ∙ ap (el d) z ∙ el-zero d

@@ -1,6 +1,9 @@
--- The half of a class of degree 3: the first lift, and its square root where it is a square. Else the square after the
--- second lift, without a division, and the second polynomial of the half. Its remainders are taken early, so that no
--- product of degree 5 is divided.
+-- The half of a class of degree 3.
+-- `first-lift-is`, `first-lift-len`: the first lift by √w3, and its length.
+-- `pair-3-square`, `nonzero-3-square`: the rule's pair where the first lift is a square, whose root is not 0.
+-- `pair-3`: the rule's pair after the second lift. Its square needs no division, and the remainders of its second
+-- polynomial are taken early, so that no product of degree 5 is divided.
+-- `a-monic`, `a-len`, `a-nonzero`: the root of that square is monic of degree 3.
 use Prim.Native.Nat.{ℕ, suc, _≤_, _<_}
 use mathlib.Core.Path.{_≡_, refl, sym, _∙_, ap, ap₂, subst}
 use native.Mathlib.{Omega.arith, Decide.decLe}

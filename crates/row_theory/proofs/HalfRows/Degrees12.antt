@@ -1,5 +1,8 @@
--- The half of a class of degree 1 or 2: the rule's pair as the square root of a polynomial without a division by a
--- constant, and that this root is not 0.
+-- The half of a class of degree 1 or 2 without a division by a constant.
+-- `pair-1`, `pair-2-square`, `pair-2`: the rule's pair has the square root of a polynomial that needs no such division.
+-- `nonzero-1`, `nonzero-2-square`, `nonzero-2`: this root is not 0.
+-- `square-1`, `square-2`: the square of the rule, multiplied out.
+-- `half-2-lifted`: where u1 is not 0, the half of degree 2 is the lifted one.
 use mathlib.Core.Path.{_≡_, refl, _∙_, ap}
 use Rattle.field_laws.specs.{Ring.Ring2, Field.Field2, Division.inverse-of}
 use Rattle.char2_algebra.specs.{Polynomials.Polynomials, Lead.Monic, Square.sqrt}

@@ -1,4 +1,6 @@
--- The half of degree 3 with a second lift: the promises of its calls, and the pair that follows from them.
+-- The half of degree 3 with a second lift, from the promises of its calls (`Lifted3`).
+-- `root-len`: the root that v is divided by has degree 3.
+-- `result-3`: the pair is the half of the rule.
 use Prim.Native.Nat.{ℕ}
 use mathlib.Core.{Path._≡_, Path.sym, Path._∙_, Path.ap, Path.ap₂, List.List}
 use lib.ListN.{getD}

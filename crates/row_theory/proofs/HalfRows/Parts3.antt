@@ -1,6 +1,7 @@
--- The promises of the functions of the half of degree 3: the first lift, the square after the second lift, and the
--- second
--- polynomial.
+-- The promises of the functions of the half of degree 3.
+-- `first-lift-stands`: the row of the first lift.
+-- `second-square-stands`: the row of the square after the second lift.
+-- `second-remainder-stands`: the row of the second polynomial of the half.
 use Prim.Native.Nat.{ℕ, _≤_, _<_}
 use mathlib.Core.{Path._≡_, Path.sym, Path._∙_, Path.ap, Path.ap₂, Path.subst, List.List}
 use native.Mathlib.Omega.{arith}

@@ -1,6 +1,8 @@
--- The schoolbook division of rows. Each turn cancels the remainder's number at k - 1: a = q b + r throughout, and r has
--- no
--- numbers from k on.
+-- The schoolbook division of rows.
+-- `Dividing`, `dividing-start`, `dividing-turn`: the loop's invariant. Each turn cancels the remainder's number at k -
+-- 1;
+-- a = q b + r throughout, and r has no numbers from k on.
+-- `quotient-stands`, `remainder-stands`: at the end the rows stand for quotient and remainder.
 use Prim.Native.Nat.{ℕ, suc, _+_, _-_, _≤_, _<_}
 use mathlib.Core.{Path._≡_, Path.refl, Path.sym, Path._∙_, Path.ap, Path.ap₂, List.List}
 use native.Mathlib.{Omega.arith, Decide.ℕ-discrete}

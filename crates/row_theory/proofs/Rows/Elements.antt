@@ -53,7 +53,7 @@ module _ (d : ℕ) where
   unfolding F
   el-one = element-path (degree-of d) (el-number 1 one-lt ∙ sym (one-number (degree-of d) (accepted d)))
 
-  -- numbers in range are equal where their elements are
+  -- two numbers in range with the same element are equal
   pub el-injective : (m n : ℕ) → m < 2 ^ degree-of d → n < 2 ^ degree-of d → el d m ≡ el d n → m ≡ n
   el-injective m n h k e = sym (el-number m h) ∙ ap (λ a. a .0) e ∙ el-number n k
 

@@ -1,5 +1,8 @@
--- A row written from the front, number by number: below k its numbers stand for the coefficients of p, which the loop
--- computes, and from k on for those of q, which it had before. This is the invariant of the loops over a row.
+-- A row written from the front, number by number.
+-- `Filled`, `filled-start`, `filled-turn`, `filled-skip`: the invariant of the loops over a row. Below k its numbers
+-- stand
+-- for the coefficients of p, which the loop computes, and from k on for those of q, which it had before.
+-- `filled-end`: at the end the row stands for p.
 use Prim.Native.Nat.{ℕ, zero, suc, _+_, _≤_, _<_, _^_}
 use mathlib.Core.{Path._≡_, Path.refl, Path.sym, Path._∙_, Path.ap, Path.subst, List.List}
 use native.Mathlib.{Omega.arith, Decide.decLe, Decide.ℕ-discrete}
@@ -8,7 +11,7 @@ use Rattle.char2_algebra.proofs.Degree.{coeff-nought}
 use Rattle.row_theory.specs.{Field.degree-of, Field.F, Field.Poly, Field.𝔸, Field.el, Field.poly, internal.Elements.Is, Row.InRange, Row.Stands}
 use Rattle.row_theory.proofs.{Rows.Elements.zero-lt, Rows.Elements.el-zero, Rows.Coefficients.coeff-poly, Rows.Coefficients.stands-by}
 
--- a store of a number in range
+-- a number in range stored in a row in range
 pub range-set : (d : ℕ) (r : List ℕ) (i v : ℕ) → i < length r → InRange d r → v < 2 ^ degree-of d → InRange d (set r i v)
 range-set d r i v h k m j = go (ℕ-discrete j i)
   where
@@ -16,7 +19,7 @@ range-set d r i v h k m j = go (ℕ-discrete j i)
     go (yes p) = rw (p, getD-set-same r i v 0 h) m
     go (no p) = rw (getD-set-other r i j v 0 p) (k j)
 
--- a row of 0
+-- every number of a row of zeros is 0
 pub zeros-at : (n i : ℕ) → _≡_ {A = ℕ} (getD (replicate n 0) i 0) 0
 zeros-at zero i = refl
 zeros-at (suc n) zero = refl

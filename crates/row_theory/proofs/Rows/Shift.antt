@@ -8,7 +8,7 @@ use Rattle.row_theory.specs.{Field.K, Field.F, Field.Poly, Field.𝔸, F
 use Rattle.row_theory.proofs.{Rows.Elements.el-zero, Rows.Coefficients.coeff-poly, Rows.Coefficients.poly-is}
 
 module _ (d : ℕ) where
-  -- x^n p
+  -- the coefficients of x^n p
   pub coeff-shift : (n i : ℕ) (p : Poly d) → 𝔸 d .coeff (𝔸 d .ring .mul (x-power d n) p) (n + i) ≡ 𝔸 d .coeff p i
   unfolding x-power
   coeff-shift zero i p = ap₂ (𝔸 d .coeff) (𝟙-· (𝔸 d .ring) p) (omega arith)
@@ -30,7 +30,7 @@ module _ (d : ℕ) where
   coeff-shift-past (suc n) m (suc i) p h k =
       ap (λ z. 𝔸 d .coeff z (suc i)) (·-assoc (𝔸 d .ring) (𝔸 d .x) (x-power d n) p) ∙ 𝔸 d .coeff-x-mul-suc (𝔸 d .ring .mul (x-power d n) p) i ∙ coeff-shift-past n m i p h (omega arith)
 
-  -- x^n
+  -- the coefficients of x^n
   pub x-power-at : (n : ℕ) → 𝔸 d .coeff (x-power d n) n ≡ F d .ring .one
   unfolding x-power
   x-power-at zero = coeff-one (𝔸 d)
@@ -50,7 +50,7 @@ module _ (d : ℕ) where
       let e : suc m + n ≡ suc (m + n) = omega arith in
       ap (x-power d) e ∙ ap (𝔸 d .ring .mul (𝔸 d .x)) (x-power-add m n) ∙ sym (·-assoc (𝔸 d .ring) (𝔸 d .x) (x-power d m) (x-power d n))
 
-  -- c x^n
+  -- the coefficients of c x^n
   pub monomial-at : (a : K d) (n : ℕ) → 𝔸 d .coeff (𝔸 d .ring .mul (𝔸 d .con a) (x-power d n)) n ≡ a
   monomial-at a n = 𝔸 d .coeff-con-mul a (x-power d n) n ∙ ap (F d .ring .mul a) (x-power-at n) ∙ ·-𝟙 (F d .ring) a
 
@@ -69,7 +69,7 @@ module _ (d : ℕ) where
       go j (yes w) = rw w (ap (el d) (getD-set-same r i v 0 h) ∙ e ∙ ap₂ (F d .ring .add) (sym (coeff-poly d r i)) (sym (monomial-at a i)))
       go j (no w) = ap (el d) (getD-set-other r i j v 0 w) ∙ sym (coeff-poly d r j) ∙ sym (⊞-𝟘 (F d .ring) _) ∙ ap (F d .ring .add (𝔸 d .coeff (poly d r) j)) (sym (monomial-off a i j w))
 
-  -- a number replaced by 0, or put where 0 was
+  -- a number stored where 0 was adds its multiple of a power of x
   pub poly-set-zero :
       (r : List ℕ) (i v : ℕ)
       → i < length r
@@ -77,6 +77,7 @@ module _ (d : ℕ) where
       → poly d (set r i v) ≡ 𝔸 d .ring .add (poly d r) (𝔸 d .ring .mul (𝔸 d .con (el d v)) (x-power d i))
   poly-set-zero r i v h e = poly-set r i v (el d v) h (sym (ap (λ z. F d .ring .add z (el d v)) (ap (el d) e ∙ el-zero d) ∙ 𝟘-⊞ (F d .ring) (el d v)))
 
+  -- 0 stored in place of a number takes away its multiple of a power of x
   pub poly-strike :
       (r : List ℕ) (i : ℕ)
       → i < length r

@@ -7,7 +7,7 @@ use Rattle.binary_field_theory.proofs.{Degrees.other-degree, Words.Sizes.elemen
 use Rattle.binary_field.proofs.carryless.product_of.Statement.{statement}
 use Rattle.binary_field.proofs.carryless.product_of.Tie as tie
 
--- ---- over the bench field
+-- ---- over GF(2^5)
 short : {a d : ℕ} → d ≡ 5 → a < 2 ^ d → a < 2 ^ 5
 short {a} e h = rw e at h
 

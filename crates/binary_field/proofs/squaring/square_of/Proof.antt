@@ -8,7 +8,7 @@ use Rattle.binary_field_theory.proofs.{Degrees.other-degree, Products.square-sp
 use Rattle.binary_field.proofs.squaring.square_of.Statement.{statement}
 use Rattle.binary_field.proofs.squaring.square_of.Tie as tie
 
--- ---- over the bench field
+-- ---- over GF(2^5)
 fold-5-requires : tie.Need-fold-5-requires
 fold-5-requires c κs =
     let s = c .before in

@@ -10,7 +10,7 @@ use Rattle.class_rows.proofs.composition.compose_common.Tie as tie
 start : tie.After-bezout → tie.Start
 start e = e .before .before .before .before .before .before .before .before .before
 
--- what is known there
+-- what holds after the second use of Euclid's rule
 common : (e : tie.After-bezout)
     → Common (start e .args .d) (start e .args .f) (start e .args .a) (start e .args .b) (start e .args .first .g) (start e .args .first .s) (start e .args .first .t) (e .before .before .before .add-rows .result) (e .before .before .one .result) (e .before .add-rows2 .result) (e .bezout .result .g) (e .bezout .result .s) (e .bezout .result .t)
 unfolding start

@@ -1,4 +1,4 @@
--- `bezout`, which calls itself on the remainder. The measure is the length of b, that is, its degree and one.
+-- `bezout` calls itself on the remainder. The measure is the length of b, its degree plus one.
 use Prim.Native.Nat.{ℕ, _<_}
 use mathlib.Core.Path.{_≡_, sym, _∙_, subst}
 use native.Mathlib.Omega.{arith}
@@ -20,10 +20,11 @@ use Rattle.class_rows.proofs.euclid.+bezout.{statement, Tie.close}
 abbrev μ : Measures 0 bezout-kinds.ps ℕ
 μ κs a = row-len (a .0) (a .1 .1 .0)
 
--- what it is given at the measure t, and what a call of it asks below t
+-- the precondition at the measure t
 abbrev given : ℕ → In 0 bezout-kinds.ps
 given t = and 0 bezout-kinds.ps (is 0 bezout-kinds.ps μ t) bezout.Pre
 
+-- the precondition of a recursive call, at a smaller measure
 abbrev below : ℕ → In 0 bezout-kinds.ps
 below t = and 0 bezout-kinds.ps (falls 0 bezout-kinds.ps _<_ μ t) bezout.Pre
 

@@ -14,7 +14,7 @@ roots c = c .before .before .before .before
 abbrev start : tie.After-root-of3 → tie.Start
 start r = r .before .before .before .before
 
--- what the calls before the last promise
+-- the promises of the calls before the last
 computed :
     (c : tie.After-stepped-row)
     → Computed1

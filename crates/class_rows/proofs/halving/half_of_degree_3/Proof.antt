@@ -15,14 +15,14 @@ start c = c .before .before .before
 abbrev lifted : tie.After-root-row → tie.After-root-of2
 lifted c = c .before .before .before .before .before .before
 
--- what the calls of the first lift promise
+-- the promises of the calls up to the first lift
 first :
     (c : tie.After-root-of2)
     → Computed3 (start c .args .d) (start c .args .t2) (start c .args .v) (start c .args .t4) (c .before .before .root-of .result) (c .before .first-lift .result) (c .root-of2 .result)
 first c =
     record { rows = start c .pre .1; r-is = c .before .before .root-of .ensures; s-is = c .before .first-lift .ensures; t-is = c .root-of2 .ensures }
 
--- and those of the second
+-- the promises of the calls up to the second lift
 second :
     (c : tie.After-root-row)
     → Lifted3

@@ -18,7 +18,7 @@ roots c = c .before .before
 abbrev start : tie.After-root-of3 → tie.Start
 start r = r .before .before .before .before .before .before .before
 
--- what the calls before the last promise
+-- the promises of the calls before the last
 computed :
     (c : tie.After-stepped-row)
     → Computed2
