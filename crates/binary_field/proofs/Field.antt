@@ -1,6 +1,6 @@
 -- The numbers of the field's operations, and the element of a number.
--- `add-number`, `mul-number`, `inverse-number`, `root-number`: the number of a sum, a product, an inverse, a square
--- root.
+-- `add-number`, `mul-number`: the number of a sum and of a product.
+-- `inverse-number`, `root-number`: the number of an inverse and of a square root.
 -- `nought-number`, `one-number`: the numbers of 0 and 1.
 -- `element-small`: the element of a number below 2^d has that number.
 -- `element-number`: an element is the element of its number.

@@ -1,7 +1,7 @@
 -- The answers of the calls on elements.
 -- `sum-replies`, `product-replies`, `square-replies`, `root-replies`: the answer for elements of an accepted degree.
--- `sum-in-field`, `product-in-field`, `square-in-field`, `root-in-field`, `inverse-in-field`: the calls answer with the
--- numbers of the field's operations.
+-- `sum-in-field`, `product-in-field`, `square-in-field`, `root-in-field`, `inverse-in-field`: it is the number of the
+-- field's operation.
 -- `inverse-means`: an inverse's answer is the only element whose product with a is 1, or the refusal.
 -- `inverse-zero-refused`: the inverse of 0 is refused with 117 in each field.
 -- `quadratic-means`: the answer is the root of y² + y = a with lowest bit 0, that there is no root, or the refusal.
@@ -133,7 +133,7 @@ pub inverse-zero-refused : (d : ℕ) → Accepted d → inverse-reply d 0 ≡ re
 unfolding inverse-reply
 inverse-zero-refused d hd = ap refusal (zero-refusal d hd)
 
--- what the answer says is so
+-- each case of the answer says what is true
 pub inverse-means : (d a : ℕ) → InverseMeans d a (inverse-reply d a)
 unfolding inverse-reply answered
 inverse-means d zero = (refl, zero-due d)
@@ -213,7 +213,7 @@ module _ (d a : ℕ) (ok : Accepted d) (ha : a < 2 ^ d) where
   root-by-trace {t} {h} e z f =
       ap (λ (x : ℕ). Root (x ⊕ x % 2)) f ∙ sym (quadratic-some (even-root-by-trace d ok a ha (sym e ∙ z)))
 
--- what the answer says is so
+-- each case of the answer says what is true
 pub quadratic-means : (d a : ℕ) → Means d a (quadratic-answer d a)
 unfolding quadratic-answer solved
 quadratic-means d a = by (element-refusal d (a ∷ [])) refl (even-root d a) refl

@@ -10,7 +10,7 @@ use Rattle.binary_field.specs.declared.Solution.the-variants as solution
 use Rattle.binary_field_theory.specs.Quadratic as equation
 use Rattle.binary_field_theory.specs.{Carryless._⊕_, Element.is-degree, Element.product, Element.square, Element.root, Element.inverse, Element.OneInverse, Quadratic.even-root}
 
--- an answer: an element, or a refusal with its number
+-- an element, or a refusal with its number
 pub data Reply : Type 0 where
   element : ℕ → Reply
   refusal : ℕ → Reply
@@ -92,7 +92,7 @@ solved (suc k) o = solution.Refused (suc k)
 unfoldable pub quadratic-answer : ℕ → ℕ → Solution
 quadratic-answer d a = solved (element-refusal d (a ∷ [])) (even-root d a)
 
--- the meaning of the answer: y is the root with lowest bit 0, and its neighbour is the only other root;
+-- the meaning of the answer: y is the root with lowest bit 0, and y + 1 is the only other root;
 -- no element is a root; or k is the refusal
 abbrev pub Means : ℕ → ℕ → Solution → Type 0
 Means d a (Root y) = (element-refusal d (a ∷ []) ≡ 0) × equation.EvenRoot d a y

@@ -1,6 +1,6 @@
 -- The field of elements of degree d, for d = 5 and d = 61, as the record of laws that other crates use
--- (docs/SPECIFICATION.md, 1), and the element of a number. The operations compute; proofs/Field.antt says which number
--- each gives.
+-- (docs/SPECIFICATION.md, 1), and the element of a number.
+-- The operations compute; proofs/Field.antt says which number each gives.
 use Prim.Native.Nat.{ℕ, _-_, _^_}
 use mathlib.Core.{Path._≡_, Path.ap, HLevel.hedberg}
 use native.Mathlib.{Decide.Fin-discrete, Omega.arith}

@@ -1,7 +1,6 @@
 // The product of two elements without a table or a branch, by carry-less products made of integer products.
 // The remainder multiplies the modulus by each high bit, 0 or 1. The leading term of the multiple cancels the bit, so
-// that
-// only its other terms are added.
+// that only its other terms are added.
 ghost use mathlib.Core.Path.{_≡_};
 ghost use Prim.Native.Nat.{_+_, _*_, _^_, _<_};
 ghost use Rattle.binary_field_theory.specs.Carryless.{clmul, remainder};
@@ -9,8 +8,7 @@ ghost use Rattle.binary_field_theory.specs.Element.{Accepted, low, product};
 
 // The carry-less product of two 32-bit numbers. Each is cut into four parts by bit position modulo 4.
 // In the integer product of two parts at most eight ones meet at a position, so that their count fits the four bits up
-// to
-// the next position. The lowest bit of the count is the exclusive or of the ones.
+// to the next position. The lowest bit of the count is the exclusive or of the ones.
 pub(crate) fn clmul32(a: u64, b: u64) -> u64
     requires { ⌜ (a < 2 ^ 32) × (b < 2 ^ 32) ⌝ }
     ensures { λ r. ⌜ r ≡ clmul a b ⌝ }
@@ -57,8 +55,8 @@ pub(crate) fn wide_product(a: u64, b: u64) -> Words
 }
 
 // The carry-less product of bits and m, by integer products of bits six apart.
-// m has six bits, so that multiples by bits six apart do not overlap and nothing is carried. Two octal digits are six
-// bits.
+// m has six bits, so that multiples by bits six apart do not overlap and nothing is carried.
+// Two octal digits are six bits.
 fn multiples(bits: u64, m: u64) -> u64
     requires { ⌜ (bits < 2 ^ 58) × (m < 2 ^ 6) ⌝ }
     ensures { λ r. ⌜ r ≡ clmul bits m ⌝ }

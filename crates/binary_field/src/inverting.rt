@@ -1,6 +1,5 @@
 // The inverse of an element a other than 0: its power 2^d - 2 = 2 (2^(d-1) - 1), by an addition chain (Itoh and
-// Tsujii).
-// From the powers 2^j - 1 and 2^k - 1 of a, k squarings and one product make the power 2^(j+k) - 1.
+// Tsujii). From the powers 2^j - 1 and 2^k - 1 of a, k squarings and one product make the power 2^(j+k) - 1.
 ghost use mathlib.Core.Path.{_≡_};
 ghost use Prim.Native.Nat.{_-_, _*_, _<_, _^_};
 ghost use Rattle.binary_field_theory.specs.Element.{Accepted, product, squarings, power};

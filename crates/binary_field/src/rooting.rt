@@ -21,9 +21,8 @@ fn evens_of(n: u64) -> u64
 }
 
 // The carry-less product of n, of thirty bits, and r = t^62 + t^61 + .. + t^31 + t^6 + t^5 + t^4 + t.
-// The square of r is t modulo the modulus of degree 61. The run of 32 powers of t is the product of t^31, 1 + t, 1 +
-// t^2,
-// 1 + t^4, 1 + t^8 and 1 + t^16.
+// The square of r is t modulo the modulus of degree 61.
+// The run of 32 powers of t is the product of t^31, 1 + t, 1 + t^2, 1 + t^4, 1 + t^8 and 1 + t^16.
 fn wide_times_root(n: u64) -> Words
     requires { ⌜ n < 2 ^ 30 ⌝ }
     ensures { λ r. ⌜ (r .lo < 2 ^ 61) × (r .hi * 2 ^ 61 + r .lo ≡ clmul n 0x7fff_ffff_8000_0072) ⌝ }

@@ -1,6 +1,5 @@
 -- The answers of the open functions for rows of any numbers: whether they are reduced divisors of the curve of f, and
--- if
--- so, the rows of the theory's result.
+-- if so, the rows of the theory's result.
 use Prim.Native.Nat.{ℕ}
 use mathlib.Core.{Path._≡_, Bool.Bool, Bool.true, Bool.false, List.List, Logic._↔_}
 use lib.ListN.{getD}
@@ -21,8 +20,7 @@ pub record Divisor (d : ℕ) (f : List ℕ) (a : RowPair) : Type 0 where
   pub reduced : ReducedRows d f a
 
 -- `divisor` says whether `asked` holds. If so, rows and steps are the theory's on every curve of f; if not, the first
--- pair
--- given and no step
+-- pair given and no step
 pub record Gives (d : ℕ) (f : List ℕ) (asked : Type 0) (a : RowPair) (of : Theory.Curve (𝔸 d) → Counted (Poly d)) (r : RowsAnswer) : Type 0 where
   pub decides : Decides (r .divisor) asked
   pub stands : r .divisor ≡ true → (C : Theory.Curve (𝔸 d)) → OnCurve d f C → StandsCounted d (r .rows) (of C)

@@ -1,5 +1,4 @@
-// Is a pair a reduced divisor of the curve of f? The division that decides also gives the cofactor w = (v² + v + f) /
-// u.
+// Is a pair a reduced divisor of the curve of f? The division that decides also gives the cofactor, (v² + v + f) / u.
 ghost use Prim.Native.Nat.{_≤_};
 ghost use Rattle.class_group.specs.{Curve.Curve as TheoryCurve};
 ghost use Rattle.binary_field_theory.specs.Element.{Accepted};

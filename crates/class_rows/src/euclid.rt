@@ -77,8 +77,7 @@ fn substituted(d: u8, q: Row, r: Combination) -> Combination
 }
 
 // The monic greatest common divisor of a and b, as a combination of them. s and t are not unique: the contract says
-// what
-// holds of them.
+// what holds of them.
 pub(crate) fn bezout(d: u8, a: Row, b: Row) -> Combination
     requires { ⌜ Accepted d × InRange d a × InRange d b × (row-len d a ≤ 4) × (row-len d b ≤ 4) ⌝ }
     ensures { λ r. ⌜ Combines d a b r ⌝ }

@@ -150,8 +150,7 @@ fn first_lift(d: u8, u: Row, w: Row, r: u64) -> Row
 }
 
 // Degree 3, the square after the second lift by (x + q)/t: t² u + t x + t q + (x² + g) s, where t² is the coefficient
-// of
-// x in s and g is q².
+// of x in s and g is q².
 fn second_square(d: u8, u: Row, s: Row, t: u64, q: u64, g: u64) -> Row
     requires { ⌜ Accepted d × InRange d u × InRange d s × (t < 2 ^ degree-of d) × (q < 2 ^ degree-of d) × (g < 2 ^ degree-of d) × (row-len d s ≤ 5) ⌝ }
     ensures { λ r. ⌜ Stands d r (second-square (𝔸 d) (poly d u) (poly d s) (el d t) (el d q) (el d g)) ⌝ }

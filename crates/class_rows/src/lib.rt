@@ -1,7 +1,6 @@
 // Pairs of rows of coefficients, for the calls on classes by value in the crate above: whether a pair is a reduced
-// divisor
-// of the curve of the row f, and the operations on one such pair and on two. Each function checks its rows, by one
-// division for each pair. The quotient w = (v² + v + f) / u serves the double and the half.
+// divisor of the curve of the row f, and the operations on one such pair and on two. Each function checks its rows, by
+// one division for each pair. The quotient w = (v² + v + f) / u serves the double and the half.
 ghost use mathlib.Core.{Path._≡_, Bool.false};
 ghost use Rattle.class_rows.specs.Checked.{Decides, Divisor, UnaryAnswer, BinaryAnswer};
 

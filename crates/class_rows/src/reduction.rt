@@ -1,6 +1,6 @@
-// Cantor's reduction, and the double. The cofactor w = (v² + v + f) / u is found once for each step, by an exact
-// division.
-// For a double it is computed from that of the class by squares, so that no polynomial of degree 10 is divided.
+// Cantor's reduction, and the double.
+// The cofactor w = (v² + v + f) / u is found once for each step, by an exact division.
+// For a double it is computed from that of the class by squares: no polynomial of degree 10 is divided.
 ghost use Prim.Native.Nat.{_<_};
 ghost use Rattle.binary_field_theory.specs.Element.{Accepted};
 ghost use Rattle.class_group.specs.Curve.{Curve as TheoryCurve};

@@ -1,6 +1,5 @@
 -- `computing` unfolds what the operations on classes use: under `unfolding computing` a closed sum, double, half or
--- answer
--- computes.
+-- answer computes.
 use Rattle.binary_field.specs.Field.{field, element}
 use Rattle.binary_field.proofs.Field.{computing as numbers-computing}
 use Rattle.char2_algebra.specs.Polynomial.{of-list}

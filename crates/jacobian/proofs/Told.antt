@@ -3,8 +3,8 @@
 -- `refusal-told`, `refusal-of-two-told`: so is the refusal of a call on one class and on two.
 -- `verdict-told`: the verdict of a valid refusal is valid.
 -- `curve-told`, `membership-told`: a curve or a class is accepted, or refused with a listed number.
--- `unary-told`: an opposite, double or half is accepted, or refused with a listed number, the neutral class and no
--- step.
+-- `unary-told`: an opposite, double or half is accepted, or refused with a listed number, the neutral class and
+-- no step.
 -- `binary-told`: so are a sum and the two rules that move a seal.
 use Prim.Native.Nat.{ℕ, zero, suc}
 use mathlib.Core.{Path.refl, Logic.inl, Logic.inr}

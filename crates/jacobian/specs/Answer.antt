@@ -79,6 +79,7 @@ answered d zero D = record { outcome = accepted; class = class-of d (D .class); 
 answered d (suc n) D = refusing (suc n)
 
 -- ---- the calls
+
 -- acceptance of a curve, or its refusal
 unfoldable pub curve-answer : Curve → Verdict
 curve-answer c = verdict-of (curve-refusal c)
@@ -119,8 +120,7 @@ pub record HalfAnswers (c : Curve) (a : Class) (r : Reply) : Type 0 where
   pub is-half : refusal c a ≡ 0 → Only c (IsHalf c a) (r .class)
 
 -- a call on two classes: the theory's sum; twice a class plus another, as a commit moves a seal; the half of a class
--- less
--- another, as an undo moves it back; or the refusal
+-- less another, as an undo moves it back; or the refusal
 abbrev pub binary-answer : Binary → Curve → Class → Class → Reply
 binary-answer op c a b = let d = c .degree in answered d (refusal-of-two c a b) (binary op (curve c) (pair d a) (pair d b))
 

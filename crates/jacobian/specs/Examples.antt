@@ -13,10 +13,9 @@ use Rattle.jacobian.specs.Curves.{curve, curve-with}
 use Rattle.jacobian.specs.Classes.{pair}
 use Rattle.jacobian.specs.Answer.{Result, result, accepted, refused, membership-answer, double-answer, half-answer, sum-answer}
 
--- a row of the table: on a curve, twice a class is the last class (`twice-is`), the half of a class is the last class,
--- and
--- doubling that takes so many reduction steps (`half-is`), or the sum of two classes is the last class (`sum-is`);
--- or a class is on the first curve and not on the second (`on-and-not-on`)
+-- a row of the table, on a curve. `twice-is`: twice a class is the last class. `half-is`: the half of a class is the
+-- last class, and the double of that takes so many reduction steps. `sum-is`: the sum of two classes is the last class.
+-- `on-and-not-on`: a class is on the first curve and not on the second.
 pub data Example : Type 0 where
   twice-is : Curve → Class → Class → Example
   half-is : Curve → Class → Class → ℕ → Example
@@ -43,8 +42,7 @@ abbrev pub B : ℕ → Curve
 B d = curve-with d (0 ∷ 0 ∷ 1 ∷ [])
 
 -- the classes [u, v] by value: the degree of u, the coefficients of u below its leading term, and those of v, the
--- lowest
--- power first
+-- lowest power first
 abbrev pub [1|0] : Class
 [1|0] = record { degree = 0; u = 0 ∷ 0 ∷ 0 ∷ []; v = 0 ∷ 0 ∷ 0 ∷ [] }
 

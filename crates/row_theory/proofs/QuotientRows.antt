@@ -1,8 +1,7 @@
 -- The quotient alone, coefficient by coefficient.
 -- `Partial`, `partial-start`, `partial-turn`, `partial-end`: a coefficient of a product, by partial sums.
 -- `Divided`, `divided-start`, `divided-turn`, `divided-end`: the quotient from the top down to k. From x^k on a + q b
--- has
--- no coefficient, and q has none below k less the degree of b.
+-- has no coefficient, and q has none below k less the degree of b.
 use Prim.Native.Nat.{ℕ, zero, suc, _+_, _-_, _≤_, _<_}
 use mathlib.Core.{Path._≡_, Path.refl, Path.sym, Path._∙_, Path.ap, Path.ap₂, List.List}
 use native.Mathlib.{Omega.arith, Decide.decLe, Decide.ℕ-discrete}

@@ -1,8 +1,7 @@
 -- The class of a point of the curve is accepted.
 -- `value-left`: a polynomial is a multiple of the variable plus a, plus its value at a.
--- `element-root`: a root of y² + y = a as an element.
--- `point-accepts`: where y² + y = f(x), the variable plus x divides y² + y + f, so that the class of (x, y) is
--- accepted.
+-- `element-root`: the element of a root solves the equation in the field.
+-- `point-accepts`: where y² + y = f(x), the variable plus x divides y² + y + f, and the class of (x, y) is accepted.
 use Prim.Native.Nat.{ℕ, zero, suc, _≤_, _<_, _^_}
 use mathlib.Core.{Path._≡_, Path.refl, Path.sym, Path.ap, Path.ap₂, Path._∙_, List.List, List.[], List._∷_, List.map}
 use native.Mathlib.Omega.{arith}

@@ -5,8 +5,7 @@
 -- `stamp-accepts`: it is accepted on the curve and has degree 1.
 -- `stamp-too-large`: on an accepted curve a stamp of 2^(d-3) or more is refused with 115.
 -- `stamp-rootless`: a stamp is refused with 116 exactly where the curve is accepted, the stamp is below 2^(d-3) and
--- none
--- of its eight candidates has a root.
+-- none of its eight candidates has a root.
 -- `stamp-injective`: two accepted stamps of a curve with the same class are equal.
 use Prim.Native.Nat.{ℕ, zero, suc, _+_, _-_, _*_, _/_, _^_, _≤_, _<_}
 use mathlib.Core.{Path._≡_, Path.refl, Path.sym, Path.ap, Path.subst, Path._∙_, Bool.Bool, Bool.true, Bool.false, Logic._↔_, Logic.inl, Logic.inr, List.[], List._∷_, List.List, Option.Option, Option.none, Option.some, Option.Option·map, Option.map-eq-none-iff, Option.map-eq-some-iff}

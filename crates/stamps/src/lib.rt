@@ -1,8 +1,6 @@
 // The class of a stamp, by value: of eight candidates x the first for which y² + y = f(x) has a root, with the root
-// whose
-// lowest bit is 0. The checks come in this order: 106 and 107 for the curve, 115 for the stamp, and 116 where no
-// candidate
-// has a root.
+// whose lowest bit is 0. The checks come in this order: 106 and 107 for the curve, 115 for the stamp, and 116 where no
+// candidate has a root.
 ghost use Prim.Native.Nat.{_-_, _*_, _+_, _<_, _^_};
 ghost use mathlib.Core.Path.{_≡_};
 ghost use mathlib.Core.Option.{some};

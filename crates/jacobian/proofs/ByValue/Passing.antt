@@ -1,6 +1,5 @@
 -- A curve and a class that pass their checks: the curve's row stands for its f, and the class's rows for its pair,
--- which
--- is reduced.
+-- which is reduced.
 use Prim.Native.Nat.{ℕ}
 use mathlib.Core.Path.{_≡_, _∙_, ap, ap₂}
 use mathlib.Core.List.{List}

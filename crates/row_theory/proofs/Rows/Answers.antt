@@ -1,5 +1,6 @@
--- The answers of the calls on elements, as numbers that stand for elements; and products with 0 and 1, which need no
--- call.
+-- The answers of the calls on elements, as numbers that stand for elements.
+-- `zero-times`, `times-zero`, `one-times`, `times-one`, `inverse-one`: products with 0 and 1, and the inverse of 1,
+-- need no call.
 use Prim.Native.Nat.{ℕ, _<_, _^_}
 use mathlib.Core.Path.{_≡_, sym, _∙_, ap, ap₂}
 use Rattle.field_laws.specs.Division.{inverse-of}

@@ -1,6 +1,5 @@
 -- The polynomial of a row by its coefficients: the i-th is the element of the i-th number. Its length, from the zeros
--- at
--- the end of the row.
+-- at the end of the row.
 use Prim.Native.Nat.{ℕ, suc, _≤_}
 use mathlib.Core.{Path._≡_, Path.refl, Path.sym, Path._∙_, Path.ap, List.List, List.map}
 use native.Mathlib.Omega.{arith}

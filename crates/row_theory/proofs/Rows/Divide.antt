@@ -1,7 +1,6 @@
 -- The schoolbook division of rows.
--- `Dividing`, `dividing-start`, `dividing-turn`: the loop's invariant. Each turn cancels the remainder's number at k -
--- 1;
--- a = q b + r throughout, and r has no numbers from k on.
+-- `Dividing`, `dividing-start`, `dividing-turn`: the loop's invariant. a = q b + r throughout, and r has no numbers
+-- from k on: each turn cancels the number before k.
 -- `quotient-stands`, `remainder-stands`: at the end the rows stand for quotient and remainder.
 use Prim.Native.Nat.{ℕ, suc, _+_, _-_, _≤_, _<_}
 use mathlib.Core.{Path._≡_, Path.refl, Path.sym, Path._∙_, Path.ap, Path.ap₂, List.List}
@@ -17,9 +16,8 @@ use Rattle.row_theory.proofs.Rows.Coefficients.{row-len-le, zero-past, 
 use Rattle.row_theory.proofs.{Rows.Length.Blank, Rows.Fill.range-set, Rows.Fill.zeros-at, Rows.Fill.zeros-range, Rows.Fill.zeros-poly, Rows.Shift.x-power-add}
 use Rattle.row_theory.proofs.{Rows.Shift.poly-set-zero, Rows.Shift.poly-strike, Rows.Shift.coeff-shift-past, Rows.Lead.Leads, Rows.Lead.lead-row, Rows.Lead.row-split}
 
--- q b + r stays the same where c x^s b is added to q b and taken from r; b = low + l x^t, and the leading term c l x^s
--- x^t
--- cancels
+-- q b + r stays the same where c x^s b is added to q b and taken from r;
+-- b = low + l x^t, and the leading term c l x^s x^t cancels
 division-turn :
     {A : Type 0} (R : Ring2 A) (q r low l c xs xt : A)
     → R .add (R .mul q (R .add low (R .mul l xt))) r

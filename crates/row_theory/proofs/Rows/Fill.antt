@@ -1,7 +1,6 @@
 -- A row written from the front, number by number.
 -- `Filled`, `filled-start`, `filled-turn`, `filled-skip`: the invariant of the loops over a row. Below k its numbers
--- stand
--- for the coefficients of p, which the loop computes, and from k on for those of q, which it had before.
+-- stand for the coefficients of p, which the loop computes, and from k on for those of q, which it had before.
 -- `filled-end`: at the end the row stands for p.
 use Prim.Native.Nat.{ℕ, zero, suc, _+_, _≤_, _<_, _^_}
 use mathlib.Core.{Path._≡_, Path.refl, Path.sym, Path._∙_, Path.ap, Path.subst, List.List}

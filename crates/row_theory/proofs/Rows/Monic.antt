@@ -1,5 +1,6 @@
--- A row made monic: nothing is done where the leading number is 1, else the other numbers are multiplied by its
--- inverse.
+-- A row made monic.
+-- `monic-already`: where the leading number is 1, nothing is done.
+-- `monic-made`: else the other numbers are multiplied by its inverse.
 use Prim.Native.Nat.{ℕ, _<_}
 use mathlib.Core.{Path._≡_, Path.sym, Path._∙_, Path.ap, Path.ap₂, List.List}
 use native.Mathlib.Omega.{arith}

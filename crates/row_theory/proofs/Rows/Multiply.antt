@@ -1,7 +1,6 @@
 -- The product of two rows, by the coefficients of the first.
 -- `Partial`, `partial-start`, `partial-turn`: the loop's invariant. After i turns the row stands for the part of a
--- below
--- x^i, times b.
+-- below x^i, times b.
 -- `partial-end`: at the end the row stands for the product.
 use Prim.Native.Nat.{ℕ, _+_, _≤_, _<_}
 use mathlib.Core.{Path._≡_, Path.sym, Path._∙_, Path.ap, Path.ap₂, List.List}

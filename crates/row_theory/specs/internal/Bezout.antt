@@ -5,8 +5,7 @@ use Rattle.char2_algebra.specs.Euclid.{IsBezout}
 use Rattle.row_theory.specs.{Field.𝔸, Field.poly, Row.InRange, Row.row-len}
 
 -- g is the monic greatest common divisor of a and b, and s a + t b; s is no longer than b and t no longer than a, or
--- they
--- are constants
+-- they are constants
 pub record BezoutRows (d : ℕ) (a b g s t : List ℕ) : Type 0 where
   pub g-range : InRange d g
   pub s-range : InRange d s

@@ -1,5 +1,4 @@
--- `multisquares` meets its contract: the table's rule is tested at the powers of t, and the other entries are sums of
--- these.
+-- `multisquares` meets its contract: the rule is tested at the powers of t, and the other entries are sums of these.
 use mathlib.Core.Path.{refl}
 use Rattle.binary_field_theory.specs.Carryless.{_⊕_, clmul, reduce, remainder, digits, digits-to}
 use Rattle.binary_field_theory.specs.Element.{low, product}

@@ -1,6 +1,5 @@
 -- `quotient::quotient` meets its contract. The invariant: from x^k on a + q b has no coefficient, and q has none below
--- k
--- less b's degree.
+-- k less b's degree.
 use Prim.Native.Nat.{suc, _≤_}
 use mathlib.Core.Path.{_≡_}
 use native.Mathlib.Omega.{arith}

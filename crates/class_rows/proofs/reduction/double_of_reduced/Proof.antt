@@ -1,6 +1,5 @@
 -- `double_of_reduced` meets its contract: the composition, which is reduced where u has at most two coefficients, and
--- else
--- is reduced by `reduce_with`.
+-- else is reduced by `reduce_with`.
 use native.Mathlib.Omega.{arith}
 use Rattle.class_rows.proofs.{ReductionRows.none-counted, DoubleRows.squared-len, DoubleRows.squared-semi, DoubleRows.double-counted}
 use Rattle.row_theory.proofs.Rows.Length.{places-len}
