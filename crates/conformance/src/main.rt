@@ -1,7 +1,7 @@
 // Answers calls on classes that it reads from standard input, one line for each.
 //
-// A case is 138 bytes: the call, the degree d, f3, f1 and f0, and two classes; the calls on one class leave the second
-// aside. A class is its degree, u0, u1, u2, v0, v1 and v2. All numbers but d take eight bytes, high byte first. The
+// A case is 138 bytes: the call, the degree d, f3, f1 and f0, and two classes; the calls on one class ignore the
+// second. A class is its degree, u0, u1, u2, v0, v1 and v2. All numbers but d take eight bytes, high byte first. The
 // calls are
 //
 //     1 membership                            7 double of the half
@@ -10,14 +10,14 @@
 //     4 half                                 10 double of the first class, and the second added
 //     5 sum                                  11 the second class subtracted from the first, and the half
 //     6 half of the double                   12 is the curve accepted?
-//    13 the class of a stamp, which is the number in the place of the first class's degree
-//    14 the first class times a number, which is the one in the place of the second class's degree
+//    13 the class of a stamp, which is the number at the first class's degree
+//    14 the first class times a number, which is the one at the second class's degree
 //    15 the first class halved as often as that number says
 //
-// The line is the class as degree, u and v with a colon between, coefficients from the highest power down in
-// hexadecimal with commas between, then for 8 and 9 a space and the number of steps; for 1 and 12 `accepted`; or
-// `refused` and the refusal's number. Another byte in the call's place is answered by `no such call`, and fewer than
-// 138 bytes at the end by `cut short`.
+// The line is the class as degree, u and v with colons between, coefficients from the highest power down in hexadecimal
+// with commas between, then for 8 and 9 a space and the number of steps; for 1 and 12 `accepted`; or `refused` and the
+// refusal's number. Any other first byte is answered by `no such call`, and fewer than 138 bytes at the end by
+// `cut short`.
 ghost use Prim.Native.Nat.{_≤_};
 use jacobian::Class;
 use jacobian::ClassAnswer;
@@ -27,7 +27,7 @@ use seal_licence::multiples;
 use seal_licence::multiples::ClassResult;
 use text::Line;
 
-// The class whose seven numbers start at a place of the case.
+// The class whose seven numbers start at an index of the case.
 fn class(case: &[u8; 138], place: u8) -> Class
     requires { ⌜ place ≤ 10 ⌝ }
 {
@@ -43,14 +43,14 @@ fn curve(case: &[u8; 138]) -> Curve {
     jacobian::curves::curve_with(case[1], trial_text::row(case, 0))
 }
 
-// A class behind a line.
+// The line with a class appended.
 fn with_class(line: Line, class: Class) -> Line {
     let u = class.u;
     let v = class.v;
     text::with_class(line, class.degree, u, v, class.degree)
 }
 
-// What a call that gives no class answers.
+// The text of a call that answers no class.
 fn outcome_text(outcome: Outcome) -> Line {
     let start = text::empty();
     match outcome {
@@ -59,7 +59,7 @@ fn outcome_text(outcome: Outcome) -> Line {
     }
 }
 
-// A class, or the refusal.
+// The text of a class, or of the refusal.
 fn class_text(outcome: Outcome, class: Class) -> Line {
     let start = text::empty();
     match outcome {
@@ -68,21 +68,21 @@ fn class_text(outcome: Outcome, class: Class) -> Line {
     }
 }
 
-// What a call that gives a class answers.
+// The text of a call that answers a class.
 fn answer_text(answer: ClassAnswer) -> Line {
     let outcome = answer.outcome;
     let class = answer.class;
     class_text(outcome, class)
 }
 
-// What a call that counts no reduction steps answers.
+// The text of a call that answers no number of reduction steps.
 fn result_text(answer: ClassResult) -> Line {
     let outcome = answer.outcome;
     let class = answer.class;
     class_text(outcome, class)
 }
 
-// What a call that counts its reduction steps answers.
+// The text of a call with its number of reduction steps.
 fn counted_text(answer: ClassAnswer) -> Line {
     let told = answer_text(answer);
     let outcome = answer.outcome;
@@ -114,7 +114,7 @@ fn double_of_half(curve: Curve, class: Class) -> ClassAnswer {
     }
 }
 
-// What the call answers.
+// The text of a call.
 fn call_text(call: u8, curve: Curve, a: Class, b: Class) -> Line {
     match call {
         1 => outcome_text(jacobian::membership(curve, a)),
@@ -147,8 +147,7 @@ fn answer_case() -> bool {
     true
 }
 
-// A proved loop has to end, and nothing says that the input does. So the turns are counted down, from a
-// number that no run uses up.
+// A proved loop has to end, and the input need not. So the turns are counted down, from a number that no run uses up.
 fn main() {
     let mut turns = u64::MAX;
     while turns > 0 && answer_case() {

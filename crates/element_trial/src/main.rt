@@ -1,15 +1,15 @@
 // Answers calls on elements that it reads from standard input, one line for each.
 //
 // A case is 18 bytes: the call (1 sum, 2 product, 3 square, 4 square root, 5 inverse, 6 the root of y² + y = a with
-// lowest bit 0), the degree, and two numbers of eight bytes, high byte first; the calls on one element leave the second
-// number aside. Its line is the element in hexadecimal, for 6 `no root` where there is none, or `refused` and the
-// refusal's number. Another byte in the call's place is answered by `no such call`, and fewer than 18 bytes at the end
-// by `cut short`.
+// lowest bit 0), the degree, and two numbers of eight bytes, high byte first; the calls on one element ignore the
+// second number. The line is the element in hexadecimal, for 6 `no root` where there is none, or `refused` and the
+// refusal's number. Any other first byte is answered by `no such call`, and fewer than 18 bytes at the end by
+// `cut short`.
 use binary_field::Answer;
 use binary_field::Solution;
 use text::Line;
 
-// What an answer says.
+// The text of an answer.
 fn answer_text(answer: Answer) -> Line {
     let start = text::empty();
     match answer {
@@ -18,7 +18,7 @@ fn answer_text(answer: Answer) -> Line {
     }
 }
 
-// What an answer to an equation says.
+// The text of an answer to the quadratic equation.
 fn solution_text(solution: Solution) -> Line {
     let start = text::empty();
     match solution {
@@ -28,7 +28,7 @@ fn solution_text(solution: Solution) -> Line {
     }
 }
 
-// What the call answers.
+// The text of a call.
 fn call_text(call: u8, d: u8, a: u64, b: u64) -> Line {
     match call {
         1 => answer_text(binary_field::sum(d, a, b)),
@@ -57,8 +57,7 @@ fn answer_case() -> bool {
     true
 }
 
-// A proved loop has to end, and nothing says that the input does. So the turns are counted down, from a
-// number that no run uses up.
+// A proved loop has to end, and the input need not. So the turns are counted down, from a number that no run uses up.
 fn main() {
     let mut turns = u64::MAX;
     while turns > 0 && answer_case() {

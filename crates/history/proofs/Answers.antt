@@ -1,5 +1,9 @@
--- What the answers of the calls on classes show of a seal: the refusal that was due, or the seal. A register that follows such an answer, within the limit
--- and off the step's edge, is what the step answers.
+-- The answers of the calls on classes as a seal or a refusal.
+-- `sealed-outcome`: the outcome of such an answer is that of its number.
+-- `answer-refusal`: the number of the code's outcome is that refusal.
+-- `answer-seal`: where there is no refusal, the class of the code's answer is the seal.
+-- `double-and-add-sealed`: double and add answers the seal after a commit, or the refusal of curve, seal and class.
+-- `subtract-and-halve-sealed`: subtract and halve answers the seal after an undo, or that refusal.
 use Prim.Native.Nat.{ℕ, zero, suc}
 use mathlib.Core.Path.{_≡_, refl, _∙_, ap}
 use Rattle.class_group.specs.{Reduction.Counted, Operations.sum, Operations.double, Moves.double-and-add, Moves.subtract-and-halve, Moves.counted-double-and-add, Moves.counted-subtract-and-halve}
@@ -14,11 +18,9 @@ sealed-outcome zero s = refl
 sealed-outcome (suc n) s = refl
 
 module _ (x : ClassAnswer) (n : ℕ) (s : Class) (e : result (reply x) ≡ sealed n s) where
-  -- the number of its outcome is the refusal that was due
   pub answer-refusal : outcome-refusal (x .outcome) ≡ n
   answer-refusal = outcome-refusal-is (x .outcome) n (ap (λ (y : Result). y .outcome) e ∙ sealed-outcome n s)
 
-  -- its class, where none was, is the seal
   pub answer-seal : n ≡ 0 → x .class ≡ s
   unfolding sealed
   answer-seal z = ap (λ (y : Result). y .class) (e ∙ ap (λ k. sealed k s) z)

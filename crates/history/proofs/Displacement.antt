@@ -1,9 +1,21 @@
--- How far one changed operation moves a seal (docs/SPECIFICATION.md, 11), from the laws of groups in class_group, of which the accepted classes are one.
--- Of the commit's rule over two lists of accepted classes of which only the k-th of n changes, from d to e: the seal moves by n - k doublings of e - d (`seals-displaced`), by
--- calls of which none is refused; it moves where d and e differ (`seals-move`), and then neither one doubling more (`seals-not-one-more`) nor d - e (`seals-not-turned`) leads there.
--- Of two lists of calls on registers, refused calls among them, from one first seal, all of whose accepted calls are commits: `displacement`, as 2^(n-k) times e - d
--- `displacement-times`, for k = n `newest-displacement`, `moves`, `not-one-more`, `not-turned`; d and e are accepted (`both-accept`).
--- Of walks back that end in one earliest seal: `walk-displacement`, `walk-moves`.
+-- How far one changed operation moves a seal (docs/SPECIFICATION.md, 11), by the laws of groups in class_group.
+-- The commit rule over two lists of n accepted classes, of which only the k-th changes, from d to e:
+-- `seals-displaced`: the seal plus n - k doublings of e - d is the changed seal; the sum is not refused.
+-- `seals-move`: the seal changes where d and e differ.
+-- `seals-not-one-more`: where they differ, n - k + 1 doublings of e - d do not lead to the changed seal.
+-- `seals-not-turned`: where they differ, n - k doublings of d - e do not lead to the changed seal.
+-- Two lists of calls from one first seal on one curve, refused calls included, whose accepted calls are n commits of
+-- which only the k-th changes, from d to e:
+-- `both-accept`: d and e are accepted.
+-- `displacement`: the last seal plus n - k doublings of e - d is the changed last seal; the sum is not refused.
+-- `displacement-times`: it is also the last seal plus 2^(n - k) times e - d, as a sum of so many terms.
+-- `newest-displacement`: for k = n it is the last seal plus e - d.
+-- `moves`: the last seal changes where d and e differ.
+-- `not-one-more`: where they differ, n - k + 1 doublings of e - d do not lead to the changed last seal.
+-- `not-turned`: where they differ, n - k doublings of d - e do not lead to the changed last seal.
+-- Two walks back that end in one earliest seal, over classes of which only operation k of n changes, from d to e:
+-- `walk-displacement`: the second walk starts from the first one's seal plus n - k doublings of e - d.
+-- `walk-moves`: the two walks start from different seals where d and e differ.
 use Prim.Native.Nat.{ℕ, suc, _-_, _^_, _<_}
 use mathlib.Core.Path.{_≡_, refl, sym, _∙_, ap, ap₂, subst}
 use mathlib.Core.List.{List, [], _∷_, _++_, reverse, reverse-reverse}
@@ -41,7 +53,7 @@ module _ {c : Curve} {k : ℕ} {d e s : Class} {l m : List Class} (at : ChangedA
   difference-accepted : Accepts c (difference c e d)
   difference-accepted = difference-accepts c (changed-members at hl hm .1) (changed-members at hl hm .0)
 
-  -- where it ends, by the group's sum
+  -- the end of the changed list, by the sum of the group
   reached : sum-of c (end l) (doublings c (length l - k) (difference c e d)) ≡ end m
   reached = ap (λ z. sum-of c z (doublings c (length l - k) (difference c e d))) (in-group hl) ∙ sym (in-group hm ∙ group.displacement G at hs hl hm)
 
@@ -51,7 +63,7 @@ module _ {c : Curve} {k : ℕ} {d e s : Class} {l m : List Class} (at : ChangedA
   pub seals-move : ¬ (d ≡ e) → ¬ (after (commit-seal c) s l ≡ after (commit-seal c) s m)
   seals-move n h = group.changed-end G at hs hl hm n (sym (in-group hl) ∙ h ∙ in-group hm)
 
-  -- what the calls answer for another class in the place of those doublings
+  -- a sum with the end of the first list, by the calls, as the same sum in the group
   other-sum : {x : Class} → Accepts c x → result (sum-answer c (end l) x) ≡ gives (end m)
       → forward (sum-of c) (double-of c) s m ≡ sum-of c (forward (sum-of c) (double-of c) s l) x
   other-sum {x} h same =
@@ -59,7 +71,6 @@ module _ {c : Curve} {k : ℕ} {d e s : Class} {l m : List Class} (at : ChangedA
       ∙ sym (class-is (sym (sum-given c end-accepts h) ∙ same))
       ∙ ap (λ z. sum-of c z x) (in-group hl)
 
-  -- it is not where one doubling more would lead, nor the difference the other way round
   pub seals-not-one-more : ¬ (d ≡ e) → ¬ (displaced c (suc (length l - k)) d e (after (commit-seal c) s l) ≡ gives (after (commit-seal c) s m))
   seals-not-one-more n h = group.one-doubling-more G at hs hl hm n (other-sum (doublings-accept c difference-accepted (suc (length l - k))) h)
 
@@ -69,7 +80,7 @@ module _ {c : Curve} {k : ℕ} {d e s : Class} {l m : List Class} (at : ChangedA
       (other-sum (doublings-accept c (difference-accepts c (changed-members at hl hm .0) (changed-members at hl hm .1)) (length l - k)) h)
 
 -- ---- a list of calls on a register
--- where all accepted ones are commits, the last seal is where the commit's rule leads over their classes, oldest first
+-- where all accepted calls are commits, the last seal is the end of the commit rule over their classes, oldest first
 commits-end : (r : Register) (cs : List Call) → OnlyCommits (definition.accepted-of (run r cs))
     → last r cs .seal ≡ after (commit-seal (r .curve)) (r .seal) (classes (definition.accepted-of (run r cs)))
 unfolding definition.run definition.last definition.event definition.accepted-of after classes answer stepped moved
@@ -104,7 +115,7 @@ module _ (r : Register) (cs : List Call) where
   unfolding classes
   operation-count = length-map (reverse (newest r cs)) (λ e. e .call .class) ∙ length-reverse (newest r cs)
 
-  -- where there is one, the first seal and the classes are accepted
+  -- where a call is accepted, the first seal and the classes are accepted
   module _ (some : 0 < length (newest r cs)) where
     first-accepts : Accepts (r .curve) (r .seal)
     unfolding definition.newest
@@ -115,7 +126,7 @@ module _ (r : Register) (cs : List Call) where
     operations-accept : All (Accepts (r .curve)) (operations (newest r cs))
     operations-accept = classes-accept (r .curve) (accepts-curve first-accepts) (reverse (newest r cs)) (all-reverse (accepted-classes r cs))
 
--- a list that is changed somewhere has an element, and so has the changed one
+-- a list with a changed element is not empty, nor is the changed list
 changed-some : {X : Type 0} {k : ℕ} {d e : X} {l m : List X} → ChangedAt k d e l m → (0 < length l) × (0 < length m)
 changed-some {d = d} {e = e} {l = l} {m = m} at =
     let was : length l ≡ length (at .before ++ (d ∷ at .behind)) = ap length (at .was) in
@@ -134,18 +145,16 @@ module _ (r t : Register) (cs ds : List Call) {k : ℕ} {d e : Class} (v : Varia
       commits-lead t ds (v .changed-commits)
       ∙ ap₂ (λ x s. after (commit-seal x) s (operations (newest t ds))) (v .same-curve) (v .same-seal)
 
-  -- both classes are accepted, so that the opposite, the difference and the doublings are not refused (Group of jacobian)
+  -- so the opposite, the difference and the doublings of them are not refused (Group of jacobian)
   pub both-accept : Accepts (r .curve) d × Accepts (r .curve) e
   both-accept = changed-members (v .changed) (operations-accept r cs (some .0)) changed-accept
 
-  -- the last seal moves by n - k doublings of e - d
   pub displacement : displaced (r .curve) (length (newest r cs) - k) d e (last r cs .seal) ≡ gives (last t ds .seal)
   displacement =
       ap₂ (λ n s. displaced (r .curve) (n - k) d e s) (sym (operation-count r cs)) (commits-lead r cs (v .commits))
       ∙ seals-displaced (v .changed) (first-accepts r cs (some .0)) (operations-accept r cs (some .0)) changed-accept
       ∙ ap gives (sym changed-lead)
 
-  -- which are 2^(n-k) times it, by summing
   pub displacement-times :
       result (sum-answer (r .curve) (last r cs .seal) (multiple (sum-of (r .curve)) neutral-class (2 ^ (length (newest r cs) - k)) (difference (r .curve) e d)))
       ≡ gives (last t ds .seal)
@@ -153,20 +162,18 @@ module _ (r t : Register) (cs ds : List Call) {k : ℕ} {d e : Class} (v : Varia
       let apart = difference-accepts (r .curve) (both-accept .1) (both-accept .0) in
       ap (λ x. result (sum-answer (r .curve) (last r cs .seal) x)) (sym (doublings-sum (r .curve) apart (length (newest r cs) - k))) ∙ displacement
 
-  -- the newest operation moves it by e - d itself
   pub newest-displacement : k ≡ length (newest r cs) → result (sum-answer (r .curve) (last r cs .seal) (difference (r .curve) e d)) ≡ gives (last t ds .seal)
   unfolding repeat
   newest-displacement newest-one =
       let no-more : 0 ≡ length (newest r cs) - k = omega (arith, newest-one) in
       ap (λ n. displaced (r .curve) n d e (last r cs .seal)) no-more ∙ displacement
 
-  -- and it moves wherever d and e differ
   pub moves : ¬ (d ≡ e) → ¬ (last r cs .seal ≡ last t ds .seal)
   moves n h =
       seals-move (v .changed) (first-accepts r cs (some .0)) (operations-accept r cs (some .0)) changed-accept n
       (sym (commits-lead r cs (v .commits)) ∙ h ∙ changed-lead)
 
-  -- then one doubling more does not lead there, nor does d - e
+  -- an equation on the last seals as one on the ends of the commit rule
   by-rule : (a b : Class) (f : ℕ → ℕ) → displaced (r .curve) (f (length (newest r cs) - k)) a b (last r cs .seal) ≡ gives (last t ds .seal)
       → displaced (r .curve) (f (length (operations (newest r cs)) - k)) a b (after (commit-seal (r .curve)) (r .seal) (operations (newest r cs)))
       ≡ gives (after (commit-seal (r .curve)) (r .seal) (operations (newest t ds)))
@@ -188,7 +195,7 @@ module _ {c : Curve} {s t : Class} {xs ys : List Class} (hs : Accepts c s) (hx :
   unfolding walk-back
   earliest = after-state (turned (reversible c)) hs hx
 
-  -- the commits of the same classes, oldest first, lead from there to the seal again
+  -- commits of the same classes, oldest first, lead from the end of the walk to its first seal
   leads : {a : Class} {l : List Class} → Accepts c a → All (Accepts c) l → after (commit-seal c) (walk-back c a l) (reverse l) ≡ a
   unfolding walk-back
   leads {a} {l} h k =

@@ -1,5 +1,11 @@
--- The conditions of 109, 113 and 114 at their edges (docs/SPECIFICATION.md, 6): of a register with accepted curve and seal and a call with an accepted class,
--- the count alone decides. A commit is accepted below the limit, 114 at it and 109 above; an undo is 113 at 0, accepted up to the limit and 109 above.
+-- The refusals 109, 113 and 114 by the count, where curve, seal and class are accepted (docs/SPECIFICATION.md, 6).
+-- `commit-below-limit`: a commit is accepted at a count below the limit.
+-- `commit-to-limit`: a commit one below the limit gives the limit as count.
+-- `commit-at-limit`: a commit at the limit is refused with 114.
+-- `commit-above-limit`: a commit above the limit is refused with 109.
+-- `undo-within-limit`: an undo is accepted at a count from 1 to the limit.
+-- `undo-at-zero`: an undo at 0 is refused with 113.
+-- `undo-above-limit`: an undo above the limit is refused with 109.
 use Prim.Native.Nat.{suc, _≤_, _<_}
 use mathlib.Core.Path.{_≡_, _∙_, ap, ap₂}
 use native.Mathlib.Omega.{arith}
@@ -33,7 +39,6 @@ module _ (r : Register) (a : Class) (none : refusal-of-two (r .curve) (r .seal) 
   unfolding edge
   commit-below-limit h = off-edge Commit (omega arith) (λ e. omega arith)
 
-  -- one below the limit it gives the limit
   pub commit-to-limit : suc (r .count) ≡ count-limit → commit-answer r a .register .count ≡ count-limit
   unfolding stepped moved
   commit-to-limit e = ap (λ (x : RegisterReply). x .register .count) (commit-below-limit (omega arith)) ∙ (omega arith)

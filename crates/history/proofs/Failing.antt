@@ -1,4 +1,6 @@
--- A register that itself fails a check is refused by every call of a list with that check's number and stays as it was (docs/SPECIFICATION.md, 11).
+-- Demand 3 of a register that itself fails a check (docs/SPECIFICATION.md, 11).
+-- `failing-run`: every call of a list is refused with that check's number and leaves the register as it was.
+-- `failing-last`: the register after the list is the first one.
 use mathlib.Core.Path.{_≡_, refl, sym, _∙_, ap}
 use mathlib.Core.List.{List, [], _∷_, map}
 use Rattle.lists.specs.Walk.{after}
@@ -17,7 +19,6 @@ module _ (r : Register) (fails : ¬ (register-refusal r ≡ 0)) where
       ap (λ n. follows n r (stepped (c .step) r (c .class))) (sym (first-due _ refl fails))
       ∙ follows-refused (register-refusal r) r (stepped (c .step) r (c .class)) fails
 
-  -- demand 3: every call is refused with that number and leaves the register as it was
   pub failing-run : (cs : List Call) → run r cs ≡ map (λ c. record { before = r; call = c; outcome = refused (register-refusal r); left = r }) cs
   unfolding definition.run definition.event
   failing-run [] = refl

@@ -1,4 +1,4 @@
--- Demand 3 of commits, undos and walks: one step, a whole list taken back, the walk back; and what the calls rest on.
+-- Demand 3 of commits, undos and walks: one step, a list taken back, a walk back; and the lemmas that the calls need.
 pub mod Machine
 pub mod Seals
 pub mod Registers

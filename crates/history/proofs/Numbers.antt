@@ -1,4 +1,11 @@
--- Which refusal is due to a step on a register, by its count: what the curve, the seal and the class are refused for, with 109, 113 or 114 in its place.
+-- The refusal of a step on a register, by the register's count.
+-- `then-positive`: checks one after the other refuse where the second does.
+-- `then-none`: a check that passes, made last, changes nothing.
+-- `second-refused`: where the first of two classes is not refused, the refusal of both is that of the second.
+-- `step-above`: above the limit it is the refusal of the curve, else 109.
+-- `step-at`: at the step's edge it is the refusal of curve, seal and class, else 113 or 114.
+-- `step-off`: at any other count it is the refusal of curve, seal and class.
+-- `step-follows`: at any other count the step answers the next register, or that refusal.
 use Prim.Native.Nat.{ℕ, zero, suc}
 use mathlib.Core.Path.{_≡_, refl, sym, _∙_, ap₂}
 use native.Mathlib.Omega.{arith}
@@ -21,21 +28,20 @@ unfolding _or-else_
 then-none zero = refl
 then-none (suc m) = refl
 
--- a check that fails in second place hides all that come after it
+-- a refusal of the second check comes before those of all later checks
 hides : (a n s x : ℕ) → ¬ (n ≡ 0) → (a or-else n or-else s) or-else x ≡ a or-else n
 unfolding _or-else_
 hides zero zero s x h = absurd (h refl)
 hides zero (suc n) s x h = refl
 hides (suc a) n s x h = refl
 
--- a check that holds is as if it were not made
+-- a check that passes can be left out
 passed : (a s b n : ℕ) → (a or-else 0 or-else s) or-else b or-else n ≡ ((a or-else s) or-else b) or-else n
 unfolding _or-else_
 passed zero zero b n = refl
 passed zero (suc s) b n = refl
 passed (suc a) s b n = refl
 
--- where the first class is not refused, what is due to two is due to the second
 pub second-refused : (c : Curve) (s a : Class) → refusal c s ≡ 0 → refusal c a ≡ refusal-of-two c s a
 unfolding refusal refusal-of-two _or-else_
 second-refused c s a z = rw (z, then-zero (curve-refusal c) (class-refusal c s) z .0)
@@ -58,7 +64,6 @@ module _ (k : Step) (r : Register) (a : Class) where
       rw (l, ne-eqb (r .count) (edge k) h)
       (passed (curve-refusal (r .curve)) (class-refusal (r .curve) (r .seal)) (class-refusal (r .curve) a) 0 ∙ then-none _)
 
-  -- so off its edge it answers what follows the checks of the curve, the seal and the class
   pub step-follows : {next : Register} {x : RegisterReply} → count-refusal (r .count) ≡ 0 → ¬ (r .count ≡ edge k) → next ≡ stepped k r a
       → x ≡ follows (refusal-of-two (r .curve) (r .seal) a) r next → x ≡ step-answer k r a
   unfolding step-answer

@@ -1,5 +1,9 @@
--- What one call of either step does: the curve stays (`answer-curve`), a refused call leaves the register (`refused-stays`), an accepted one carries
--- an accepted class (`accepted-class`) and leaves a register that passes its checks (`accepted-passes`). So registers are a reversible machine (`reversible`).
+-- What one call on a register does, a commit or an undo.
+-- `answer-curve`: the curve stays.
+-- `refused-stays`: a refused call leaves the register as it was.
+-- `accepted-class`: where a call is accepted, the register passes its checks and the class too.
+-- `accepted-passes`: an accepted call leaves a register that passes its checks.
+-- `reversible`: registers with commits and undos are a reversible machine, for any register and any class.
 use Prim.Native.Nat.{ℕ}
 use mathlib.Core.Path.{_≡_, refl, ap}
 use Rattle.jacobian.specs.{Classes.class-refusal, Answer.accepted, Answer.refused}
@@ -15,13 +19,11 @@ module _ (r : Register) (c : Call) where
   unfolding answer step-answer
   answer-curve = follows-either _ r (stepped (c .step) r (c .class)) (λ t. t .curve ≡ r .curve) refl (stepped-curve (c .step) r (c .class))
 
-  -- a refused call leaves the register as it was
   pub refused-stays : (n : ℕ) → answer r c .outcome ≡ refused n → answer r c .register ≡ r
   unfolding answer step-answer
   refused-stays n e = follows-stays _ r (stepped (c .step) r (c .class)) n e
 
   module _ (e : answer r c .outcome ≡ accepted) where
-    -- the register passes its checks, and so does the class
     pub accepted-class : Passes r × (class-refusal (r .curve) (c .class) ≡ 0)
     unfolding answer step-answer
     accepted-class = let p = step-passes (c .step) r (c .class) (follows-accepted _ r (stepped (c .step) r (c .class)) e) in (p .register, p .class-passes)
@@ -32,7 +34,6 @@ module _ (r : Register) (c : Call) where
         let z = follows-accepted _ r (stepped (c .step) r (c .class)) e in
         rw (follows-zero _ r (stepped (c .step) r (c .class)) z) (stepped-passes r (c .class) (c .step) (step-passes (c .step) r (c .class) z))
 
--- any register, and a call with anything in its class's place
 pub reversible : Reversible registers back (λ r. Unit {0}) (λ c. Unit {0})
 unfolding event turned back answer
 reversible = record {

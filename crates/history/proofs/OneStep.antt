@@ -1,5 +1,8 @@
--- One commit and one undo take each other back (docs/SPECIFICATION.md, 11): `step-taken-back`, for either of them.
--- A step keeps the curve, and a register that passes its checks goes on passing them.
+-- One commit and one undo take each other back (docs/SPECIFICATION.md, 11).
+-- `stepped-curve`: a step keeps the curve.
+-- `step-taken`: an accepted step answers the next register.
+-- `stepped-passes`: after a step that no check refuses, the register passes its checks.
+-- `step-taken-back`: demand 3, the other step with the same class is accepted and returns the register before the step.
 use Prim.Native.Nat.{ℕ, _≤_}
 use mathlib.Core.Path.{_≡_, refl, _∙_, ap, ap₂}
 use native.Mathlib.Omega.{arith}
@@ -12,11 +15,11 @@ use Rattle.history.specs.declared.{Register.Register, Step.Step, Step.th
 use Rattle.history.proofs.Seals.{commit-sound, undo-sound, undo-of-commit, commit-of-undo}
 use Rattle.history.proofs.Registers.{Passes, Passing, step-passes, passes-step, follows-accepted, follows-zero}
 
--- the answer of an accepted call
+-- an acceptance with this register
 abbrev pub taken : Register → RegisterReply
 taken r = record { outcome = accepted; register = r }
 
--- ---- the register that follows, by its parts
+-- ---- the next register, by its parts
 pub stepped-curve : (k : Step) (r : Register) (a : Class) → stepped k r a .curve ≡ r .curve
 unfolding stepped moved
 stepped-curve Commit r a = refl
@@ -30,7 +33,6 @@ moved-to-itself : (n : ℕ) (s : Class) (r : Register) → n ≡ r .count → s 
 unfolding moved
 moved-to-itself n s r e f = ap₂ (λ m t. moved m t r) e f
 
--- what an accepted step answers
 pub step-taken : (k : Step) (r : Register) (a : Class) → step-answer k r a .outcome ≡ accepted → step-answer k r a ≡ taken (stepped k r a)
 unfolding step-answer
 step-taken k r a e = follows-zero _ r (stepped k r a) (follows-accepted _ r (stepped k r a) e)
@@ -65,7 +67,6 @@ module _ (r : Register) (a : Class) where
   stepped-back Commit p = moved-to-itself _ _ r (omega arith) (undo-of-commit (seal-sound p) (class-sound p))
   stepped-back Undo p = moved-to-itself _ _ r (omega (arith, p .off-edge)) (commit-of-undo (seal-sound p) (class-sound p))
 
-  -- demand 3: the other step with the same class takes an accepted step back and is not refused
   pub step-taken-back : (k : Step) → step-answer k r a .outcome ≡ accepted → step-answer (other k) (step-answer k r a .register) a ≡ taken r
   unfolding step-answer
   step-taken-back k e =

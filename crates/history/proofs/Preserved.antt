@@ -1,8 +1,11 @@
 -- What holds of registers and classes along a list of calls (docs/SPECIFICATION.md, 11).
--- `last-passes`: a register that passes its own checks goes on passing them. `accepted-class`, `accepted-class-reduced`: an accepted call has
--- an accepted class, a reduced one. `accepted-step`: an accepted step leaves a register that passes its checks, and the other step gives back the one given.
--- `accepted-classes`: no check refuses a class of the accepted calls of a list; on an accepted curve they are accepted classes (`classes-accept`). `first-passes`: where
--- a call of the list is accepted, the register passes its own checks.
+-- `last-passes`: a register that passes its checks still does so after a list of calls.
+-- `accepted-class`: where a call is accepted, the register passes its checks and the class is accepted.
+-- `accepted-step`: an accepted step leaves a register that passes its checks, and the other step returns the one given.
+-- `accepted-class-reduced`: the class of an accepted call is reduced.
+-- `accepted-classes`: no check refuses a class of the accepted calls of a list.
+-- `classes-accept`: on an accepted curve these classes are accepted.
+-- `first-passes`: where a call of a list is accepted, the first register passes its checks.
 use Prim.Native.Nat.{_<_}
 use mathlib.Core.Path.{_≡_, refl, _∙_, subst}
 use mathlib.Core.List.{List, [], _∷_}
@@ -29,17 +32,14 @@ answer-passes r c p = go (answer r c .outcome) refl
     go accepted e = call.accepted-passes r c e
     go (refused n) e = rw (call.refused-stays r c n e) p
 
--- a register that passes its own checks goes on passing them
 pub last-passes : (r : Register) (cs : List Call) → register-refusal r ≡ 0 → register-refusal (last r cs) ≡ 0
 last-passes r cs e = passes-register (last r cs) (last-holds registers Passes answer-passes cs (register-passes r e))
 
--- an accepted call has a register that passes its checks, and an accepted class
 pub accepted-class : (r : Register) (c : Call) → answer r c .outcome ≡ accepted → (register-refusal r ≡ 0) × Accepts (r .curve) (c .class)
 accepted-class r c e =
     let p = call.accepted-class r c e in
     (passes-register r (p .0), accepts-both (r .curve) (c .class) (p .0 .curve-passes) (p .1))
 
--- it leaves a register that passes its checks, and the other step with the same class gives back the register given
 pub accepted-step : (k : Step) (r : Register) (a : Class) → step-answer k r a .outcome ≡ accepted
     → (register-refusal (step-answer k r a .register) ≡ 0) × (step-answer (other k) (step-answer k r a .register) a ≡ record { outcome = accepted; register = r })
 unfolding answer
@@ -49,7 +49,6 @@ accepted-step k r a e =
 pub accepted-class-reduced : (r : Register) (c : Call) → answer r c .outcome ≡ accepted → Reduced (curve (r .curve)) (pair (r .curve .degree) (c .class))
 accepted-class-reduced r c e = accepted-reduced (r .curve) (c .class) (accepted-class r c e .1)
 
--- no check refuses a class of an accepted call
 pub accepted-classes : (r : Register) (cs : List Call) → All (λ e. class-refusal (r .curve) (e .call .class) ≡ 0) (newest r cs)
 unfolding definition.newest definition.event
 accepted-classes r cs =
@@ -63,7 +62,7 @@ unfolding classes
 classes-accept c ok [] none = none
 classes-accept c ok (e ∷ es) (more p ps) = more (accepts-both c (e .call .class) ok p) (classes-accept c ok es ps)
 
--- where a call is accepted, the register passes its checks: the refused calls before it left it as it was
+-- the refused calls before the accepted one leave the register as it was
 pub first-passes : (r : Register) (cs : List Call) → 0 < length (definition.accepted-of (run r cs)) → Passes r
 unfolding definition.run definition.event definition.accepted-of
 first-passes r [] h = absurd (omega (arith, h))

@@ -1,4 +1,12 @@
--- What the checks of a register and of a step on it show where none of them refuses, and what a call then answers.
+-- What holds where no check of a register and of a step on it refuses, and what a call answers by its refusal.
+-- `register-passes`, `passes-register`: a register has refusal 0 exactly where each of its checks passes.
+-- `step-passes`, `passes-step`: a step has refusal 0 exactly where register, class and count pass.
+-- `edge-positive`: 113 and 114 are not 0.
+-- `follows-accepted`: where the answer is an acceptance, the refusal is 0.
+-- `follows-zero`, `follows-refused`: the answer where the refusal is 0, and where it is not.
+-- `follows-stays`: a refused call answers the register given.
+-- `follows-either`: what holds of the register given and of the next one holds of the answered one.
+-- `at-number`, `at-none`: the same answer for an equal refusal, and for refusal 0.
 use Prim.Native.Nat.{ℕ, zero, suc, _≤_}
 use mathlib.Core.Path.{_≡_, refl, sym, _∙_, ap}
 use mathlib.Core.Bool.{Bool, true, false, cond}
@@ -79,7 +87,6 @@ module _ (n : ℕ) (given next : Register) where
       go zero h = absurd (h refl)
       go (suc m) h = refl
 
-  -- a refused call hands back the register given
   pub follows-stays : (m : ℕ) → follows n given next .outcome ≡ refused m → follows n given next .register ≡ given
   unfolding follows
   follows-stays m e = go n e
@@ -88,7 +95,6 @@ module _ (n : ℕ) (given next : Register) where
       go zero e = let z : _≡_ {A = ℕ} 0 1 = cc in absurd (omega arith)
       go (suc k) e = refl
 
-  -- whatever holds of the register given and of the one that follows holds of the one handed back
   pub follows-either : (P : Register → Type 0) → P given → P next → P (follows n given next .register)
   unfolding follows
   follows-either P g h = go n
@@ -97,10 +103,8 @@ module _ (n : ℕ) (given next : Register) where
       go zero = h
       go (suc k) = g
 
--- what is answered at one number is answered at its equal
 pub at-number : (given next : Register) {n m : ℕ} → n ≡ m → {x : RegisterReply} → x ≡ follows n given next → x ≡ follows m given next
 at-number given next e h = h ∙ ap (λ k. follows k given next) e
 
--- an accepted call hands back the register that follows
 pub at-none : (given next : Register) {n : ℕ} {t : Register} → n ≡ 0 → t ≡ next → _≡_ {A = RegisterReply} (record { outcome = accepted; register = t }) (follows n given next)
 at-none given next {n} z e = ap (λ s. record { outcome = accepted; register = s }) e ∙ sym (follows-zero n given next z)

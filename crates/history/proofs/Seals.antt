@@ -1,5 +1,10 @@
--- The two rules on seals by value: from an accepted seal and an accepted class each gives an accepted class (`commit-sound`, `undo-sound`), and they
--- take each other back (`undo-of-commit`, `commit-of-undo`; together `reversible`). The rules are those of jacobian's calls; the first is twice the seal plus the class (`commit-sum`).
+-- The rules of commit and undo on seals, by value, for an accepted seal S and an accepted class C.
+-- `commit-sum`: the commit rule gives twice S plus C, by jacobian's calls.
+-- `commit-sound`: the commit rule gives an accepted class.
+-- `undo-sound`: the undo rule gives an accepted class.
+-- `undo-of-commit`: demand 3, half of (2 S + C) - C is S.
+-- `commit-of-undo`: demand 3, twice the half of S - C, plus C, is S.
+-- `reversible`: the two rules take each other back.
 use mathlib.Core.Path.{_≡_, sym, _∙_, ap, subst}
 use Rattle.lists.specs.Walk.{Reversible}
 use Rattle.jacobian.specs.Answer.{Accepts, Result, double-and-add-answer, subtract-and-halve-answer}
@@ -28,14 +33,12 @@ module _ {c : Curve} {s a : Class} (hs : Accepts c s) (ha : Accepts c a) where
   undo-sound = subst (Accepts c) undo-is (moves.subtract-and-halve-accepts hs ha)
 
 module _ {c : Curve} {s a : Class} (hs : Accepts c s) (ha : Accepts c a) where
-  -- demand 3: half of (2 S + C) - C is S
   pub undo-of-commit : undo-seal c (commit-seal c s a) a ≡ s
   undo-of-commit =
       sym (undo-is (commit-sound hs ha) ha)
       ∙ ap (λ x. subtract-and-halve-answer c x a .class) (sym (commit-is hs ha))
       ∙ ap (λ (r : Result). r .class) (moves.subtract-of-double-and-add hs ha)
 
-  -- demand 3: twice the half of S - C, plus C, is S
   pub commit-of-undo : commit-seal c (undo-seal c s a) a ≡ s
   commit-of-undo =
       sym (commit-is (undo-sound hs ha) ha)

@@ -1,5 +1,9 @@
--- Walks by steps back: an accepted undo is a step back that also counts (`undos-steps`, `undos-few`), and where no step is refused the walk meets what
--- the steps answer (`steps-walk`).
+-- Walks by steps back, and undos as such steps.
+-- `undos-steps`: where all undos of a run are accepted, the steps of a walk over their classes answer the seals left.
+-- `undos-few`: there are at most as many accepted undos in a run as the limit.
+-- `steps-walk`: where no step is refused, the seals of the walk are the first seal and those that the steps answer.
+-- `walk-at`: the walk over the first k elements ends in its seal at index k.
+-- `steps-take`: the steps over the first k classes are the first k steps.
 use Prim.Native.Nat.{ℕ, zero, suc, _-_, _≤_}
 use mathlib.Core.Path.{_≡_, refl, sym, _∙_, ap}
 use mathlib.Core.List.{List, [], _∷_, map}
@@ -18,11 +22,11 @@ use Rattle.history.proofs.Registers.{Passing, step-passes, follows-acce
 use Rattle.history.proofs.OneStep.{step-taken}
 use Rattle.history.proofs.Answers.{subtract-and-halve-sealed}
 
--- a step back, as a walk makes it
+-- one step of a walk back
 abbrev step-back : Curve → Class → Class → Result
 step-back c s a = result (subtract-and-halve-answer c s a)
 
--- ---- an accepted undo is a step back that also counts
+-- ---- an accepted undo is a step back that also changes the count
 module _ (r : Register) (a : Class) (e : undo-answer r a .outcome ≡ accepted) where
   passing : Passing Undo r a
   unfolding step-answer
@@ -37,7 +41,6 @@ module _ (r : Register) (a : Class) (e : undo-answer r a .outcome ≡ accepted) 
       subtract-and-halve-sealed (r .curve) (r .seal) a
       ∙ rw (zero-then _ _ (zero-then _ _ (passing .register .curve-passes) (passing .register .seal-passes)) (passing .class-passes))
 
--- a run of accepted undos is a walk
 pub undos-steps : (t : Register) (ops : List Class) → All (λ e. e .outcome ≡ accepted) (run t (map undo ops))
     → steps-back (t .curve) (t .seal) ops ≡ map (λ e. record { outcome = accepted; class = e .left .seal }) (run t (map undo ops))
 unfolding definition.run definition.event answer steps-back stepped moved
@@ -47,7 +50,7 @@ undos-steps t (a ∷ ops) (more h hs) =
     ∙ ap (λ (x : Register). record { outcome = accepted; class = x .seal } ∷ steps-back (x .curve) (x .seal) ops) (sym (undo-hands t a h))
     ∙ ap (λ l. record { outcome = accepted; class = answer t (undo a) .register .seal } ∷ l) (undos-steps (answer t (undo a) .register) ops hs)
 
--- and takes as many counts
+-- a run of accepted undos has at most as many as the count
 undos-count : (t : Register) (ops : List Class) → All (λ e. e .outcome ≡ accepted) (run t (map undo ops)) → length ops ≤ t .count
 unfolding definition.run definition.event answer stepped moved edge
 undos-count t [] none = omega arith

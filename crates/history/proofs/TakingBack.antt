@@ -1,7 +1,13 @@
--- Demand 3 on a list of calls (docs/SPECIFICATION.md, 11): from any register, whatever classes the calls carry, refused calls among them.
--- `taken-back-turned`: taking the accepted calls back, newest first, does to each call what `turned` says. So each is accepted (`taken-back-accepted`) and
--- brings back the register just before the call that it takes back (`taken-back-registers`), its seal and its count; the last brings back the first register.
--- `curve-kept`, `taken-back-curve`: degree and curve never change. All this is of machines (Machine); a register is one by `reversible`.
+-- Demand 3 on a list of calls (docs/SPECIFICATION.md, 11): from any register, with any classes, refused calls included.
+-- `curve-kept`: no call of a list changes degree or curve.
+-- `last-curve`: the register after a list has the degree and the curve of the first.
+-- `taken-back-curve`: no call that takes a call back changes degree or curve.
+-- `taken-back-turned`: taking the accepted calls back, newest first, does to each call what `turned` says.
+-- `taken-back-accepted`: no call that takes a call back is refused.
+-- `taken-back-registers`: the calls that take back return the registers just before the accepted calls, newest first.
+-- `taken-back-seals`: so they return the seals just before the accepted calls.
+-- `taken-back-counts`: so they return the counts just before the accepted calls.
+-- `taken-back-all`: after all of them the register is the first one.
 use mathlib.Core.Path.{_≡_, refl, _∙_, subst}
 use mathlib.Core.List.{List, map}
 use Rattle.lists.specs.Lists.{All}
@@ -15,7 +21,6 @@ use Rattle.history.proofs.Machine.Run.{run-all, last-holds}
 use Rattle.history.proofs.Machine.TakingBack as machine
 use Rattle.history.proofs.OneCall.{answer-curve, reversible}
 
--- degree and curve never change, whatever the values
 pub curve-kept : (r : Register) (cs : List Call) → All (λ e. e .left .curve ≡ r .curve) (run r cs)
 unfolding event
 curve-kept r cs =
@@ -33,26 +38,20 @@ module _ (r : Register) (cs : List Call) where
   all-calls : All (λ e. Unit {0}) (accepted-of (run r cs))
   all-calls = every (λ e. tt) (accepted-of (run r cs))
 
-  -- the calls that take the accepted ones back are these, turned back
   pub taken-back-turned : taken-back r cs ≡ map turned (newest r cs)
   taken-back-turned = machine.taken-back-turned registers back reversible cs tt all-calls
 
-  -- none is refused
   pub taken-back-accepted : All (λ e. e .outcome ≡ accepted) (taken-back r cs)
   taken-back-accepted = machine.taken-back-accepted registers back reversible cs tt all-calls
 
-  -- what they hand back are, one by one, the registers just before the accepted calls, newest first
   pub taken-back-registers : map (λ e. e .left) (taken-back r cs) ≡ map (λ e. e .before) (newest r cs)
   taken-back-registers = machine.taken-back-states registers back reversible cs tt all-calls (λ t. t)
 
-  -- so their seals
   pub taken-back-seals : map (λ e. e .left .seal) (taken-back r cs) ≡ map (λ e. e .before .seal) (newest r cs)
   taken-back-seals = machine.taken-back-states registers back reversible cs tt all-calls (λ t. t .seal)
 
-  -- and their counts
   pub taken-back-counts : map (λ e. e .left .count) (taken-back r cs) ≡ map (λ e. e .before .count) (newest r cs)
   taken-back-counts = machine.taken-back-states registers back reversible cs tt all-calls (λ t. t .count)
 
-  -- with all of them taken back the register is the first one
   pub taken-back-all : last (last r cs) (backs (newest r cs)) ≡ r
   taken-back-all = machine.taken-back-all registers back reversible cs tt all-calls

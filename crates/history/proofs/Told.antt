@@ -1,6 +1,9 @@
--- Demand 1 of the register by value: a commit or an undo answers an acceptance, or a refusal with one of the numbers and the register given (`step-told`), and never 117
--- (`step-never-117`).
--- What the checks of a count, of a register and of a step say is 0 or one of the numbers: `count-refusal-told`, `register-refusal-told`, `step-refusal-told`.
+-- Demand 1 of the register by value: every answer is an acceptance or a listed refusal.
+-- `count-refusal-told`: the refusal of a count is valid, that is 0 or a listed number.
+-- `register-refusal-told`: the refusal of a register is valid.
+-- `step-refusal-told`: the refusal of a step is valid.
+-- `step-told`: a step answers an acceptance with the next register, or a listed refusal with the register given.
+-- `step-never-117`: such an answer is never the refusal 117.
 use Prim.Native.Nat.{ℕ, zero, suc}
 use mathlib.Core.{Path._≡_, Path.refl, Bool.Bool, Bool.true, Bool.false, Bool.cond, Logic.inl, Logic.inr}
 use native.Mathlib.Omega.{arith}

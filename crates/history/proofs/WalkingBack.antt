@@ -1,7 +1,11 @@
--- Demand 3 on walks (docs/SPECIFICATION.md, 11): where the accepted calls of a list are all commits, a walk from the last seal over their classes,
--- newest first, meets the seals just before them.
--- `walk-steps`: no step is refused, and each answers the seal just before its commit. `walk-meets`: all seals of the walk. `walk-ends`: where the walk over
--- the k newest classes ends, and `walk-part`: that no step of it is refused. `accepted-few`: the accepted commits are no more than the limit.
+-- Demand 3 on walks (docs/SPECIFICATION.md, 11): where the accepted calls of a list are all commits, a walk from the
+-- last seal over their classes, newest first, meets the seals just before them.
+-- `walk-steps`: no step of the walk is refused, and each answers the seal just before its commit.
+-- `walk-meets`: the seals of the walk are the last seal, then those just before the commits, newest first.
+-- `walk-ends`: the walk over the k newest classes ends in the seal just before the k-th newest commit, and for k = 0 in
+-- the last seal.
+-- `walk-part`: no step of the walk over the k newest classes is refused.
+-- `accepted-few`: there are at most as many accepted commits as the limit.
 use Prim.Native.Nat.{ℕ, _≤_}
 use mathlib.Core.Path.{_≡_, refl, sym, _∙_, ap, ap₂}
 use mathlib.Core.List.{List, [], _∷_, map, map-map}
@@ -24,7 +28,7 @@ backs-of-commits [] none = refl
 backs-of-commits (e ∷ es) (more h hs) = ap₂ (λ k l. record { step = other k; class = e .call .class } ∷ l) h (backs-of-commits es hs)
 
 module _ (r : Register) (cs : List Call) (only : OnlyCommits (newest r cs)) where
-  -- the taking back is a run of accepted undos
+  -- taking back is a run of accepted undos
   undos-are : taken-back r cs ≡ run (last r cs) (map undo (classes (newest r cs)))
   unfolding definition.taken-back
   undos-are = ap (run (last r cs)) (backs-of-commits (newest r cs) only)
@@ -32,7 +36,6 @@ module _ (r : Register) (cs : List Call) (only : OnlyCommits (newest r cs)) wher
   undos-accepted : All (λ e. e .outcome ≡ accepted) (run (last r cs) (map undo (classes (newest r cs))))
   undos-accepted = rw undos-are at (taken-back-accepted r cs)
 
-  -- the steps of the walk are all accepted, and answer the seals just before the commits
   pub walk-steps : steps-back (r .curve) (last r cs .seal) (classes (newest r cs)) ≡ map met (newest r cs)
   unfolding definition.turned met
   walk-steps =
@@ -41,7 +44,6 @@ module _ (r : Register) (cs : List Call) (only : OnlyCommits (newest r cs)) wher
       ∙ ap (map (λ e. record { outcome = accepted; class = e .left .seal })) (sym undos-are ∙ taken-back-turned r cs)
       ∙ map-map (λ e. record { outcome = accepted; class = e .left .seal }) turned (newest r cs)
 
-  -- all seals of the walk, the last seal first
   pub walk-meets : walk (undo-seal (r .curve)) (last r cs .seal) (classes (newest r cs)) ≡ seals-back r cs
   unfolding seals-back met
   walk-meets =
@@ -49,7 +51,6 @@ module _ (r : Register) (cs : List Call) (only : OnlyCommits (newest r cs)) wher
       ∙ ap (λ l. last r cs .seal ∷ map (λ x. x .class) l) walk-steps
       ∙ ap (λ l. last r cs .seal ∷ l) (map-map (λ (x : Result). x .class) met (newest r cs))
 
-  -- the walk over the k newest classes ends in the seal just before the k-th newest commit, and for k = 0 in the last seal
   pub walk-ends : (k : ℕ) → k ≤ length (newest r cs)
       → walk-back (r .curve) (last r cs .seal) (take k (classes (newest r cs))) ≡ getD (seals-back r cs) k (last r cs .seal)
   unfolding walk-back classes
@@ -57,12 +58,10 @@ module _ (r : Register) (cs : List Call) (only : OnlyCommits (newest r cs)) wher
       walk-at (undo-seal (r .curve)) (last r cs .seal) (classes (newest r cs)) k (last r cs .seal) (rw length-map h)
       ∙ ap (λ l. getD l k (last r cs .seal)) walk-meets
 
-  -- and no step of it is refused
   pub walk-part : (k : ℕ) → steps-back (r .curve) (last r cs .seal) (take k (classes (newest r cs)))
       ≡ take k (map met (newest r cs))
   walk-part k = steps-take (r .curve) (last r cs .seal) (classes (newest r cs)) k ∙ ap (take k) walk-steps
 
-  -- no more commits were accepted than the limit
   pub accepted-few : length (newest r cs) ≤ count-limit
   unfolding classes
   accepted-few = rw length-map at (undos-few (last r cs) (classes (newest r cs)) undos-accepted)

@@ -1,4 +1,4 @@
--- The history register by value: its checks, its two steps and what the calls on it answer (docs/SPECIFICATION.md, 4 and 6).
+-- The history register by value: its checks, its two steps and the answers of calls (docs/SPECIFICATION.md, 4 and 6).
 use Prim.Native.Nat.{ℕ, zero, suc, _+_, _-_}
 use mathlib.Core.Bool.{cond}
 use lib.Dec.{eqb}
@@ -14,16 +14,16 @@ use Rattle.history.specs.declared.{Register.Register, RegisterAnswer.Reg
 unfoldable pub commit-seal : Curve → Class → Class → Class
 commit-seal c seal a = let d = c .degree in class-of d (double-and-add (curve c) (pair d seal) (pair d a))
 
--- the seal after an undo: the class is subtracted from the seal first, and the half of that difference is the new seal
+-- the seal after an undo: half of the difference of the seal and the operation's class
 unfoldable pub undo-seal : Curve → Class → Class → Class
 undo-seal c seal a = let d = c .degree in class-of d (subtract-and-halve (curve c) (pair d seal) (pair d a))
 
--- the seal where no refusal is due, and else the refusal with the neutral class
+-- the seal where the number is 0, else that refusal with the neutral class
 unfoldable pub sealed : ℕ → Class → Result
 sealed zero seal = record { outcome = accepted; class = seal }
 sealed (suc n) seal = record { outcome = refused (suc n); class = neutral-class }
 
--- ---- checks, in the stored order; 0 where no refusal is due
+-- ---- checks, in the stored order; 0 where every check passes
 -- 106 or 107 of the curve, then 109 for a count above the limit, then 104, 110 or 111 of the seal
 unfoldable pub register-refusal : Register → ℕ
 register-refusal r =
@@ -31,16 +31,17 @@ register-refusal r =
     or-else count-refusal (r .count)
     or-else class-refusal (r .curve) (r .seal)
 
--- the count at which a step is refused, and the refusal: a commit at the limit with 114, an undo at count 0 with 113
+-- the count at which a step is refused: the limit for a commit, 0 for an undo
 unfoldable pub edge : Step → ℕ
 edge Commit = count-limit
 edge Undo = 0
 
+-- the refusal at that count: 114 of a commit, 113 of an undo
 unfoldable pub edge-refusal : Step → ℕ
 edge-refusal Commit = 114
 edge-refusal Undo = 113
 
--- after those of the register 104, 110 or 111 of the operation's class, then 114 or 113
+-- the register's checks, then 104, 110 or 111 of the operation's class, then 114 or 113 of the count
 unfoldable pub step-refusal : Step → Register → Class → ℕ
 step-refusal k r a = register-refusal r or-else class-refusal (r .curve) a or-else cond (eqb (r .count) (edge k)) (edge-refusal k) 0
 
@@ -49,40 +50,44 @@ step-refusal k r a = register-refusal r or-else class-refusal (r .curve) a or-el
 unfoldable pub moved : ℕ → Class → Register → Register
 moved n seal r = record { curve = r .curve; count = n; seal = seal }
 
--- a commit counts one operation more, and an undo one less
+-- the register after a step: a commit adds 1 to the count, an undo subtracts 1
 unfoldable pub stepped : Step → Register → Class → Register
 stepped Commit r a = moved (r .count + 1) (commit-seal (r .curve) (r .seal) a) r
 stepped Undo r a = moved (r .count - 1) (undo-seal (r .curve) (r .seal) a) r
 
--- a commit is taken back by an undo and an undo by a commit
+-- the step that takes a step back
 unfoldable pub other : Step → Step
 other Commit = Undo
 other Undo = Commit
 
 -- ---- what the calls answer
+-- what a call on a register answers: the outcome and a register
 pub record RegisterReply : Type 0 where
   pub outcome : Verdict
   pub register : Register
 
--- what the code's answer says
+-- the code's answer as such a reply
 abbrev pub register-reply : RegisterAnswer → RegisterReply
 register-reply r = record { outcome = verdict (r .outcome); register = r .register }
 
--- the register that follows where no refusal is due, and else the refusal with the register as it was given
+-- the next register where the number is 0, else that refusal with the register as it was given
 unfoldable pub follows : ℕ → Register → Register → RegisterReply
 follows zero given next = record { outcome = accepted; register = next }
 follows (suc n) given next = record { outcome = refused (suc n); register = given }
 
+-- what a step with a class answers
 unfoldable pub step-answer : Step → Register → Class → RegisterReply
 step-answer k r a = follows (step-refusal k r a) r (stepped k r a)
 
+-- what a commit answers
 abbrev pub commit-answer : Register → Class → RegisterReply
 commit-answer = step-answer Commit
 
+-- what an undo answers
 abbrev pub undo-answer : Register → Class → RegisterReply
 undo-answer = step-answer Undo
 
--- told apart: an acceptance with the register that follows, or a refusal with one of the numbers and the register given
+-- an acceptance with the next register, or a listed refusal with the register as it was given
 pub data StepTold (given : Register) : RegisterReply → Type 0 where
   acceptance : (next : Register) → StepTold given (record { outcome = accepted; register = next })
   refusal : (n : ℕ) → IsRefusal n → StepTold given (record { outcome = refused n; register = given })

@@ -1,5 +1,6 @@
-// The history register by value: a commit and an undo hand back the register that follows, or the refusal that is due with the register as it was given.
-// A refusal is the first that is due in the stored order: 106 and 107 for the curve, 109 for the count, then 104, 110 and 111 for the seal and for the class, then 113 or 114.
+// The history register by value: a commit and an undo return the next register, or a refusal and the register given.
+// The refusal is that of the first check that fails, in the stored order: 106 and 107 of the curve, 109 of the count,
+// 104, 110 and 111 of the seal and then of the class, last 113 or 114.
 // One step of a walk, which has no register, is jacobian::subtract_and_halve.
 ghost use Prim.Native.Nat.{ℕ};
 ghost use mathlib.Core.Path.{_≡_};
@@ -13,7 +14,8 @@ use jacobian::ClassAnswer;
 use jacobian::Curve;
 use jacobian::Outcome;
 
-// The degree and the curve, the count of operations and the seal; no operation. In C's layout, since a host keeps one and lends it.
+// The degree and the curve, the count of operations and the seal; the operations are not kept.
+// In C's layout, since a host keeps a register and lends it.
 #[repr(C)]
 pub struct Register {
     pub curve: Curve,
@@ -27,13 +29,13 @@ pub struct RegisterAnswer {
     pub register: Register,
 }
 
-// What a call does to a register: it takes an operation in, or takes the last one out.
+// The two calls on a register: a commit takes an operation in, an undo takes the last one out.
 pub enum Step {
     Commit,
     Undo,
 }
 
-// The refusal of a count, unless the curve is refused first.
+// The curve's refusal, else the count's; 0 where neither is refused.
 pub fn count_refusal(curve: Curve, count: u64) -> u32
     ensures { λ r. ⌜ r ≡ curve-refusal curve or-else count-refusal count ⌝ }
 {
@@ -54,7 +56,7 @@ fn edge_count(step: Step) -> u64
     }
 }
 
-// The refusal of a step at that count, unless the curve, the seal or the class is refused first.
+// The refusal of the curve, the seal or the class, else that of a step at its edge count.
 fn edge_refusal(step: Step, curve: Curve, seal: Class, class: Class) -> u32
     ensures { λ r. ⌜ r ≡ refusal-of-two curve seal class or-else edge-refusal step ⌝ }
 {
@@ -72,7 +74,7 @@ fn edge_refusal(step: Step, curve: Curve, seal: Class, class: Class) -> u32
     }
 }
 
-// A refusal, with the register as it was given.
+// Refusal n with the register as it was given.
 fn kept(register: Register, n: u32) -> RegisterAnswer
     requires { ⌜ ¬ (n ≡ 0) ⌝ }
     ensures { λ r. ⌜ ((next : Value) → register-reply r ≡ follows n register next) ⌝ }
@@ -83,7 +85,7 @@ fn kept(register: Register, n: u32) -> RegisterAnswer
     }
 }
 
-// The register with this count and the seal that was answered, or the refusal that was answered.
+// The register with this count and the answered seal, or the answered refusal with the register as it was given.
 fn followed(register: Register, count: u64, answer: ClassAnswer) -> RegisterAnswer
     ensures { λ r. ⌜ ((n : ℕ) (seal : Seal) → result (reply answer) ≡ sealed n seal → register-reply r ≡ follows n register (moved count seal register)) ⌝ }
 {
@@ -101,7 +103,7 @@ fn followed(register: Register, count: u64, answer: ClassAnswer) -> RegisterAnsw
 }
 
 impl Register {
-    // One step with a class. The accepted way checks the curve, the seal and the class once, where the seal is moved.
+    // One step with a class. If accepted, the checks run once, inside the class operation.
     pub fn step(self, step: Step, class: Class) -> RegisterAnswer
         ensures { λ r. ⌜ register-reply r ≡ step-answer step self class ⌝ }
     {
@@ -135,7 +137,7 @@ impl Register {
         self.step(Step::Commit, class)
     }
 
-    // The class is subtracted from the seal first, the half of that difference is the new seal, and the count falls by 1.
+    // The new seal is half of the difference of the old seal and the operation's class, and the count falls by 1.
     pub fn undo(self, class: Class) -> RegisterAnswer
         ensures { λ r. ⌜ register-reply r ≡ undo-answer self class ⌝ }
     {

@@ -1,16 +1,15 @@
 // Answers calls on one history register that it reads from standard input, one line for each.
 //
-// A record is 146 bytes: the call (0 start, 1 commit, 2 undo, 3 show), the degree d, f3, f1 and f0, the count, the seal
+// A case is 146 bytes: the call (0 start, 1 commit, 2 undo, 3 show), the degree d, f3, f1 and f0, the count, the seal
 // and an operation's class. A class is its degree, u0, u1, u2, v0, v1 and v2. All numbers but d take eight bytes, high
-// byte first. A start takes d to the seal as the register, and leaves the class aside; a commit and an undo take the
-// class alone, and are made on the register that the call before handed back, a refused one too. Before the first start
-// the register is that of degree 0.
+// byte first. A start takes d to the seal as the register and ignores the class; a commit and an undo take the class
+// alone, on the register that the call before returned, also after a refusal. Before the first start the register has
+// degree 0.
 //
 // For a commit and an undo the line is the count and the seal, or `refused` and the refusal's number; the seal is
-// printed as degree, u and v with a colon between, coefficients from the highest power down in hexadecimal with commas
-// between. For a show it is every number that the register holds, whether or not it passes the checks. A start has no
-// line. Another byte in the call's place is answered by `no such call`, and fewer than 146 bytes at the end by
-// `cut short`.
+// printed as degree, u and v with colons between, coefficients from the highest power down in hexadecimal with commas
+// between. For a show it is every number of the register, whether or not it passes the checks. A start has no line. Any
+// other first byte is answered by `no such call`, and fewer than 146 bytes at the end by `cut short`.
 ghost use Prim.Native.Nat.{_≤_};
 use history::Register;
 use history::RegisterAnswer;
@@ -24,7 +23,7 @@ struct Turn {
     register: Register,
 }
 
-// The class whose seven numbers start at a place of the record.
+// The class whose seven numbers start at an index of the case.
 fn class(record: &[u8; 146], place: u8) -> Class
     requires { ⌜ place ≤ 11 ⌝ }
 {
@@ -35,7 +34,7 @@ fn class(record: &[u8; 146], place: u8) -> Class
     }
 }
 
-// The register that a record starts.
+// The register that a case starts.
 fn started(record: &[u8; 146]) -> Register {
     let curve = jacobian::curves::curve_with(record[1], trial_text::row(record, 0));
     Register {
@@ -45,19 +44,19 @@ fn started(record: &[u8; 146]) -> Register {
     }
 }
 
-// A class behind a line, with the coefficients of u and v below x^n.
+// The line with a class appended, of u and v the coefficients below x^n.
 fn with_class(line: Line, class: Class, n: u64) -> Line {
     let u = class.u;
     let v = class.v;
     text::with_class(line, class.degree, u, v, n)
 }
 
-// Writes a line with its end.
+// Writes a line and a line feed.
 fn write_told(told: Line) {
     text::write_line(text::with_byte(told, b'\n'));
 }
 
-// What a call on the register answers.
+// The text of a call on the register.
 fn answer_text(answer: RegisterAnswer) -> Line {
     let start = text::empty();
     let outcome = answer.outcome;
@@ -72,13 +71,13 @@ fn answer_text(answer: RegisterAnswer) -> Line {
     }
 }
 
-// Writes what a call on the register answers, and hands back the register of the answer.
+// Writes the text of a call on the register and returns the register of its answer.
 fn write_answer(answer: RegisterAnswer) -> Register {
     write_told(answer_text(answer));
     answer.register
 }
 
-// Every number of the register.
+// The text of a register: all its numbers.
 fn register_text(register: Register) -> Line {
     let curve = register.curve;
     let seal = register.seal;
@@ -89,7 +88,7 @@ fn register_text(register: Register) -> Line {
     with_class(text::with_byte(count, b' '), seal, 3)
 }
 
-// Does what a record says and writes its line; the register that follows.
+// Makes the call of a case, writes its line and returns the next register.
 fn answer_record(record: &[u8; 146], register: Register) -> Register {
     match record[0] {
         0 => started(record),
@@ -106,7 +105,7 @@ fn answer_record(record: &[u8; 146], register: Register) -> Register {
     }
 }
 
-// Reads one record and answers it.
+// Reads one case and answers it.
 fn next_record(register: Register) -> Turn {
     let mut record = [0u8; 146];
     if trial_text::read_case(&mut record) < 146 {
@@ -121,7 +120,7 @@ fn next_record(register: Register) -> Turn {
     }
 }
 
-// The register before the first start; its degree is none, so that every call refuses it.
+// The register before the first start. Its degree is 0, so every call refuses it.
 fn unset() -> Register {
     let curve = jacobian::curves::curve_with(0, [0; jacobian::curves::COEFFICIENTS]);
     Register {
@@ -131,8 +130,7 @@ fn unset() -> Register {
     }
 }
 
-// A proved loop has to end, and nothing says that the input does. So the turns are counted down, from a
-// number that no run uses up.
+// A proved loop has to end, and the input need not. So the turns are counted down, from a number that no run uses up.
 fn main() {
     let mut turns = u64::MAX;
     let mut register = unset();

@@ -1,10 +1,18 @@
--- The laws of multiples and repeated halves by bytes (docs/SPECIFICATION.md, 7 and 11). For every record of one class that is read, where the outputs have room for a class field and the
--- numbers are in range: each call writes the field of what its call by value gives (`multiple-writes`, `halvings-write`), so none is refused. (m + n) times writes what the byte sum of the two
--- writes (`sum-bytes`), m n times what m times writes on the record rebuilt from n times (`product-bytes`), 0 times the neutral class's field and once the record's own (`zero-bytes`, `once-bytes`).
--- The record rebuilt from 2^k times is that after k byte doublings (`doublings-bytes`), the one rebuilt from k halvings that after k byte halves (`halvings-bytes`). k halvings of the record after k
--- byte doublings write the record's own class field (`halvings-of-doublings-bytes`), and k byte doublings of the record rebuilt from k halvings give the record back, to the byte
--- (`doublings-of-halvings-bytes`). None of these byte doublings and halves is refused (`doublings-write` of seal's ByteGroup, `halves-write`), and no other record leads by k of them to the same
--- (`only-halvings-bytes`).
+-- The laws of multiples and repeated halves by bytes (docs/SPECIFICATION.md, 7 and 11), for every record of one class
+-- that is read, where outputs have room for a class field and n and k are within their limits.
+-- `multiple-writes`: n times writes the field of what the call by value gives.
+-- `halvings-write`: k halvings write the field of what the call by value gives.
+-- `zero-bytes`: 0 times writes the field of the neutral class.
+-- `once-bytes`: once writes the record's own class field.
+-- `product-bytes`: m n times writes what m times writes on the record rebuilt from n times.
+-- `sum-bytes`: (m + n) times writes what the byte sum of m times and n times writes.
+-- `halves-write`: after k byte halves the next one is not refused: it writes the field of the class after k + 1 halves.
+-- `doublings-bytes`: the record rebuilt from 2^k times is the record after k byte doublings, for k below 61.
+-- `halvings-bytes`: the record rebuilt from k halvings is the record after k byte halves.
+-- `halvings-of-doublings-bytes`: k halvings of the record after k byte doublings write the record's own class field.
+-- `doublings-of-halvings-bytes`: k byte doublings of the record rebuilt from k halvings give the record, to the byte.
+-- `only-halvings-bytes`: a record that k byte doublings take to t is the one rebuilt from k halvings of t.
+-- That no byte doubling is refused is `doublings-write` of ByteGroup in the crate seal.
 use Prim.Native.Nat.{ℕ, zero, suc, _+_, _*_, _^_, _≤_, _<_}
 use mathlib.Core.Path.{_≡_, refl, sym, ap, _∙_}
 use mathlib.Core.List.{List, _++_}
@@ -44,7 +52,7 @@ module _ (s out : List ℕ) (room : class-room ≤ length out) {h : Held} {end :
 
 -- ---- the record of a class that passes
 
--- a call on such a record, k times over
+-- a call on such a record, repeated k times
 module _ {c : Curve} (f : Curve → Class → Result) (given : (b : Class) → ClassPasses c b → Given c (f c b)) (out : List ℕ) (room : class-room ≤ length out) where
   kept : (k : ℕ) {a : Class} → ClassPasses c a → ClassPasses c (repeat (λ b. f c b .class) k a)
   unfolding repeat
@@ -83,7 +91,7 @@ module _ (s : List ℕ) (bytes : Bytes s) {h : Held} {end : ℕ} (read : read-re
   passes : ClassPasses c a
   passes = is-stored s bytes read .passes
 
-  -- what the calls write, of the record's own curve and class
+  -- what the calls write and what is rebuilt from it, by the curve and the class of the record
   multiple-field : (n : ℕ) → n < multiple-limit → (out : List ℕ) → class-room ≤ length out → multiple-call n s out ≡ write (class-field 0x43 (multiple-answer c a n .class)) out
   unfolding answered times
   multiple-field n l out room = stored-writes stored-bytes passes (times n) (multiple-given passes n l) out room
@@ -136,7 +144,6 @@ module _ (s : List ℕ) (bytes : Bytes s) {h : Held} {end : ℕ} (read : read-re
       halved-at : (k : ℕ) → halved-record mid k s ≡ class-record-bytes c (halves c k a)
       halved-at k = ap (halved-record mid k) stored-bytes ∙ halved-is passes mid room' k
 
-      -- none of these halves is refused: each writes the field of the class after one half more
       pub halves-write : (k : ℕ) → half-call (halved-record mid k s) mid ≡ write (class-field 0x43 (halves (h .curve) (suc k) (h .class))) mid
       unfolding seal.answered repeat
       halves-write k =
@@ -170,7 +177,6 @@ module _ (s : List ℕ) (bytes : Bytes s) {h : Held} {end : ℕ} (read : read-re
           ∙ ap (class-record-bytes c) (doublings-of-halvings passes k l)
           ∙ sym stored-bytes
 
-      -- the record is the only one that k byte doublings take where they take it
       pub only-halvings-bytes : (k : ℕ) → k ≤ halvings-limit → (t : List ℕ) → doubled-record mid k s ≡ t → s ≡ class-rebuilt t (halvings-call k t out)
       only-halvings-bytes k l t e =
           sym

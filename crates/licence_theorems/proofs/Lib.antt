@@ -1,4 +1,4 @@
--- What multiples and repeated halves give by bytes, that answers and refusals are told apart, and the laws.
+-- Multiples and repeated halves by bytes: what passes, that each call wrote or refused, and the laws.
 pub mod Passing
 pub mod ToldApart
 pub mod ByteMultiples

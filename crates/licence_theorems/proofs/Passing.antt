@@ -1,4 +1,6 @@
--- What multiples and repeated halves give for a class that passes, with a number in range, passes too.
+-- Multiples and repeated halves of an accepted class.
+-- `multiple-given`: n times it, for n below the limit, is not refused and gives an accepted class.
+-- `halvings-given`: k halvings of it, for k within the limit, are not refused and give an accepted class.
 use Prim.Native.Nat.{ℕ, _≤_, _<_}
 use mathlib.Core.Path.{sym, ap, subst}
 use Rattle.jacobian.specs.{Answer.Result, Answer.Accepts, declared.Curve.Curve, declared.Class.Class}

@@ -1,7 +1,15 @@
--- Answers and refusals of the calls on multiples and repeated halves are told apart (docs/SPECIFICATION.md, 6 and 7). Each call, on every input and output, writes at most 51 bytes and
--- answers that length, or answers the number of a refusal and leaves the output as it was (`multiple-told-apart`, `halvings-told-apart`); the answer alone says which (`multiple-tells`,
--- `halvings-tells`). A record that is not read is refused with its own number, whatever n or k is (`multiple-unread`, `halvings-unread`), and one that is read with 118 for n of 2^61 or more and
--- with 119 for k above 64 (`too-large-bytes`, `too-many-bytes`).
+-- Each byte call of multiples and repeated halves wrote or refused (docs/SPECIFICATION.md, 6 and 7).
+-- `multiple-told-apart`: on every input and output, n times writes at most 51 bytes and answers their number, or
+-- answers a listed refusal and leaves the output as it was.
+-- `halvings-told-apart`: on every input and output, k halvings write at most 51 bytes and answer their number, or
+-- answer a listed refusal and leave the output as it was.
+-- `multiple-tells`: the answer alone of n times says which of the two it was.
+-- `halvings-tells`: the answer alone of k halvings says which of the two it was.
+-- Where the output has room for a class field:
+-- `multiple-unread`: a record that is not read is refused with its own number, whatever n is.
+-- `halvings-unread`: a record that is not read is refused with its own number, whatever k is.
+-- `too-large-bytes`: a record that is read is refused with 118 for n of 2^61 or more.
+-- `too-many-bytes`: a record that is read is refused with 119 for k above 64.
 use Prim.Native.Nat.{ℕ, _≤_, _<_}
 use mathlib.Core.{Path._≡_, Path.refl, Path.ap, Bool.Bool, Bool.true, Bool.false, List.List}
 use lib.{Dec.ltb, Dec.leb, Dec.lit≤, ListN.length}
@@ -16,9 +24,9 @@ use Rattle.seal_licence.specs.Calls.{answered, multiple-call, halvings-call}
 use Rattle.seal_licence.proofs.Theorems.{multiple-too-large, halvings-too-many}
 use Rattle.licence_theorems.proofs.Passing.{multiple-given, halvings-given}
 
--- ---- what is handed over
+-- ---- responses
 
--- the number of a refusal
+-- the response of a listed refusal
 refused-apart : (n : ℕ) → IsRefusal n → {r : Result} → r ≡ refuses n → HandedApart class-room (class-handed r)
 unfolding class-handed on
 refused-apart n i e = number n i (ap class-handed e)
@@ -50,7 +58,6 @@ pub halvings-told-apart : (k : ℕ) (s out : List ℕ) → ToldApart class-room 
 unfolding answered
 halvings-told-apart k s out = call-told-apart class-room class-record _ s out (λ h end e. halvings-apart s e k)
 
--- by the answer alone
 pub multiple-tells : (n : ℕ) (s out : List ℕ) → AnswerTells class-room out (multiple-call n s out)
 multiple-tells n s out = answer-tells (lit≤ tt) (multiple-told-apart n s out)
 
@@ -59,7 +66,6 @@ halvings-tells k s out = answer-tells (lit≤ tt) (halvings-told-apart k s out)
 
 -- ---- refusals, where the output has room
 module _ (s out : List ℕ) (room : class-room ≤ length out) where
-  -- a reading's comes first
   pub multiple-unread : (n : ℕ) {m : ℕ} → read-record class-record s ≡ unread m → multiple-call n s out ≡ refuse m out
   multiple-unread n e = call-refused class-room class-record _ s out room e
 

@@ -1,2 +1,2 @@
--- Records rebuilt from what calls wrote for them.
+-- Records rebuilt from what calls wrote.
 pub mod Rebuilt

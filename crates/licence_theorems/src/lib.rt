@@ -1,1 +1,1 @@
-// What is proved of the calls on multiples and repeated halves by bytes, beside the calls on sums, doubles and halves. Theorems in proofs/, no code.
+// Theorems on multiples and repeated halves by bytes, with the byte calls of sums, doubles and halves. No code.

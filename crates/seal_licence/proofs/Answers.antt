@@ -1,5 +1,8 @@
--- What is answered by the checks: the refusal that is due (`refused-answer`), else the class (`given-answer`); and what holds where none is due
--- (`multiple-passes`, `halvings-passes`).
+-- The answers of the two calls by their checks.
+-- `refused-answer`: where a check refuses, the answer is that refusal.
+-- `given-answer`: where no check refuses, the answer is the class.
+-- `multiple-passes`: where no check of n times refuses, the class is accepted and n is below the limit.
+-- `halvings-passes`: where no check of k halvings refuses, the class is accepted and k is at most the limit.
 use Prim.Native.Nat.{ℕ, zero, suc, _≤_, _<_}
 use mathlib.Core.Path.{_≡_, _∙_, ap}
 use native.Mathlib.Omega.{arith}

@@ -1,4 +1,4 @@
--- Multiples and repeated halves of a class, by value.
+-- Multiples and repeated halves of a class by value: the classes, the answers, and the theorems on them.
 pub mod Values
 pub mod Answers
 pub mod Theorems

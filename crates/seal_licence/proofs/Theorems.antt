@@ -1,9 +1,27 @@
--- What n times a class and k halvings answer (docs/SPECIFICATION.md, 2.11 and 6). For an accepted class and a number in range each gives a class (`multiple-gives`, `halvings-give`), which is
--- accepted in turn (`multiple-accepts`, `halved-accepts` of Values). (m + n) times is the sum of the two (`multiple-of-sum`), m times n times is m n times (`multiple-of-product`), 0 times is
--- neutral and once is the class (`multiple-of-zero`, `multiple-of-one`). k doublings are 2^k times (`doublings-are-multiple`), k halvings are k halves one after the other
--- (`halvings-are-halves`), of which none is refused (`halves-give`, and of the doublings `doublings-give` of jacobian); the two undo each other (`halvings-of-doublings`, `doublings-of-halvings`), and no other class leads to the class by k doublings (`only-halvings`).
--- Refusals: that of curve and class comes first, whatever n or k is (`multiple-refused-first`, `halvings-refused-first`), then 118 and 119 (`multiple-too-large`, `halvings-too-many`). Every
--- answer is a class or a refusal with one of the numbers (`multiple-told`, `halvings-told`), and none is 117 (`result-never-117`).
+-- What n times a class and a class halved k times answer (docs/SPECIFICATION.md, 2.11 and 6).
+-- For an accepted class, with n and k within their limits:
+-- `multiple-gives`: the call for n times is not refused and gives n times the class.
+-- `halvings-give`: the call for k halvings is not refused and gives the class halved k times.
+-- `multiple-of-sum`: (m + n) times is the sum of m times and n times.
+-- `multiple-of-zero`: 0 times is the neutral class.
+-- `multiple-of-one`: once is the class.
+-- `multiple-of-product`: m n times is m times n times.
+-- `doublings-pair`: k doublings by the calls stand for k doublings in the group.
+-- `doublings-are-multiple`: 2^k times is k doublings, for k below 61.
+-- `halves-accept`: the class after k halves, one call after the other, is accepted.
+-- `halves-give`: after k halves the next one is not refused.
+-- `halvings-are-halves`: k halvings give the class after k halves.
+-- `halvings-of-doublings`: k halvings of k doublings give the class.
+-- `doublings-of-halvings`: k doublings of k halvings give the class.
+-- `only-halvings`: an accepted class that k doublings take to another class is what k halvings of that class give.
+-- Refusals:
+-- `multiple-refused-first`: the refusal of curve and class comes first, whatever n is.
+-- `halvings-refused-first`: the refusal of curve and class comes first, whatever k is.
+-- `multiple-too-large`: n of 2^61 or more is refused with 118.
+-- `halvings-too-many`: k above 64 is refused with 119.
+-- `multiple-told`: every answer of n times is a class or a listed refusal.
+-- `halvings-told`: every answer of k halvings is a class or a listed refusal.
+-- `result-never-117`: such an answer is never the refusal 117.
 use Prim.Native.Nat.{ℕ, zero, suc, _+_, _*_, _^_, _≤_, _<_}
 use mathlib.Core.{Path._≡_, Path.refl, Path.sym, Path._∙_, Path.ap, Path.ap₂, Path.subst, Logic.inl, Logic.inr}
 use native.Mathlib.Omega.{arith}
@@ -90,7 +108,6 @@ module _ {c : Curve} {a : Class} (h : Accepts c a) where
   pub halves-accept : (k : ℕ) → Accepts c (halves c k a)
   halves-accept k = subst (Accepts c) (sym (halves-are k)) (halved-accepts h k)
 
-  -- none of them is refused
   pub halves-give : (k : ℕ) → result (half-answer c (halves c k a)) ≡ gives (halves c (suc k) a)
   unfolding repeat
   halves-give k = gives-own (half-gives c (halves-accept k))
@@ -127,7 +144,6 @@ module _ {c : Curve} {a : Class} (h : Accepts c a) where
       ∙ pair-injective c _ _ (doublings-accept c x k) h
       (doublings-pair x k ∙ ap (repeat (double (curve c)) k) (halved-pair h k) ∙ doublings-halvings (class-halving (curve c)) k (reduced c h))
 
--- the only accepted class that k doublings take to a
 pub only-halvings : {c : Curve} {a b : Class} → Accepts c b → (k : ℕ) → k ≤ halvings-limit → doublings c k b ≡ a → b ≡ halvings-answer c a k .class
 only-halvings {c} h k l e = sym (class-is (halvings-of-doublings h k l)) ∙ ap (λ x. halvings-answer c x k .class) e
 
@@ -159,7 +175,7 @@ module _ (c : Curve) (a : Class) (n : ℕ) where
   unfolding halvings-answer halvings-refusal given unless _or-else_
   halvings-too-many h l = rw (h .none, lt-leb n halvings-limit l) refl
 
-  -- ---- told apart
+  -- ---- every refusal is valid
   multiple-refusal-told : Told (multiple-refusal c a n)
   unfolding multiple-refusal IsRefusal refusals listed
   multiple-refusal-told = told-or-else _ _ (refusal-told c a) (told-unless _ 118 refl)

@@ -1,6 +1,13 @@
--- n times an accepted class and an accepted class halved k times: they are accepted (`multiple-accepts`, `halved-accepts`), stand for the group's
--- (`multiple-pair`, `halved-pair`), and are reached by the calls of the code: none at 0 (`multiple-none`, `halved-none`), one digit more (`odd-turn`, `even-turn`),
--- one half more (`halved-next`).
+-- n times an accepted class, and an accepted class halved k times: what they stand for, and how the code reaches them.
+-- `multiple-accepts`: n times the class is accepted.
+-- `multiple-pair`: it stands for n times the class in the group.
+-- `multiple-none`: 0 times the class is the neutral class.
+-- `odd-turn`: for odd n it is the double of n / 2 times the class, plus the class.
+-- `even-turn`: for even n it is the double of n / 2 times the class.
+-- `halved-accepts`: the class halved k times is accepted.
+-- `halved-pair`: it stands for the class halved k times in the group.
+-- `halved-none`: halved 0 times it is the class.
+-- `halved-next`: halved k + 1 times it is the half of the class halved k times.
 use Prim.Native.Nat.{ℕ, suc, _/_, _%_}
 use mathlib.Core.Path.{_≡_, sym, _∙_, ap}
 use Rattle.class_group.specs.{Mumford.Pair, Mumford.Reduced, Mumford.neutral, Operations.sum, Operations.double, Half.half, Moves.double-and-add}
@@ -39,7 +46,6 @@ module _ {c : Curve} {a : Class} (h : Accepts c a) where
   unfolding multiple-class
   multiple-none = sym (ap (class-of d) (multiple-zero (classes (curve c)) (pair d a)) ∙ neutral-value c)
 
-  -- one digit more
   pub odd-turn : (n : ℕ) → n % 2 ≡ 1 → double-and-add-answer c (multiple-class c a (n / 2)) a .class ≡ multiple-class c a n
   unfolding multiple-class double-and-add
   odd-turn n odd =

@@ -7,18 +7,19 @@ use Rattle.seal_licence.specs.Multiples.{multiple-answer, halvings-answe
 use Rattle.seal_licence.specs.declared.calls.Call.{Call}
 use Rattle.seal_licence.specs.declared.calls.Call.the-variants.{Multiple, Halvings}
 
--- what the call by value answers for the values of a record
+-- the response to a call, from a record of one class
 unfoldable pub answered : Call → Held → Handed
 answered (Multiple n) h = class-handed (multiple-answer (h .curve) (h .class) n)
 answered (Halvings k) h = class-handed (halvings-answer (h .curve) (h .class) k)
 
--- a call: the record of one class, and its answer into an output that has room for a class field
+-- a byte call: it decodes a record of one class and writes the response into an output with room for a class field
 abbrev pub called : Call → List ℕ → List ℕ → Effect
 called call s out = byte-call class-room class-record (answered call) s out
 
--- the number is handed over beside the record
+-- n times the record's class; n is an argument of the call
 abbrev pub multiple-call : ℕ → List ℕ → List ℕ → Effect
 multiple-call n = called (Multiple n)
 
+-- the record's class halved k times; k is an argument of the call
 abbrev pub halvings-call : ℕ → List ℕ → List ℕ → Effect
 halvings-call k = called (Halvings k)

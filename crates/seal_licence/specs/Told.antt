@@ -1,9 +1,9 @@
--- Answers told apart (docs/SPECIFICATION.md, 6).
+-- Answers that are a class or a listed refusal (docs/SPECIFICATION.md, 6).
 use Prim.Native.Nat.{ℕ}
 use Rattle.jacobian.specs.{Refusals.IsRefusal, Answer.Result, Answer.gives, declared.Class.Class}
 use Rattle.seal_licence.specs.Multiples.{refuses}
 
--- an acceptance, or a refusal with one of the numbers and the neutral class
+-- an acceptance with its class, or a listed refusal with the neutral class
 pub data ResultTold : Result → Type 0 where
   acceptance : (a : Class) → ResultTold (gives a)
   refusal : (n : ℕ) → IsRefusal n → ResultTold (refuses n)

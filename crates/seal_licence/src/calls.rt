@@ -1,4 +1,4 @@
-// The calls for C: a record of one class in, a number beside it, and the field of a class at the start of the lent output.
+// The calls for C: a record of one class and a number in, the field of a class at the start of the lent output.
 // Each answers the length written, or the number of a refusal, and then no lent byte has changed.
 ghost use mathlib.Core.Path.{_≡_};
 ghost use Rattle.written_form.specs.{Effect.effect, Effect.handed, Effect.class-handed};
@@ -13,13 +13,13 @@ use written_form::effect;
 use written_form::effect::Output;
 use written_form::writing;
 
-// What is asked of the class of a record.
+// The two calls on the class of a record: n times it, and the class halved k times.
 enum Call {
     Multiple(u64),
     Halvings(u64),
 }
 
-// The field of the class, unless the call refused.
+// The encoded class field, or the refusal.
 fn class_output(r: ClassResult) -> Output
     ensures { λ o. ⌜ handed o ≡ class-handed (class-result r) ⌝ }
 {
@@ -32,7 +32,7 @@ fn class_output(r: ClassResult) -> Output
     })
 }
 
-// What the call by value answers for the values of a record, as it is written.
+// The response to a call, from a record of one class.
 fn answered(call: Call, h: Held) -> Output
     ensures { λ r. ⌜ handed r ≡ answered call h ⌝ }
 {
@@ -44,7 +44,7 @@ fn answered(call: Call, h: Held) -> Output
     }
 }
 
-// The body of both calls: 101, then the record, then the answer for its values.
+// The body of both calls: 101 for an output without room, then the record's refusal, then the response.
 fn class_call(call: Call, input: &[u8], output: &mut [u8]) -> u32
     ensures { λ r. ⌜ effect r (now (output .exit)) ≡ called call (now (input .entry)) (now (output .entry)) ⌝ }
 {

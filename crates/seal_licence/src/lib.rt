@@ -1,3 +1,3 @@
-// Multiples and repeated halves of a class, by value and for C: a product of its own, above the classes.
+// n times a class and a class halved k times, by value and for C; a library of its own.
 pub mod calls;
 pub mod multiples;

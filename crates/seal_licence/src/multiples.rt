@@ -1,5 +1,6 @@
 // n times a class, and a class halved k times, by value.
-// A refusal is the first that is due: 106 and 107 for the curve, then 104, 110 and 111 for the class, then 118 for n or 119 for k.
+// The refusal is that of the first check that fails: 106 and 107 of the curve, then 104, 110 and 111 of the class, then
+// 118 of n or 119 of k.
 ghost use Prim.Native.Nat.{_≤_, _<_, _/_, _^_};
 ghost use mathlib.Core.Path.{_≡_};
 ghost use Rattle.jacobian.specs.{Checks.unless, Checks._or-else_, Answer.gives, Answer.refusal, Answer.Accepts};
@@ -11,18 +12,19 @@ use jacobian::Outcome;
 // One more than the largest n: 2^61, so that n has at most 61 binary digits.
 pub const MULTIPLE_LIMIT: u64 = 0x2000_0000_0000_0000;
 
+// The largest bit length of n.
 const DIGITS: u64 = 61;
 
 // The largest k.
 pub const HALVINGS_LIMIT: u64 = 64;
 
-// A class, or a refusal with the neutral class. The way to a class has many reduction steps, which are not counted.
+// A class, or a refusal with the neutral class. The reduction steps of the calls in between are not counted.
 pub struct ClassResult {
     pub outcome: Outcome,
     pub class: Class,
 }
 
-// A refusal, with the neutral class.
+// Refusal n with the neutral class.
 fn refused(n: u32) -> ClassResult
     ensures { λ r. ⌜ class-result r ≡ refuses n ⌝ }
 {
@@ -33,7 +35,7 @@ fn refused(n: u32) -> ClassResult
     }
 }
 
-// An acceptance, with its class.
+// An acceptance with its class.
 fn given(class: Class) -> ClassResult
     ensures { λ r. ⌜ class-result r ≡ gives class ⌝ }
 {
@@ -43,7 +45,7 @@ fn given(class: Class) -> ClassResult
     }
 }
 
-// How many binary digits n has: nothing is left of it behind so many.
+// Bit length of n: n / 2^r is 0.
 fn digits(n: u64) -> u64
     requires { ⌜ n < multiple-limit ⌝ }
     ensures { λ r. ⌜ (r ≤ 61) × (n / 2 ^ r ≡ 0) ⌝ }
@@ -58,7 +60,7 @@ fn digits(n: u64) -> u64
     0
 }
 
-// From n / 2 times a class to n times it: the double, and the class once more where n is odd.
+// n times a class from n / 2 times it: the double, plus the class where n is odd.
 fn doubled(curve: Curve, a: Class, n: u64, half: Class) -> Class
     requires { ⌜ Accepts curve a × (half ≡ multiple-class curve a (n / 2)) ⌝ }
     ensures { λ r. ⌜ r ≡ multiple-class curve a n ⌝ }
@@ -71,7 +73,7 @@ fn doubled(curve: Curve, a: Class, n: u64, half: Class) -> Class
     answer.class
 }
 
-// n times a class, by the binary digits of n, the highest first.
+// n times an accepted class, by the binary digits of n, the highest first.
 fn multiple_of_accepted(curve: Curve, a: Class, n: u64) -> Class
     requires { ⌜ Accepts curve a × (n < multiple-limit) ⌝ }
     ensures { λ r. ⌜ r ≡ multiple-class curve a n ⌝ }
@@ -86,7 +88,7 @@ fn multiple_of_accepted(curve: Curve, a: Class, n: u64) -> Class
     r
 }
 
-// A class halved k times.
+// An accepted class halved k times.
 fn halved_of_accepted(curve: Curve, a: Class, k: u64) -> Class
     requires { ⌜ Accepts curve a ⌝ }
     ensures { λ r. ⌜ r ≡ halved-class curve a k ⌝ }
@@ -101,7 +103,7 @@ fn halved_of_accepted(curve: Curve, a: Class, k: u64) -> Class
     r
 }
 
-// The refusal that is due: that of the curve or the class, else that of a number which is not in range; 0 where none is.
+// The refusal of the curve or the class, else this number where n or k is not within its limit; 0 where all pass.
 fn refusal_of(curve: Curve, a: Class, within: bool, number: u32) -> u32
     ensures { λ r. ⌜ r ≡ (refusal curve a or-else unless within number) ⌝ }
 {

@@ -1,5 +1,7 @@
--- What a call by value answers is what the call in place says, with the number of the outcome (`step-in-place`), and on a refusal with the register that was
--- lent (`lent-in-place`).
+-- The answer of a call by value, as the call in place answers it.
+-- `verdict-number`: equal outcomes have equal numbers.
+-- `step-in-place`: the number of the outcome and the register of a call by value are the answer in place.
+-- `lent-in-place`: for a number other than 0, that number and the lent register as it was are the answer in place.
 use Prim.Native.Nat.{ℕ, zero, suc}
 use mathlib.Core.{Path._≡_, Path.refl, Path.sym, Path._∙_, Path.ap, Bool.not}
 use lib.Dec.{T, eqb}
@@ -10,7 +12,7 @@ use Rattle.history.specs.declared.{Register.Register, RegisterAnswer.RegisterAn
 use Rattle.seal_register.specs.InPlace.{in-place}
 use Rattle.seal_register.proofs.InPlace.{refusal-leaves}
 
--- a verdict has one number
+-- the number of an outcome
 number : Verdict → ℕ
 number accepted = 0
 number (refused n) = n
@@ -42,7 +44,6 @@ pub step-in-place : (k : Step) (r : Register) (a : Class) (x : RegisterAnswer) (
 unfolding step-answer
 step-in-place k r a = follows-in-place _ r _
 
--- where the number is another than 0, the register that was lent is the one to leave
 pub lent-in-place : (k : Step) (r : Register) (a : Class) (n : ℕ) (told : Register) → in-place n told ≡ step-answer k r a → T (not (eqb n 0)) → in-place n r ≡ step-answer k r a
 unfolding answer
 lent-in-place k r a zero told e h = absurd h

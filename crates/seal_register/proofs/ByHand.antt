@@ -1,5 +1,7 @@
--- In a walk of the code by hand: the locals; the test of a loop (`tests`); and a call of a covered function with plain parameters (`asks`), whose arguments are
--- owned for nothing, and which leaves some value of its type with the machine value that came, and the fact that it promises of it.
+-- Rules for proofs that go through the code statement by statement.
+-- `var`: the operand that reads a local.
+-- `tests`: the test of a loop.
+-- `asks`: a call of a covered function without references; the caller gets a value of its type and what it promises.
 use Prim.Native.Nat.{ℕ}
 use mathlib.Core.{Path._≡_, Bool.Bool, Bool.not, List.List, List.[], List._∷_}
 use lib.Dec.{T}
@@ -14,19 +16,20 @@ use types.{Kit.Given, Kit.Go, Kit.Item, Kit.nth, Kit.Post, Kit.post, Kit.prop, K
 use denote.{RattleType.Denots, RattleType.Valss, RattleType.flat, RattleType.owns, Laws.Is, Laws.Ises, Laws.Are, Laws.Makess, Laws.owns-make, Laws.shows, Exit.yes, Signature.Slot, Signature.typeAt, Signature.typesAt, Steps.facts, Steps.heard, Steps.nothing}
 use denote.Triple.{Statement.Contract, Statement.Triple, Call.calls-at, Spec.tripleOf, End.all, Clauses.Ended, Clauses.Clauses, Clauses.closing, Clauses.ensured, Clauses.lasts}
 
--- a local that holds nothing, and one that holds v
+-- a local without a value
 abbrev pub empty : {M : Type 1} {𝓤 : URA M} → Ty → ℕ → List (Item 𝓤) → List (Item 𝓤)
 empty τ l Γ = ‵ (froom τ l 0) ∷ ‵ (fdies τ l) ∷ Γ
 
+-- a local with the value v
 abbrev pub full : {M : Type 1} {𝓤 : URA M} → Ty → ℕ → Val → List (Item 𝓤) → List (Item 𝓤)
 full τ l v Γ = ‵ (fat fullShare τ l 0 v) ∷ ‵ (fdies τ l) ∷ Γ
 
--- the operand that reads local i, which stands at entry n
+-- the operand that reads local i, whose entry has index n
 pub var : {M : Type 1} {𝓤 : URA M} {H : Heap 𝓤} {A : Atoms 𝓤} {W : Given 𝓤 H A} {Γ : List (Item 𝓤)} {E : Env 𝓤 H} (n : ℕ) {i : ℕ} {q : Share} {v : Val}
     → nth 𝓤 H A n Γ ≡ ‵ (fat q (spotOf 𝓤 H E i .0) (spotOf 𝓤 H E i .1) (spotOf 𝓤 H E i .2) v) → Opd Go W Γ E (copy (place i [])) v
 var n e = load ! (from ! (stop !)) (look ! n e)
 
--- the test of a `while`: the turn goes on, or the loop is left
+-- the test of a `while`: where it is true the body runs, else the loop is left
 pub tests : {M : Type 1} {𝓤 : URA M} {H : Heap 𝓤} {A : Atoms 𝓤} {W : Given 𝓤 H A} {Γ : List (Item 𝓤)} {E : Env 𝓤 H} {C : Calls 𝓤 H} {Λ : Loops 𝓤 H} {q : Post 𝓤 H}
     {c : Operand} {n : ℕ} {b : Body} {y : Bool} → Opd Go W Γ E c (vbool y) → (T y → Seq Go W Γ (runs C Λ E b q)) → (T (not y) → Seq Go W Γ (prop (post 𝓤 H q (exits n))))
     → Seq Go W Γ (runs C Λ E (seq (cond c skip (exit n)) b) q)
@@ -55,7 +58,7 @@ module _ (ss : List (Slot 0)) (s : Slot 0) where
 
 module _ {M : Type 1} {𝓤 : URA M} {H : Heap 𝓤} {A : Atoms 𝓤} {W : Given 𝓤 H A} {Γ : List (Item 𝓤)} {E : Env 𝓤 H} {C : Calls 𝓤 H} {Λ : Loops 𝓤 H} {q : Post 𝓤 H}
     {f : Name} {xs : List Operand} {d : Place} {rest : Body} where
-  -- the function is called with these arguments, and the walk goes on with what it answers
+  -- the function is called with these arguments, and the proof goes on with its result
   pub asks : FmC 𝓤 H (W .laws) C → (ss : List (Slot 0)) (s : Slot 0) (φ : Denots (typesAt ss tt) → typeAt s tt .Denot → Type 0) → Triple 𝓤 (C f) (Promised ss s 𝓤 H A φ)
       → Makess 𝓤 H A (typesAt ss tt) (Ises (typesAt ss tt)) → (a : Denots (typesAt ss tt)) (vss : Valss (typesAt ss tt)) → Are (typesAt ss tt) (Ises (typesAt ss tt)) a vss
       → Opds Go W (raw (Promised ss s 𝓤 H A φ .pre ((tt, tt, tt, a, vss), tt)) ∷ Γ) E xs (flat (typesAt ss tt) vss)

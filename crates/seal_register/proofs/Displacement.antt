@@ -1,6 +1,13 @@
--- How far one changed operation moves a seal (docs/SPECIFICATION.md, 11), of lists in which each call is by value or in place: where only operation k of n changes, from d to e, the
--- last seal moves by n - k doublings of e - d (`displacement`), and it moves where d and e differ (`moves`); both are accepted (`both-accept`). Of walks over two lent rows that are not refused and reach one earliest
--- seal: `row-displacement`, `row-moves` say the same of the last seals handed over.
+-- How far one changed operation moves a seal (docs/SPECIFICATION.md, 11).
+-- Two lists of calls from one first seal on one curve, each call by value or in place, whose accepted calls are n
+-- commits of which only the k-th changes, from d to e:
+-- `both-accept`: d and e are accepted.
+-- `displacement`: the last seal plus n - k doublings of e - d is the changed last seal; the sum is not refused.
+-- `moves`: the last seal changes where d and e differ.
+-- Two walks over lent rows of n classes, not refused and with one earliest seal, where only operation k changes so:
+-- `row-displacement`: the last seal of the first plus n - k doublings of e - d is that of the second; the sum is not
+-- refused.
+-- `row-moves`: the two last seals differ where d and e differ.
 use Prim.Native.Nat.{ℕ, _-_}
 use mathlib.Core.Path.{_≡_, sym, _∙_, ap}
 use mathlib.Core.List.{List, [], _∷_, reverse}
@@ -34,7 +41,7 @@ unfolding classes-refusal
 classes-pass c ok [] e = none
 classes-pass c ok (a ∷ ops) e = let p = then-zero _ _ e in more (accepts-both c a ok (p .0)) (classes-pass c ok ops (p .1))
 
--- what a walk that is not refused was given, and what it reaches
+-- a walk that is not refused has an accepted seal and accepted classes, and it reaches the seal of its answer
 record Walked (c : Curve) (s : Class) (ops : List Class) (w : RowWalk) : Type 0 where
   seal : Accepts c s
   operations : All (Accepts c) ops

@@ -1,10 +1,23 @@
--- A call in place says what the call by value says, and a refusal leaves the lent register unchanged (`refusal-leaves`).
--- Demand 3 on a list in which each call is by value or in place (docs/SPECIFICATION.md, 8 and 11): the machine of what was said, carried to the register's,
--- agrees with it (`agreeing`), so what happens is what happens with all calls by value (`happened-run`), and each theorem of the crate history holds of it.
--- `taken-back-turned`: taking the accepted calls back, newest first, each by value or in place, does to each call what `turned` says. So none is refused
--- (`taken-back-accepted`), each brings back the register just before the call that it takes back (`taken-back-registers`), and all of them the first one
--- (`taken-back-all`). `failing`, `failing-stays`: a register that itself fails a check is refused by every call and stays as it was. `curve-kept`: degree and
--- curve never change. `walk-steps`, `walk-meets`, `walk-ends`, `walk-part`: where only commits were accepted, the walk back from the register's seal.
+-- Demand 3 on a list in which each call is by value or in place (docs/SPECIFICATION.md, 8 and 11). What happens is what
+-- happens with all calls by value, so the theorems of the crate history hold of it.
+-- `refusal-leaves`: a refusal leaves the lent register unchanged.
+-- `happened-run`: what happens is what happens with all calls by value.
+-- `left-by-last`: so for the register after the list.
+-- `newest-is`: so for the accepted calls.
+-- `as-by-value`: what holds of these with all calls by value holds of them.
+-- `curve-kept`: no call changes degree or curve.
+-- `failing`: a register that itself fails a check is refused by every call with that check's number.
+-- `failing-stays`: such a register stays as it was.
+-- `taken-back-turned`: taking the accepted calls back, newest first, does to each call what `turned` says.
+-- `taken-back-accepted`: no call that takes a call back is refused.
+-- `taken-back-registers`: each leaves the register just before the call that it takes back.
+-- `taken-back-all`: after all of them the register is the first one.
+-- Where the accepted calls are all commits, for the walk back from the last seal over their classes, newest first:
+-- `walk-steps`: no step is refused, and each answers the seal just before its commit.
+-- `walk-meets`: the seals of the walk are the last seal, then those just before the commits.
+-- `walk-ends`: the walk over the k newest classes ends in the seal just before the k-th newest commit, and for k = 0 in
+-- the last seal.
+-- `walk-part`: no step of the walk over the k newest classes is refused.
 use Prim.Native.Nat.{ℕ, suc, _≤_}
 use mathlib.Core.{Path._≡_, Path.refl, Path.sym, Path._∙_, Path.ap, List.List, List.[], List._∷_, List.map, List.map-map}
 use lib.ListN.{length, take, getD}
@@ -19,13 +32,12 @@ use Rattle.history.proofs.TakingBack as history
 use Rattle.history.proofs.WalkingBack as walking
 use Rattle.seal_register.specs.InPlace.{in-place, Made, call, said, calls, made, Session, happened, left-by, newest-made, seals-made}
 
--- on a refusal the lent register is unchanged
 pub refusal-leaves : (r : Register) (c : Call) (n : ℕ) (left : Register) → in-place (suc n) left ≡ answer r c → left ≡ r
 unfolding in-place verdict-of
 refusal-leaves r c n left e = ap (λ (x : RegisterReply). x .register) e ∙ refused-stays r c (suc n) (sym (ap (λ (x : RegisterReply). x .outcome) e))
 
 -- ---- a list of calls
--- the register's machine answers each of them so
+-- each call is answered as the machine of registers answers it
 agreeing : (r : Register) (ms : List Made) → Session r ms → All (machine.Agrees (λ t. t) call registers) (machine.run made r ms)
 unfolding machine.run machine.event machine.Agrees machine.carried
 agreeing r [] none = none
@@ -33,7 +45,6 @@ agreeing r (m ∷ ms) (more e s) =
     more (ap (λ (x : RegisterReply). record { before = r; call = call m; outcome = x .outcome; left = x .register }) (sym e)) (agreeing (said m .register) ms s)
 
 module _ (r : Register) (ms : List Made) (s : Session r ms) where
-  -- what happens is what happens with all calls by value
   pub happened-run : happened r ms ≡ run r (calls ms)
   unfolding happened calls
   happened-run = run-carried (λ t. t) call made registers r ms (agreeing r ms s)
@@ -46,15 +57,12 @@ module _ (r : Register) (ms : List Made) (s : Session r ms) where
   unfolding newest-made calls
   newest-is = newest-carried (λ t. t) call made registers r ms (agreeing r ms s)
 
-  -- whatever holds of the accepted calls and of the last register with all calls by value
   pub as-by-value : (P : List Event → Register → Type 0) → P (newest r (calls ms)) (last r (calls ms)) → P (newest-made r ms) (left-by r ms)
   as-by-value P h = rw (newest-is, left-by-last) h
 
-  -- degree and curve never change
   pub curve-kept : All (λ e. e .left .curve ≡ r .curve) (happened r ms)
   curve-kept = rw happened-run (history.curve-kept r (calls ms))
 
--- a register that itself fails a check is refused by every call with that check's number and stays as it was
 module _ (r : Register) (fails : ¬ (register-refusal r ≡ 0)) (ms : List Made) (s : Session r ms) where
   pub failing : happened r ms ≡ map (λ m. record { before = r; call = call m; outcome = refused (register-refusal r); left = r }) ms
   unfolding calls
@@ -64,7 +72,7 @@ module _ (r : Register) (fails : ¬ (register-refusal r ≡ 0)) (ms : List Made)
   failing-stays = left-by-last r ms s ∙ failing-last r fails (calls ms)
 
 module _ (r : Register) (ms : List Made) (s : Session r ms) where
-  -- the accepted calls are taken back, newest first, each by value or in place
+  -- the list bs of calls takes the accepted calls back, newest first, each by value or in place
   module _ (bs : List Made) (back : Session (left-by r ms) bs) (takes : calls bs ≡ backs (newest-made r ms)) where
     pub taken-back-turned : happened (left-by r ms) bs ≡ map turned (newest-made r ms)
     unfolding machine.taken-back
@@ -72,38 +80,32 @@ module _ (r : Register) (ms : List Made) (s : Session r ms) where
         happened-run (left-by r ms) bs back ∙ ap (run (left-by r ms)) takes
         ∙ as-by-value r ms s (λ es t. run t (backs es) ≡ map turned es) (history.taken-back-turned r (calls ms))
 
-    -- none is refused
     pub taken-back-accepted : All (λ e. e .outcome ≡ accepted) (happened (left-by r ms) bs)
     unfolding machine.turned
     taken-back-accepted = rw taken-back-turned (all-map turned (λ e. refl) (newest-made r ms))
 
-    -- the registers just before the accepted calls come back one by one
     pub taken-back-registers : map (λ e. e .left) (happened (left-by r ms) bs) ≡ map (λ e. e .before) (newest-made r ms)
     unfolding machine.turned
     taken-back-registers = ap (map (λ e. e .left)) taken-back-turned ∙ map-map (λ e. e .left) turned (newest-made r ms)
 
-    -- and at the end the first one
     pub taken-back-all : left-by (left-by r ms) bs ≡ r
     taken-back-all =
         left-by-last (left-by r ms) bs back ∙ ap (last (left-by r ms)) takes
         ∙ as-by-value r ms s (λ es t. last t (backs es) ≡ r) (history.taken-back-all r (calls ms))
 
-  -- the walk back, where only commits were accepted
+  -- ---- the walk back, where all accepted calls are commits
   module _ (only : OnlyCommits (newest-made r ms)) where
     only-by-value : OnlyCommits (newest r (calls ms))
     only-by-value = rw (newest-is r ms s) at only
 
-    -- no step is refused, and each answers the seal just before its commit
     pub walk-steps : steps-back (r .curve) (left-by r ms .seal) (classes (newest-made r ms)) ≡ map met (newest-made r ms)
     walk-steps = as-by-value r ms s (λ es t. steps-back (r .curve) (t .seal) (classes es) ≡ map met es) (walking.walk-steps r (calls ms) only-by-value)
 
-    -- all seals of the walk, the last seal first
     pub walk-meets : walk (undo-seal (r .curve)) (left-by r ms .seal) (classes (newest-made r ms)) ≡ seals-made r ms
     unfolding seals-back seals-made
     walk-meets =
         as-by-value r ms s (λ es t. walk (undo-seal (r .curve)) (t .seal) (classes es) ≡ t .seal ∷ map (λ e. e .before .seal) es) (walking.walk-meets r (calls ms) only-by-value)
 
-    -- the walk over the k newest classes ends in the seal just before the k-th newest commit, and for k = 0 in the last seal
     pub walk-ends : (k : ℕ) → k ≤ length (newest-made r ms)
         → walk-back (r .curve) (left-by r ms .seal) (take k (classes (newest-made r ms))) ≡ getD (seals-made r ms) k (left-by r ms .seal)
     unfolding seals-back seals-made
@@ -111,7 +113,6 @@ module _ (r : Register) (ms : List Made) (s : Session r ms) where
         as-by-value r ms s (λ es t. (k : ℕ) → k ≤ length es → walk-back (r .curve) (t .seal) (take k (classes es)) ≡ getD (t .seal ∷ map (λ e. e .before .seal) es) k (t .seal))
         (walking.walk-ends r (calls ms) only-by-value)
 
-    -- and no step of it is refused
     pub walk-part : (k : ℕ) → steps-back (r .curve) (left-by r ms .seal) (take k (classes (newest-made r ms))) ≡ take k (map met (newest-made r ms))
     walk-part =
         as-by-value r ms s (λ es t. (k : ℕ) → steps-back (r .curve) (t .seal) (take k (classes es)) ≡ take k (map met es)) (walking.walk-part r (calls ms) only-by-value)

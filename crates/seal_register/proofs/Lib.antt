@@ -1,4 +1,4 @@
--- The register changed in place and lists of such calls; the walk over a lent row, its steps and demand 3 of it; what both answer, told apart.
+-- Calls on a lent register and lists of them; the walk over a lent row, its steps and demand 3 of it; what both answer.
 pub mod Answer
 pub mod ByHand
 pub mod InPlace

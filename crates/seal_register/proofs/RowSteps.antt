@@ -1,4 +1,11 @@
--- The walk on its way: what its opening and each of its steps answer, and that together they answer the walk over the whole row (`row-walked`).
+-- The steps of a walk over a lent row.
+-- `refused-is`, `accepted-is`: a refusal with the neutral class, and an acceptance with a seal, as `sealed` has them.
+-- `opening-empty`, `opening-above`, `opening-within`: the refusal before the first step, by the number of classes.
+-- `turns-none`, `turns-all`, `turns-few`: no step after a refusal, else one for each class; never more than classes.
+-- `after-next`: one step more goes over the next element.
+-- `refused-stays`: a step leaves a refused walk as it is.
+-- `stepped`: the number and the class of the code's step are what one step answers.
+-- `row-walked`: the steps after the first checks answer the walk over the whole row.
 use Prim.Native.Nat.{ℕ, zero, suc, _+_, _≤_, _<_}
 use mathlib.Core.{Path._≡_, Path.refl, Path.sym, Path._∙_, Path.ap, Path.ap₂, Bool.Bool, Bool.true, Bool.false, List.List, List.[], List._∷_, List._++_}
 use native.Mathlib.Numerals.{add-one}
@@ -30,12 +37,12 @@ pub accepted-is : (n : ℕ) (s : Class) → n ≡ 0 → record { outcome = accep
 unfolding sealed
 accepted-is n s e = rw e
 
--- an answer by its number
+-- an answer of the code, by the number of its outcome
 number-says : (x : ClassAnswer) (n : ℕ) (s : Class) → result (reply x) ≡ sealed n s → record { outcome = verdict-of (outcome-refusal (x .outcome)); class = x .class } ≡ sealed n s
 number-says x n s e =
     ap (λ v. record { outcome = v; class = x .class }) (ap verdict-of (answer-refusal x n s e) ∙ sym (ap (λ (y : Result). y .outcome) e ∙ sealed-outcome n s)) ∙ e
 
--- ---- the opening
+-- ---- before the first step
 module _ (c : Curve) (s : Class) where
   pub opening-empty : (n : ℕ) → n ≡ 0 → refusal c s ≡ opening-refusal c s n
   unfolding opening-refusal
@@ -79,7 +86,6 @@ then-above zero (suc n) s h = refl
 then-above (suc a) n s h = refl
 
 -- ---- rows
--- one step more leads over the next element
 module _ {X Y : Type 0} (rule : X → Y → X) where
   after-last : (x : X) (l : List Y) (a : Y) → after rule x (l ++ a ∷ []) ≡ rule (after rule x l) a
   unfolding after
@@ -96,7 +102,6 @@ module _ (c : Curve) where
   refused-stays zero s a h = absurd (h refl)
   refused-stays (suc n) s a h = refl
 
-  -- the number and the class of the step's answer, where the walk stands at a seal
   pub stepped : (n : ℕ) (s a : Class) (x : ClassAnswer) → n ≡ 0 → reply x ≡ subtract-and-halve-answer c s a
       → record { outcome = verdict-of (outcome-refusal (x .outcome)); class = x .class } ≡ onward c (record { outcome = verdict-of n; class = s }) a
   unfolding onward verdict-of
@@ -114,7 +119,7 @@ module _ (c : Curve) where
   refused-stands n s [] = refl
   refused-stands n s (a ∷ ops) = refused-stands n s ops
 
-  -- from an accepted seal, the steps lead along the walk to the first class that is refused, or to its end
+  -- from an accepted seal, the steps answer the end of the walk, or the refusal of the first refused class
   module _ (ok : curve-refusal c ≡ 0) where
     next-refusal : (s a : Class) → Accepts c s → refusal-of-two c s a ≡ class-refusal c a
     unfolding refusal-of-two refusal _or-else_
@@ -181,7 +186,6 @@ module _ (c : Curve) where
         ∙ sym (turns-none k (length (a ∷ ops)) (then-positive (curve-refusal c) (count-refusal (length (a ∷ ops))) above)) in
         ap₂ (λ (y : Result) (j : ℕ). after (onward c) y (take j (a ∷ ops))) start still ∙ row-above s (a ∷ ops) above
 
-    -- the steps that are due after the opening x answer the walk over the row
     pub row-walked : (ops : List Class) (x : Result) (n : ℕ) → x ≡ sealed (opening-refusal c s (length ops)) s → n ≡ turns-due (x .outcome) (length ops)
         → after (onward c) x (take n ops) ≡ row-walk-answer c s ops
     unfolding after opening-refusal classes-refusal walk-back

@@ -1,7 +1,10 @@
--- Demand 3 of the walk over a lent row (docs/SPECIFICATION.md, 8 and 11), on a list in which each call is by value or in place: where the accepted calls are all
--- commits, on a register that fails no check, the walk from the last seal over the k newest of their classes is not refused and answers the seal just before
--- the k-th newest commit, and for k = 0 the last seal (`row-walk-meets`); over all of them it answers the first register's seal (`row-walk-first`).
--- `row-walk-answers`, `row-walk-first-answers` say the same of the code's answer, by its contract.
+-- Demand 3 of the walk over a lent row (docs/SPECIFICATION.md, 8 and 11), after a list of calls, each by value or in
+-- place, on a register that passes its checks, where all accepted calls are commits.
+-- `row-walk-meets`: the walk from the last seal over the k newest classes is not refused and answers the seal just
+-- before the k-th newest commit, for k = 0 the last seal.
+-- `row-walk-first`: the walk over all classes answers the first seal.
+-- `row-walk-answers`: the code's walk over the k newest classes answers 0 and that seal.
+-- `row-walk-first-answers`: the code's walk over all classes answers 0 and the first seal.
 use Prim.Native.Nat.{ℕ, zero, suc, _≤_}
 use mathlib.Core.{Path._≡_, Path.refl, Path.sym, Path._∙_, Path.ap, Path.ap₂, Path.subst, List.List, List.[], List._∷_, List.map, List.map-map}
 use native.Mathlib.Omega.{arith}
@@ -17,7 +20,7 @@ use Rattle.seal_register.specs.{InPlace.Made, InPlace.calls, InPlace.Ses
 use Rattle.seal_register.proofs.{Answer.verdict-number, InPlace.as-by-value, InPlace.newest-is}
 
 -- ---- the walk's answer where no check fails
--- no class among those of unrefused calls is refused
+-- the first k classes of these calls are not refused where none is
 unrefused : (c : Curve) (es : List Event) (k : ℕ) → All (λ e. class-refusal c (e .call .class) ≡ 0) es → classes-refusal c (take k (classes es)) ≡ 0
 unfolding classes-refusal classes _or-else_
 unrefused c [] zero none = refl
@@ -31,7 +34,7 @@ unfolding row-walk-answer row-refusal sealed _or-else_
 row-answered c s ops hc hs hl ho = rw (hc, within-limit (length ops) hl, hs, ho)
 
 -- ---- with all calls by value
--- what the last call of a run leaves is the last state
+-- the state that the last call of a run leaves is the state after the list
 run-ends : {State Call X : Type 0} (M : machine.Machine State Call) (f : State → X) (s : State) (cs : List Call) (x : X)
     → getD (f s ∷ map (λ e. f (e .left)) (machine.run M s cs)) (length (machine.run M s cs)) x ≡ f (machine.last M s cs)
 unfolding machine.run machine.last machine.event after
@@ -39,7 +42,7 @@ run-ends M f s [] x = refl
 run-ends M f s (c ∷ cs) x = run-ends M f (M .next s c) cs x
 
 module _ (r : Register) (cs : List Call) where
-  -- the seals to meet end in the first one
+  -- the last of the seals that a walk back meets is the first seal
   first-seal : getD (seals-back r cs) (length (newest r cs)) (last r cs .seal) ≡ r .seal
   unfolding seals-back machine.taken-back machine.turned
   first-seal =

@@ -1,6 +1,8 @@
--- What the lent calls answer is told apart (docs/SPECIFICATION.md, 6). For every register and class a commit or an undo in place answers 0 and leaves the register
--- that follows, or answers the number of a refusal and leaves the register as it was (`lent-told`). The walk over a lent row answers 0 and the earliest seal,
--- which is a class that no check refuses, or the number of a refusal and the neutral class (`row-walk-told`).
+-- Every answer of the lent calls is an acceptance or a listed refusal (docs/SPECIFICATION.md, 6).
+-- `lent-told`: a commit or an undo in place answers 0 and leaves the next register, or answers a listed refusal and
+-- leaves the register as it was.
+-- `row-walk-told`: the walk over a lent row answers 0 and the earliest seal, which no check refuses, or a listed
+-- refusal and the neutral class.
 use Prim.Native.Nat.{ℕ, zero, suc}
 use mathlib.Core.{Path._≡_, Path.refl, Path.sym, Path._∙_, Path.ap, Path.subst, List.List, List.[], List._∷_, Logic._⊎_, Logic.inl, Logic.inr}
 use Rattle.lists.specs.Walk.{after}
@@ -12,7 +14,7 @@ use Rattle.history.proofs.{Seals.undo-sound, Told.count-refusal-told, Told.step
 use Rattle.seal_register.specs.{InPlace.in-place, RowWalk.classes-refusal, RowWalk.row-refusal, RowWalk.reached, RowWalk.row-walk-answer, declared.walk.RowWalk.RowWalk}
 use Rattle.seal_register.proofs.Answer.{verdict-number}
 
--- a number of a verdict that refuses is that of a refusal
+-- where a valid refusal other than 0 gives the outcome, the number is a listed refusal
 refused-number : (m n : ℕ) → Told (suc m) → verdict-of n ≡ verdict-of (suc m) → IsRefusal n
 unfolding verdict-of
 refused-number m n t e = subst IsRefusal (sym (verdict-number n (suc m) e)) (refused-told (suc m) (suc m) t refl)

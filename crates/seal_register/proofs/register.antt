@@ -1,2 +1,2 @@
--- What the proofs of the calls in place share.
+-- The common proof of the calls in place.
 mod Lent

@@ -10,12 +10,13 @@ use Rattle.history.specs.Register.{sealed}
 use Rattle.history.specs.Calls.{walk-back}
 use Rattle.seal_register.specs.declared.walk.RowWalk.{RowWalk}
 
--- 104, 110 or 111 of the first class of a row that is refused; 0 where none is
+-- 104, 110 or 111 of the first refused class of a row; 0 where none is refused
 unfoldable pub classes-refusal : Curve → List Class → ℕ
 classes-refusal c [] = 0
 classes-refusal c (a ∷ ops) = class-refusal c a or-else classes-refusal c ops
 
--- 106 or 107 of the curve, then 109 for more classes than the limit, then 104, 110 or 111 of the last seal, then of the classes, newest first
+-- 106 or 107 of the curve, then 109 for more classes than the limit, then 104, 110 or 111 of the last seal, then of the
+-- classes, newest first
 unfoldable pub row-refusal : Curve → Class → List Class → ℕ
 row-refusal c last ops =
     curve-refusal c
@@ -23,10 +24,10 @@ row-refusal c last ops =
     or-else class-refusal c last
     or-else classes-refusal c ops
 
--- the walk answers the earliest seal
+-- what a walk answers: the earliest seal, or the refusal with the neutral class
 unfoldable pub row-walk-answer : Curve → Class → List Class → Result
 row-walk-answer c last ops = sealed (row-refusal c last ops) (walk-back c last ops)
 
--- what the code's walk says: 0 is no refusal
+-- the answer of the code's walk: accepted where its number is 0
 abbrev pub reached : RowWalk → Result
 reached w = record { outcome = verdict-of (w .refusal); class = w .seal }

@@ -1,2 +1,2 @@
--- What private functions promise.
+-- Definitions that only private functions' contracts name.
 pub mod RowSteps

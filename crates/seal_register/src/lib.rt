@@ -1,3 +1,3 @@
-// The lent forms of the history: commit and undo on a register that the host lends, and a walk over a row of classes that it lends.
+// Calls on lent memory: commit and undo on a lent register, and a walk over a lent row of classes.
 pub mod register;
 pub mod walk;

@@ -1,6 +1,6 @@
 // One register kept for a session and changed in place (docs/SPECIFICATION.md, 8).
-// A call copies the register out, makes the call by value and, where it is accepted, writes the register of its answer back: a refusal writes no byte.
-// It answers the refusal's number, and 0 for an acceptance: a function that C calls cannot return an enum.
+// A call copies the register, makes the call by value and, if accepted, writes the new register back; a refusal writes
+// no byte. It answers 0 for an acceptance, else the refusal's number: a function that C calls cannot return an enum.
 ghost use mathlib.Core.Path.{_≡_};
 ghost use Rattle.history.specs.Register.{step-answer, commit-answer, undo-answer};
 ghost use Rattle.seal_register.specs.InPlace.{in-place};
@@ -8,7 +8,7 @@ use history::Register;
 use history::Step;
 use jacobian::Class;
 
-// What a call in place answers, and the register that it leaves.
+// The number that a call in place answers, and the register that it leaves.
 struct Changed {
     refusal: u32,
     left: Register,

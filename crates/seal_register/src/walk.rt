@@ -1,6 +1,6 @@
-// A walk over a lent row of classes, newest first: from the last seal the undo rule, once for each class, leads to the earliest seal.
-// Checks are made in the stored order: 106 and 107 for the curve, 109 for a row of more classes than the limit, then 104, 110 and 111 for the last seal
-// and for each class.
+// A walk over a lent row of classes, newest first: the undo rule, once for each class, leads from the last seal to the
+// earliest. The checks, in the stored order: 106 and 107 of the curve, 109 for more classes than the limit, then 104,
+// 110 and 111 of the last seal and of each class.
 ghost use mathlib.Core.Path.{_≡_};
 ghost use Rattle.jacobian.specs.Answer.{verdict-of};
 ghost use Rattle.history.specs.Register.{sealed};
@@ -9,14 +9,14 @@ ghost use Rattle.seal_register.specs.internal.RowSteps.{opening-refusal,
 use jacobian::Class;
 use jacobian::Curve;
 
-// Where a walk stands: at a seal with 0, or at a refusal's number with the neutral class.
+// The state of a walk: a seal with 0, or the number of a refusal with the neutral class.
 #[repr(C)]
 pub struct RowWalk {
     pub refusal: u32,
     pub seal: Class,
 }
 
-// The refusal that is due before the first step, which itself checks the curve and the last seal.
+// The refusal before the first step over n classes; where n is not 0, that step checks the curve and the last seal.
 fn opening_refusal(curve: Curve, last: Class, classes: usize) -> u32
     ensures { λ r. ⌜ r ≡ opening-refusal curve last classes ⌝ }
 {
@@ -30,7 +30,7 @@ fn opening_refusal(curve: Curve, last: Class, classes: usize) -> u32
     0
 }
 
-// The seal, or the refusal that is due.
+// The seal if n is 0, else refusal n with the neutral class.
 fn standing(n: u32, seal: Class) -> RowWalk
     ensures { λ r. ⌜ reached r ≡ sealed n seal ⌝ }
 {
@@ -47,7 +47,7 @@ fn standing(n: u32, seal: Class) -> RowWalk
     }
 }
 
-// A walk over so many classes, before its first step.
+// A walk over this many classes, before its first step.
 fn opened(curve: Curve, last: Class, classes: usize) -> RowWalk
     ensures { λ r. ⌜ reached r ≡ sealed (opening-refusal curve last classes) last ⌝ }
 {
@@ -55,7 +55,7 @@ fn opened(curve: Curve, last: Class, classes: usize) -> RowWalk
     standing(due, last)
 }
 
-// How many steps an opened walk over so many classes has to make: none after a refusal.
+// Number of steps; 0 after a refusal.
 fn turns(w: RowWalk, classes: usize) -> usize
     ensures { λ r. ⌜ r ≡ turns-due (verdict-of (w .refusal)) classes ⌝ }
 {
@@ -65,7 +65,7 @@ fn turns(w: RowWalk, classes: usize) -> usize
     0
 }
 
-// One step back, unless the walk was refused before.
+// One step back; a refused walk stays as it is.
 fn walked_on(curve: Curve, w: RowWalk, a: Class) -> RowWalk
     ensures { λ r. ⌜ reached r ≡ onward curve (reached w) a ⌝ }
 {
@@ -83,7 +83,7 @@ fn walked_on(curve: Curve, w: RowWalk, a: Class) -> RowWalk
     }
 }
 
-// The earliest seal, or the refusal that is due.
+// The earliest seal, or the refusal of the first check that fails.
 #[no_mangle]
 pub extern "C" fn seal_walk_row(curve: Curve, last: Class, row: &[Class]) -> RowWalk
     ensures { λ r. ⌜ reached r ≡ row-walk-answer curve last (now (row .entry)) ⌝ }

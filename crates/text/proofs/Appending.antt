@@ -1,4 +1,9 @@
--- Appending one text after another to a line (`then`), and a text to an empty line, where it has room (`laid`).
+-- Laws of appending to a line.
+-- `then`: appending one text after another appends both.
+-- `then-none`: appending nothing leaves the line.
+-- `then-next`: after the first i bytes of a row and the next one, the first i + 1 are appended.
+-- `then-same`: equal texts are appended alike.
+-- `laid`: a text appended to the empty line, where it has room, is the line of that text.
 use Prim.Native.Nat.{ℕ, suc, _+_, _-_, _≤_, _<_}
 use mathlib.Core.Path.{_≡_, refl, sym, ap, _∙_}
 use mathlib.Core.List.{List, [], _∷_, _++_, append-assoc, append-nil}
@@ -20,13 +25,11 @@ pub then-none : (l : Line) → l ≡ with-bytes l []
 unfolding with-bytes
 then-none l = refl
 
--- one more of the first bytes of a row
 pub then-next : (l : Line) (s : List ℕ) (i : ℕ) → i < length s → {m r : Line} → m ≡ with-bytes l (take i s) → r ≡ with-bytes m (getD s i 0 ∷ []) → r ≡ with-bytes l (take (i + 1) s)
 then-next l s i lt e f =
     let next : i + 1 ≡ suc i = omega arith in
     then l (take i s) (getD s i 0 ∷ []) e f ∙ ap (with-bytes l) (sym (take-suc s i 0 lt) ∙ ap (λ (j : ℕ). take j s) (sym next))
 
--- equal bytes
 pub then-same : (l : Line) {xs ys : List ℕ} {r : Line} → xs ≡ ys → r ≡ with-bytes l xs → r ≡ with-bytes l ys
 then-same l p e = e ∙ ap (with-bytes l) p
 

@@ -1,4 +1,6 @@
--- The parts of a text that a test chooses: digits and rows.
+-- Texts that depend on a test, by the outcome of the test.
+-- `digits-none`, `digits-one`, `digits-more`: the digits of a number for no digit, for one and for more.
+-- `row-0`, `row-1`, `row-2`, `row-3`: the text of a row's coefficients below x^n, for n = 0, 1, 2 and more.
 use Prim.Native.Nat.{ℕ, zero, suc, _-_, _/_, _%_, _≤_, _<_}
 use mathlib.Core.Path.{_≡_, refl, sym, ap}
 use mathlib.Core.List.{List, [], _∷_, _++_}

@@ -1,4 +1,7 @@
--- How long a text is at most: a number in decimal (`decimal-short`), a class (`class-short`), a refusal (`refusal-short`).
+-- The largest length of a text.
+-- `decimal-short`: a number in decimal has at most 20 bytes.
+-- `class-short`: a class has at most 122 bytes.
+-- `refusal-short`: a refusal has at most 28 bytes.
 use Prim.Native.Nat.{ℕ, zero, suc, _+_, _/_, _%_, _≤_}
 use mathlib.Core.Bool.{Bool, true, false, cond}
 use mathlib.Core.List.{List, [], _∷_, _++_}

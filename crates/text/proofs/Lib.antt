@@ -1,4 +1,4 @@
--- Laws of appending to a line, the parts of a text that a test chooses, and how long a text is at most.
+-- Laws of appending to a line, texts that depend on a test, and the largest length of a text.
 pub mod Appending
 pub mod Digits
 pub mod Lengths

@@ -1,16 +1,18 @@
-// Lines of text by value: a row of bytes with its length, to which bytes, numbers and the parts of a class are appended, and the writing of one.
+// Lines of text by value: rows of bytes with their length. Bytes, numbers, classes and refusals are appended to a line,
+// and a line is written to standard output.
 ghost use Prim.Native.Nat.{_≤_, _<_, min};
 ghost use mathlib.Core.Path.{_≡_};
 ghost use mathlib.Core.List.{[], _∷_, _++_};
 ghost use Rattle.text.specs.{Line.line-room, Line.with-bytes, Line.in-line, Text.digit, Text.digits, Text.decimal, Text.hexadecimal, Text.row-text, Text.class-text, Text.refusal-text};
 use libc::STDOUT_FILENO;
 
-// As many digits as a number of 64 bits may have.
+// The most digits of a number of 64 bits in decimal.
 const DECIMAL_DIGITS: usize = 20;
 
+// And in hexadecimal.
 const HEXADECIMAL_DIGITS: usize = 16;
 
-// Room for a line. That every line of the walk report has room in it is proved where the report is.
+// The number of bytes that a line has room for. That every line of the walk report fits is proved in report_theorems.
 pub const LINE: usize = 320;
 
 // A line: len bytes, and 0 after them.
@@ -29,7 +31,7 @@ pub fn empty() -> Line
     }
 }
 
-// A byte at a place of a row, and the place after it; where the row has no such place, nothing.
+// Puts a byte at an offset and answers the next offset; after the end of the row it puts nothing and answers the same.
 fn put(out: &mut [u8], at: usize, b: u8) -> usize
     ensures { λ r. ⌜ record { len = r; bytes = now (out .exit) } ≡ with-bytes (record { len = at; bytes = now (out .entry) }) (b ∷ []) ⌝ }
 {
@@ -40,7 +42,7 @@ fn put(out: &mut [u8], at: usize, b: u8) -> usize
     at
 }
 
-// A byte behind a line; where it has no room, the line as it was.
+// The line with a byte appended; where it has no room, the line as it was.
 pub fn with_byte(line: Line, b: u8) -> Line
     ensures { λ r. ⌜ r ≡ with-bytes line (b ∷ []) ⌝ }
 {
@@ -49,7 +51,7 @@ pub fn with_byte(line: Line, b: u8) -> Line
     Line { len, bytes }
 }
 
-// Bytes as they are.
+// The line with bytes appended.
 pub fn with_bytes(line: Line, s: &[u8]) -> Line
     ensures { λ r. ⌜ r ≡ with-bytes line (now (s .entry)) ⌝ }
 {
@@ -63,7 +65,7 @@ pub fn with_bytes(line: Line, s: &[u8]) -> Line
     all
 }
 
-// A digit: 0 to 9, then a to f.
+// A digit as a byte: 0 to 9, then a to f.
 fn digit(n: u64) -> u8
     requires { ⌜ n < 16 ⌝ }
     ensures { λ r. ⌜ r ≡ digit n ⌝ }
@@ -75,7 +77,7 @@ fn digit(n: u64) -> u8
     0x57 + d
 }
 
-// A number of at most k digits, without leading zeros, from a place of a row on, and the place after it.
+// Puts a number of at most k digits, without leading zeros, at an offset, and answers the offset after it.
 fn put_digits(out: &mut [u8], at: usize, base: u64, k: usize, n: u64) -> usize
     requires { ⌜ (2 ≤ base) × (base ≤ 16) ⌝ }
     ensures { λ r. ⌜ record { len = r; bytes = now (out .exit) } ≡ with-bytes (record { len = at; bytes = now (out .entry) }) (digits base k n) ⌝ }
@@ -94,7 +96,7 @@ fn put_digits(out: &mut [u8], at: usize, base: u64, k: usize, n: u64) -> usize
     all
 }
 
-// A number in decimal.
+// The line with a number in decimal appended.
 pub fn with_decimal(line: Line, n: u64) -> Line
     ensures { λ r. ⌜ r ≡ with-bytes line (decimal n) ⌝ }
 {
@@ -103,7 +105,7 @@ pub fn with_decimal(line: Line, n: u64) -> Line
     Line { len, bytes }
 }
 
-// An element in hexadecimal.
+// The line with an element in hexadecimal appended.
 pub fn with_hexadecimal(line: Line, n: u64) -> Line
     ensures { λ r. ⌜ r ≡ with-bytes line (hexadecimal n) ⌝ }
 {
@@ -112,7 +114,7 @@ pub fn with_hexadecimal(line: Line, n: u64) -> Line
     Line { len, bytes }
 }
 
-// Two coefficients, comma between.
+// The line with two coefficients appended, a comma between.
 fn with_two(line: Line, a: u64, b: u64) -> Line
     ensures { λ r. ⌜ r ≡ with-bytes line (hexadecimal a ++ 0x2C ∷ hexadecimal b) ⌝ }
 {
@@ -121,7 +123,7 @@ fn with_two(line: Line, a: u64, b: u64) -> Line
     with_hexadecimal(comma, b)
 }
 
-// The coefficients of a row below x^n, comma between.
+// The line with the coefficients of a row below x^n appended, highest power first, commas between.
 pub fn with_row(line: Line, n: u64, row: [u64; 3]) -> Line
     ensures { λ r. ⌜ r ≡ with-bytes line (row-text n row) ⌝ }
 {
@@ -139,7 +141,7 @@ pub fn with_row(line: Line, n: u64, row: [u64; 3]) -> Line
     with_two(comma, row[1], row[0])
 }
 
-// A class as degree, u and v with a colon between, and of u and v the coefficients below x^n.
+// The line with a class appended: degree, u and v with colons between, of u and v the coefficients below x^n.
 pub fn with_class(line: Line, degree: u64, u: [u64; 3], v: [u64; 3], n: u64) -> Line
     ensures { λ r. ⌜ r ≡ with-bytes line (class-text degree u v n) ⌝ }
 {
@@ -150,7 +152,7 @@ pub fn with_class(line: Line, degree: u64, u: [u64; 3], v: [u64; 3], n: u64) -> 
     with_row(second, n, v)
 }
 
-// refused and the number.
+// The line with `refused` and the number appended.
 pub fn with_refusal(line: Line, n: u32) -> Line
     ensures { λ r. ⌜ r ≡ with-bytes line (refusal-text n) ⌝ }
 {
@@ -158,7 +160,7 @@ pub fn with_refusal(line: Line, n: u32) -> Line
     with_decimal(word, n as u64)
 }
 
-// No more bytes than a row has.
+// The length, but at most the room of a line.
 fn within(len: usize) -> usize
     ensures { λ r. ⌜ r ≡ min len line-room ⌝ }
 {
@@ -168,7 +170,7 @@ fn within(len: usize) -> usize
     LINE
 }
 
-// Writes the first bytes of a row.
+// Writes the first len bytes of a row to standard output and answers how many these are, at most all.
 fn write_row(len: usize, bytes: [u8; LINE]) -> usize
     ensures { λ r. ⌜ r ≡ min len line-room ⌝ }
 {
@@ -177,7 +179,7 @@ fn write_row(len: usize, bytes: [u8; LINE]) -> usize
     n
 }
 
-// Writes a line to standard output, and answers how many bytes it has.
+// Writes a line to standard output and answers how many bytes it has.
 pub fn write_line(line: Line) -> usize
     ensures { λ r. ⌜ r ≡ min (line .len) line-room ⌝ }
 {

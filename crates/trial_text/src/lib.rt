@@ -8,7 +8,7 @@ ghost use Rattle.trial_text.specs.Cases.{four-bytes, eight-bytes, number
 use libc::STDIN_FILENO;
 use libc::STDOUT_FILENO;
 
-// Reads a case, and answers how many of its bytes the input had. Where these are some and not all, it writes `cut short`.
+// Reads a case and answers how many of its bytes the input had; writes `cut short` where it had some but not all.
 pub fn read_case(case: &mut [u8]) -> usize
     ensures { λ r. ⌜ Counts r (now (case .exit)) ⌝ }
 {
@@ -19,7 +19,7 @@ pub fn read_case(case: &mut [u8]) -> usize
     n
 }
 
-// A byte of the case, and 0 after its end.
+// The byte at an offset of the case; 0 after its end.
 fn byte(case: &[u8], at: usize) -> u8
     ensures { λ r. ⌜ r ≡ getD (now (case .entry)) at 0 ⌝ }
 {
@@ -29,13 +29,14 @@ fn byte(case: &[u8], at: usize) -> u8
     0
 }
 
+// A byte as a number of 64 bits.
 fn wide(byte: u8) -> u64
     ensures { λ r. ⌜ (r ≡ byte) × (r < 256) ⌝ }
 {
     byte as u64
 }
 
-// The number in four bytes.
+// The number in the four bytes from an offset on.
 fn four_bytes(case: &[u8], at: usize) -> u64
     requires { ⌜ at ≤ 4096 ⌝ }
     ensures { λ r. ⌜ r ≡ four-bytes (now (case .entry)) at ⌝ }
@@ -48,7 +49,7 @@ fn four_bytes(case: &[u8], at: usize) -> u64
     ((a * 256 + b) * 256 + c) * 256 + d
 }
 
-// The number in eight bytes.
+// The number in the eight bytes from an offset on.
 fn eight_bytes(case: &[u8], at: usize) -> u64
     requires { ⌜ at ≤ 4092 ⌝ }
     ensures { λ r. ⌜ r ≡ eight-bytes (now (case .entry)) at ⌝ }
@@ -56,14 +57,14 @@ fn eight_bytes(case: &[u8], at: usize) -> u64
     four_bytes(case, at) * 0x1_0000_0000 + four_bytes(case, at + 4)
 }
 
-// The number at a place, which is counted from 0.
+// The number at an index, counted from 0.
 pub fn number(case: &[u8], place: u8) -> u64
     ensures { λ r. ⌜ r ≡ number-at (now (case .entry)) place ⌝ }
 {
     eight_bytes(case, 2 + 8 * (place as usize))
 }
 
-// The three numbers from a place on.
+// The three numbers from an index on.
 pub fn row(case: &[u8], place: u8) -> [u64; 3]
     ensures { λ r. ⌜ r ≡ row-at (now (case .entry)) place ⌝ }
 {

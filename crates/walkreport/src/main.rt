@@ -1,7 +1,9 @@
-// Reads an archive on standard input, at most 65,536 bytes of it, and writes its walk report, or `refused` and the refusal's number, line by line.
+// Reads an archive from standard input, at most 65,536 bytes of it, and writes its walk report line by line, or
+// `refused` and the refusal's number.
 use libc::STDIN_FILENO;
 use stored_form::Cursor;
 
+// Writes one line for each turn, until no line is left.
 fn main() {
     let mut archive = io::large_buffer();
     let read = io::read_full(STDIN_FILENO, &mut archive);

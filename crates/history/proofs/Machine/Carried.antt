@@ -1,5 +1,7 @@
--- A list of calls on one machine, carried to another that answers alike at each of them: the same happens there (`run-carried`), it ends in the carried
--- state (`last-carried`), and the same calls are accepted (`newest-carried`).
+-- A list of calls on one machine, mapped to another machine that agrees with it at each of these calls.
+-- `run-carried`: the mapped calls happen on the other machine as on the first.
+-- `last-carried`: the state after the list on the other machine is the mapped one.
+-- `newest-carried`: the accepted calls on the other machine are the mapped ones.
 use mathlib.Core.Path.{_≡_, refl, sym, _∙_, ap, ap₂}
 use mathlib.Core.List.{List, [], _∷_, map, reverse, reverseAux}
 use Rattle.lists.specs.{Lists.All, Lists.none, Lists.more, Walk.after}

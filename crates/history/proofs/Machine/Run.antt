@@ -1,6 +1,10 @@
--- What a list of calls does on any machine: over two lists one after the other (`run-append`, `last-append`), and what holds along it: an invariant that
--- each call keeps holds after the list (`last-holds`), and what it shows of one call holds of all (`run-all`), or of the accepted ones (`all-accepted`,
--- `accepted-fit`).
+-- What a list of calls does on any machine.
+-- `all-accepted`: what holds of each call of a list that is accepted holds of all its accepted calls.
+-- `run-append`: a list after another happens from the state that the first one left.
+-- `last-append`: the state after both is that of the second list from the state after the first.
+-- `last-holds`: an invariant that every call keeps holds after the list.
+-- `run-all`: what such an invariant implies of one call holds of every call of the list.
+-- `accepted-fit`: what holds of all calls of a list holds of the accepted ones.
 use mathlib.Core.Path.{_≡_, refl, ap}
 use mathlib.Core.List.{List, [], _∷_, _++_}
 use Rattle.lists.specs.{Lists.All, Lists.none, Lists.more, Walk.after}
@@ -8,7 +12,6 @@ use Rattle.lists.proofs.Walk.{after-append}
 use Rattle.jacobian.specs.Answer.{Verdict, accepted, refused}
 use Rattle.history.specs.Machine.{Machine, Event, accepted-of, event, run, last}
 
--- what is known of the accepted calls of a list
 pub all-accepted : {State Call : Type 0} {P : Event State Call → Type 0} {es : List (Event State Call)} → All (λ e. e .outcome ≡ accepted → P e) es → All P (accepted-of es)
 unfolding accepted-of
 all-accepted none = none
@@ -39,7 +42,7 @@ module _ {State Call : Type 0} (M : Machine State Call) where
     run-all p [] h = none
     run-all p {s} (c ∷ cs) h = more (p s c h) (run-all p cs (keeps s c h))
 
-  -- what holds of all calls of a list holds of the accepted ones
+  -- each accepted call of the list fits where all calls do
   run-fit : {Fits : Call → Type 0} (s : State) {cs : List Call} → All Fits cs → All (λ e. e .outcome ≡ accepted → Fits (e .call)) (run M s cs)
   unfolding run event
   run-fit s none = none

@@ -1,7 +1,10 @@
--- Taking back over any machine (docs/SPECIFICATION.md, 11). From a state where the invariant of a reversible machine holds, over any list whose accepted calls fit, refused
--- calls among them: taking the accepted calls back, newest first, does to each call what `turned` says (`taken-back-turned`), so none is refused
--- (`taken-back-accepted`), the states just before them come back one by one (`taken-back-states`), and at the end the first one (`taken-back-all`).
--- Of a list of which a part cannot be taken back, all this holds of the calls after that part, from the state that it left (`last-append`, `last-holds` of Run).
+-- Taking back on any reversible machine (docs/SPECIFICATION.md, 11), from a state where its invariant holds, over a
+-- list whose accepted calls fit, refused calls included.
+-- `taken-back-turned`: taking the accepted calls back, newest first, does to each call what `turned` says.
+-- `taken-back-accepted`: no call that takes a call back is refused.
+-- `taken-back-states`: any function of the states just before the accepted calls comes back, newest first.
+-- `taken-back-all`: after all of them the state is the first one.
+-- Where a first part of a list cannot be taken back, this holds of the calls after it (`last-append`, `last-holds`).
 use mathlib.Core.Path.{_≡_, refl, sym, _∙_, ap, ap₂, subst}
 use mathlib.Core.List.{List, [], _∷_, _++_, map, map-map, reverse, reverse-cons, map-append}
 use Rattle.lists.specs.{Lists.All, Lists.none, Lists.more, Walk.after}
@@ -11,7 +14,7 @@ use Rattle.lists.proofs.Lists.{all-map}
 use Rattle.history.proofs.Machine.Run.{run-append, last-append}
 
 module _ {State Call : Type 0} (M : Machine State Call) (back : Call → Call) where
-  -- ---- accepted calls, each on the state that the one before it left, that can each be taken back
+  -- ---- accepted calls that can each be taken back, each made in the state that the one before it left
   data Chain : State → List (Event State Call) → State → Type 0 where
     still : {s : State} → Chain s [] s
     turns : {e : Event State Call} {es : List (Event State Call)} {t : State} → event M (e .left) (back (e .call)) ≡ turned back e → Chain (e .left) es t → Chain (e .before) (e ∷ es) t
@@ -58,22 +61,18 @@ module _ {State Call : Type 0} (M : Machine State Call) (back : Call → Call) w
         go (refused n) e fs on = subst (λ t. Chain t rest end) (law .stays s c n e) (on (subst Holds (sym (law .stays s c n e)) h) fs)
 
     module _ {s : State} (cs : List Call) (holds : Holds s) (fits : All (λ e. Fits (e .call)) (accepted-of (run M s cs))) where
-      -- the calls that take the accepted ones back are these, turned back
       pub taken-back-turned : taken-back M back s cs ≡ map (turned back) (newest M s cs)
       unfolding taken-back newest
       taken-back-turned = chain-run (run-chain s cs holds fits)
 
-      -- none is refused
       pub taken-back-accepted : All (λ e. e .outcome ≡ accepted) (taken-back M back s cs)
       unfolding turned
       taken-back-accepted = rw taken-back-turned (all-map (turned back) (λ e. refl) (newest M s cs))
 
-      -- whatever is read of the states just before the accepted calls comes back, one by one, newest first
       pub taken-back-states : {X : Type 0} (f : State → X) → map (λ e. f (e .left)) (taken-back M back s cs) ≡ map (λ e. f (e .before)) (newest M s cs)
       unfolding turned
       taken-back-states f = ap (map (λ e. f (e .left))) taken-back-turned ∙ map-map (λ e. f (e .left)) (turned back) (newest M s cs)
 
-      -- with all of them taken back the state is the first one
       pub taken-back-all : last M (last M s cs) (backs back (newest M s cs)) ≡ s
       unfolding newest
       taken-back-all = chain-last (run-chain s cs holds fits)

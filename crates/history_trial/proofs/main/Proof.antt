@@ -1,4 +1,4 @@
--- `history_trial::main` is safe and ends. The measure is the number of turns that are left, and nothing has to hold from turn to turn.
+-- `history_trial::main` is safe and ends. The measure is the number of turns left, and the loop needs no invariant.
 use native.Mathlib.Omega.{arith}
 use Rattle.history_trial.proofs.main.Statement.{statement}
 use Rattle.history_trial.proofs.main.Tie as tie

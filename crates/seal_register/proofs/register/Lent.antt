@@ -1,6 +1,6 @@
--- A call on a lent register meets its contract, by the contract of the covered function that says what it answers and leaves: one walk of the code, for commit
--- and for undo. The register is copied out of the borrow, the function is called, and where its number is 0 the register that it says is written back; where it
--- is another, nothing is. The laws of the structs are those that the check makes of their declarations.
+-- `meets`: a call in place meets its contract, for commit and for undo, where the function that it calls meets its own.
+-- The code copies the register out of the borrow, calls that function, writes the function's register back where its
+-- number is 0, and answers the number.
 use mathlib.Core.{Path._≡_, Path.refl, Bool.Bool, List.List, List.[], List._∷_}
 use Prim.Native.Nat.{ℕ}
 use lib.Dec.{T}
@@ -32,11 +32,12 @@ use Rattle.seal_register.proofs.register.Changed.Laws as X′
 use Rattle.seal_register.proofs.register.committed as says
 use Rattle.seal_register.proofs.register.seal_register_commit as lent
 
--- the number is answered
+-- the end of the body, which answers the number
 abbrev rest : Body
 rest = seq (assign (place 0 []) (rvOpd (copy (place 3 (field 0 ∷ []))))) return
 
--- the code of a lent call over the function of this name: the answer, the reference, the class, what the function says, the register copied out, the test
+-- the code of a call in place over the function of this name; its locals are the answer, the reference, the class, what
+-- the function answers, the register copied out, and the test
 abbrev pub function : Name → Fn
 function says-name = record {
   lifetimes = 1;
@@ -57,7 +58,7 @@ function says-name = record {
       (seq (cond (copy (place 5 [])) (assign (place 1 (deref R′.mir ∷ [])) (rvOpd (copy (place 3 (field 1 ∷ []))))) skip) rest)));
 }
 
--- ---- machine values, and that a value is one of its type
+-- ---- machine values, and that they are values of their type
 abbrev register-vals : Register → List Val
 register-vals r = S.vals R.the-type R′.the-laws r
 
@@ -73,11 +74,11 @@ IsRegister r = Is R.the-row r (register-vals r)
 abbrev IsClass : Class → Type 0
 IsClass a = Is C.the-row a (class-vals a)
 
--- the lent register is still had at exit, and the class as it was given
+-- at exit the caller has the lent register again, and the class as it was given
 abbrev stayed : Stays (lent.ended .signature .params) (lent.ended .kept)
 stayed = (stay-ref (0 ∷ []) tt (plain (λ _. R.the-row)), (stay-none (λ _. C.the-row) yes, tt))
 
--- ---- contracts, for a step: of the function that says what is answered and left, and of the call in place
+-- ---- the contracts for a step: of the function that answers number and register, and of the call in place
 abbrev pub Says : {M : Type 1} (𝓤 : URA M) (H : Heap 𝓤) (𝓐 : Atoms 𝓤) → Step → Contract 𝓤
 Says 𝓤 H 𝓐 k = Promised (says.signature .params) (says.signature .result) 𝓤 H 𝓐 (λ a x. in-place (x .refusal) (x .left) ≡ step-answer k (a .0) (a .1 .0))
 
@@ -99,7 +100,7 @@ module _ {M : Type 1} (𝓤 : URA M) (H : Heap 𝓤) (𝓐 : Atoms 𝓤) (W : Gi
     abbrev Post : Val → SProp 𝓤
     Post = walkOf 𝓤 H 𝓐 lent.ended stayed (in-place-clauses 𝓤 k) .post (((κ, tt), (q, tt), tt, x, at), tt)
 
-    -- the end: what is promised of the number and of the register left
+    -- at exit: the promise of the number and of the register left
     exits : (left : Register) (n : ℕ) (v : Val) → in-place n left ≡ step-answer k r a → Is u32 n (v ∷ [])
         → ent 𝓤 (sep 𝓤 (𝓐 .obs γ (R.the-row .coded .code left)) (sep 𝓤 (𝓐 .bor κ (Behind (mem R.the-row) b o γ)) (𝓐 .lft κ q))) (Post v)
     exits left n v e is-number =
@@ -113,8 +114,8 @@ module _ {M : Type 1} (𝓤 : URA M) (H : Heap 𝓤) (𝓐 : Atoms 𝓤) (W : Gi
       abbrev E : Env 𝓤 H
       E = (tyInt w32, l₀) ∷ (tyRef (named 0) mut (pointee (R.the-row .written)), l₁) ∷ (C′.mir, l₂) ∷ (X′.mir, l₃) ∷ (R′.mir, l₄) ∷ (tyBool, l₅) ∷ []
 
-      -- after the branch, with this register behind the reference: the lent register's cell; what it owned; the open borrow; what observes it; what holds it;
-      -- the locals, the last first
+      -- after the branch, with this register in the lent place: its cell, what it owned, the open borrow, what observes
+      -- and what holds the register, then the locals from the last to the first
       abbrev After : Register → Changed → Bool → List (Item 𝓤)
       After left y t =
           ‵ (cellAt fullShare (R.the-row .mir) (register-vals left) b o) ∷ ‵ (R.the-row .own r (register-vals r))
@@ -166,7 +167,7 @@ module _ {M : Type 1} (𝓤 : URA M) (H : Heap 𝓤) (𝓐 : Atoms 𝓤) (W : Gi
   goes : AllGo 𝓤 H 𝓐 W 1 (lent.signature .params) (lent.ended .kept) stayed
   goes = (goes-ref 𝓤 H 𝓐 W 1 0 tt (plain (λ _. R.the-row)), (goes-none 𝓤 H 𝓐 W 1 (λ _. C.the-row) yes (λ κs x f. refl), tt))
 
-  -- the call in place of a step meets its contract where the function that it calls does
+  -- the call in place meets its contract where the function that it calls does
   pub meets : Meets 𝓤 H 𝓐 lent.signature (WpFn 𝓤 H (𝓣 .C) (𝓣 .Λ) (function says-name)) (closing 𝓤 H 𝓐 lent.ended (in-place-clauses 𝓤 k))
   meets =
       let runs = WpFn 𝓤 H (𝓣 .C) (𝓣 .Λ) (function says-name) in

@@ -1,4 +1,4 @@
--- The cycle of calls of `put_digits`, which calls itself on the quotient. The measure is the number of digits.
+-- `put_digits`, which calls itself on the quotient, meets its contract. The measure is the number of digits.
 use Prim.Native.Nat.{ℕ, _-_, _<_}
 use mathlib.Core.Path.{_∙_, subst}
 use native.Mathlib.Nat.{mod-lt}

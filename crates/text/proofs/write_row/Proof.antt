@@ -1,4 +1,4 @@
--- `write_row` meets its contract: the bytes lie within the row.
+-- `write_row` meets its contract: the row has the bytes that are written.
 use mathlib.Core.Path.{sym}
 use native.Mathlib.Omega.{arith}
 use lib.Seq.{length-take-le}

@@ -1,4 +1,4 @@
--- `main` is safe and ends: with each line fewer are to come.
+-- `main` is safe and ends: each turn leaves fewer lines to write.
 use mathlib.Core.Path.{sym, subst, _∙_}
 use Prim.Native.Nat.{_<_}
 use borrow.Author.Needs.{needs}

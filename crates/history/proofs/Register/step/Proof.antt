@@ -1,4 +1,4 @@
--- `Register::step` meets its contract: by the count a refusal of its own, or what follows the step of the seal.
+-- `Register::step` meets its contract: by the count it answers its own refusal, or what the class operation answered.
 use native.Mathlib.Omega.{arith}
 use mathlib.Core.Path.{sym, _∙_, ap}
 use Rattle.jacobian.specs.Answer.{result}

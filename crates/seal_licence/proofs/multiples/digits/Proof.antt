@@ -1,4 +1,4 @@
--- `digits` meets its contract: none of the digits from place i on is 1.
+-- `digits` meets its contract: before each turn n / 2^i is 0.
 use Prim.Native.Nat.{_≤_, _/_, _^_}
 use mathlib.Core.Path.{_≡_, _∙_, sym, ap}
 use native.Mathlib.Omega.{arith}

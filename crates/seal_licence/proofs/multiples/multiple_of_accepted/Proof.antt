@@ -1,4 +1,4 @@
--- `multiple_of_accepted` meets its contract: before the digit at place i - 1 is looked at, the class is n / 2^i times the one given.
+-- `multiple_of_accepted` meets its contract: before the turn for digit i - 1 the class is n / 2^i times the one given.
 use Prim.Native.Nat.{suc, _≤_, _-_, _/_, _^_}
 use mathlib.Core.Path.{_≡_, sym, _∙_, ap}
 use native.Mathlib.Omega.{arith}

@@ -1,6 +1,7 @@
--- `seal_walk_row` meets its contract: a walk of its MIR, by hand, since the row is a slice of structs. Of `opened`, `turns` and `walked_on` it knows
--- their contracts alone. What stands at the loop's head (`Head`): how many classes were walked over, the walk that the code holds, and that it says what
--- the steps over those classes answer. Each turn looks into the row, copies one class out of it and makes one step.
+-- `seal_walk_row` meets its contract: a proof through its MIR by hand, since the row is a slice of structs.
+-- It uses the contracts of `opened`, `turns` and `walked_on`. The loop's invariant is `Head`: the number of classes
+-- walked over, the walk so far, and that it is what the steps over those classes answer. Each turn copies one class out
+-- of the row and makes one step.
 use mathlib.Core.{Path._≡_, Path.refl, Path.sym, Path._∙_, Path.ap, WellFounded.WellFounded, WellFounded.InvImage·wf, List.List, List.[], List._∷_, List.head-eq-of-cons-eq}
 use Prim.Native.Nat.{ℕ, _+_, _-_, _*_, _≤_, _<_, _^_, zero-le}
 use native.Mathlib.{Nat.le-antisymm, Numerals.add-one-le, Numerals.add-one-dec, Omega.arith}
@@ -56,7 +57,7 @@ kv = LL.val K.the-type K′.the-laws
 abbrev kvs : Class → List Val
 kvs = LL.vals K.the-type K′.the-laws
 
--- what the three functions promise, and their contracts
+-- what the contracts of the three functions ensure, and these contracts
 abbrev opening : Curve × (Class × (ℕ × Unit {0})) → RowWalk → Type 0
 opening a w = reached w ≡ sealed (opening-refusal (a .0) (a .1 .0) (a .1 .1 .0)) (a .1 .0)
 
@@ -76,7 +77,7 @@ module _ {M : Type 1} (𝓤 : URA M) (H : Heap 𝓤) (A : Atoms 𝓤) where
   abbrev WalkedOn : Contract 𝓤
   WalkedOn = Promised (walked-on .params) (walked-on .result) 𝓤 H A stepping
 
--- what stands at the loop's head
+-- the loop's invariant, where n is the number of turns
 record Head (c : Curve) (x : Result) (ys : List Class) (n : ℕ) : Type 0 where
   i : ℕ
   low : i ≤ n
@@ -105,7 +106,7 @@ module _ {M : Type 1} (𝓤 : URA M) (H : Heap 𝓤) (A : Atoms 𝓤) (W : Given
     typed-r : (w : RowWalk) (v : Val) → Is R.the-row w (v ∷ []) → T (hasTy R′.mir v) × WT v
     typed-r w v g = LL.lawful R.the-type R′.the-laws 𝓤 H A W .typed w _ g .0
 
-    -- what a value of each type owns is had for nothing
+    -- a value of each of these types is owned without any resource
     abbrev makes-c : Makes 𝓤 H A C.the-row (Is C.the-row)
     makes-c = LL.makes C.the-type C′.the-plain 𝓤 H A
 
@@ -123,7 +124,7 @@ module _ {M : Type 1} (𝓤 : URA M) (H : Heap 𝓤) (A : Atoms 𝓤) (W : Given
         owned ! R.the-row (Is R.the-row) makes-r w (v ∷ []) g $
         nothing ! $ nothing ! $ fjoin ! $ nothing ! $ fjoin ! $ nothing ! $ fjoin ! $ move ! (2 ∷ []) $ nothing ! $ move ! (1 ∷ 0 ∷ []) $ join ! $ frame ! $ done !
 
-    -- the loop: w₀ is the opening, and n the number of turns
+    -- the loop: w₀ is the walk before its first step, and n the number of turns
     module _ (w₀ : RowWalk) (n : ℕ) (e₀ : opening (c, (s, (length ys, tt))) w₀) (m₀ : counting (w₀, (length ys, tt)) n) where
       few : n ≤ length ys
       few = rw m₀ (turns-few (verdict-of (w₀ .refusal)) (length ys))
@@ -170,7 +171,7 @@ module _ {M : Type 1} (𝓤 : URA M) (H : Heap 𝓤) (A : Atoms 𝓤) (W : Given
         abbrev now-at : Here → Class
         now-at h = getD ys (h .i) neutral-class
 
-        -- what a test that holds gives
+        -- the test of the loop
         abbrev Less : Here → Type 0
         Less h = T (ltb (h .i) n)
 
