@@ -1,4 +1,4 @@
--- An archive read by steps is refused as it is in one piece; its answers and its refusals are told apart.
+-- An archive read by steps has the refusal of the archive read as a whole, which is 0 or a listed number.
 pub mod Tail
 pub mod ReaderSteps
 pub mod ToldApart

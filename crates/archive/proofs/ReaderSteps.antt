@@ -1,4 +1,7 @@
--- Reading by steps: what is left to read after a step is refused as the archive is, a step leaves less to read, and what the code's answer says of a step.
+-- Links the reader's steps to `read-archive`, and to the code.
+-- `begun`, `one-step`, `nothing-left`: reading what is left, step by step, has the refusal of the whole archive.
+-- `less-left`: after a step less is left to read.
+-- `advance-found`, `advance-refused`, `advance-refusal`: the reading that the code's answer stands for.
 use Prim.Native.Nat.{ℕ, zero, suc, _+_, _*_, _-_, _≤_, _<_}
 use mathlib.Core.Path.{_≡_, refl, sym, ap, _∙_}
 use mathlib.Core.Bool.{Bool, true, false, cond, true≢false, false≢true}
@@ -20,7 +23,7 @@ use Rattle.archive.specs.declared.Due.the-variants.{Opening, Operations,
 use Rattle.archive.proofs.Tail.{tail-onward}
 use Rattle.archive.specs.Reader.{reader, start, operations-due, after-opening, read-opening, read-operation, read-end, read-due, pending, advance-of}
 
--- ---- one step of what is left to read
+-- ---- what is left to read, and one step of it
 
 module _ (s : List ℕ) where
   from-operations : ℕ → Held → ℕ → Reading Tail
@@ -29,7 +32,7 @@ module _ (s : List ℕ) where
   from-opening : List ℕ → Held → ℕ → Reading Tail
   from-opening tags h at = read-fields tags h s at then λ h next. from-operations (h .count) h next
 
-  -- what is left to read
+  -- the reading of all that is left, by what is expected next
   pub left : Due → Held → ℕ → Reading Tail
   left (Opening i) h at = read-field (getD archive-opening i 0) h s at then λ more next. from-opening (drop (suc i) archive-opening) more next
   left (Operations n) h at = read-field 0x44 h s at then λ more next. from-operations (n - 1) more next
@@ -93,7 +96,7 @@ module _ (s : List ℕ) where
       ∙ ap reading-refusal (then-assoc (read-field 0x40 nothing-held s 0) _ _)
       ∙ ap (λ (r : Reader). reading-refusal (left (r .due) (r .held) 0)) (sym e)
 
--- ---- the step of a field, as the code makes it
+-- ---- a step that reads a field, as the code makes it
 
 pub some-due : (n : ℕ) → (n ≡ 0 → ⊥) → Operations n ≡ operations-due n
 unfolding operations-due
@@ -110,7 +113,7 @@ module _ (i count : ℕ) where
   opening-over le e = rw (le-ltb (suc i) (length archive-opening) le) e
 
 module _ (tag : ℕ) (due : Held → Due) (h : Held) (s : List ℕ) (at : ℕ) where
-  -- a field, and what is due then
+  -- a field, and what is expected after it
   abbrev field-step : Reading Reader
   field-step = read-field tag h s at then λ more next. found (reader (due more) more) next
 
@@ -133,7 +136,7 @@ light d = go (pending d)
     go true = omega arith
     go false = omega arith
 
--- bytes that are left, and whether anything is due
+-- twice the bytes that are left, and one if something is expected
 pub rank : List ℕ → Due → ℕ → ℕ
 rank s d at = weight d + 2 * (length s - at)
 
@@ -156,7 +159,7 @@ module _ (s : List ℕ) (h : Held) (at : ℕ) {r : Reader} {next : ℕ} where
       omega (arith, none, c .1, tail-onward s at (t .2))
   less-left Nothing p e = absurd (false≢true p)
 
--- ---- what the code's answer says of a step
+-- ---- the reading that a code's answer stands for
 
 advance-back : (x : Reading Reader) → placed (advance-of x .place) (advance-of x .reader) ≡ x
 unfolding advance-of placed

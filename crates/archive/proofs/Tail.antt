@@ -1,4 +1,6 @@
--- What follows the operations: a reading that tells its refusals (`tail-tells`) and goes onward (`tail-onward`).
+-- What follows the operations.
+-- `tail-tells`: it is found, or refused with a listed number.
+-- `tail-onward`: the offset after it is not before it.
 use Prim.Native.Nat.{ℕ, _≤_}
 use mathlib.Core.Path.{_≡_}
 use mathlib.Core.List.{List}

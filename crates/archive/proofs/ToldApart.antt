@@ -1,5 +1,6 @@
--- The archive's answer tells whether it was read (docs/SPECIFICATION.md, 6): 0 exactly where `read-archive` finds one (`archive-found`, `found-archive`),
--- and else the number of a refusal (`archive-told`).
+-- The refusal of an archive (docs/SPECIFICATION.md, 6).
+-- `archive-told`: it is 0 or a listed number.
+-- `archive-found`, `found-archive`: it is 0 exactly if `read-archive` finds an archive.
 use Prim.Native.Nat.{ℕ}
 use mathlib.Core.Path.{_≡_}
 use mathlib.Core.List.{List}

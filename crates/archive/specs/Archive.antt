@@ -1,29 +1,30 @@
--- An archive and how it is read (docs/SPECIFICATION.md, 6 and 9).
+-- An archive, and how it is read (docs/SPECIFICATION.md, 6 and 9).
 use Prim.Native.Nat.{ℕ}
 use mathlib.Core.List.{List}
 use Rattle.jacobian.specs.declared.{Curve.Curve, Class.Class}
 use Rattle.stored_form.specs.{Reading.Reading, Reading.found, Reading._then_, Reading.reading-refusal, Fields.ended, Held.drawing-name, Held.nothing-held}
 use Rattle.stored_form.specs.{Records.read-fields, Records.read-operations, Records.archive-opening, declared.Held.Held}
 
--- what an archive holds; its operations newest first
+-- the values of an archive; its operations are in order, newest first
 pub record Archive : Type 0 where
   pub curve : Curve
   pub drawing : List ℕ
   pub seal : Class
   pub operations : List Class
 
--- what follows the operations: nothing, so that there is nothing to say of it
+-- what follows the operations: nothing
 abbrev pub Tail : Type 0
 Tail = Unit {0}
 
+-- reads what follows the operations, which is the end of the bytes
 unfoldable pub read-tail : List ℕ → ℕ → Reading Tail
 read-tail s at = ended s tt at
 
--- the archive of what was held before its operations, with these operations
+-- the archive with this header and these operations
 unfoldable pub archive-of : Held → List Class → Archive
 archive-of h ops = record { curve = h .curve; drawing = drawing-name (h .drawing); seal = h .class; operations = ops }
 
--- the whole archive: 0x40, 0x41, 0x46, 0x42, 0x43, as many 0x44 as the count says, and what follows them
+-- reads an archive: the header (0x40, 0x41, 0x46, 0x42, 0x43), as many 0x44 as its count says, and what follows them
 unfoldable pub read-archive : List ℕ → Reading Archive
 read-archive s =
     read-fields archive-opening nothing-held s 0 then λ h first.
@@ -31,6 +32,6 @@ read-archive s =
     read-tail s end then λ tail end.
     found (archive-of h ops) end
 
--- the number of an archive's refusal, and 0 where it is accepted
+-- the number of an archive's refusal, and 0 if it is accepted
 unfoldable pub archive-refusal : List ℕ → ℕ
 archive-refusal s = reading-refusal (read-archive s)

@@ -1,3 +1,3 @@
--- An archive as it is read: in one piece, and by a state and one step for each field.
+-- How an archive is read: as a whole, and by a reader with one step for each field.
 pub mod Archive
 pub mod Reader

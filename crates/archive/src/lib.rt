@@ -11,25 +11,25 @@ use stored_form::Held;
 use stored_form::OPENING_FIELDS;
 use stored_form::Place;
 
-// The field that is due.
+// What is expected next.
 pub enum Due {
-    // The field of the opening with this place in its list of tags.
+    // The field of the header with this index.
     Opening(usize),
-    // As many operations as are left, at least one.
+    // This many operations, at least one.
     Operations(u64),
     // The end of the input.
     End,
-    // The whole archive was read.
+    // Nothing: the whole archive was read.
     Nothing,
 }
 
-// The state of the reading.
+// The state of the reading: what is expected next, and the record of what was read.
 pub struct Reader {
     pub due: Due,
     pub held: Held,
 }
 
-// The state after a field beside the place of the next one; the state of the start on a refusal.
+// The state after a field, with the offset of the next one; the first state on a refusal.
 pub struct Advance {
     pub place: Place,
     pub reader: Reader,
@@ -46,7 +46,7 @@ pub fn start() -> Reader
     }
 }
 
-// A field was found: another one is due at the next place.
+// The answer with this state and the offset of the next field.
 fn moved(due: Due, held: Held, next: Cursor) -> Advance
     ensures { λ r. ⌜ r ≡ advance-of (found (reader due held) (next .at)) ⌝ }
 {
@@ -56,7 +56,7 @@ fn moved(due: Due, held: Held, next: Cursor) -> Advance
     }
 }
 
-// A field was refused.
+// The answer of a refusal: its number with the first state.
 fn stopped(n: u32) -> Advance
     ensures { λ r. ⌜ r ≡ advance-of (refused n) ⌝ }
 {
@@ -67,7 +67,7 @@ fn stopped(n: u32) -> Advance
     }
 }
 
-// The tag at a place of the opening, and 0, which is no tag, past it.
+// The tag of field i of the header, and 0, which is no tag, if there is none.
 fn opening_tag(i: usize) -> u8
     ensures { λ r. ⌜ r ≡ getD archive-opening i 0 ⌝ }
 {
@@ -78,7 +78,7 @@ fn opening_tag(i: usize) -> u8
     0
 }
 
-// What is due where this many operations are left.
+// What is expected if this many operations are left.
 fn operations_due(left: u64) -> Due
     ensures { λ r. ⌜ r ≡ operations-due left ⌝ }
 {
@@ -88,7 +88,7 @@ fn operations_due(left: u64) -> Due
     Due::Operations(left)
 }
 
-// What is due after the field at a place of the opening.
+// What is expected after field i of the header.
 fn after_opening(i: usize, count: u64) -> Due
     ensures { λ r. ⌜ r ≡ after-opening i count ⌝ }
 {
@@ -98,7 +98,7 @@ fn after_opening(i: usize, count: u64) -> Due
     operations_due(count)
 }
 
-// Reads the field at a place of the opening.
+// Reads field i of the header.
 fn read_opening(i: usize, h: Held, s: &[u8], at: Cursor) -> Advance
     ensures { λ r. ⌜ r ≡ advance-of (read-opening i h (now (s .entry)) (at .at)) ⌝ }
 {
@@ -111,7 +111,7 @@ fn read_opening(i: usize, h: Held, s: &[u8], at: Cursor) -> Advance
     moved(after_opening(i, held.count), held, next)
 }
 
-// Reads an operation where this many are left.
+// Reads an operation; this many are left, with this one.
 fn read_operation(left: u64, h: Held, s: &[u8], at: Cursor) -> Advance
     ensures { λ r. ⌜ r ≡ advance-of (read-operation left h (now (s .entry)) (at .at)) ⌝ }
 {
@@ -138,7 +138,7 @@ fn read_end(h: Held, s: &[u8], at: Cursor) -> Advance
     moved(Due::Nothing, h, at)
 }
 
-// Reads the field that is due at a place.
+// One step: reads what is expected at an offset.
 pub fn step(r: Reader, s: &[u8], at: Cursor) -> Advance
     ensures { λ t. ⌜ t ≡ advance-of (step r (now (s .entry)) (at .at)) ⌝ }
 {
@@ -152,7 +152,7 @@ pub fn step(r: Reader, s: &[u8], at: Cursor) -> Advance
     }
 }
 
-// Is a field or the end due?
+// Whether a field or the end is expected.
 fn pending(r: Reader) -> bool
     ensures { λ b. ⌜ b ≡ pending (r .due) ⌝ }
 {
@@ -165,7 +165,7 @@ fn pending(r: Reader) -> bool
     }
 }
 
-// Reads the fields before the operations, which are due then.
+// Reads the header; the operations are expected then.
 pub fn opening(s: &[u8]) -> Advance
     ensures { λ r. ⌜ r ≡ advance-of (opening (now (s .entry))) ⌝ }
 {
@@ -179,7 +179,7 @@ pub fn opening(s: &[u8]) -> Advance
     moved(operations_due(held.count), held, next)
 }
 
-// The refusal that is due to an archive, and 0 where it is accepted: step after step, until nothing is due or a field is refused.
+// The refusal of an archive, and 0 if it is accepted. Takes steps until nothing is expected or a field is refused.
 pub fn archive_refusal(s: &[u8]) -> u32
     ensures { λ r. ⌜ r ≡ archive-refusal (now (s .entry)) ⌝ }
 {

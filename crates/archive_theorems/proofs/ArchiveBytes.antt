@@ -1,4 +1,4 @@
--- What is written of an archive are bytes.
+-- An encoded archive is a list of bytes (`archive-is-bytes`).
 use Prim.Native.Nat.{ℕ, zero, suc, _≤_, _<_}
 use mathlib.Core.Path.{_≡_}
 use mathlib.Core.Bool.{true, _&&_}

@@ -1,4 +1,4 @@
--- Every accepted archive is shorter than 65,536 bytes (docs/SPECIFICATION.md, 10): the first fields, the drawing number, the count, and the room of each class.
+-- `archive-short`: every accepted archive is shorter than 65,536 bytes (docs/SPECIFICATION.md, 10).
 use Prim.Native.Nat.{ℕ, _+_, _<_}
 use mathlib.Core.Path.{_≡_, refl, ap}
 use mathlib.Core.List.{List, _++_}

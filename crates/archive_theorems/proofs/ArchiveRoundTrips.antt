@@ -1,5 +1,6 @@
--- An archive's bytes and its values determine each other.
--- `archive-read-back`: what is written of values that no check refuses is read so. `archive-written`: what is read was written so, and no check refuses it.
+-- Bytes and values of an archive determine each other.
+-- `archive-read-back`: an archive whose values no check refuses is read back from its bytes.
+-- `archive-written`: bytes that are read are the encoding of an archive whose values no check refuses.
 use Prim.Native.Nat.{ℕ}
 use mathlib.Core.Path.{_≡_, sym, ap, _∙_, subst}
 use mathlib.Core.List.{List, [], _++_}
@@ -21,9 +22,9 @@ use Rattle.archive.specs.Archive.{Archive, archive-of, read-archive}
 use Rattle.archive_theorems.specs.Written.{archive-bytes, Storable}
 use Rattle.archive_theorems.proofs.{Parts.parts-of, Tail.tail-written, Tail.tail-read-back}
 
--- ---- the opening
+-- ---- the header
 
--- what is held of it
+-- its record
 abbrev named : Curve → List ℕ → Held
 named c name = with-drawing (drawing-said name) (with-curve c nothing-held)
 
@@ -34,7 +35,7 @@ counted c name n = with-count n (named c name)
 abbrev opening-bytes : Curve → List ℕ → ℕ → Class → List ℕ
 opening-bytes c name n seal = curve-first-fields c ++ drawing-field name ++ count-field n ++ class-field 0x43 seal
 
--- values that pass, whose opening stands at the start
+-- values that pass, and the encoded header with them at the start of the input
 record Opens (s : List ℕ) (h : Held) (first : ℕ) : Type 0 where
   curve : Curve
   drawing : List ℕ

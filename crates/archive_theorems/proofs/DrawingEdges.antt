@@ -1,7 +1,9 @@
--- The drawing number at the edge of its length (docs/SPECIFICATION.md, 6.3), of any input whose degree and curve are read and behind which three bytes stand, the first of
--- them the tag 0x46. Where they say a length above the limit, the archive is refused with 104, whatever bytes follow them and however few (`drawing-above-limit`). Up to the
--- limit it is 105 where the body is cut short (`drawing-cut`), else 108 where a byte is not printable (`drawing-unprintable`), and else the body is the drawing number
--- (`drawing-within-limit`).
+-- The drawing number at the limit of its length (docs/SPECIFICATION.md, 6.3).
+-- The input is any whose degree and curve are read, and in which a head with the tag 0x46 follows.
+-- `drawing-above-limit`: a length above the limit is refused with 104, whatever bytes follow and however few.
+-- `drawing-cut`: up to the limit, a body that is cut short is refused with 105.
+-- `drawing-unprintable`: else, a body with a byte that is not printable is refused with 108.
+-- `drawing-within-limit`: else, the body is the drawing number.
 use Prim.Native.Nat.{ℕ, _+_, _≤_, _<_}
 use mathlib.Core.Path.{_≡_, refl, ap, _∙_}
 use mathlib.Core.Bool.{true, false}
@@ -16,7 +18,7 @@ use Rattle.stored_form.proofs.{DrawingBytes.name-said, Heads.head-104, Heads.he
 use Rattle.archive.specs.Archive.{read-archive, archive-refusal}
 
 module _ (s : List ℕ) {h : Held} {at : ℕ} (first : read-fields curve-fields nothing-held s 0 ≡ found h at) (fits : at + 3 ≤ length s) (due : getD s at 0 ≡ 0x46) where
-  -- what refuses the drawing number refuses the archive
+  -- the refusal of the drawing number is the archive's
   archive-refused : {n : ℕ} → read-field 0x46 h s at ≡ refused n → archive-refusal s ≡ n
   unfolding archive-refusal read-archive read-fields
   archive-refused e = ap reading-refusal (then-refused _ (fields-append curve-fields (0x46 ∷ 0x42 ∷ 0x43 ∷ []) nothing-held s 0 ∙ then-found _ first ∙ then-refused _ e))
@@ -31,7 +33,7 @@ module _ (s : List ℕ) {h : Held} {at : ℕ} (first : read-fields curve-fields 
     drawing-cut e = archive-refused (field-refused 0x46 h s at (head-105 0x46 h s at refl fits due (le-leb _ _ short) e))
 
     module _ (whole : at + 3 + body-length s at ≤ length s) where
-      -- the body, what is held with it, and the check of its bytes
+      -- the body, the record with it, and the check of its bytes
       body-checked : let body = part s (at + 3) (body-length s at) in
           read-field 0x46 h s at ≡ checked (drawing-refusal body) (found (with-drawing (drawing-said body) h) (at + 3 + body-length s at))
       unfolding read-field body-at rules

@@ -1,4 +1,5 @@
--- What is proved of archives: their bytes and their values determine each other; what is written are bytes; their length; the drawing number's edges; reading through a part that moves on.
+-- Theorems on archives: bytes and values determine each other; an encoded archive is bytes; its length;
+-- the drawing number at its limit; reading one part of the input at a time.
 pub mod Parts
 pub mod Shifted
 pub mod Tail

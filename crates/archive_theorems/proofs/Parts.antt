@@ -1,5 +1,6 @@
--- An archive that was read: what stands before its operations, its operations and what follows them (`parts-of`). Its seal and its operations are
--- classes of its curve (`seal-sound`, `operations-accepted`).
+-- The parts of an archive that was read.
+-- `parts-of`: its header, its operations and what follows them.
+-- `seal-sound`, `operations-accepted`: no check refuses its seal and its operations on its curve.
 use Prim.Native.Nat.{ℕ}
 use mathlib.Core.Path.{_≡_, sym, ap, _∙_, subst}
 use mathlib.Core.List.{List}
@@ -11,6 +12,7 @@ use Rattle.stored_form.proofs.{Readings.both-found, Readings.same-found, Passin
 use Rattle.stored_form_theorems.proofs.Operations.{operations-sound}
 use Rattle.archive.specs.Archive.{Archive, Tail, read-tail, archive-of, read-archive}
 
+-- the readings of an archive's header, of its operations and of what follows them
 pub record Parts (s : List ℕ) (a : Archive) (end : ℕ) : Type 0 where
   pub held : Held
   pub first : ℕ

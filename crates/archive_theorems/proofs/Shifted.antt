@@ -1,4 +1,4 @@
--- Readings with their places counted from k bytes before, and tests that say the same of two numbers.
+-- Readings with shifted offsets, and tests that agree on two pairs of numbers.
 use Prim.Native.Nat.{ℕ, zero, suc, _+_, _≤_, _<_}
 use mathlib.Core.Path.{_≡_, refl}
 use mathlib.Core.Bool.{Bool, true, false}

@@ -1,5 +1,7 @@
--- What follows the operations: what is read of it was written so (`tail-written`), what is written of it is read so (`tail-read-back`), and it is read
--- through a part of the input that moves on (`tail-after`, `tail-within`).
+-- What follows the operations.
+-- `tail-written`: if it is read, no byte follows.
+-- `tail-read-back`: if no byte follows, it is read.
+-- `tail-after`, `tail-within`: it is read from a part of the input as from the whole.
 use Prim.Native.Nat.{ℕ, _+_, _≤_}
 use mathlib.Core.Path.{_≡_}
 use mathlib.Core.List.{List}
@@ -20,14 +22,14 @@ module _ (s : List ℕ) (at : ℕ) where
   unfolding read-tail
   tail-read-back h = end-read-back s tt at h
 
-  -- counted from k bytes before
+  -- with offsets shifted by k
   pub tail-after : (k : ℕ) → read-tail s (k + at) ≡ after k (read-tail (drop k s) at)
   unfolding read-tail ended end-refusal
   tail-after k =
       rw (same-test (k + at) (length s) at (length (drop k s)) (λ h. omega (arith, length-drop k s)) (λ h. omega (arith, length-drop k s)))
       (checked-after k (end-refusal (drop k s) at) tt at)
 
-  -- over m bytes, where a field has room
+  -- from the first m bytes, if they have room for the longest field
   pub tail-within : (m : ℕ) → at + (3 + longest-body) ≤ m → read-tail (take m s) at ≡ read-tail s at
   unfolding read-tail ended end-refusal
   tail-within m room = rw (same-test at (length (take m s)) at (length s) (λ h. omega (arith, length-take m s)) (λ h. omega (arith, length-take m s)))

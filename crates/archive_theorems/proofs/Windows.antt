@@ -1,6 +1,7 @@
--- A step looks only at the bytes of its own field, so the input can be read through a part of it that moves on: over m bytes from a place k on a step
--- finds what it finds over the whole input, and refuses what it refuses there, with every place counted from k on, where the longest field has room
--- (`step-through`) or the m bytes are all that is left (`step-last`).
+-- A step looks only at the bytes of its own field, so the input can be read one part at a time.
+-- The part is m bytes from the offset k on; offsets of the part are shifted by k.
+-- `step-through`: a step in a part with room for the longest field answers what it answers in the whole input.
+-- `step-last`: so does a step in a part that is all that is left of the input.
 use Prim.Native.Nat.{ℕ, _+_, _-_, _≤_, _<_}
 use mathlib.Core.Path.{_≡_, refl, sym, ap, _∙_}
 use mathlib.Core.Bool.{Bool, true, false, not}
@@ -18,7 +19,7 @@ use Rattle.archive.specs.Reader.{read-opening, read-operation, read-end, read-d
 use Rattle.archive_theorems.specs.Places.{after}
 use Rattle.archive_theorems.proofs.{Shifted.checked-after, Shifted.then-after, Shifted.same-test, Tail.tail-after, Tail.tail-within}
 
--- ---- places counted from k bytes before
+-- ---- offsets shifted by k
 
 module _ (k : ℕ) (s : List ℕ) where
   part-there : (i n : ℕ) {j : ℕ} → j ≡ k + i → part s j n ≡ part (drop k s) i n
@@ -123,13 +124,13 @@ module _ (m : ℕ) (s : List ℕ) where
     unfolding step
     step-within r = due-within (r .due) (r .held)
 
--- ---- a step over m bytes of the input from a place k on
+-- ---- a step in m bytes of the input from the offset k on
 
 module _ (k m : ℕ) (s : List ℕ) (at : ℕ) (r : Reader) where
-  -- the longest field has room
+  -- the part has room for the longest field
   pub step-through : at + (3 + longest-body) ≤ m → step r s (k + at) ≡ after k (step r (part s k m) at)
   step-through room = step-after k s at r ∙ ap (after k) (sym (step-within m (drop k s) at room r))
 
-  -- they are all that is left of the input
+  -- the part is all that is left of the input
   pub step-last : length s ≤ k + m → step r s (k + at) ≡ after k (step r (part s k m) at)
   step-last h = step-after k s at r ∙ ap (λ (l : List ℕ). after k (step r l at)) (sym (take-all m (drop k s) (omega (arith, length-drop k s))))

@@ -1,3 +1,3 @@
--- The bytes of an archive, which values have such bytes, and readings with their places counted from another byte on.
+-- The bytes of an archive, the values that have such bytes, and readings with shifted offsets.
 pub mod Written
 pub mod Places

@@ -1,8 +1,8 @@
--- A reading of a part of the input, said of the whole input.
+-- A reading of a part of the input, stated for the whole input.
 use Prim.Native.Nat.{ℕ, _+_}
 use Rattle.stored_form.specs.Reading.{Reading, found, refused}
 
--- places counted from k bytes before
+-- the same reading with its offset shifted by k
 unfoldable pub after : {A : Type 0} → ℕ → Reading A → Reading A
 after k (found a next) = found a (k + next)
 after k (refused n) = refused n

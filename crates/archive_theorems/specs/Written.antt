@@ -1,4 +1,4 @@
--- The bytes of an archive, and which values have such bytes (docs/SPECIFICATION.md, 6 and 9).
+-- The bytes of an archive, and the values that have such bytes (docs/SPECIFICATION.md, 6 and 9).
 use Prim.Native.Nat.{ℕ, _≤_}
 use mathlib.Core.Path.{_≡_}
 use mathlib.Core.Bool.{true}
@@ -9,7 +9,7 @@ use Rattle.stored_form.specs.{Head.drawing-limit, Fields.drawing-field, Fields.
 use Rattle.stored_form.specs.{Classes.curve-first-fields, Classes.class-field, Classes.operation-fields, Passing.CurvePasses, Passing.CountPasses, Passing.ClassPasses}
 use Rattle.archive.specs.Archive.{Archive}
 
--- 0x40, 0x41, 0x46, 0x42, 0x43 and as many 0x44 as the count says
+-- an archive encoded: 0x40, 0x41, 0x46, 0x42, 0x43 and one 0x44 for each operation
 unfoldable pub archive-bytes : Archive → List ℕ
 archive-bytes a =
     curve-first-fields (a .curve)
@@ -18,7 +18,7 @@ archive-bytes a =
     ++ class-field 0x43 (a .seal)
     ++ operation-fields (a .operations)
 
--- values that no check of an archive refuses
+-- an archive whose values no check refuses
 pub record Storable (a : Archive) : Type 0 where
   pub curve-allowed : CurvePasses (a .curve)
   pub drawing-printable : printable (a .drawing) ≡ true

@@ -1,1 +1,1 @@
-// What is proved of archives: bytes and values determine each other, their length, and reading through a part that moves on. Theorems in proofs/, no code.
+// Theorems on archives: bytes and values determine each other, the length, and reading one part at a time. No code.

@@ -1,6 +1,7 @@
 -- The walk of any accepted archive, whatever calls made it (docs/SPECIFICATION.md, 10).
--- `walk-accepted`: no step of the walk over them, newest first, from its last seal, is refused.
--- `walk-seals`: its seals are the last one and what the steps answer. `report-seals`: the report's lines speak of these seals.
+-- `walk-accepted`: no step of the walk back from its last seal is refused.
+-- `walk-seals`: the walk's seals are the last seal and the answers of these steps.
+-- `report-seals`: the report's lines have these seals.
 use Prim.Native.Nat.{ℕ}
 use mathlib.Core.Path.{_≡_, ap, _∙_, sym, subst}
 use mathlib.Core.List.{List, [], _∷_, map}
@@ -15,10 +16,10 @@ use Rattle.archive.specs.Archive.{Archive, read-archive}
 use Rattle.archive_theorems.proofs.Parts.{seal-sound, operations-accepted}
 use Rattle.walk_report.specs.{Lines.first-line, Walk.seals, Walk.letters, Report.seal-lines, Report.walk-lines, Report.lines-of, Report.report-lines}
 
--- ---- steps over what is sound
+-- ---- steps over accepted classes
 
 module _ {c : Curve} where
-  -- a step's answer is the seal
+  -- a step is accepted and answers the seal before
   pub step-is : {seal a : Class} → Accepts c seal → Accepts c a → result (subtract-and-halve-answer c seal a) ≡ record { outcome = accepted; class = undo-seal c seal a }
   unfolding sealed
   step-is {seal} {a} hs ha = subtract-and-halve-sealed c seal a ∙ ap (λ (n : ℕ). sealed n (undo-seal c seal a)) (accepts-two c hs ha)

@@ -1,8 +1,10 @@
--- Demand 3 of archives (docs/SPECIFICATION.md, 10.1): where the accepted calls of a list are all commits, an accepted archive, whatever its drawing number, with
--- the register's curve, its last seal and all their classes, newest first, has for k operations undone the seal just before the k-th newest commit,
--- and for k = 0 the last seal (`archive-seals`: all its seals; `archive-seal`: the one for k). Where the register passes its own checks such an archive exists
--- for every drawing number that is allowed: the encoding of these values is accepted (`archive-exists`).
--- The same where each call of the list is by value or in place: `left-archive-seals`, `left-archive-seal`, `left-archive-exists`.
+-- Demand 3 for archives (docs/SPECIFICATION.md, 10.1).
+-- The accepted calls of a list are all commits; an accepted archive with any drawing number keeps the register's curve,
+-- its last seal and the classes of all these commits, newest first.
+-- `archive-seals`: the walk's seals are the last seal and those just before each commit, newest first.
+-- `archive-seal`: with k operations undone the seal is the one just before the k-th newest commit, the last for k = 0.
+-- `archive-exists`: if no check refuses the register, such an archive exists for every allowed drawing number.
+-- `left-archive-seals`, `left-archive-seal`, `left-archive-exists`: the same if each call is by value or in place.
 use Prim.Native.Nat.{ℕ, _≤_}
 use mathlib.Core.Path.{_≡_, refl, ap}
 use mathlib.Core.Bool.{true}

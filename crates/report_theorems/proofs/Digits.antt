@@ -1,5 +1,7 @@
--- The digits that a report prints of a number are all of them: read as a number they give it back (`digits-said`). So twenty decimal and sixteen
--- hexadecimal digits are enough for every number of 64 bits (`decimal-said`, `hexadecimal-said`). A number other than 0 has no leading zeros (`no-leading-zero`).
+-- The digits that a report prints of a number.
+-- `digits-said`: they parse to the number.
+-- `decimal-said`, `hexadecimal-said`: twenty decimal and sixteen hexadecimal digits suffice for every 64-bit number.
+-- `no-leading-zero`: a number other than 0 is printed without leading zeros.
 use Prim.Native.Nat.{ℕ, zero, suc, _+_, _*_, _/_, _%_, _^_, _≤_, _<_}
 use mathlib.Core.Path.{_≡_, refl, ap, ap₂, _∙_}
 use mathlib.Core.Bool.{Bool, true, false, cond}

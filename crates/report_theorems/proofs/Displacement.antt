@@ -1,6 +1,8 @@
--- How far one changed operation moves the last seal of an archive (docs/SPECIFICATION.md, 10.1 and 11): of two accepted archives of one curve whose walks end in one earliest seal, of
--- whose n operations only operation k, counted from the oldest, changes, from d to e, the last seals are n - k doublings of e - d apart (`archive-displacement`), and they differ where
--- d and e do (`archive-moves`).
+-- How far one changed operation moves the last seal of an archive (docs/SPECIFICATION.md, 10.1 and 11).
+-- Two accepted archives on one curve have the same earliest seal in their walks and n operations,
+-- of which only operation k, counted from the oldest as 1, differs: d in one and e in the other.
+-- `archive-displacement`: the last seal of the second archive is that of the first plus n - k doublings of e - d.
+-- `archive-moves`: the last seals differ if d and e do.
 use Prim.Native.Nat.{ℕ, _-_}
 use mathlib.Core.Path.{_≡_, ap, _∙_, subst}
 use mathlib.Core.List.{List, reverse}

@@ -1,5 +1,5 @@
--- What is left of a list of calls on a register that passes its own checks, where only commits were accepted, is what an archive may hold:
--- no check refuses the curve, the last seal or a class of an accepted call, and there are no more of these than the limit (`kept-storable`).
+-- `kept-storable`: if only commits were accepted on a register that no check refuses, an archive can keep what is left.
+-- No check refuses the curve, the last seal and the classes of the accepted calls, which are no more than the limit.
 use Prim.Native.Nat.{ℕ, _≤_}
 use mathlib.Core.Path.{_≡_, subst}
 use mathlib.Core.Bool.{true}

@@ -1,7 +1,8 @@
--- The lines of the report of an accepted archive, one by one, and their letters (docs/SPECIFICATION.md, 10.3).
--- `line-count`: it has two lines more than the archive has operations. `opening-lines`: the first two, in which no operation has a letter. `operation-line`:
--- the line with k + 1 operations undone has the letter of the operation at place k, where the newest is at place 0.
--- `letter-moves`: which of these letters changed when M came to be tested before R (docs/changes/05.md).
+-- The lines of an accepted archive's report, and their letters (docs/SPECIFICATION.md, 10.3).
+-- `line-count`: the report has two lines more than the archive has operations.
+-- `opening-lines`: the first two lines, in which no operation has a letter.
+-- `operation-line`: the line with k + 1 operations undone has the letter of operation k; the newest is operation 0.
+-- `letter-moves`: which letters changed when M came to be tested before R (docs/changes/05.md).
 use Prim.Native.Nat.{ℕ, zero, suc, _+_, _<_}
 use mathlib.Core.Path.{_≡_, refl, sym, ap, ap₂, _∙_}
 use mathlib.Core.Bool.{Bool, true, false, cond, _&&_, true≢false}
@@ -92,8 +93,8 @@ module _ {c : Curve} where
   next-opposed {older = []} ha hs e = refl
   next-opposed {older = b ∷ older} ha (more hb hs) e = opposed-neutral ha hb e
 
--- the letters of both orders, by what is found: n whether the operation is neutral, t whether it is the opposite of the next older one, q whether that one is
--- neutral
+-- The letters in both orders of the tests: n is whether the operation is neutral,
+-- t whether it is the opposite of the next older one, q whether the next older one is neutral.
 swapped : (n t q : Bool) → (n ≡ true → t ≡ q) →
     let was : ℕ = cond t 0x52 (cond n 0x4D 0x2D) in
     let is : ℕ = cond n 0x4D (cond t 0x52 0x2D) in
@@ -105,8 +106,8 @@ swapped true false false h = (λ e. refl, λ e. absurd (true≢false (sym e)))
 swapped false true q h = (λ e. refl, λ e. absurd (true≢false (sym e)))
 swapped false false q h = (λ e. refl, λ e. absurd (true≢false (sym e)))
 
--- of the operation at place k, `was` is the letter as it was, with R before M: where the operation and the next older one are not both neutral it has stayed,
--- where both are it was R and is M
+-- `was` is the letter of operation k when R was tested before M.
+-- If the operation and the next older one are both neutral, it was R and is M; else it is unchanged.
 pub letter-moves : (s : List ℕ) {x : Archive} {end : ℕ} → read-archive s ≡ found x end → (k : ℕ) → k < length (x .operations) →
     let a = getD (x .operations) k neutral-class in
     let older = drop (suc k) (x .operations) in

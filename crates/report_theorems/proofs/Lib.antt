@@ -1,4 +1,4 @@
--- The report that the steps make, its numbers and its lines' lengths; an archive's walk, and demand 3 of archives.
+-- The report that the steps make, its numbers and the lengths of its lines; an archive's walk; demand 3 for archives.
 pub mod Digits
 pub mod LineRoom
 pub mod ArchiveWalk

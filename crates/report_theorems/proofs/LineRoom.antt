@@ -1,4 +1,4 @@
--- Every line of the report has room in a line's row (`text-short`).
+-- `text-short`: every line of the report fits the row of a line.
 use Prim.Native.Nat.{ℕ, _≤_}
 use mathlib.Core.Path.{_≡_}
 use mathlib.Core.List.{List}
@@ -25,7 +25,7 @@ stage-short Last r s at h = seal-short 0 0x2E (r .seal)
 stage-short Undo r s at h = seal-short _ _ _
 stage-short Over r s at h = omega arith
 
--- a drawing's row has as many bytes as every value of the code's type
+-- the row of a drawing number has `drawing-limit` bytes, as every value of the code's type has
 pub text-short : (r : Report) (s : List ℕ) (at : ℕ) → length (r .reader .held .drawing .bytes) ≡ drawing-limit → length (next-line r s at .text) ≤ line-room
 unfolding next-line
 text-short r s at h = stage-short (r .stage) r s at h

@@ -1,4 +1,4 @@
--- The lines that the report's steps make, one after the other, are the report's lines (`report-made`).
+-- `report-made`: the lines that the report's steps make, one after the other, are the report's lines.
 use Prim.Native.Nat.{ℕ, zero, suc, _+_, _-_}
 use mathlib.Core.Path.{_≡_, refl, sym, ap, _∙_, subst}
 use mathlib.Core.List.{List, [], _∷_}
@@ -23,7 +23,7 @@ use Rattle.report_theorems.proofs.ArchiveWalk.{step-is}
 use Rattle.walk_report.specs.declared.{Stage.Stage, Report.Report, Moved.Moved}
 use Rattle.walk_report.specs.declared.Stage.the-variants.{First, Last, Undo, Over}
 
--- ---- the report's lines, behind the one of a seal
+-- ---- the report's lines after that of a seal
 
 unfoldable pub later-lines : Curve → ℕ → Class → List Class → List (List ℕ)
 later-lines c k seal [] = []
@@ -51,7 +51,7 @@ module _ (s : List ℕ) where
       ap (λ (x : Reading Held). held-next r at (x then λ more next. found (reader (operations-due (suc n - 1)) more) next)) e
       ∙ ap (λ (k : ℕ). moved (report-at Undo (reader (operations-due k) more) seal (more .operation)) next) less
 
-  -- another seal is carried along
+  -- another seal is kept through the step
   held-seal : (seal : Class) (r : Report) (at : ℕ) (x : Reading Reader) →
       held-next (with-seal seal r) at x ≡ record { report = with-seal seal (held-next r at x .report); next = held-next r at x .next }
   unfolding held-next
@@ -67,7 +67,7 @@ module _ (s : List ℕ) where
       go zero = refl
       go (suc n) = held-seal seal r at (step (r .reader) s at)
 
-  -- the letter of an operation, by those that are still to be read
+  -- the letter of an operation, by the operations that are still to be read
   letter-is : (n : ℕ) (h : Held) (seal a b : Class) (stage : Stage) (at : ℕ) {ops : List Class} {end : ℕ} → read-operations n h s at ≡ found ops end →
       letter-before (h .curve) a (advanced (report-at stage (reader (operations-due n) h) seal b) s at .report) ≡ letter (h .curve) a ops
   unfolding letter next-older
@@ -79,7 +79,7 @@ module _ (s : List ℕ) where
       ap (λ (m : Moved). letter-before (h .curve) a (m .report)) (advanced-more n stage h seal b at (m .this))
       ∙ ap (letter (h .curve) a) (sym (m .all))
 
-  -- an undo's line, and those behind it
+  -- the line of an undo, and the lines after it
   undo-made : (n : ℕ) (h : Held) (seal a : Class) (at k : ℕ) {before : Class} {ops : List Class} {end : ℕ} → read-operations n h s at ≡ found ops end →
       h .count ≡ k + suc n → subtract-and-halve-answer (h .curve) seal a .class ≡ before →
       let m = advanced (report-at Undo (reader (operations-due n) h) before a) s at in
@@ -96,7 +96,7 @@ module _ (s : List ℕ) where
       ∙ ap (λ (j : ℕ). line (k + 1) j before ∷ rest n (carried before)) (letter-is n h seal a a Undo at e)
       ∙ ap (λ (m : Moved). line (k + 1) (letter c a ops) before ∷ rest n m) (sym (advanced-seal before r at))
 
-  -- all lines behind the one of a seal
+  -- all lines after that of a seal
 
   walk-made : (n : ℕ) (stage : Stage) (h : Held) (seal b : Class) (at k : ℕ) {ops : List Class} {end : ℕ} → read-operations n h s at ≡ found ops end →
       h .count ≡ k + n → Accepts (h .curve) seal →
@@ -130,7 +130,7 @@ module _ (s : List ℕ) where
   unfolding opened opened-by first-report opening
   opened-first z e = ap (λ (n : ℕ). opened-by n (opening s)) z ∙ ap first-report (then-found _ e)
 
-  -- the first two lines, and those behind them
+  -- the first two lines, and the lines after them
   first-made : (n : ℕ) (h : Held) (seal b : Class) (at : ℕ) →
       let r = report-at First (reader (operations-due n) h) seal b in
       let m = advanced (with-stage Last r) s at in

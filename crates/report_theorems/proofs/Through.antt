@@ -1,5 +1,7 @@
--- A line is made from any part of the input that has the next field: over m bytes from a place k on the line and the report after it are those that the whole input
--- gives, with the place counted from k on, where the longest field has room (`line-through`) or the m bytes are all that is left (`line-last`).
+-- A line can be made from a part of the input that has the next field.
+-- The part is m bytes from the offset k on; offsets of the part are shifted by k.
+-- `line-through`: in a part with room for the longest field, line and state after it are those of the whole input.
+-- `line-last`: so they are in a part that is all that is left of the input.
 use Prim.Native.Nat.{ℕ, zero, suc, _+_, _-_, _≤_}
 use mathlib.Core.Path.{_≡_, refl, ap, _∙_}
 use mathlib.Core.List.{List}
@@ -20,7 +22,7 @@ held-after k at r (found reader next) = refl
 held-after k at r (refused n) = refl
 
 module _ (k : ℕ) (s t : List ℕ) (at : ℕ) where
-  -- where a step over the part is the step over the whole input
+  -- a step in the part is the step in the whole input
   module _ (r : Report) (same : step (r .reader) s (k + at) ≡ after k (step (r .reader) t at)) where
     by-after : (n : ℕ) → advanced-by n r s (k + at) ≡ moved-after k (advanced-by n r t at)
     unfolding advanced-by

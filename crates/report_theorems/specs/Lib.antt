@@ -1,4 +1,4 @@
--- What an archive keeps of a list of calls, the number that printed digits say, and places in a part of the input.
+-- Archives that keep what a list of calls leaves, numbers parsed from printed digits, and lines with shifted offsets.
 pub mod Demand3
 pub mod Numerals
 pub mod Through

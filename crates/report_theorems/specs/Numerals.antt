@@ -1,23 +1,23 @@
--- The number that printed digits say (docs/SPECIFICATION.md, 10).
+-- Numbers parsed from printed digits (docs/SPECIFICATION.md, 10).
 use Prim.Native.Nat.{ℕ, _+_, _-_, _*_}
 use mathlib.Core.Path.{_≡_}
 use mathlib.Core.Bool.{cond}
 use mathlib.Core.List.{List, [], _∷_}
 use lib.Dec.{ltb}
 
--- the number that a digit says: 0 to 9, then a to f
+-- the value of a digit: 0 to 9, then a to f
 unfoldable pub digit-said : ℕ → ℕ
 digit-said b = cond (ltb b 0x61) (b - 0x30) (b - 0x57)
 
--- the number that digits say behind a number, highest first
+-- the number that digits give after the digits of n, highest first
 unfoldable pub said-behind : ℕ → ℕ → List ℕ → ℕ
 said-behind base n [] = n
 said-behind base n (b ∷ bs) = said-behind base (n * base + digit-said b) bs
 
--- the number that digits say
+-- the number that digits give
 unfoldable pub said : ℕ → List ℕ → ℕ
 said base bs = said-behind base 0 bs
 
--- printed digits begin, and not with the digit 0
+-- the text is not empty and its first digit is not 0
 abbrev pub Begins : List ℕ → Type 0
 Begins l = (b : ℕ) × (bs : List ℕ) × (l ≡ b ∷ bs) × (b ≡ 0x30 → ⊥)

@@ -1,1 +1,1 @@
-// What is proved of the walk report and of an archive's walk: definitions and theorems alone, in specs/ and proofs/, no code.
+// Theorems on the walk report and on an archive's walk. Definitions and theorems alone, no code.

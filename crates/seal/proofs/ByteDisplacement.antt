@@ -1,10 +1,13 @@
--- How far one changed operation moves the seal of a list of byte commits (docs/SPECIFICATION.md, 11), from the stored form of any register that no check refuses, whatever bytes stand in
--- the place of the operations, refused calls among them. The record of the seal moves as the records' group says: an accepted commit doubles it and adds the operation's (`commit-record`).
--- So where of n accepted commits only operation j changes, the last record is the other list's plus n - j doublings of the difference of the operations' records, to the byte
--- (`displacement-bytes`), and it is another one where the operations' fields are (`moves-bytes`). None of the calls that say so is refused. The last sum writes the class field of the
--- other list's last seal (`displacement-writes`). The records of the two last seals, of the two operations and of their difference are read (`last-read`, `changed-read`,
--- `operations-read`, `difference-read`), so that the opposite, the difference's sum and the doublings write the fields of classes too (`opposite-writes`, `sum-writes`, `doublings-write`
--- of ByteGroup).
+-- How far one changed operation moves the seal of a list of byte commits (docs/SPECIFICATION.md, 11).
+-- The list starts from the stored form of any register that no check refuses; any bytes may be given as operations,
+-- and calls may be refused. Of the n accepted calls, all commits, only operation j differs in the two lists.
+-- `commit-record`: an accepted commit doubles the record of the seal and adds the operation's record.
+-- `displacement-bytes`: one last record plus n - j doublings of the operations' difference is the other last record.
+-- `displacement-writes`: the last of these sums writes the class field of the other list's last seal.
+-- `moves-bytes`: the last records differ if the operations' fields differ.
+-- `last-read`, `changed-read`, `operations-read`, `difference-read`: the records of the two last seals, of the two
+-- operations and of their difference are read, so no call on them is refused (`opposite-writes`, `sum-writes`,
+-- `doublings-write` of ByteGroup).
 use Prim.Native.Nat.{ℕ, _-_, _≤_}
 use mathlib.Core.Path.{_≡_, refl, sym, ap, ap₂, _∙_, subst}
 use mathlib.Core.List.{List, [], _∷_, _++_, map, reverse, reverse-reverse}
@@ -40,7 +43,7 @@ seal-holds k stored = record {
   begins = stored .curve-bytes;
 }
 
--- the field of an operation with the tag of a class
+-- an operation's field with the tag of a class
 other-tag : (a : Class) → 0x43 ∷ drop 1 (class-field 0x44 a) ≡ class-field 0x43 a
 unfolding class-field stored head-bytes bytes-of
 other-tag a = refl
@@ -49,12 +52,12 @@ own-tag : (a : Class) → class-field 0x44 a ≡ 0x44 ∷ drop 1 (class-field 0x
 unfolding class-field stored head-bytes bytes-of
 own-tag a = refl
 
--- bytes in the place of an operation that are the field of a class
+-- the bytes op are the field of an operation's class
 record Carried (fields op : List ℕ) : Type 0 where
   tagged : op ≡ 0x44 ∷ drop 1 op
   read : ReadWith fields (operation-record fields op)
 
--- fields with the same record are the same
+-- operations' fields with the same record are the same
 same-operation : (fields : List ℕ) {d e : List ℕ} → Carried fields d → Carried fields e → operation-record fields d ≡ operation-record fields e → d ≡ e
 same-operation fields {d} {e} x y same =
     let rest : 0x43 ∷ drop 1 d ≡ 0x43 ∷ drop 1 e =
@@ -113,7 +116,7 @@ abbrev fields-of : List (Event Kept ByteStep) → List (List ℕ)
 fields-of es = map (λ e. e .call .operation) es
 
 module _ (out : List ℕ) (room : class-room ≤ length out) where
-  -- accepted commits lead from what is kept to this record of a seal, and carry fields of classes
+  -- accepted commits lead from what is kept to this record of a seal, and their operations are fields of classes
   abbrev Leads : Kept → List (Event Kept ByteStep) → List ℕ → Type 0
   Leads k es end = (end ≡ forward (record-sum out) (record-double out) (seal-record k) (map (operation-record (k .curve)) (fields-of es))) × All (Carried (k .curve)) (fields-of es)
 
@@ -144,7 +147,7 @@ module _ (out : List ℕ) (room : class-room ≤ length out) where
           let same = refused-stays k (made k c) n e in
           subst (λ (t : Kept). Leads t rest end) same (on (subst InStoredForm (sym same) stored) hs)
 
--- the fields, oldest first
+-- the operations' fields, oldest first
 oldest-first : (k : Kept) (cs : List ByteStep) → operations (newest byte-steps k cs) ≡ fields-of (accepted-of (run byte-steps k cs))
 unfolding newest
 oldest-first k cs = ap fields-of (reverse-reverse (accepted-of (run byte-steps k cs)))
@@ -167,7 +170,7 @@ module _ (out : List ℕ) (room : class-room ≤ length out) (k : Kept) (stored 
   all-carried : All (Carried (k .curve)) (operations (newest byte-steps k cs))
   all-carried = subst (All (Carried (k .curve))) (sym (oldest-first k cs)) (led .1)
 
--- the records of what is carried are read
+-- the records of such operations are read
 all-read : {fields : List ℕ} {l : List (List ℕ)} → All (Carried fields) l → All (ReadWith fields) (map (operation-record fields) l)
 all-read none = none
 all-read (more h r) = more (h .read) (all-read r)
@@ -186,7 +189,6 @@ module _ (k t : Kept) (stored : InStoredForm k) (stored' : InStoredForm t) (cs d
   is-carried : All (Carried (k .curve)) (operations (newest byte-steps t ds))
   is-carried = subst (λ f. All (Carried f) (operations (newest byte-steps t ds))) (v .same-curve) (all-carried out room t stored' ds bytes' (v .changed-commits))
 
-  -- the records of the two operations are read
   pub operations-read : ReadWith (k .curve) (operation-record (k .curve) d) × ReadWith (k .curve) (operation-record (k .curve) e)
   operations-read = let p = changed-members (v .changed) was-carried is-carried in (p .0 .read, p .1 .read)
 
@@ -198,11 +200,9 @@ module _ (k t : Kept) (stored : InStoredForm k) (stored' : InStoredForm t) (cs d
       led-to out room t stored' ds bytes' (v .changed-commits)
       ∙ ap₂ (λ f s. forward (record-sum out) (record-double out) s (map (operation-record f) (operations (newest byte-steps t ds)))) (v .same-curve) (v .same-seal)
 
-  -- and that of the last seal
   pub last-read : ReadWith (k .curve) (seal-record (last byte-steps k cs))
   last-read = subst (ReadWith (k .curve)) (sym was-led) (group.forward-member (byte-doubling (seal-read k stored) out room) (seal-read k stored) (all-read was-carried))
 
-  -- the last seal's record moves by as many doublings of the difference as commits follow
   pub displacement-bytes :
       record-sum out (seal-record (last byte-steps k cs)) (repeat (record-double out) (length (newest byte-steps k cs) - j)
       (record-difference out (operation-record (k .curve) e) (operation-record (k .curve) d)))
@@ -211,7 +211,6 @@ module _ (k t : Kept) (stored : InStoredForm k) (stored' : InStoredForm t) (cs d
       ap₂ (λ s n. record-sum out s (repeat (record-double out) (n - j) (record-difference out (record-of e) (record-of d)))) was-led (sym (operation-count k cs record-of))
       ∙ sym (is-led ∙ group.displacement (byte-doubling (seal-read k stored) out room) (changed-map record-of (v .changed)) (seal-read k stored) (all-read was-carried) (all-read is-carried))
 
-  -- that record is read, and its class field is what the last sum writes
   pub difference-read : ReadWith (k .curve) (record-difference out (operation-record (k .curve) e) (operation-record (k .curve) d))
   difference-read = sum-read (operations-read .1) (opposite-read (operations-read .0) out room) out room
 

@@ -1,9 +1,15 @@
--- The laws of the group by bytes (docs/SPECIFICATION.md, 11), for records of classes that are read and have the same fields of degree and curve, where the outputs have room for a class
--- field. A sum, an opposite and each of k doublings write the field of what the call by value gives (`sum-writes`, `opposite-writes`, `doublings-write`), so none is refused, and the
--- record rebuilt from that, of which it is the class field (`sum-field`), is read again (`sum-read`, `opposite-read`, `double-read`, `doublings-read`, `neutral-read`). Sums in either order and either grouping answer the same and leave the same in the output (`sum-comm-bytes`, `sum-assoc-bytes`); with the
--- neutral class's field the class's own is written (`sum-neutral-bytes`), and of a class and its opposite the neutral class's (`sum-opposite-bytes`).
--- So the records with the same such fields are a commutative group (`byte-group`) in which doubling is one to one (`byte-doubling`), and all of class_group's laws of groups hold of them.
--- Every record of a sum that is read is made of two such records (`sum-record-parts`).
+-- The laws of the group by bytes (docs/SPECIFICATION.md, 11).
+-- For records of classes that are read and have the same fields of degree and curve, and outputs that have room:
+-- `sum-writes`, `opposite-writes`, `doublings-write`: each call writes the field of what the call by value gives.
+-- `sum-read`, `opposite-read`, `double-read`, `doublings-read`, `neutral-read`: the rebuilt record is read again.
+-- `sum-field`: the class field of a sum's rebuilt record is the field of the sum.
+-- `sum-comm-bytes`: a sum in either order answers the same and leaves the same output.
+-- `sum-assoc-bytes`: so do sums in either grouping.
+-- `sum-neutral-bytes`: the sum with the neutral class writes the class's own field.
+-- `sum-opposite-bytes`: the sum of a class and its opposite writes the field of the neutral class.
+-- `byte-group`: these records are a commutative group, so all laws of groups in class_group hold of them.
+-- `byte-doubling`: doubling is one to one on them.
+-- `sum-record-parts`: every record of a sum that is read is made of two such records.
 use Prim.Native.Nat.{ℕ, zero, suc, _≤_}
 use mathlib.Core.Path.{_≡_, refl, sym, ap, _∙_, subst}
 use mathlib.Core.List.{List}
@@ -28,7 +34,7 @@ use Rattle.seal.proofs.ClassCalls.{class-written, first-is, last-is, re
 
 -- ---- a class's record and its values
 
--- two accepted curves with the same fields are one
+-- two accepted curves with the same fields are the same
 same-curve : {c d : Curve} → curve-refusal c ≡ 0 → curve-refusal d ≡ 0 → curve-first-fields c ≡ curve-first-fields d → c ≡ d
 same-curve {c} {d} p q e =
     ap (λ (h : Held). h .curve)
@@ -37,27 +43,27 @@ same-curve {c} {d} p q e =
     ∙ ap (read-record curve-fields) e
     ∙ record-read-back curve-fields (curve-first-fields d) (curve-more d q none)) .0)
 
--- fields of degree and curve, and the record of an accepted class that begins with them
+-- the record s of an accepted class, and the fields of degree and curve with which it begins
 pub record Holds (c : Curve) (a : Class) (fields s : List ℕ) : Type 0 where
   pub passes : ClassPasses c a
   pub bytes : s ≡ class-record-bytes c a
   pub begins : fields ≡ curve-first-fields c
 
--- what is read is one
+-- a record that is read is such a record
 own : {fields s : List ℕ} (r : ReadWith fields s) → Holds (r .held .curve) (r .held .class) fields s
 own {s = s} r =
     let w = is-stored s (r .bytes) (r .read) in
     let stored = w .bytes ∙ sym (ap (λ (h : Held). class-record-bytes (h .curve) (h .class)) (w .held)) in
     record { passes = class-holds s (r .read); bytes = stored; begins = sym (r .begins) ∙ first-is (r .held .curve) (r .held .class) stored }
 
--- a second one with the same fields is of the same curve
+-- records with the same first fields have the same curve
 same-curves : {fields s t : List ℕ} (x : ReadWith fields s) (y : ReadWith fields t) → y .held .curve ≡ x .held .curve
 same-curves x y = same-curve (curve-passes (own y .passes)) (curve-passes (own x .passes)) (sym (own y .begins) ∙ own x .begins)
 
 beside : {fields s t : List ℕ} (x : ReadWith fields s) (y : ReadWith fields t) → Holds (x .held .curve) (y .held .class) fields t
 beside {fields} {t = t} x y = subst (λ c. Holds c (y .held .class) fields t) (same-curves x y) (own y)
 
--- and what is one is read
+-- such a record is read
 pub read-again : {c : Curve} {a : Class} {fields s : List ℕ} → Holds c a fields s → ReadWith fields s
 unfolding class-record-bytes
 read-again {c} {a} {s = s} x = record {
@@ -180,7 +186,7 @@ module _ {fields s : List ℕ} (x : ReadWith fields s) where
 same-bytes : {c : Curve} {a b : Class} {fields s t : List ℕ} → Holds c a fields s → Holds c b fields t → a ≡ b → s ≡ t
 same-bytes {c} x y e = x .bytes ∙ ap (class-record-bytes c) e ∙ sym (y .bytes)
 
--- and records of the same bytes are of the same class
+-- records with the same bytes have the same class
 same-class : {c : Curve} {a b : Class} {fields s t : List ℕ} → Holds c a fields s → Holds c b fields t → s ≡ t → a ≡ b
 same-class x y e =
     ap (λ (h : Held). h .class) (same-found (sym (stored-read (x .bytes) (x .passes)) ∙ ap (read-record class-record) e ∙ stored-read (y .bytes) (y .passes)) .0)
@@ -222,7 +228,7 @@ module _ {fields w : List ℕ} (some : ReadWith fields w) (out : List ℕ) (room
         same-bytes p q (doubling d known .double-injective (p .passes) (q .passes) (same-class (double-holds out room p) (double-holds out room q) e));
   }
 
--- ---- k doublings, each on the record rebuilt from the one before
+-- ---- k doublings, each on the record rebuilt from the last
 module _ {fields s : List ℕ} (x : ReadWith fields s) (out : List ℕ) (room : class-room ≤ length out) where
   doublings-hold : (k : ℕ) → Holds (x .held .curve) (doublings (x .held .curve) k (x .held .class)) fields (repeat (record-double out) k s)
   unfolding repeat

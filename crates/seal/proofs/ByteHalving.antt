@@ -1,7 +1,9 @@
--- Byte double and byte half undo each other (docs/SPECIFICATION.md, 11). For every record that is read, where the outputs have room for a class field: each writes the field of
--- what its call by value gives (`double-writes`, `half-writes`), so neither is refused; half on the record rebuilt from double's output writes the record's
--- class field to the byte (`half-of-double-bytes`), and double on the record rebuilt from half's output likewise (`double-of-half-bytes`). The half's record
--- is the only one of that curve whose byte double is the input's class field (`only-half-bytes`).
+-- Byte double and byte half undo each other (docs/SPECIFICATION.md, 11).
+-- For every record that is read, and outputs that have room for a class field:
+-- `double-writes`, `half-writes`: each writes the field of what its call by value gives, so neither is refused.
+-- `half-of-double-bytes`: half on the record rebuilt from double's output writes the record's class field.
+-- `double-of-half-bytes`: double on the record rebuilt from half's output does the same.
+-- `only-half-bytes`: the half's record is the only one of that curve whose byte double is the class field given.
 use Prim.Native.Nat.{ℕ, _≤_}
 use mathlib.Core.Path.{_≡_, sym, ap, _∙_}
 use mathlib.Core.List.{List, _++_}
@@ -47,7 +49,6 @@ module _ (s : List ℕ) (bytes : Bytes s) {h : Held} {end : ℕ} (read : read-re
       let p = w .passes in
       taken-back w out room last room' halved doubled (half-given p) (double-given (half-given p .passes)) (double-of-half _ p)
 
-  -- the half's record is the only one that has the same degree and curve and whose double is the input's class field
   pub only-half-bytes : (t : List ℕ) → first-fields t ≡ first-fields s → double-call s out ≡ write (last-field t) out → s ≡ class-rebuilt t (half-call t last)
   only-half-bytes t same double =
       let back : class-rebuilt s (double-call s out) ≡ t =

@@ -1,7 +1,10 @@
--- A byte commit or undo gives what the register call gives for the record's values (docs/SPECIFICATION.md, 11).
--- If accepted it writes the count and the seal that the register call hands back; a record in stored form, with an output long enough, is refused only
--- where the register call refuses. So byte commit and byte undo take each other back (docs/SPECIFICATION.md, 11): on the record rebuilt from an accepted commit's output, undo
--- writes the record's count and seal to the byte (`undo-of-commit-bytes`), and the reverse (`commit-of-undo-bytes`).
+-- A byte commit or undo answers what the register call answers for the record's values (docs/SPECIFICATION.md, 11).
+-- Every output has the room that the calls require.
+-- `commit-of-record`, `undo-of-record`: on a record that is read, the response is the register call's for its values.
+-- `written`, `unwritten`: an accepted answer writes its count and seal; a refused one is a refusal.
+-- `step-accepts`, `commit-accepts`, `undo-accepts`: it is accepted if the register call accepts the encoded values.
+-- `undo-of-commit-bytes`: undo on the record rebuilt from a commit's output writes the record's count and seal.
+-- `commit-of-undo-bytes`: commit on the record rebuilt from an undo's output does the same.
 use Prim.Native.Nat.{ℕ, _≤_}
 use mathlib.Core.Path.{_≡_, refl, sym, ap, _∙_, subst}
 use mathlib.Core.List.{List}
@@ -25,7 +28,7 @@ use Rattle.seal.specs.Rebuilt.{register-rebuilt}
 use Rattle.seal.specs.Calls.{register, register-handed, answered, commit-call, undo-call, step-call}
 use Rattle.seal.proofs.Written.{register-record-back}
 
--- ---- what is written for an answer of the register call
+-- ---- what is written for a register call's answer
 
 module _ (out : List ℕ) (x : RegisterReply) where
   pub unwritten : {n : ℕ} → x .outcome ≡ refused n → put (register-handed x) out ≡ refuse n out
@@ -52,9 +55,9 @@ module _ (s out : List ℕ) (room : register-room ≤ length out) {h : Held} {en
   unfolding answered
   undo-of-record = of-record Undo
 
--- ---- values in stored form that the register call accepts
+-- ---- encoded values that the register call accepts
 
--- the fields of a register that passes have room
+-- the fields of a register that passes are no longer than `register-room`
 fields-short : (g : Register) → Passes g → length (register-fields g) ≤ register-room
 fields-short g p =
     let seal = accepts-both (g .curve) (g .seal) (p .curve-passes) (p .seal-passes) in
@@ -87,7 +90,6 @@ module _ (k : Step) (g : Register) (a : Class) (e : step-answer k g a .outcome �
         class-passes = accepts-both (g .curve) a ok (p .class-passes);
       }
 
-  -- what is written for an accepted step
   pub step-written : (out : List ℕ) → register-room ≤ length out → put (register-handed (step-answer k g a)) out ≡ write (register-fields (step-answer k g a .register)) out
   step-written out room = written out (step-answer k g a) e (let l = follows-fits in omega arith)
 
@@ -111,7 +113,7 @@ rebuilt-write g k a out same = rw (take-append-seam (register-fields k) _, same)
 
 module _ (s out last : List ℕ) (room : register-room ≤ length out) (room' : register-room ≤ length last) {h : Held} {end : ℕ}
     (read : read-record register-record s ≡ found h end) where
-  -- the other step with the record rebuilt from an accepted step's output writes the record's count and seal
+  -- the other step on the record rebuilt from an accepted step's output writes the record's count and seal
   taken-back : (k : Step) → step-answer k (register h) (h .operation) .outcome ≡ accepted →
       step-call (other k) (register-rebuilt (register h) (h .operation) (step-call k s out)) last ≡ write (register-fields (register h)) last
   taken-back k e =

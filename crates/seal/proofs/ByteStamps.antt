@@ -1,7 +1,10 @@
--- The stamp's call on bytes (docs/SPECIFICATION.md, 2 and 6). For every record of a degree and a curve that is read, where the output has room for a class field: an accepted stamp's
--- class field is written (`stamp-writes`), and a refused stamp's number is the answer (`stamp-refused`): 115 for a stamp of 2^(d-3) or more, whatever its candidates
--- (`too-large-bytes`), 116 exactly where the stamp is below that and none of its eight candidates has a root (`rootless-bytes`). Two stamps for which a call on the same areas
--- writes the same are one stamp, whatever the areas hold (`stamps-apart`).
+-- The stamp's call on bytes (docs/SPECIFICATION.md, 2 and 6).
+-- For every record of degree and curve that is read, and an output that has room for a class field:
+-- `stamp-writes`: an accepted stamp's class field is written.
+-- `stamp-refused`: a refused stamp's number is the answer.
+-- `too-large-bytes`: a stamp of 2^(d-3) or more is refused with 115, whatever its candidates.
+-- `rootless-bytes`: it is 116 exactly if the stamp is below that and none of its eight candidates has a root.
+-- `stamps-apart`: two stamps for which a call on the same areas writes the same are one stamp, whatever the areas hold.
 use Prim.Native.Nat.{ℕ, _+_, _-_, _*_, _^_, _≤_, _<_}
 use mathlib.Core.{Path._≡_, Path.refl, Path.sym, Path.ap, Path.subst, Path._∙_, Logic._↔_, List.List}
 use native.Mathlib.Omega.{arith}
@@ -30,7 +33,7 @@ module _ (s out : List ℕ) (room : class-room ≤ length out) {h : Held} {end :
   pub too-large-bytes : 2 ^ (h .curve .degree - 3) ≤ n → stamp-call n s out ≡ refuse 115 out
   too-large-bytes l = stamp-refused (stamp-too-large (h .curve) n (curve-holds s read) l)
 
-  -- where the call is refused with a number, so is the one by value
+  -- the refusal of the call is that of the call by value
   answers : (v : Verdict) (k : ℕ) → stamp-answer (h .curve) n .outcome ≡ v → IsRefusal k → stamp-call n s out ≡ refuse k out → v ≡ refused k
   unfolding refuse write
   answers accepted k e i is =
@@ -46,7 +49,7 @@ module _ (s out : List ℕ) (room : class-room ≤ length out) {h : Held} {end :
     λ p. stamp-refused (stamp-rootless (h .curve) n .1 (curve-holds s read, p .0, p .1)),
   )
 
-  -- an answer that is a length says that the stamp was accepted
+  -- an answer that is a length means that the stamp was accepted
   length-accepted : stamp-call n s out .answer ≤ longest-answer → stamp-answer (h .curve) n .outcome ≡ accepted
   unfolding refuse
   length-accepted low = by (stamp-answer (h .curve) n .outcome) refl
@@ -57,7 +60,7 @@ module _ (s out : List ℕ) (room : class-room ≤ length out) {h : Held} {end :
 
 -- ---- two stamps
 
--- a class that passes is what its field says
+-- the field of a class that passes decodes to the class
 said : (c : Curve) (a : Class) → refusal c a ≡ 0 → class-said (drop 3 (class-field 0x43 a)) ≡ a
 unfolding class-field stored head-bytes bytes-of
 said c a e = body-said c a e

@@ -1,8 +1,12 @@
--- Demand 3 on a list of byte commits and undos (docs/SPECIFICATION.md, 11): from the stored form of any register that no check refuses, whatever bytes stand in
--- the place of the operations, refused calls among them, each on the record made of what the last accepted one wrote. `taken-back-turned`: taking the accepted
--- calls back, newest first, into whatever outputs with room, does to each call what `turned` says. So none is refused (`taken-back-accepted`), every
--- count and seal comes back to the byte (`taken-back-fields`), and at the end the first (`taken-back-all`). All this is of machines;
--- byte calls are one by `reversible`.
+-- Demand 3 for a list of byte commits and undos (docs/SPECIFICATION.md, 11).
+-- The list starts from the stored form of any register that no check refuses; any bytes may be given as operations,
+-- and calls may be refused. Each call gets the count and the seal that the last accepted call wrote.
+-- The accepted calls are taken back, newest first, into any outputs that have room.
+-- `taken-back-turned`: each call that takes one back is accepted and leads to what was kept just before it (`turned`).
+-- `taken-back-accepted`: none of them is refused.
+-- `taken-back-fields`: they write the count and the seal from before each accepted call.
+-- `taken-back-all`: at the end everything kept is as at the start.
+-- These are theorems on machines; `reversible`: the byte calls are such a machine.
 use Prim.Native.Nat.{ℕ, _≤_}
 use mathlib.Core.Path.{_≡_, refl, sym, ap, ap₂, _∙_, subst}
 use mathlib.Core.Bool.{Bool, true, false, cond}
@@ -42,7 +46,7 @@ accepted-low n e = go (ltb longest-answer n) refl e
     go true is e = let z : _≡_ {A = ℕ} 0 1 = cc in absurd (omega arith)
     go false is e = ltb-false longest-answer n is
 
--- after a refusal all is as it was
+-- a refusal changes nothing that is kept
 pub refused-stays : (k : Kept) (e : Effect) (n : ℕ) → outcome (e .answer) ≡ refused n → next k e ≡ k
 unfolding outcome next
 refused-stays k e n = go (ltb longest-answer (e .answer))
@@ -68,7 +72,8 @@ write-event k c xs short e =
     (ap (λ (x : Effect). outcome (x .answer)) e ∙ outcome-low (length xs) (omega arith))
     (ap (next k) e ∙ next-written k xs (c .output) (omega arith))
 
--- what an accepted call did from the stored form of a register: it carried the field of a class with which the register's call is accepted, and wrote the register that follows
+-- What an accepted call did from the stored form of a register g: its operation was the field of a class
+-- with which the register call is accepted, and it wrote the register after that call.
 pub record Done (k : Kept) (g : Register) (c : ByteStep) : Type 0 where
   pub class : Class
   pub field : c .operation ≡ class-field 0x44 class
@@ -91,7 +96,7 @@ module _ (k : Kept) (stored : InStoredForm k) (c : ByteStep) (bytes : Bytes (c .
   low : step-call (c .step) (before g ++ c .operation) (c .output) .answer ≤ longest-answer
   low = subst (λ (e : Effect). e .answer ≤ longest-answer) made-is (accepted-low _ ok)
 
-  -- its operation is a class, with which the register's call is accepted
+  -- its operation is the field of a class, with which the register call is accepted
   carries : Operation g (c .operation) (accepted-read (c .step) (before g ++ c .operation) (c .output) low .0)
   carries = operation g (c .operation) passes bytes (accepted-read (c .step) (before g ++ c .operation) (c .output) low .2)
 
@@ -106,7 +111,7 @@ module _ (k : Kept) (stored : InStoredForm k) (c : ByteStep) (bytes : Bytes (c .
   abbrev then-register : Register
   then-register = step-answer (c .step) g a .register
 
-  -- so it writes the register that follows
+  -- it writes the register after that call
   there : event byte-steps k c ≡ record { before = k; call = c; outcome = accepted; left = with-register k (register-fields then-register) }
   unfolding register-record-bytes
   there =
@@ -134,12 +139,12 @@ module _ (k : Kept) (stored : InStoredForm k) (c : ByteStep) (bytes : Bytes (c .
   pub done : Done k (stored .register) c
   done = record { class = a; field = carries .field; taken-step = taken-step; happens = there }
 
-  -- and leaves it in stored form
+  -- what is kept after it is in stored form
   pub kept-stored : InStoredForm (byte-steps .next k c)
   unfolding event
   kept-stored = subst InStoredForm (sym (ap (λ (x : Event Kept ByteStep). x .left) there)) left-stored
 
-  -- and the other step brings back what was kept
+  -- the other step brings back what was kept
   module _ (lend : ByteStep → List ℕ) (room : register-room ≤ length (lend c)) where
     taken-back-step : step-answer (other (c .step)) then-register a ≡ taken g
     taken-back-step = step-taken-back g a (c .step) taken-step
@@ -176,18 +181,17 @@ module _ (lend : ByteStep → List ℕ) (room : (c : ByteStep) → register-room
   }
 
   module _ (k : Kept) (stored : InStoredForm k) (cs : List ByteStep) (bytes : All (λ c. Bytes (c .operation)) cs) where
-    -- the calls that take the accepted ones back are these, turned back
+    -- the calls that take the accepted ones back are these calls, turned back
     pub taken-back-turned : taken-back byte-steps (back lend) k cs ≡ map (turned (back lend)) (newest byte-steps k cs)
     taken-back-turned = machine.taken-back-turned byte-steps (back lend) reversible cs stored (accepted-fit byte-steps k bytes)
 
-    -- none is refused
     pub taken-back-accepted : All (λ e. e .outcome ≡ accepted) (taken-back byte-steps (back lend) k cs)
     taken-back-accepted = machine.taken-back-accepted byte-steps (back lend) reversible cs stored (accepted-fit byte-steps k bytes)
 
-    -- the fields of count and seal just before the accepted calls come back, one by one, newest first
+    -- the fields of count and seal from just before the accepted calls come back, newest first
     pub taken-back-fields : map (λ e. e .left .register) (taken-back byte-steps (back lend) k cs) ≡ map (λ e. e .before .register) (newest byte-steps k cs)
     taken-back-fields = machine.taken-back-states byte-steps (back lend) reversible cs stored (accepted-fit byte-steps k bytes) (λ t. t .register)
 
-    -- and at the end all is as it was at first
+    -- at the end everything kept is as at the start
     pub taken-back-all : last byte-steps (last byte-steps k cs) (backs (back lend) (newest byte-steps k cs)) ≡ k
     taken-back-all = machine.taken-back-all byte-steps (back lend) reversible cs stored (accepted-fit byte-steps k bytes)

@@ -1,6 +1,9 @@
--- Calls that answer a class (`class-written`), and those on the record of one class. Where the record is read and the output has room for a class field, such a call writes the field of what its answer by value
--- gives (`call-writes`); the record rebuilt from that is the record of that class (`rebuilt-bytes`), and a further call on it writes what its answer gives for that class
--- (`follow-writes`), where one takes the other back the field of the record given (`taken-back`).
+-- Calls that answer a class, and calls on the record of one class, with an output that has room for a class field.
+-- `class-written`: a call that gives a valid class for its record writes the class's field.
+-- `call-writes`: the same for a call on the record of one class.
+-- `rebuilt-bytes`: the record rebuilt from what was written is the record of that class.
+-- `follow-writes`: a second call on the rebuilt record writes the field of its own answer for that class.
+-- `taken-back`: if the second answer takes the first back, it writes the class field of the first record.
 use Prim.Native.Nat.{ℕ, _≤_}
 use mathlib.Core.Path.{_≡_, refl, sym, ap, _∙_}
 use mathlib.Core.List.{List, _++_}
@@ -13,7 +16,6 @@ use Rattle.written_form.proofs.Effects.{answer-written}
 use Rattle.seal.specs.{Records.class-held, Records.class-record-bytes, Records.ClassStored, Rebuilt.first-fields, Rebuilt.last-field, Rebuilt.wrote, Rebuilt.class-rebuilt}
 use Rattle.seal.proofs.{Written.class-record-written, Written.class-record-back, Passing.Given}
 
--- a call that answers a class which passes for what its record holds writes its field
 pub class-written : (tags : List ℕ) (answer : Held → Handed) (s out : List ℕ) → class-room ≤ length out → {h : Held} {end : ℕ} → read-record tags s ≡ found h end →
     {c : Curve} {r : Result} → Given c r → answer h ≡ class-handed r → byte-call class-room tags answer s out ≡ write (class-field 0x43 (r .class)) out
 unfolding class-handed
@@ -52,9 +54,8 @@ module _ {s : List ℕ} (c : Curve) (a : Class) (bytes : s ≡ class-record-byte
   unfolding class-record-bytes
   rebuilt-bytes x out = rebuilt-write s (class-field 0x43 x) out ∙ ap (λ (l : List ℕ). l ++ class-field 0x43 x) first-is
 
--- ---- the record of a class that passes
+-- ---- the record of a class that no check refuses
 module _ {s : List ℕ} {c : Curve} {a : Class} (bytes : s ≡ class-record-bytes c a) (p : ClassPasses c a) where
-  -- it is read
   pub stored-read : read-record class-record s ≡ found (class-held c a) (length s)
   stored-read = class-record-back (record { curve = c; class = a; held = refl; bytes = bytes; passes = p })
 
@@ -64,7 +65,7 @@ module _ {s : List ℕ} {c : Curve} {a : Class} (bytes : s ≡ class-record-byte
   pub stored-rebuilt : (f : Curve → Class → Result) → Given c (f c a) → (out : List ℕ) → class-room ≤ length out → class-rebuilt s (class-call f s out) ≡ class-record-bytes c (f c a .class)
   stored-rebuilt f given out room = ap (class-rebuilt s) (stored-writes f given out room) ∙ rebuilt-bytes c a bytes (f c a .class) out
 
--- ---- a record that is read is one
+-- ---- a record that is read is such a record
 pub is-stored : (s : List ℕ) → Bytes s → {h : Held} {end : ℕ} → read-record class-record s ≡ found h end → ClassStored s h
 is-stored s bytes read = class-record-written bytes read .0
 
@@ -74,7 +75,6 @@ module _ {s : List ℕ} {h : Held} (w : ClassStored s h) (out : List ℕ) (room 
   follow-writes f g given again =
       stored-writes (stored-rebuilt (w .bytes) (w .passes) f given out room) (given .passes) g again last room'
 
-  -- where one answer takes the other back, so does its call
   pub taken-back : (f g : Curve → Class → Result) → let c = w .curve in let x = f c (w .class) .class in
       Given c (f c (w .class)) → Given c (g c x) → g c x ≡ gives (w .class) → class-call g (class-rebuilt s (class-call f s out)) last ≡ write (last-field s) last
   taken-back f g given again back =

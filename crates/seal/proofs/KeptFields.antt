@@ -1,5 +1,6 @@
--- A record that begins with the stored form of a register is read as that register, and what follows is the field of a class (`operation`). Every record that is
--- read is so (`record-kept`).
+-- Records that begin with the stored form of a register.
+-- `operation`: such a record, if read, gives that register, and what follows is the field of a class.
+-- `record-kept`: every register's record that is read begins so.
 use Prim.Native.Nat.{ℕ}
 use mathlib.Core.Path.{_≡_, refl, sym, ap, _∙_, subst}
 use mathlib.Core.List.{List, [], _∷_, _++_, append-assoc}
@@ -51,14 +52,14 @@ before-read g rest p =
     let stored = subst (Stored _ (before-held g)) (append-assoc (curve-first-fields (g .curve)) (count-field (g .count)) (class-field 0x43 (g .seal))) (before-stored g p) in
     (f .0, begin-read-back (before g ++ rest) stored (f .1))
 
--- so two records with the same bytes have the same register
+-- two records that begin so and have the same bytes have the same register
 same-register : (g k : Register) (xs ys : List ℕ) → Passes g → Passes k → before g ++ xs ≡ before k ++ ys → g ≡ k
 same-register g k xs ys p q e =
     let here = before-read g xs p in
     let there = before-read k ys q in
     ap register (same-found (sym (here .1) ∙ ap (λ (s : List ℕ). read-fields before-tags nothing-held s 0) e ∙ there .1) .0)
 
--- and the operation's class has its field at the end
+-- the bytes op are the field of a class, and h has the values of the register with that class
 pub record Operation (g : Register) (op : List ℕ) (h : Held) : Type 0 where
   pub class : Class
   pub field : op ≡ class-field 0x44 class
@@ -78,7 +79,6 @@ operation g op p bytes read =
       held = w .held ∙ ap (λ (r : Register). register-held r (w .class)) (sym same);
     }
 
--- every record that is read is such fields and an operation's
 pub record-kept : (s : List ℕ) → Bytes s → {h : Held} {end : ℕ} → read-record register-record s ≡ found h end →
     (k : Kept) × InStoredForm k × (op : List ℕ) × (s ≡ k .curve ++ k .register ++ op)
 unfolding register-record-bytes

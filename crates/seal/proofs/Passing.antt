@@ -1,5 +1,6 @@
--- What a record that is read holds passes its checks, whatever its bytes (`curve-holds`, `class-holds`, `sum-holds`, `register-holds`), and so does what each call by
--- value then gives (`opposite-given` and its like).
+-- The values of a record that is read pass their checks, and so does the class that each call by value gives for them.
+-- `curve-holds`, `class-holds`, `sum-holds`, `register-holds`: the values of each record, whatever its bytes.
+-- `opposite-given`, `double-given`, `half-given`, `sum-given`: the class that each call gives.
 use Prim.Native.Nat.{ℕ}
 use mathlib.Core.Path.{_≡_}
 use mathlib.Core.List.{List}
@@ -14,7 +15,7 @@ use Rattle.stored_form.specs.{Reading.found, Fields.count-refusal, Passing.Coun
 use Rattle.stored_form.specs.{Records.read-record, Records.curve-fields, Records.class-record, Records.sum-record, Records.register-record, declared.Held.Held}
 use Rattle.stored_form.proofs.{Readings.test-passed, Passing.Holds, Passing.record-holds}
 
--- ---- what is held
+-- ---- the values of a record
 
 module _ (s : List ℕ) {h : Held} {end : ℕ} where
   pub curve-holds : read-record curve-fields s ≡ found h end → curve-refusal (h .curve) ≡ 0
@@ -39,7 +40,7 @@ module _ (s : List ℕ) {h : Held} {end : ℕ} where
 
 -- ---- what the calls by value give
 
--- an answer that gives a class, which passes
+-- an answer that gives a class that passes
 pub record Given (c : Curve) (r : Result) : Type 0 where
   pub gives-class : r ≡ gives (r .class)
   pub passes : ClassPasses c (r .class)

@@ -1,5 +1,7 @@
--- What half and undo promise (docs/SPECIFICATION.md, 2): where the record is read and the output has room, half writes the one class whose double is the class of the record
--- (`halves`), and undo, above count 0, the one seal whose double plus the operation's class is the seal of the record (`undoes`).
+-- What half and undo promise (docs/SPECIFICATION.md, 2), if the record is read and the output has room.
+-- `halves`: half writes the one class whose double is the record's class.
+-- `undoes`: if the count is not 0, undo writes the count less one and a seal,
+-- the one seal whose double plus the operation's class is the record's seal.
 use Prim.Native.Nat.{ℕ, _-_, _≤_}
 use mathlib.Core.Path.{_≡_, sym, ap, _∙_}
 use mathlib.Core.List.{List, _++_}
@@ -60,7 +62,7 @@ module _ {c : Curve} {s a : Class} (p : ClassPasses c s) (q : ClassPasses c a) w
             ∙ ap (λ (x : Result). undo-seal c (x .class) a) (sym (sum-of-double r q) ∙ e);
       }
 
--- above count 0 an undo of values that pass is accepted
+-- an undo of values that pass is accepted if the count is not 0
 accepted-undo : (g : Register) (a : Class) → Passing Undo g a → step-answer Undo g a ≡ taken (moved (g .count - 1) (undo-seal (g .curve) (g .seal) a) g)
 unfolding step-answer stepped
 accepted-undo g a p = follows-zero _ g _ (passes-step Undo g a p)

@@ -1,7 +1,11 @@
--- Answers and refusals of the byte calls are told apart (docs/SPECIFICATION.md, 6). Every call that writes, on every input and output, writes at most its room and answers that
--- length, or answers the number of a refusal and leaves the output as it was (`told-apart`). The answer alone says which of the two (`tells`): up to 100 it is
--- a length, above that the number of a refusal. Membership answers 0 exactly where the record is read, and else the number of a refusal
--- (`membership-told`, `membership-found`, `found-membership`).
+-- Every byte call wrote or refused (docs/SPECIFICATION.md, 6).
+-- `told-apart`: on every input and output, a call writes at most its room and answers that length,
+-- or it answers the number of a refusal and leaves the output as it was.
+-- `tells`: the answer alone decides which: up to 100 it is a length, above that the number of a refusal.
+-- `membership-told`: membership answers 0 or the number of a refusal.
+-- `membership-found`, `found-membership`: it answers 0 exactly if the record is read.
+-- `length-read`: a call whose answer is a length had the room, and its record was read.
+-- `accepted-room`, `accepted-read`: so had a commit or an undo, and the register call accepts its values.
 use Prim.Native.Nat.{ℕ, zero, suc, _≤_}
 use mathlib.Core.Path.{_≡_, refl, sym, ap, _∙_, subst}
 use mathlib.Core.{List.List}
@@ -41,7 +45,7 @@ module _ (s : List ℕ) where
   unfolding membership-call
   found-membership e = found-reading _ e
 
--- ---- what is handed over
+-- ---- responses
 
 -- a class that passes
 pub class-apart : {c : Curve} {r : Result} → Given c r → HandedApart class-room (class-handed r)
@@ -102,11 +106,10 @@ room-low Call.Commit = lit≤ tt
 room-low Call.Undo = lit≤ tt
 room-low (Stamp n) = lit≤ tt
 
--- by the answer alone
 pub tells : (call : Call) (s out : List ℕ) → AnswerTells (room call) out (called call s out)
 tells call s out = answer-tells (room-low call) (told-apart call s out)
 
--- ---- a call whose answer is a length was read
+-- ---- a call whose answer is a length: its record was read
 
 pub length-read : (call : Call) (s out : List ℕ) → called call s out .answer ≤ longest-answer
     → (room call ≤ length out) × ((h : Held) × (end : ℕ) × (read-record (tags call) s ≡ found h end))
@@ -120,7 +123,7 @@ length-read call s out low = (long, by (read-record (tags call) s) refl (record-
     by (found h end) e t = (h, end, e)
     by (unread k) e t = absurd (never-both (subst (λ (x : Effect). x .answer ≤ longest-answer) (call-refused (room call) (tags call) _ s out long e) low) t)
 
--- ---- and a commit or an undo was accepted
+-- ---- a commit or an undo whose answer is a length: it was accepted
 
 module _ (k : Step) (s out : List ℕ) (low : step-call k s out .answer ≤ longest-answer) where
   step-read : (register-room ≤ length out) × ((h : Held) × (end : ℕ) × (read-record register-record s ≡ found h end))

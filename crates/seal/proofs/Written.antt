@@ -1,5 +1,7 @@
--- A record and its values determine each other (docs/SPECIFICATION.md, 2 and 5): a record that is read is what is written for its values, which
--- no check refuses (`class-record-written` and its like), and what is written for such values is read so (`class-record-back` and its like).
+-- Records and their values determine each other (docs/SPECIFICATION.md, 2 and 5).
+-- `class-record-written`, `sum-record-written`, `register-record-written`:
+-- a record that is read is the encoding of its values, and no check refuses them.
+-- `class-record-back`, `sum-record-back`, `register-record-back`: the encoding of such values is read back.
 use Prim.Native.Nat.{ℕ}
 use mathlib.Core.Path.{_≡_, sym, ap, _∙_}
 use mathlib.Core.List.{List, _++_, append-assoc}
@@ -14,7 +16,7 @@ use Rattle.stored_form_theorems.proofs.FieldValues.{count-law, class-law, opera
 use Rattle.stored_form_theorems.specs.Records.{none}
 use Rattle.seal.specs.Records.{class-held, class-record-bytes, sum-record-bytes, register-record-bytes, ClassStored, SumStored, RegisterStored}
 
--- a class is refused where its curve is
+-- a class that passes has a curve that passes
 pub curve-passes : {c : Curve} {a : Class} → ClassPasses c a → curve-refusal c ≡ 0
 unfolding refusal
 curve-passes ok = then-zero _ _ (ok .none) .0

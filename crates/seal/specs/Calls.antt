@@ -16,15 +16,15 @@ use Rattle.seal.specs.Records.{register-fields}
 use Rattle.seal.specs.declared.calls.Call.{Call}
 use Rattle.seal.specs.declared.calls.Call.the-variants.{Opposite, Double, Half, Sum, Commit, Undo, Stamp}
 
--- the register of a record: its 0x43 is the seal
+-- the register of a record, whose 0x43 is the seal
 abbrev pub register : Held → Register
 register h = record { curve = h .curve; count = h .count; seal = h .class }
 
--- 0x42, then 0x43
+-- the response with a register: 0x42, then 0x43
 unfoldable pub register-handed : RegisterReply → Handed
 register-handed r = on (r .outcome) (register-fields (r .register))
 
--- what the call by value answers for the values of a record
+-- the response of a call for the values of a record, by the call by value
 unfoldable pub answered : Call → Held → Handed
 answered Opposite h = class-handed (result (opposite-answer (h .curve) (h .class)))
 answered Double h = class-handed (result (double-answer (h .curve) (h .class)))
@@ -36,11 +36,11 @@ answered (Stamp s) h = class-handed (result (stamp-answer (h .curve) s))
 
 -- ---- the calls
 
--- membership writes nothing and answers 0
+-- membership: 0 if the record is accepted, else its refusal; nothing is written
 unfoldable pub membership-call : List ℕ → ℕ
 membership-call s = reading-refusal (read-record class-record s)
 
--- the record that a call reads
+-- the layout of the record that a call reads
 abbrev pub tags : Call → List ℕ
 tags Opposite = class-record
 tags Double = class-record
@@ -50,7 +50,7 @@ tags Commit = register-record
 tags Undo = register-record
 tags (Stamp s) = curve-fields
 
--- how long its output must be, and the most bytes that it writes
+-- the length that its output must have, which is also the most that it writes
 abbrev pub room : Call → ℕ
 room Opposite = class-room
 room Double = class-room
@@ -60,29 +60,35 @@ room Commit = register-room
 room Undo = register-room
 room (Stamp s) = class-room
 
--- a call that writes
+-- what a call that writes does on an input and an output
 abbrev pub called : Call → List ℕ → List ℕ → Effect
 called call s out = byte-call (room call) (tags call) (answered call) s out
 
+-- the opposite of a class
 abbrev pub opposite-call : List ℕ → List ℕ → Effect
 opposite-call = called Opposite
 
+-- the double of a class
 abbrev pub double-call : List ℕ → List ℕ → Effect
 double-call = called Double
 
+-- the half of a class
 abbrev pub half-call : List ℕ → List ℕ → Effect
 half-call = called Half
 
+-- the sum of two classes
 abbrev pub sum-call : List ℕ → List ℕ → Effect
 sum-call = called Sum
 
+-- the register after a commit
 abbrev pub commit-call : List ℕ → List ℕ → Effect
 commit-call = called Commit
 
+-- the register after an undo
 abbrev pub undo-call : List ℕ → List ℕ → Effect
 undo-call = called Undo
 
--- the stamp is handed over beside the record
+-- the class of a stamp, which is an argument and not in the record
 abbrev pub stamp-call : ℕ → List ℕ → List ℕ → Effect
 stamp-call s = called (Stamp s)
 
@@ -91,15 +97,16 @@ abbrev pub step-call : Step → List ℕ → List ℕ → Effect
 step-call step.Commit = commit-call
 step-call step.Undo = undo-call
 
--- ---- what half and undo promise besides (docs/SPECIFICATION.md, 2.7 and 2.8)
+-- ---- what half and undo promise besides their answers (docs/SPECIFICATION.md, 2.7 and 2.8)
 
--- where the record is read and the output has room, half writes the one class whose double is the class of the record
+-- if the record is accepted and the output has room, half writes the one class whose double is the record's class
 pub record Halves (s out : List ℕ) (e : Effect) : Type 0 where
   pub answer : e ≡ half-call s out
   pub half : {h : Held} {end : ℕ} → read-record class-record s ≡ found h end → class-room ≤ length out →
       (x : Class) × (e ≡ write (class-field 0x43 x) out) × Only (h .curve) (λ b. result (double-answer (h .curve) b) ≡ gives (h .class)) x
 
--- and undo, above count 0, a count one lower and the one seal whose double plus the operation's class is the seal of the record
+-- If the record is accepted, its count is not 0 and the output has room, undo writes the count less one and a seal:
+-- the one seal whose double plus the operation's class is the record's seal.
 pub record Undoes (s out : List ℕ) (e : Effect) : Type 0 where
   pub answer : e ≡ undo-call s out
   pub undone : {h : Held} {end : ℕ} → read-record register-record s ≡ found h end → ¬ (h .count ≡ 0) → register-room ≤ length out →

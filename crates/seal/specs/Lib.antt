@@ -1,4 +1,4 @@
--- The records that the byte calls take, what each call answers and leaves in the lent output, and lists of such calls.
+-- The records that the byte calls read, what each call answers and leaves in the lent output, and lists of calls.
 pub mod Records
 pub mod Calls
 pub mod Rebuilt

@@ -7,18 +7,19 @@ use Rattle.written_form.specs.Effect.{Effect}
 use Rattle.history.specs.declared.Register.{Register}
 use Rattle.jacobian.specs.declared.Class.{Class}
 
--- a class's record: the two fields of degree and curve, and the class field behind them
+-- the fields of degree and curve of a class's record
 abbrev pub first-fields : List ℕ → List ℕ
 first-fields s = take-fields 2 s
 
+-- the class field of a class's record
 abbrev pub last-field : List ℕ → List ℕ
 last-field s = drop-fields 2 s
 
--- what a call wrote
+-- the bytes that a call wrote
 abbrev pub wrote : Effect → List ℕ
 wrote e = take (e .answer) (e .after)
 
--- a class's record with the field that a call wrote in place of its class field
+-- a class's record with what a call wrote in place of its class field
 unfoldable pub class-rebuilt : List ℕ → Effect → List ℕ
 class-rebuilt s e = first-fields s ++ wrote e
 

@@ -1,4 +1,4 @@
--- The records that the byte calls take: what they hold and how they are written (docs/SPECIFICATION.md, 5).
+-- The records that the byte calls read: their values and their bytes (docs/SPECIFICATION.md, 5).
 use Prim.Native.Nat.{ℕ}
 use mathlib.Core.Path.{_≡_}
 use mathlib.Core.List.{List, _++_}
@@ -8,34 +8,41 @@ use Rattle.stored_form.specs.{Passing.CountPasses, Passing.ClassPasses, Fields.
 use Rattle.stored_form.specs.Held.{nothing-held, with-curve, with-count, with-class, with-operation}
 use Rattle.stored_form.specs.declared.Held.{Held}
 
--- ---- what is held once a record is read, and nothing else
+-- ---- the values of a record
 
+-- the values of a class's record
 abbrev pub class-held : Curve → Class → Held
 class-held c a = with-class a (with-curve c nothing-held)
 
+-- the values of the record of a sum
 abbrev pub sum-held : Curve → Class → Class → Held
 sum-held c a b = with-class b (with-class a (with-curve c nothing-held))
 
+-- the values of a register's record with an operation
 abbrev pub register-held : Register → Class → Held
 register-held g a = with-operation a (with-class (g .seal) (with-count (g .count) (with-curve (g .curve) nothing-held)))
 
--- ---- the records as they are written
+-- ---- the records encoded
 
--- 0x42, then 0x43
+-- the fields of a register: 0x42, then 0x43
 abbrev pub register-fields : Register → List ℕ
 register-fields g = count-field (g .count) ++ class-field 0x43 (g .seal)
 
+-- a class's record
 unfoldable pub class-record-bytes : Curve → Class → List ℕ
 class-record-bytes c a = curve-first-fields c ++ class-field 0x43 a
 
+-- the record of a sum
 unfoldable pub sum-record-bytes : Curve → Class → Class → List ℕ
 sum-record-bytes c a b = curve-first-fields c ++ class-field 0x43 a ++ class-field 0x43 b
 
+-- a register's record with an operation
 unfoldable pub register-record-bytes : Register → Class → List ℕ
 register-record-bytes g a = curve-first-fields (g .curve) ++ register-fields g ++ class-field 0x44 a
 
--- ---- bytes that are the record of values which no check refuses
+-- ---- bytes that encode values which no check refuses
 
+-- s is a class's record, h has its values, and no check refuses them
 pub record ClassStored (s : List ℕ) (h : Held) : Type 0 where
   pub curve : Curve
   pub class : Class
@@ -43,6 +50,7 @@ pub record ClassStored (s : List ℕ) (h : Held) : Type 0 where
   pub bytes : s ≡ class-record-bytes curve class
   pub passes : ClassPasses curve class
 
+-- the same for the record of a sum
 pub record SumStored (s : List ℕ) (h : Held) : Type 0 where
   pub curve : Curve
   pub first : Class
@@ -52,6 +60,7 @@ pub record SumStored (s : List ℕ) (h : Held) : Type 0 where
   pub first-passes : ClassPasses curve first
   pub second-passes : ClassPasses curve second
 
+-- the same for a register's record with an operation
 pub record RegisterStored (s : List ℕ) (h : Held) : Type 0 where
   pub register : Register
   pub class : Class

@@ -1,4 +1,5 @@
--- Lists of byte commits and undos, each on the record made of what the last accepted one wrote, and one changed operation in them (docs/SPECIFICATION.md, 11).
+-- Lists of byte commits and undos, and one changed operation in them (docs/SPECIFICATION.md, 11).
+-- Each call gets the count and the seal that the last accepted call wrote.
 use Prim.Native.Nat.{ℕ}
 use mathlib.Core.{Path._≡_, Bool.cond, List.List, List._∷_, List._++_, List.map, List.reverse}
 use lib.Dec.{ltb}
@@ -10,35 +11,36 @@ use Rattle.stored_form.specs.{Cuts.drop-fields, Passing.CountPasses, Passing.Cl
 use Rattle.written_form.specs.Effect.{Effect, longest-answer}
 use Rattle.seal.specs.{Records.register-fields, Rebuilt.wrote, Calls.step-call}
 
--- what is kept from call to call: the fields of degree and curve, and those of count and seal
+-- what is kept between calls: the fields of degree and curve, and the fields of count and seal
 pub record Kept : Type 0 where
   pub curve : List ℕ
   pub register : List ℕ
 
--- a call: the step, bytes in the place of the field of the operation's class, and the lent output
+-- a call: the step, the bytes given as the field of the operation's class, and the lent output
 pub record ByteStep : Type 0 where
   pub step : Step
   pub operation : List ℕ
   pub output : List ℕ
 
--- what the call does on the record made of what is kept and of the operation
+-- what a call does on the record of what is kept with its operation
 abbrev pub made : Kept → ByteStep → Effect
 made k c = step-call (c .step) (k .curve ++ k .register ++ c .operation) (c .output)
 
 -- ---- the machine
 
--- an answer that is a length says that the call was accepted
+-- the outcome that an answer stands for: a length is an acceptance
 unfoldable pub outcome : ℕ → Verdict
 outcome n = cond (ltb longest-answer n) (refused n) accepted
 
--- an accepted call's output takes the place of count and seal; after a refusal all is as it was
+-- what is kept after a call: an accepted call's output replaces count and seal, a refusal changes nothing
 unfoldable pub next : Kept → Effect → Kept
 next k e = cond (ltb longest-answer (e .answer)) k (record { curve = k .curve; register = wrote e })
 
+-- the machine of byte commits and undos
 abbrev pub byte-steps : Machine Kept ByteStep
 byte-steps = record { outcome = λ k c. outcome (made k c .answer); next = λ k c. next k (made k c) }
 
--- a call is taken back by the other step with the same operation, into whatever output is lent for it
+-- the call that takes a call back: the other step with the same operation, into any output
 unfoldable pub back : (ByteStep → List ℕ) → ByteStep → ByteStep
 back lend c = record { step = other (c .step); operation = c .operation; output = lend c }
 
@@ -52,11 +54,11 @@ pub record InStoredForm (k : Kept) : Type 0 where
 
 -- ---- one changed operation
 
--- the record of the seal that is kept: degree and curve, and the class field behind the count's
+-- the record of the seal that is kept: degree and curve, then the class field after the count's
 abbrev pub seal-record : Kept → List ℕ
 seal-record k = k .curve ++ drop-fields 1 (k .register)
 
--- the record of the class of an operation: its field with the tag of a class
+-- the record of an operation's class: its field with the tag of a class
 abbrev pub operation-record : List ℕ → List ℕ → List ℕ
 operation-record fields op = fields ++ (0x43 ∷ drop 1 op)
 
@@ -64,12 +66,12 @@ operation-record fields op = fields ++ (0x43 ∷ drop 1 op)
 abbrev pub OnlyCommits : List (Event Kept ByteStep) → Type 0
 OnlyCommits es = All (λ e. e .call .step ≡ Commit) es
 
--- the fields of the operations of these calls, which are given newest first, oldest first
+-- the fields of the operations of these calls, oldest first; the calls are given newest first
 abbrev pub operations : List (Event Kept ByteStep) → List (List ℕ)
 operations es = map (λ e. e .call .operation) (reverse es)
 
--- two lists of calls, of which es and fs are the accepted ones, newest first: from one first seal on one curve, all of them commits, of which only operation j
--- changes, from d to e
+-- Two lists of calls on one curve from the same seal; es and fs are their accepted calls, newest first, all commits.
+-- Only operation j, counted from the oldest as 1, differs: d in one list and e in the other.
 pub record ByteVariants (j : ℕ) (d e : List ℕ) (k t : Kept) (es fs : List (Event Kept ByteStep)) : Type 0 where
   pub same-curve : t .curve ≡ k .curve
   pub same-seal : seal-record t ≡ seal-record k

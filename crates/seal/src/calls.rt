@@ -1,5 +1,5 @@
-// The calls for C: a record in, and where a class or a register is answered its fields at the start of the lent output.
-// Each answers the length written, or the number of a refusal, and then no lent byte has changed.
+// The calls for C. Each reads a record; all but membership write a class or a register into the lent output.
+// A call answers the length written, or the number of a refusal; then no lent byte has changed.
 ghost use mathlib.Core.Path.{_≡_};
 ghost use Rattle.history.specs.Register.{register-reply};
 ghost use Rattle.stored_form.specs.{Head.class-room, Records.class-record, Records.register-record};
@@ -13,7 +13,7 @@ use written_form::effect;
 use written_form::effect::Output;
 use written_form::writing;
 
-// Is the pair of the record a class of its curve? 0 where it is.
+// Whether the record's pair is a class of its curve: 0 if it is, else the refusal.
 #[no_mangle]
 pub extern "C" fn seal_membership(input: &[u8]) -> u32
     ensures { λ r. ⌜ r ≡ membership-call (now (input .entry)) ⌝ }
@@ -24,7 +24,7 @@ pub extern "C" fn seal_membership(input: &[u8]) -> u32
     stored_form::place_refusal(place)
 }
 
-// What is asked of the values of a record.
+// The calls that write.
 enum Call {
     Opposite,
     Double,
@@ -35,7 +35,7 @@ enum Call {
     Stamp(u64),
 }
 
-// The fields of count and seal, unless the call refused.
+// The response with the fields of count and seal, or with the refusal.
 fn register_output(a: RegisterAnswer) -> Output
     ensures { λ r. ⌜ handed r ≡ register-handed (register-reply a) ⌝ }
 {
@@ -46,7 +46,7 @@ fn register_output(a: RegisterAnswer) -> Output
     writing::register_output(o, count, seal)
 }
 
-// What the call by value answers for the values of a record, as it is written.
+// The response of a call for the values of a record, by the call by value.
 fn answered(call: Call, h: Held) -> Output
     ensures { λ r. ⌜ handed r ≡ answered call h ⌝ }
 {
@@ -70,7 +70,7 @@ fn answered(call: Call, h: Held) -> Output
     }
 }
 
-// The body of every call that writes: 101, then the record, then the answer for its values.
+// The body of every call that writes: the check of the room (101), then the record, then the response.
 fn byte_call(call: Call, room: usize, tags: &[u8], input: &[u8], output: &mut [u8]) -> u32
     ensures { λ r. ⌜ effect r (now (output .exit)) ≡ byte-call room (now (tags .entry)) (answered call) (now (input .entry)) (now (output .entry)) ⌝ }
 {
@@ -83,7 +83,7 @@ fn byte_call(call: Call, room: usize, tags: &[u8], input: &[u8], output: &mut [u
     effect::put(answered(call, held), output)
 }
 
-// A call on one class, which answers a class.
+// A call on one class that answers a class.
 fn class_call(call: Call, input: &[u8], output: &mut [u8]) -> u32
     ensures { λ r. ⌜ effect r (now (output .exit)) ≡ byte-call class-room class-record (answered call) (now (input .entry)) (now (output .entry)) ⌝ }
 {
@@ -91,7 +91,7 @@ fn class_call(call: Call, input: &[u8], output: &mut [u8]) -> u32
     byte_call(call, stored_form::CLASS_ROOM, &tags, input, output)
 }
 
-// A call on a register and an operation's class, which answers a register.
+// A call on a register and an operation's class that answers a register.
 fn register_call(call: Call, input: &[u8], output: &mut [u8]) -> u32
     ensures { λ r. ⌜ effect r (now (output .exit)) ≡ byte-call register-room register-record (answered call) (now (input .entry)) (now (output .entry)) ⌝ }
 {

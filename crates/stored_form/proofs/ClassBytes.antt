@@ -1,4 +1,6 @@
--- How many coefficients a row of three has below a degree.
+-- The coefficients of a row of three below a degree.
+-- `length-row`: below degree n, up to 3, there are n coefficients.
+-- `below-three`: a row of three has no coefficients from degree 3 on.
 use Prim.Native.Nat.{ℕ, _≤_, min}
 use mathlib.Core.Path.{_≡_, sym, ap, _∙_}
 use mathlib.Core.List.{List, reverse}
@@ -12,7 +14,6 @@ pub length-row : (n : ℕ) (r : List ℕ) → length r ≡ 3 → n ≤ 3 → len
 unfolding row-written
 length-row n r h le = length-reverse (take n r) ∙ length-take n r ∙ omega arith
 
--- a row of three has no more coefficients than three
 pub below-three : (r : List ℕ) (n : ℕ) → length r ≡ 3 → row-written (min n 3) r ≡ row-written n r
 unfolding row-written
 below-three r n h = ap reverse (firsts (decLe n 3))

@@ -1,4 +1,10 @@
--- Numbers as bytes, high byte first: the number of bytes is bounded by their count, and one more byte is one more digit.
+-- Numbers as bytes, high byte first: how large the number of some bytes is, and the number with one byte more.
+-- `number-lt`: the number of bytes is below 256 to the power of their count.
+-- `number-snoc`: one more byte is one more digit in base 256.
+-- `number-more`: the same for one more byte of a list.
+-- `number-fits`: the number of up to eight bytes is below 2^64.
+-- `byte-fits`: the number of one byte is below 2^8.
+-- `turn-fits`, `turn`: a turn of the loop that decodes k bytes.
 use Prim.Native.Nat.{ℕ, zero, suc, _+_, _*_, _^_, _≤_, _<_}
 use mathlib.Core.Path.{_≡_, refl, sym, ap, ap₂, _∙_}
 use mathlib.Core.List.{List, [], _∷_, _++_}
@@ -11,7 +17,7 @@ use lib.ListN.{length, getD, take, drop, length-append, length-take, length-drop
 use lib.Seq.{take-suc, getD-drop}
 use Rattle.stored_form.specs.Number.{number-of, bytes-of, Bytes, part}
 
--- ---- the number of bytes
+-- ---- the number that bytes decode to
 
 pub number-lt : (bs : List ℕ) → Bytes bs → number-of bs < 256 ^ length bs
 unfolding number-of
@@ -26,7 +32,7 @@ number-snoc (a ∷ bs) b =
     ap₂ (λ (l r : ℕ). a * 256 ^ l + r) (length-append bs (b ∷ [])) (number-snoc bs b)
     ∙ rw (add-one, pow-suc, e) (omega arith)
 
--- ---- k bytes of a number
+-- ---- the k lowest bytes of a number
 
 pub length-bytes : (k n : ℕ) → length (bytes-of k n) ≡ k
 unfolding bytes-of
@@ -44,26 +50,22 @@ take-bytes (suc k) (x ∷ l) h (suc i) = take-bytes k l (λ j. h (suc j)) i
 pub part-bytes : (s : List ℕ) → Bytes s → (at k : ℕ) → Bytes (part s at k)
 part-bytes s h at k = take-bytes k (drop at s) (λ i. rw getD-drop (h (at + i)))
 
--- one more byte of a list
 pub number-more : (s : List ℕ) (at i : ℕ) → at + i < length s →
     number-of (part s at (i + 1)) ≡ number-of (part s at i) * 256 + getD s (at + i) 0
 number-more s at i h =
     rw (add-one, take-suc (drop at s) i 0 (rw length-drop (omega arith)), getD-drop) (number-snoc (part s at i) _)
 
--- up to eight bytes fit 64 bits
 pub number-fits : (s : List ℕ) → Bytes s → (at k : ℕ) → k ≤ 8 → number-of (part s at k) < 2 ^ 64
 number-fits s h at k le =
     lt-of-lt-of-le (number-lt (part s at k) (part-bytes s h at k))
     (pow-le-pow-right {n = 256} (lit< tt) {j = 8} (rw length-take (omega arith)))
 
--- and one byte fits 8
 pub byte-fits : (s : List ℕ) → Bytes s → (at : ℕ) {n x : ℕ} → n ≡ 1 → x ≡ number-of (part s at n) → x < 2 ^ 8
 byte-fits s h at {n} e f =
     let low : length (part s at n) ≤ 1 = rw length-take (omega arith) in
     let most : 256 ^ length (part s at n) ≤ 256 ^ 1 = pow-le-pow-right {n = 256} (lit< tt) {j = 1} low in
     rw f (lt-of-lt-of-le (number-lt (part s at n) (part-bytes s h at n)) most)
 
--- a turn of the loop that reads k bytes: the next number fits, and is the number of one more byte
 pub turn-fits : (s : List ℕ) → Bytes s → (at k i n : ℕ) → k ≤ 8 → at + k ≤ length s → i < k → n ≡ number-of (part s at i) →
     n * 256 + getD s (at + i) 0 < 2 ^ 64
 turn-fits s h at k i n le fits lt e =

@@ -1,4 +1,7 @@
--- The bytes of a drawing number: as the code copies them, and as it tests them.
+-- The bytes of a drawing number, as the code copies them and as it tests them.
+-- `name-said`: the name of a decoded drawing number is the bytes that it was decoded from.
+-- `too-low`, `too-high`, `one-more`, `none-left`: a turn of the loop that tests whether the bytes are printable.
+-- `copy-more`, `drawing-copied`: a turn of the loop that copies the bytes, and its end.
 use Prim.Native.Nat.{ℕ, suc, _+_, _-_, _≤_, _<_}
 use mathlib.Core.Path.{_≡_, sym, ap, ap₂, _∙_}
 use mathlib.Core.Bool.{true, false}
@@ -15,7 +18,7 @@ pub name-said : (xs : List ℕ) → drawing-name (drawing-said xs) ≡ xs
 unfolding drawing-name drawing-said
 name-said xs = take-append-seam xs _
 
--- the bytes that are left decide whether all are printable
+-- whether the bytes from index i on are printable, by byte i
 module _ (bs : List ℕ) (k i : ℕ) (within : k ≤ length bs) (lt : i < k) where
   rest-cons : take (k - i) (drop i bs) ≡ getD bs i 0 ∷ take (k - (i + 1)) (drop (i + 1) bs)
   rest-cons =

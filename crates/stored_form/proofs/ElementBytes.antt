@@ -1,4 +1,6 @@
--- The bytes of elements: their length, and those of elements one behind the other.
+-- Elements encoded.
+-- `length-element-bytes`: each element has eight bytes.
+-- `element-bytes-append`: elements appended to others are encoded after them.
 use Prim.Native.Nat.{ℕ, _*_}
 use mathlib.Core.Path.{_≡_, refl, sym, ap, _∙_}
 use mathlib.Core.List.{List, [], _∷_, _++_, append-assoc}

@@ -1,4 +1,7 @@
--- The head of a field: what each check says where the ones before it held, and what holds of a head that was found.
+-- The head of a field: the result of each check if the ones before it pass, and what holds of a head that was found.
+-- `head-102` to `head-105`: the head is refused with this number.
+-- `head-whole`: the head is found.
+-- `head-found`: what holds of a head that was found (`Whole`).
 use Prim.Native.Nat.{ℕ, _+_, _≤_, _<_}
 use mathlib.Core.Path.{_≡_, sym}
 use mathlib.Core.Bool.{true, false, not}
@@ -19,7 +22,7 @@ module _ (tag : ℕ) (h : Held) (s : List ℕ) (at : ℕ) where
   unfolding head-at
   head-103 fits other = rw (le-ltb (length s) (at + 3) fits, ne-eqb (getD s at 0) tag other)
 
-  -- the checks of a length n that was read from the head
+  -- the checks of the length n that the head gives
   module _ {n : ℕ} (read : n ≡ body-length s at) (fits : at + 3 ≤ length s) (due : getD s at 0 ≡ tag) where
     pub head-104 : rules tag .allows h n ≡ false → head-at tag h s at ≡ refused 104
     unfolding head-at

@@ -1,4 +1,9 @@
--- Elements as bytes: those of a part, of two parts, and the rows of coefficients that the code reads.
+-- Elements decoded from a part of the bytes, and the curves and classes that the code decodes from them.
+-- `elements-take`: bytes after the elements do not matter.
+-- `elements-add`: j + k elements are j elements, then k elements.
+-- `element-more`, `curve-is`: a turn of the loop that decodes a curve's coefficients, and its end.
+-- `row-0` to `row-3`: the rows of up to three elements.
+-- `class-is`: two rows that were decoded make the class that the body decodes to.
 use Prim.Native.Nat.{ℕ, zero, suc, _+_, _*_, _-_, _/_, _≤_}
 use mathlib.Core.Path.{_≡_, refl, sym, ap, ap₂, _∙_}
 use mathlib.Core.List.{List, [], _∷_, _++_, append-nil}
@@ -18,7 +23,6 @@ unfolding elements
 length-elements zero s = refl
 length-elements (suc k) s = ap suc (length-elements k (drop 8 s))
 
--- bytes past the elements do not count
 pub elements-take : (k m : ℕ) (s : List ℕ) → 8 * k ≤ m → elements k (take m s) ≡ elements k s
 unfolding elements
 elements-take zero m s h = refl
@@ -36,9 +40,8 @@ elements-add (suc j) k s =
     rw e (ap (λ (xs : List ℕ). number-of (take 8 s) ∷ xs)
     (elements-add j k (drop 8 s) ∙ ap (λ (t : List ℕ). elements j (drop 8 s) ++ elements k t) (drop-drop (8 * j) 8 s ∙ ap (λ (i : ℕ). drop i s) f)))
 
--- ---- what the code reads
+-- ---- what the code decodes
 
--- a turn of the loop that reads a curve's coefficients, and its end
 pub element-more : (s : List ℕ) (at i x : ℕ) (d : List ℕ) {r : List ℕ} → r ≡ sets d 0 (elements i (drop at s)) → x ≡ number-of (part s (at + element-length * i) element-length) →
     set r i x ≡ sets d 0 (elements (i + 1) (drop at s))
 unfolding elements
@@ -63,7 +66,6 @@ curve-is s at d i {r} h₁ h₂ e =
     ∙ append-nil es
     ∙ sym (elements-take coefficient-count curve-length (drop at s) (lit≤ tt)))
 
--- the rows of up to three elements
 module _ (s : List ℕ) (at : ℕ) {n : ℕ} where
   pub row-0 : n ≡ 0 → 0 ∷ 0 ∷ 0 ∷ [] ≡ row-said (elements n (drop at s))
   unfolding row-said elements
@@ -83,7 +85,7 @@ module _ (s : List ℕ) (at : ℕ) {n : ℕ} where
   unfolding row-said elements
   row-3 e f g h = let i : at + 8 + 8 ≡ at + 16 = omega arith in rw (h, e, f, g, drop-drop 8 at s, drop-drop 8 (at + 8) s, i)
 
--- two rows are a class's
+-- two rows make a class
 module _ (s : List ℕ) (at len : ℕ) (ok : class-length len ≡ true) (within : at + len ≤ length s) where
   pub row-asks : (len / 16 ≤ 3) × (at + 8 * (len / 16) ≤ length s)
   row-asks = let h : len ≤ class-limit = class-length-le len ok in omega arith
@@ -91,7 +93,6 @@ module _ (s : List ℕ) (at len : ℕ) (ok : class-length len ≡ true) (within 
   pub row-asks-2 : (len / 16 ≤ 3) × (at + 8 * (len / 16) + 8 * (len / 16) ≤ length s)
   row-asks-2 = let h : len ≤ class-limit = class-length-le len ok in omega arith
 
-  -- the elements of the body
   body-elements : elements (len / 16 + len / 16) (part s at len) ≡ elements (len / 16) (drop at s) ++ elements (len / 16) (drop (at + 8 * (len / 16)) s)
   body-elements =
       let n = len / 16 in

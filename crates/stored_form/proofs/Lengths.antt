@@ -1,4 +1,8 @@
 -- The lengths that each tag allows, and the length of a field.
+-- `is-degree-length` and its like: what an allowed length is, tag by tag.
+-- `by-class-length`: a class has one of four lengths. `by-tag`: a tag that allows a length is one of six.
+-- `allows-short`: no allowed length is above that of the longest body.
+-- `length-stored`: a field has three bytes more than its body. `length-count`: the length of a count's field.
 use Prim.Native.Nat.{ℕ, _+_, _*_, _/_, _≤_}
 use mathlib.Core.Path.{_≡_, refl, sym, subst, _∙_}
 use native.Mathlib.Decide.{ℕ-discrete}
@@ -15,7 +19,7 @@ pub class-length-last : (n : ℕ) → (n ≡ 0 → ⊥) → (n ≡ 16 → ⊥) �
 unfolding class-length
 class-length-last n h₀ h₁ h₂ = rw (ne-eqb n 0 h₀, ne-eqb n 16 h₁, ne-eqb n 32 h₂)
 
--- ---- what a length that is allowed is
+-- ---- the lengths that are allowed
 
 module _ (h : Held) where
   pub allows-none : (t n : ℕ) → (t ≡ 0x40 → ⊥) → (t ≡ 0x41 → ⊥) → (t ≡ 0x46 → ⊥) → (t ≡ 0x42 → ⊥) → (t ≡ 0x43 → ⊥) → (t ≡ 0x44 → ⊥) →
@@ -48,7 +52,7 @@ module _ (h : Held) where
   unfolding rules
   operation-lengths n = refl
 
--- a number is k, or another
+-- a number is k or not k
 by-case : (P : ℕ → Type 0) (n k : ℕ) → P k → ((n ≡ k → ⊥) → P n) → P n
 by-case P n k p other =
     elim (ℕ-discrete n k) [
@@ -56,7 +60,6 @@ by-case P n k p other =
       | no a ↦ other a
     ]
 
--- the four lengths of a class
 pub by-class-length : (P : ℕ → Type 0) → P 0 → P 16 → P 32 → P 48 → (n : ℕ) → class-length n ≡ true → P n
 by-class-length P p₀ p₁ p₂ p₃ n h =
     by-case P n 0 p₀ (λ a. by-case P n 16 p₁ (λ b. by-case P n 32 p₂ (λ c. subst P (sym (eqb-true n 48 (sym (class-length-last n a b c) ∙ h))) p₃)))
@@ -68,13 +71,12 @@ pub class-length-even : (n : ℕ) → class-length n ≡ true → 16 * (n / 16) 
 class-length-even = by-class-length (λ n. 16 * (n / 16) ≡ n) refl refl refl refl
 
 module _ (h : Held) where
-  -- the tags that allow a length
   pub by-tag : (P : ℕ → Type 0) → P 0x40 → P 0x41 → P 0x46 → P 0x42 → P 0x43 → P 0x44 → (t n : ℕ) → rules t .allows h n ≡ true → P t
   by-tag P p₀ p₁ p₆ p₂ p₃ p₄ t n e =
       by-case P t 0x40 p₀ (λ a₀. by-case P t 0x41 p₁ (λ a₁. by-case P t 0x46 p₆ (λ a₆. by-case P t 0x42 p₂ (λ a₂. by-case P t 0x43 p₃ (λ a₃. by-case P t 0x44 p₄
       (λ a₄. absurd (false≢true (sym (allows-none h t n a₀ a₁ a₆ a₂ a₃ a₄) ∙ e))))))))
 
-  -- where no tag but those of a class is left
+  -- a tag that allows a length and is none of the other four is that of a class
   pub class-left : (t n : ℕ) → (t ≡ 0x40 → ⊥) → (t ≡ 0x41 → ⊥) → (t ≡ 0x46 → ⊥) → (t ≡ 0x42 → ⊥) → rules t .allows h n ≡ true → class-length n ≡ true
   class-left t n h₀ h₁ h₆ h₂ a =
       by-tag (λ k. (k ≡ 0x40 → ⊥) → (k ≡ 0x41 → ⊥) → (k ≡ 0x46 → ⊥) → (k ≡ 0x42 → ⊥) → rules k .allows h n ≡ true → class-length n ≡ true)
@@ -82,7 +84,6 @@ module _ (h : Held) where
       (λ _ _ _ _ e. sym (class-lengths h n) ∙ e) (λ _ _ _ _ e. sym (operation-lengths h n) ∙ e)
       t n a h₀ h₁ h₆ h₂ a
 
-  -- no body is longer than the longest
   pub allows-short : (t n : ℕ) → rules t .allows h n ≡ true → n ≤ longest-body
   allows-short t n a =
       by-tag (λ t. rules t .allows h n ≡ true → n ≤ longest-body)

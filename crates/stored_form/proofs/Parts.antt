@@ -1,4 +1,4 @@
--- Parts of a list.
+-- Parts of a list: their tails, their length, and a part with one element more.
 use Prim.Native.Nat.{ℕ, zero, suc, _+_, _-_, _≤_, _<_}
 use mathlib.Core.Path.{_≡_, sym}
 use mathlib.Core.List.{List, [], _∷_, _++_}
@@ -17,6 +17,5 @@ drop-take (suc i) (suc k) (x ∷ l) = let e : suc k - suc i ≡ k - i = omega ar
 pub length-part : (s : List ℕ) (at k : ℕ) → at + k ≤ length s → length (part s at k) ≡ k
 length-part s at k h = rw (length-take, length-drop) (omega arith)
 
--- one more
 pub part-more : (s : List ℕ) (at i : ℕ) → at + i < length s → part s at (i + 1) ≡ part s at i ++ getD s (at + i) 0 ∷ []
 part-more s at i h = rw (add-one, take-suc (drop at s) i 0 (rw length-drop (omega arith)), getD-drop)

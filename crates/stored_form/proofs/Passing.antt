@@ -1,4 +1,6 @@
--- What holds once fields are read, whatever bodies that pass their checks they have (`Holds`), holds of what is read (`fields-hold`, `record-holds`).
+-- Properties of records that the checks of their fields ensure.
+-- `Holds`: P holds of the record h with any bodies for these tags that pass their checks.
+-- `fields-hold`, `record-holds`: then P holds of every record that is read with these tags.
 use Prim.Native.Nat.{ℕ}
 use mathlib.Core.Path.{_≡_, sym, ap, _∙_, subst}
 use mathlib.Core.List.{List, [], _∷_}
@@ -6,7 +8,7 @@ use lib.ListN.{length}
 use Rattle.stored_form.specs.{Reading.found, Fields.ended, Held.nothing-held, Tags.rules, Records.read-field, Records.read-fields, Records.read-record, declared.Held.Held}
 use Rattle.stored_form.proofs.{Readings.same-found, Readings.both-found, Readings.checked-found, Readers.field-found}
 
--- P holds once the fields with these tags are read
+-- P holds of the record h with any bodies for these tags that pass their checks
 unfoldable pub Holds : (Held → Type 0) → List ℕ → Held → Type 0
 Holds P [] h = P h
 Holds P (tag ∷ tags) h = (body : List ℕ) → rules tag .check (length body) (rules tag .hold body h) ≡ 0 → Holds P tags (rules tag .hold body h)

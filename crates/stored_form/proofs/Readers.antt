@@ -1,4 +1,10 @@
--- What is held: as the code makes it by tags, as a field that was found says it, as a reader answers it, and as a record's fields give it one after the other.
+-- Readers of fields: the code's tests by tag, a field that was found, the code's answer, and fields in order.
+-- `field-found`: the body of a field that was found and the record with it; its check passes.
+-- `field-within`: a field that was found lies within the input.
+-- `operation-held`: an operation that was read changes nothing else of the record.
+-- `place-found`, `place-refused`: the reading that a code's answer stands for.
+-- `fields-more`, `fields-refused`, `fields-ended`: reading the fields from the i-th on.
+-- `fields-append`: fields that follow others are read after them.
 use Prim.Native.Nat.{ℕ, suc, _+_, _≤_, _<_}
 use mathlib.Core.Path.{_≡_, refl, sym, ap, _∙_}
 use mathlib.Core.Bool.{true}
@@ -15,14 +21,14 @@ use Rattle.stored_form.specs.declared.Place.the-variants.{Next, Refused}
 use Rattle.stored_form.proofs.Readings.{then-found, then-refused, then-same, then-assoc, both-found, checked-found, same-found}
 use Rattle.stored_form.proofs.{Heads.head-found, Lengths.is-drawing-length, Lengths.by-tag, Parts.length-part}
 
--- where a length is allowed and no tag but the operation's is left
+-- a tag that allows a length and is none of the other five is the operation's
 pub operation-left : (h : Held) (t n : ℕ) → rules t .allows h n ≡ true → (t ≡ 0x40 → ⊥) → (t ≡ 0x41 → ⊥) → (t ≡ 0x46 → ⊥) → (t ≡ 0x42 → ⊥) → (t ≡ 0x43 → ⊥) → t ≡ 0x44
 operation-left h t n a h₀ h₁ h₆ h₂ h₃ =
     by-tag h (λ k. (k ≡ 0x40 → ⊥) → (k ≡ 0x41 → ⊥) → (k ≡ 0x46 → ⊥) → (k ≡ 0x42 → ⊥) → (k ≡ 0x43 → ⊥) → k ≡ 0x44)
     (λ o _ _ _ _. absurd (o refl)) (λ _ o _ _ _. absurd (o refl)) (λ _ _ o _ _. absurd (o refl)) (λ _ _ _ o _. absurd (o refl)) (λ _ _ _ _ o. absurd (o refl))
     (λ _ _ _ _ _. refl) t n a h₀ h₁ h₆ h₂ h₃
 
--- a byte that is no tag is not checked
+-- a byte that is no tag has no check
 pub no-check : (t n : ℕ) (h : Held) → (t ≡ 0x40 → ⊥) → (t ≡ 0x41 → ⊥) → (t ≡ 0x46 → ⊥) → (t ≡ 0x42 → ⊥) → (t ≡ 0x43 → ⊥) → (t ≡ 0x44 → ⊥) → rules t .check n h ≡ 0
 unfolding rules
 no-check t n h h₀ h₁ h₆ h₂ h₃ h₄ = rw (ne-eqb t 0x40 h₀, ne-eqb t 0x41 h₁, ne-eqb t 0x46 h₆, ne-eqb t 0x42 h₂, ne-eqb t 0x43 h₃, ne-eqb t 0x44 h₄)
@@ -34,7 +40,7 @@ module _ (tag : ℕ) (h : Held) (s : List ℕ) (at : ℕ) where
   unfolding read-field body-at
   field-refused e = then-refused _ (then-refused _ e)
 
-  -- a field that was found: its body, what is held with it, and that no check refuses it
+  -- a field that was found: its body, the record with it, and that its check passes
   pub record FieldFound (more : Held) (next : ℕ) : Type 0 where
     pub body : List ℕ
     pub body-read : body-at tag h s at ≡ found body next
@@ -54,7 +60,6 @@ module _ (tag : ℕ) (h : Held) (s : List ℕ) (at : ℕ) where
         passes = ap (rules tag .check (length (p .0))) (sym (same .0)) ∙ c .0;
       }
 
-  -- it lies within the input
   pub field-within : {more : Held} {next : ℕ} → read-field tag h s at ≡ found more next → (at + 3 ≤ next) × (next ≤ length s)
   unfolding body-at
   field-within e =
@@ -78,7 +83,7 @@ module _ (tag : ℕ) (h : Held) (s : List ℕ) (at : ℕ) where
           ∙ ap (λ (m : Held). checked (rules tag .check (length (part s (at + 3) n)) m) (found m next)) f
           ∙ sym (then-found _ (then-found _ e))
 
-      -- a drawing number that was read has room
+      -- a drawing number that was read is not too long
       pub drawing-held : tag ≡ 0x46 → more .drawing .len ≤ drawing-limit
       unfolding rules drawing-said
       drawing-held q =
@@ -86,21 +91,20 @@ module _ (tag : ℕ) (h : Held) (s : List ℕ) (at : ℕ) where
           ap (λ (m : Held). m .drawing .len) (f ∙ ap (λ (t : ℕ). rules t .hold (part s (at + 3) n) h) q) in
           omega (arith, length-body, is-drawing-length h {n = n} (ap (λ (t : ℕ). rules t .allows h n) (sym q) ∙ field-asks .0))
 
--- an operation that was read changes nothing else that is held
 pub operation-held : (h : Held) (s : List ℕ) (at : ℕ) {more : Held} {next : ℕ} → read-field 0x44 h s at ≡ found more next → more ≡ with-operation (more .operation) h
 unfolding rules
 operation-held h s at e =
     let is = field-found 0x44 h s at e .held in
     is ∙ ap (λ (m : Held). with-operation (m .operation) h) (sym is)
 
--- ---- what a reader's answer says of the reading
+-- ---- the reading that a code's answer stands for
 
--- what stands beside a place was found there
+-- the reading with this offset and value, or with this refusal
 unfoldable pub placed : {A : Type 0} → Place → A → Reading A
 placed (Next next) a = found a (next .at)
 placed (Refused n) a = refused n
 
--- an answer that has a place and a value for each reading, from which the reading is had back
+-- answers with an offset and a value, from which the reading can be recovered
 module _ {R A : Type 0} (place : R → Place) (value : R → A) (answer : Reading A → R) (back : (x : Reading A) → placed (place (answer x)) (value (answer x)) ≡ x)
     (r : R) (x : Reading A) (e : r ≡ answer x) where
   said : x ≡ placed (place r) (value r)
@@ -134,14 +138,14 @@ module _ (r : Read) {x : Reading Held} (e : r ≡ read-of x) where
   pub place-refused : {n : ℕ} → r .place ≡ Refused n → x ≡ refused n
   place-refused = answer-refused (λ q. q .place) (λ q. q .held) read-of read-back r x e
 
-  -- with the number that the code makes of it
+  -- with the number that the code takes from the answer
   pub place-refused-as : {n k : ℕ} → r .place ≡ Refused n → k ≡ place-refusal (r .place) → x ≡ refused k
   place-refused-as f g = place-refused f ∙ ap refused (sym (g ∙ ap place-refusal f))
 
 pub read-refusal : (r : Read) (x : Reading Held) → r ≡ read-of x → place-refusal (r .place) ≡ reading-refusal x
 read-refusal = answer-refusal (λ q. q .place) (λ q. q .held) read-of read-back
 
--- ---- fields one after the other: those from the i-th on
+-- ---- fields in order, from the i-th on
 
 module _ (tags s : List ℕ) (h : Held) (at i : ℕ) where
   next-field : i < length tags → read-fields (drop i tags) h s at ≡ (read-field (getD tags i 0) h s at then λ more next. read-fields (drop (i + 1) tags) more s next)
@@ -161,7 +165,6 @@ module _ (tags s : List ℕ) (h : Held) (at i : ℕ) where
   unfolding read-fields
   fields-ended le = ap (λ (l : List ℕ). read-fields l h s at) (drop-of-length-le tags le)
 
--- fields behind others
 pub fields-append : (xs ys : List ℕ) (h : Held) (s : List ℕ) (at : ℕ) → read-fields (xs ++ ys) h s at ≡ (read-fields xs h s at then λ more next. read-fields ys more s next)
 unfolding read-fields _then_
 fields-append [] ys h s at = refl

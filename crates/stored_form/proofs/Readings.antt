@@ -1,4 +1,8 @@
--- Readings one after the other: what a check or a field that was passed says.
+-- Readings that follow each other: what a check that passed and a value that was found imply.
+-- `checked-found`, `refuse-found`, `test-passed`: a check that passed.
+-- `then-found`, `then-refused`, `both-found`: the first of two readings, and both if both found a value.
+-- `then-assoc`: readings group either way.
+-- `found-refusal`, `same-refusal`: when two readings have the same refusal.
 use Prim.Native.Nat.{ℕ, zero, suc, _<_}
 use mathlib.Core.Path.{_≡_, refl, sym, ap, _∙_}
 use mathlib.Core.Bool.{Bool, true, false}
@@ -6,7 +10,6 @@ use native.Mathlib.Omega.{arith}
 use Rattle.jacobian.specs.Checks.{unless}
 use Rattle.stored_form.specs.Reading.{Reading, found, refused, refuse, checked, _then_, reading-refusal}
 
--- a test that was passed
 pub test-passed : (b : Bool) {n : ℕ} → 0 < n → unless b n ≡ 0 → b ≡ true
 unfolding unless
 test-passed true some e = refl
@@ -16,7 +19,6 @@ module _ {A : Type 0} where
   pub found-not-refused : {k next : ℕ} {a : A} → _≡_ {A = Reading A} (refused k) (found a next) → ⊥
   found-not-refused h = let z : _≡_ {A = ℕ} 0 1 = cc in omega arith
 
-  -- checks made elsewhere
   pub checked-some : (n : ℕ) (r : Reading A) → (n ≡ 0 → ⊥) → checked n r ≡ refused n
   unfolding checked
   checked-some zero r h = absurd (h refl)
@@ -34,7 +36,6 @@ module _ {A : Type 0} where
   pub same-found : {a b : A} {m n : ℕ} → found a m ≡ found b n → (a ≡ b) × (m ≡ n)
   same-found h = (cc, cc)
 
-  -- a check that was passed
   pub refuse-found : (k : ℕ) (b : Bool) (r : Reading A) {a : A} {next : ℕ} → refuse k b r ≡ found a next → (b ≡ false) × (r ≡ found a next)
   refuse-found k true r h = absurd (found-not-refused h)
   refuse-found k false r h = (refl, h)
@@ -48,7 +49,6 @@ module _ {A B : Type 0} (f : A → ℕ → Reading B) where
   unfolding _then_
   then-refused e = rw e
 
-  -- both were found
   pub both-found : (x : Reading A) {b : B} {next : ℕ} → (x then f) ≡ found b next → (a : A) × (n : ℕ) × (x ≡ found a n) × (f a n ≡ found b next)
   unfolding _then_
   both-found (found a n) h = (a, n, refl, h)
@@ -65,17 +65,16 @@ unfolding _then_
 then-assoc (found a n) f g = refl
 then-assoc (refused k) f g = refl
 
--- a refusal and its number
 pub refused-number : {A : Type 0} {x : Reading A} {n k : ℕ} → x ≡ refused n → k ≡ reading-refusal x → x ≡ refused k
 refused-number e q = e ∙ sym (ap refused (q ∙ ap reading-refusal e))
 
--- what is made of a reading is refused as the reading is
+-- a value made from what a reading found changes no refusal
 pub found-refusal : {A B : Type 0} (x : Reading A) (f : A → B) → reading-refusal (x then λ a n. found (f a) n) ≡ reading-refusal x
 unfolding _then_
 found-refusal (found a n) f = refl
 found-refusal (refused n) f = refl
 
--- and so are two that are refused alike after it
+-- after the same reading, two readings with the same refusals have the same refusal
 pub same-refusal : {A B C : Type 0} (x : Reading A) (f : A → ℕ → Reading B) (g : A → ℕ → Reading C) →
     ((a : A) (n : ℕ) → reading-refusal (f a n) ≡ reading-refusal (g a n)) → reading-refusal (x then f) ≡ reading-refusal (x then g)
 unfolding _then_

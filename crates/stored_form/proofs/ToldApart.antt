@@ -1,5 +1,8 @@
--- Readings are told apart (docs/SPECIFICATION.md, 6). Every check says 0 or the number of a refusal (`told-count` and its like), and so does every
--- reading (`record-tells`): 0 where the values are found (`reading-found`, `found-reading`).
+-- Every reading finds a value or refuses with a valid number (docs/SPECIFICATION.md, 6).
+-- `told-count` and its like: every check gives a valid refusal, which is 0 or a listed number.
+-- `record-tells`, `fields-tell`, `operations-tell`: every reading of a record, of fields, of operations is valid.
+-- `reading-told`: its number is then a valid refusal.
+-- `reading-found`, `found-reading`: the number is 0 exactly if the reading finds a value.
 use Prim.Native.Nat.{ℕ, zero, suc, _+_}
 use mathlib.Core.Path.{_≡_, refl, ap}
 use mathlib.Core.{Bool.Bool, Bool.true, Bool.false, Bool.cond, Bool.not, List.List, List.[], List._∷_, Logic.inl, Logic.inr}
@@ -12,7 +15,7 @@ use Rattle.stored_form.specs.{Head.body-length, Fields.count-refusal, Fi
 use Rattle.stored_form.specs.Records.{head-at, body-at, read-field, read-fields, read-record, read-operations}
 use Rattle.stored_form.specs.declared.Held.{Held}
 
--- ---- what the checks say
+-- ---- the checks
 
 pub either : {A : Type 0} (P : A → Type 0) (b : Bool) {x y : A} → P x → P y → P (cond b x y)
 either P true p q = p
@@ -46,8 +49,9 @@ told-field tag n h =
     (either P (eqb tag 0x44) (refusal-told _ _)
     (inl refl))))))
 
--- ---- readings that refuse with the number of a refusal
+-- ---- readings that refuse with a listed number
 
+-- a reading that finds a value or refuses with a listed number
 unfoldable pub Tells : {A : Type 0} → Reading A → Type 0
 Tells (found a next) = Unit
 Tells (refused n) = IsRefusal n
@@ -73,7 +77,7 @@ module _ {A : Type 0} where
   then-tells (found b next) f t u = u b next
   then-tells (refused n) f t u = t
 
-  -- its number is 0 exactly where something is found
+  -- its number is 0 exactly if a value is found
   pub reading-told : (x : Reading A) → Tells x → Told (reading-refusal x)
   unfolding Tells Told
   reading-told (found a next) t = inl refl

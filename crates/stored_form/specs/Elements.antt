@@ -4,16 +4,16 @@ use mathlib.Core.List.{List, [], _∷_, _++_}
 use lib.ListN.{take, drop}
 use Rattle.stored_form.specs.Number.{number-of, bytes-of}
 
--- an element's bytes
+-- the number of bytes of an element
 abbrev pub element-length : ℕ
 element-length = 8
 
--- the k elements that bytes say
+-- the k elements that bytes decode to
 unfoldable pub elements : ℕ → List ℕ → List ℕ
 elements zero s = []
 elements (suc k) s = number-of (take element-length s) ∷ elements k (drop element-length s)
 
--- the bytes of elements
+-- elements encoded, one after the other
 unfoldable pub element-bytes : List ℕ → List ℕ
 element-bytes [] = []
 element-bytes (x ∷ xs) = bytes-of element-length x ++ element-bytes xs

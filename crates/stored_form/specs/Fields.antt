@@ -1,4 +1,4 @@
--- The fields that hold no class, as they are written, their checks, and the end (docs/SPECIFICATION.md, 5 and 6).
+-- The fields without a class, encoded; their checks; the end of a record (docs/SPECIFICATION.md, 5 and 6).
 use Prim.Native.Nat.{ℕ}
 use mathlib.Core.Bool.{Bool, true, cond, _&&_}
 use mathlib.Core.List.{List, [], _∷_}
@@ -11,34 +11,37 @@ use Rattle.stored_form.specs.Head.{degree-length, count-length, stored}
 
 -- ---- the degree
 
+-- the field of a degree, 0x40
 unfoldable pub degree-field : ℕ → List ℕ
 degree-field d = stored 0x40 (bytes-of degree-length d)
 
 -- ---- the count of operations
 
+-- the field of a count, 0x42
 unfoldable pub count-field : ℕ → List ℕ
 count-field n = stored 0x42 (bytes-of count-length n)
 
 -- ---- the drawing number
 
--- every byte lies in 0x20 to 0x7E
+-- whether every byte lies in 0x20 to 0x7E
 unfoldable pub printable : List ℕ → Bool
 printable [] = true
 printable (b ∷ bs) = leb 0x20 b && leb b 0x7E && printable bs
 
--- 108 for a byte that does not
+-- 108 if some byte is not printable, else 0
 unfoldable pub drawing-refusal : List ℕ → ℕ
 drawing-refusal bytes = unless (printable bytes) 108
 
+-- the field of a drawing number, 0x46
 unfoldable pub drawing-field : List ℕ → List ℕ
 drawing-field bytes = stored 0x46 bytes
 
 -- ---- the end
 
--- 112 where bytes remain after the last field, and 0 where none do
+-- 112 if bytes remain after the last field, else 0
 unfoldable pub end-refusal : List ℕ → ℕ → ℕ
 end-refusal s at = cond (ltb at (length s)) 112 0
 
--- a value, where nothing follows the last field
+-- the value if nothing follows the last field, else refusal 112
 unfoldable pub ended : {A : Type 0} → List ℕ → A → ℕ → Reading A
 ended s a at = checked (end-refusal s at) (found a at)

@@ -1,4 +1,4 @@
--- What the fields that were read say (docs/SPECIFICATION.md, 5 and 6).
+-- A record: what the fields that were read say (docs/SPECIFICATION.md, 5 and 6).
 use Prim.Native.Nat.{ℕ, _-_}
 use mathlib.Core.List.{List, [], _++_}
 use lib.ListN.{length, take, replicate}
@@ -7,10 +7,11 @@ use Rattle.jacobian.specs.declared.{Curve.Curve, Class.Class}
 use Rattle.stored_form.specs.Head.{drawing-limit}
 use Rattle.stored_form.specs.declared.{Drawing.Drawing, Held.Held}
 
--- a drawing number's bytes, and 0 after them
+-- the drawing number with these bytes, and 0 after them
 unfoldable pub drawing-said : List ℕ → Drawing
 drawing-said name = record { len = length name; bytes = name ++ replicate (drawing-limit - length name) 0 }
 
+-- the bytes of a drawing number
 unfoldable pub drawing-name : Drawing → List ℕ
 drawing-name d = take (d .len) (d .bytes)
 
@@ -18,7 +19,7 @@ drawing-name d = take (d .len) (d .bytes)
 unfoldable pub curve-of-degree : ℕ → Curve
 curve-of-degree d = curve-with d (replicate coefficient-count 0)
 
--- what a reading starts from, and what a refused reading holds
+-- the record before the first field, which is also the one of a refused reading
 unfoldable pub nothing-held : Held
 nothing-held = record {
   curve = blank-curve;
@@ -29,18 +30,22 @@ nothing-held = record {
   operation = neutral-class;
 }
 
+-- the record with this curve
 abbrev pub with-curve : Curve → Held → Held
 with-curve c h = record { curve = c; drawing = h .drawing; count = h .count; previous = h .previous; class = h .class; operation = h .operation }
 
+-- the record with this drawing number
 abbrev pub with-drawing : Drawing → Held → Held
 with-drawing d h = record { curve = h .curve; drawing = d; count = h .count; previous = h .previous; class = h .class; operation = h .operation }
 
+-- the record with this count
 abbrev pub with-count : ℕ → Held → Held
 with-count n h = record { curve = h .curve; drawing = h .drawing; count = n; previous = h .previous; class = h .class; operation = h .operation }
 
--- with the class, and the class before it as the previous one
+-- the record with this class; the class before it becomes the previous one
 abbrev pub with-class : Class → Held → Held
 with-class a h = record { curve = h .curve; drawing = h .drawing; count = h .count; previous = h .class; class = a; operation = h .operation }
 
+-- the record with this operation
 abbrev pub with-operation : Class → Held → Held
 with-operation a h = record { curve = h .curve; drawing = h .drawing; count = h .count; previous = h .previous; class = h .class; operation = a }

@@ -1,4 +1,4 @@
--- The stored form: numbers as bytes, what each tag is, what reading fields finds and the bytes that writing them gives.
+-- The stored form: numbers as bytes, the rules of each tag, how fields are read and how they are encoded.
 pub mod Number
 pub mod Reading
 pub mod Head

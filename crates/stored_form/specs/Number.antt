@@ -3,20 +3,20 @@ use Prim.Native.Nat.{ℕ, zero, suc, _+_, _*_, _/_, _%_, _^_, _<_}
 use mathlib.Core.List.{List, [], _∷_}
 use lib.ListN.{length, getD, take, drop}
 
--- the number that bytes say
+-- the number that bytes decode to
 unfoldable pub number-of : List ℕ → ℕ
 number-of [] = 0
 number-of (b ∷ bs) = b * 256 ^ length bs + number-of bs
 
--- the k lowest bytes of a number
+-- the k lowest bytes of a number, high byte first
 unfoldable pub bytes-of : ℕ → ℕ → List ℕ
 bytes-of zero n = []
 bytes-of (suc k) n = n / 256 ^ k % 256 ∷ bytes-of k n
 
--- every number of the list is a byte
+-- every number of the list is below 256
 abbrev pub Bytes : List ℕ → Type 0
 Bytes s = (i : ℕ) → getD s i 0 < 256
 
--- k bytes from a place on
+-- the k bytes of s from an offset on
 abbrev pub part : List ℕ → ℕ → ℕ → List ℕ
 part s at k = take k (drop at s)

@@ -1,4 +1,4 @@
--- Records as lists of the tags that are due, and how they are read (docs/SPECIFICATION.md, 5 and 6).
+-- Layouts of records, which list the tags that are expected, and how records are read (docs/SPECIFICATION.md, 5 and 6).
 use Prim.Native.Nat.{ℕ, zero, suc, _+_}
 use mathlib.Core.Bool.{not}
 use mathlib.Core.List.{List, [], _∷_, _++_}
@@ -13,7 +13,7 @@ use Rattle.stored_form.specs.declared.head.Head.the-variants as head
 
 -- ---- one field
 
--- the head at a place where a tag is due, after what was read: the body's length and the place after the body
+-- the head at an offset, where this tag is expected after the record h: the body's length and the offset after the body
 unfoldable pub head-at : ℕ → Held → List ℕ → ℕ → Reading ℕ
 head-at tag h s at =
     let n = body-length s at in
@@ -23,11 +23,11 @@ head-at tag h s at =
     (refuse 105 (ltb (length s) (at + 3 + n))
     (found n (at + 3 + n)))))
 
--- the body of the field at a place
+-- the body of the field at an offset, with the offset after it
 unfoldable pub body-at : ℕ → Held → List ℕ → ℕ → Reading (List ℕ)
 body-at tag h s at = head-at tag h s at then λ n next. found (part s (at + 3) n) next
 
--- the field at a place: what is held with it
+-- the field at an offset: the record h with it, unless its check refuses
 unfoldable pub read-field : ℕ → Held → List ℕ → ℕ → Reading Held
 read-field tag h s at =
     body-at tag h s at then λ body next.
@@ -36,32 +36,38 @@ read-field tag h s at =
 
 -- ---- a record: the fields with these tags, one after the other, and nothing after them
 
+-- reads fields with these tags one after the other into the record h
 unfoldable pub read-fields : List ℕ → Held → List ℕ → ℕ → Reading Held
 read-fields [] h s at = found h at
 read-fields (tag ∷ tags) h s at = read-field tag h s at then λ more next. read-fields tags more s next
 
+-- reads a record with these tags, after which the bytes end
 unfoldable pub read-record : List ℕ → List ℕ → Reading Held
 read-record tags s = read-fields tags nothing-held s 0 then ended s
 
--- with which every record begins; a stamp's record has no other
+-- the layout with which every record begins; it is the whole record of a stamp
 abbrev pub curve-fields : List ℕ
 curve-fields = 0x40 ∷ 0x41 ∷ []
 
+-- the layout of a class's record
 abbrev pub class-record : List ℕ
 class-record = curve-fields ++ 0x43 ∷ []
 
+-- the layout of the record of a sum: two classes
 abbrev pub sum-record : List ℕ
 sum-record = curve-fields ++ 0x43 ∷ 0x43 ∷ []
 
+-- the layout of a register with an operation
 abbrev pub register-record : List ℕ
 register-record = curve-fields ++ 0x42 ∷ 0x43 ∷ 0x44 ∷ []
 
--- what an archive holds before its operations
+-- the layout of an archive's header, its fields before the operations
 abbrev pub archive-opening : List ℕ
 archive-opening = curve-fields ++ 0x46 ∷ 0x42 ∷ 0x43 ∷ []
 
--- ---- operations: so many 0x44, one after the other, newest first
+-- ---- operations: 0x44 fields in order, newest first
 
+-- the n operations from an offset on
 unfoldable pub read-operations : ℕ → Held → List ℕ → ℕ → Reading (List Class)
 read-operations zero h s at = found [] at
 read-operations (suc n) h s at =
@@ -71,17 +77,17 @@ read-operations (suc n) h s at =
 
 -- ---- the answers of the code
 
--- what each case of a head says
+-- the head that the code answers, as a reading
 abbrev pub head-read : Head → Reading ℕ
 head-read (head.Body n next) = found n (next .at)
 head-read (head.Refused n) = refused n
 
--- what is held, with the place of the next field; nothing on a refusal
+-- the code's answer for a reading: the record and the next offset, or the refusal with the empty record
 unfoldable pub read-of : Reading Held → Read
 read-of (found h next) = record { place = Next (record { at = next }); held = h }
 read-of (refused n) = record { place = Refused n; held = nothing-held }
 
--- the number of a refusal, and 0 where there is none
+-- the number of a refusal, and 0 if there is none
 abbrev pub place-refusal : Place → ℕ
 place-refusal (Next next) = 0
 place-refusal (Refused n) = n

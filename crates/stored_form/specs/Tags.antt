@@ -1,4 +1,4 @@
--- What each tag is: the lengths of its body, what its body says, its body as it is written, and its check (docs/SPECIFICATION.md, 5 and 6).
+-- The rules of each tag: its lengths, how its body is decoded and encoded, its check (docs/SPECIFICATION.md, 5 and 6).
 use Prim.Native.Nat.{ℕ, max}
 use mathlib.Core.Bool.{Bool, false, cond}
 use mathlib.Core.List.{List, []}
@@ -13,16 +13,16 @@ use Rattle.stored_form.specs.declared.Held.{Held}
 
 -- the rules of a tag
 pub record Rules : Type 0 where
-  -- may its body have this length, after what was read?
+  -- whether its body may have this length, after the record that was read
   pub allows : Held → ℕ → Bool
-  -- what is held once its body is read
+  -- the record with the value that the body decodes to
   pub hold : List ℕ → Held → Held
-  -- its body, by what is held
+  -- the body that encodes this tag's value of the record
   pub body : Held → List ℕ
-  -- the refusal of what is held once a body of this length is read, and 0 where there is none
+  -- the refusal of the record once a body of this length was read, and 0 if there is none
   pub check : ℕ → Held → ℕ
 
--- the degree, 5 or 61
+-- the degree, 5 or 61; the curve has all coefficients 0 until 0x41 is read
 abbrev pub degree-rules : Rules
 degree-rules = record {
   allows = λ h n. eqb n degree-length;
@@ -31,7 +31,7 @@ degree-rules = record {
   check = λ n h. degree-refusal (h .curve .degree);
 }
 
--- the curve, over the field whose degree was read
+-- the curve over the field whose degree was read
 abbrev pub curve-rules : Rules
 curve-rules = record {
   allows = λ h n. eqb n curve-length;
@@ -58,7 +58,7 @@ count-rules = record {
   check = λ n h. count-refusal (h .count);
 }
 
--- a class on the curve that was read, which is held as one value
+-- a class on the curve that was read, stored and found in the record by `with` and `value`
 abbrev pub class-rules : (Class → Held → Held) → (Held → Class) → Rules
 class-rules with value = record {
   allows = λ h n. class-length n;
@@ -67,10 +67,11 @@ class-rules with value = record {
   check = λ n h. refusal (h .curve) (value h);
 }
 
--- a byte that is no tag
+-- a byte that is no tag: no length is allowed
 abbrev pub no-rules : Rules
 no-rules = record { allows = λ h n. false; hold = λ body h. h; body = λ h. []; check = λ n h. 0 }
 
+-- the rules of a tag
 unfoldable pub rules : ℕ → Rules
 rules tag =
     cond (eqb tag 0x40) degree-rules
@@ -81,10 +82,10 @@ rules tag =
     (cond (eqb tag 0x44) (class-rules with-operation (λ h. h .operation))
     no-rules)))))
 
--- the longest body that any tag allows
+-- the length of the longest body that any tag allows
 abbrev pub longest-body : ℕ
 longest-body = max drawing-limit class-limit
 
--- the field of a tag, by what is held
+-- the field with this tag that encodes its value of the record
 unfoldable pub field-bytes : ℕ → Held → List ℕ
 field-bytes tag h = stored tag (rules tag .body h)

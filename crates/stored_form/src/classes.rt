@@ -13,7 +13,7 @@ use jacobian::Class;
 use jacobian::Curve;
 use jacobian::curves::COEFFICIENTS;
 
-// The curve over the field of degree d that the bytes from a place on say.
+// The curve over the field of degree d, decoded from the bytes at an offset.
 pub(crate) fn curve_of(s: &[u8], at: usize, d: u8) -> Curve
     requires { ⌜ at + curve-length ≤ length (now s) ⌝ }
     ensures { λ r. ⌜ r ≡ curve-said d (part (now (s .entry)) at curve-length) ⌝ }
@@ -27,7 +27,7 @@ pub(crate) fn curve_of(s: &[u8], at: usize, d: u8) -> Curve
     jacobian::curves::curve_with(d, cs)
 }
 
-// The coefficients of n elements from a place on, highest power first, as a row.
+// The row of n coefficients decoded at an offset, where the highest power comes first.
 fn row_at(s: &[u8], at: usize, n: usize) -> [u64; 3]
     requires { ⌜ (n ≤ 3) × (at + element-length * n ≤ length (now s)) ⌝ }
     ensures { λ r. ⌜ r ≡ row-said (elements n (drop at (now (s .entry)))) ⌝ }
@@ -47,7 +47,7 @@ fn row_at(s: &[u8], at: usize, n: usize) -> [u64; 3]
     [c, b, a]
 }
 
-// The class that len bytes from a place on say.
+// The class decoded from len bytes at an offset.
 pub(crate) fn class_of(s: &[u8], at: usize, len: usize) -> Class
     requires { ⌜ (class-length len ≡ true) × (at + len ≤ length (now s)) ⌝ }
     ensures { λ r. ⌜ r ≡ class-said (part (now (s .entry)) at len) ⌝ }

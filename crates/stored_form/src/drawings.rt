@@ -9,7 +9,7 @@ ghost use Rattle.stored_form.specs.Held.{drawing-said, drawing-name};
 use crate::DRAWING_LIMIT;
 use crate::Drawing;
 
-// The drawing number of len bytes from a place on.
+// The drawing number decoded from len bytes at an offset.
 pub(crate) fn drawing_of(s: &[u8], at: usize, len: usize) -> Drawing
     requires { ⌜ (len ≤ drawing-limit) × (at + len ≤ length (now s)) ⌝ }
     ensures { λ r. ⌜ r ≡ drawing-said (part (now (s .entry)) at len) ⌝ }
@@ -23,7 +23,7 @@ pub(crate) fn drawing_of(s: &[u8], at: usize, len: usize) -> Drawing
     Drawing { len, bytes }
 }
 
-// Does every one of the first k bytes lie in 0x20 to 0x7E?
+// Whether each of the first k bytes lies in 0x20 to 0x7E.
 fn all_printable(bytes: [u8; DRAWING_LIMIT], k: usize) -> bool
     requires { ⌜ k ≤ drawing-limit ⌝ }
     ensures { λ r. ⌜ r ≡ printable (take k bytes) ⌝ }
@@ -42,7 +42,7 @@ fn all_printable(bytes: [u8; DRAWING_LIMIT], k: usize) -> bool
     true
 }
 
-// 108 where a byte of a drawing number is not printable, else 0.
+// 108 if a byte of the drawing number is not printable, else 0.
 pub(crate) fn drawing_refusal(d: Drawing) -> u32
     requires { ⌜ d .len ≤ drawing-limit ⌝ }
     ensures { λ r. ⌜ r ≡ drawing-refusal (drawing-name d) ⌝ }

@@ -1,4 +1,4 @@
-// What a body says, by its tag, and the checks 106 to 111 of it.
+// Bodies decoded by their tags, and the checks 106 to 111 of their values.
 ghost use mathlib.Core.Path.{_≡_};
 ghost use mathlib.Core.Bool.{true};
 ghost use Prim.Native.Nat.{_+_, _≤_};
@@ -18,7 +18,7 @@ fn curve_of_degree(d: u8) -> Curve
     jacobian::curves::curve_with(d, [0; COEFFICIENTS])
 }
 
-// What is held once the body of len bytes from a place on is read, where a tag was due.
+// The record h with the value of this tag decoded from len bytes at an offset.
 pub(crate) fn hold(tag: u8, h: Held, s: &[u8], at: usize, len: usize) -> Held
     requires { ⌜ (rules tag .allows h len ≡ true) × (at + len ≤ length (now s)) ⌝ }
     ensures { λ r. ⌜ r ≡ rules tag .hold (part (now (s .entry)) at len) h ⌝ }
@@ -56,7 +56,7 @@ pub(crate) fn hold(tag: u8, h: Held, s: &[u8], at: usize, len: usize) -> Held
     more
 }
 
-// The refusal of what is held once a body of len bytes is read, and 0 where there is none.
+// The refusal of the record once a body of len bytes was read, and 0 if there is none.
 pub(crate) fn field_refusal(tag: u8, len: usize, h: Held) -> u32
     requires { ⌜ (tag ≡ 0x46 → h .drawing .len ≤ drawing-limit) ⌝ }
     ensures { λ r. ⌜ r ≡ rules tag .check len h ⌝ }

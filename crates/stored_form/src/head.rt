@@ -8,13 +8,13 @@ use crate::Cursor;
 use crate::Held;
 use crate::numbers;
 
-// What reading a field's head finds: the body's length and the place after the body.
+// The head of a field: the body's length and the offset after the body.
 pub enum Head {
     Body { len: usize, next: Cursor },
     Refused(u32),
 }
 
-// Is this the length of a class of degree 0 to 3?
+// Whether this is the length of a class of degree 0 to 3.
 fn class_allows(len: usize) -> bool
     ensures { λ r. ⌜ r ≡ class-length len ⌝ }
 {
@@ -30,7 +30,7 @@ fn class_allows(len: usize) -> bool
     len == 48
 }
 
-// Does a tag allow this length, after what was read?
+// Whether a tag allows this length after the record h.
 fn allows(tag: u8, h: Held, len: usize) -> bool
     ensures { λ r. ⌜ r ≡ rules tag .allows h len ⌝ }
 {
@@ -55,7 +55,7 @@ fn allows(tag: u8, h: Held, len: usize) -> bool
     false
 }
 
-// How many bytes stand at a place and after it.
+// The number of bytes from an offset on.
 fn left(s: &[u8], at: usize) -> usize
     ensures { λ r. ⌜ r ≡ length (now (s .entry)) - at ⌝ }
 {
@@ -65,7 +65,7 @@ fn left(s: &[u8], at: usize) -> usize
     s.len() - at
 }
 
-// The head of the field at a place, where a tag is due after what was read.
+// The head of the field at an offset, where this tag is expected after the record h.
 pub(crate) fn head_at(tag: u8, h: Held, s: &[u8], at: Cursor) -> Head
     ensures { λ r. ⌜ head-read r ≡ head-at tag h (now (s .entry)) (at .at) ⌝ }
 {
@@ -90,7 +90,7 @@ pub(crate) fn head_at(tag: u8, h: Held, s: &[u8], at: Cursor) -> Head
     }
 }
 
-// The number of a head's refusal, and 0 where a head was found.
+// The number of a head's refusal, and 0 if there is none.
 pub(crate) fn head_refusal(h: Head) -> u32
     ensures { λ r. ⌜ r ≡ reading-refusal (head-read h) ⌝ }
 {

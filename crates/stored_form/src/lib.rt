@@ -1,5 +1,6 @@
-// The stored form of fields. A field is a one-byte tag, a two-byte length and a body, high byte first; a record is a list of the tags that are due.
-// A reader answers what the fields say beside the place where the next field begins, or the number of the refusal with nothing held.
+// Reading the stored form. A field is a one-byte tag, a two-byte length and a body, high byte first.
+// A record is a list of fields; its layout lists the tags that are expected, in order.
+// A reader answers the record with the offset of the next field, or the number of a refusal with the empty record.
 ghost use mathlib.Core.Path.{_≡_};
 ghost use Rattle.stored_form.specs.Reading.{found, refused, checked};
 ghost use Rattle.stored_form.specs.{Fields.end-refusal, Held.nothing-held};
@@ -29,7 +30,7 @@ pub const OPERATION: u8 = 0x44;
 
 pub const DRAWING: u8 = 0x46;
 
-// The records: the tags that are due, in order.
+// The layouts of records: the tags that are expected, in order.
 pub const CURVE_RECORD: [u8; 2] = [DEGREE, CURVE];
 
 pub const CLASS_RECORD: [u8; 3] = [DEGREE, CURVE, CLASS];
@@ -38,35 +39,35 @@ pub const SUM_RECORD: [u8; 4] = [DEGREE, CURVE, CLASS, CLASS];
 
 pub const REGISTER_RECORD: [u8; 5] = [DEGREE, CURVE, COUNT, CLASS, OPERATION];
 
-// What an archive holds before its operations.
+// The number of fields of an archive's header, and its layout: the fields before the operations.
 pub const OPENING_FIELDS: usize = 5;
 
 pub const ARCHIVE_OPENING: [u8; OPENING_FIELDS] = [DEGREE, CURVE, DRAWING, COUNT, CLASS];
 
-// An element's bytes.
+// The number of bytes of an element.
 pub const ELEMENT_LENGTH: usize = 8;
 
-// The bodies of the degree, of the curve and of the count.
+// The lengths of the bodies of degree, curve and count.
 pub const DEGREE_LENGTH: usize = 1;
 
 pub const CURVE_LENGTH: usize = COEFFICIENTS * ELEMENT_LENGTH;
 
 pub const COUNT_LENGTH: usize = 2;
 
-// The longest drawing number.
+// The length of the longest drawing number.
 pub const DRAWING_LIMIT: usize = 38;
 
-// The longest body of a class, and its field.
+// The lengths of the longest body of a class and of its field.
 pub const CLASS_LIMIT: usize = 6 * ELEMENT_LENGTH;
 
 pub const CLASS_ROOM: usize = 3 + CLASS_LIMIT;
 
-// A place in the input.
+// An offset in the input.
 pub struct Cursor {
     pub at: usize,
 }
 
-// Where the next field begins, or the number of the refusal.
+// The offset of the next field, or the number of the refusal.
 pub enum Place {
     Next(Cursor),
     Refused(u32),
@@ -78,7 +79,7 @@ pub struct Drawing {
     pub bytes: [u8; DRAWING_LIMIT],
 }
 
-// What the fields read so far say: of two classes the first is the previous one.
+// A record: what the fields read so far say. Of two classes the first is the previous one.
 pub struct Held {
     pub curve: Curve,
     pub drawing: Drawing,
@@ -88,13 +89,13 @@ pub struct Held {
     pub operation: Class,
 }
 
-// What is held beside its place; nothing on a refusal.
+// A record with the offset of the next field; the empty record on a refusal.
 pub struct Read {
     pub place: Place,
     pub held: Held,
 }
 
-// The number of a refusal, and 0 where there is none.
+// The number of a refusal, and 0 if there is none.
 pub fn place_refusal(p: Place) -> u32
     ensures { λ r. ⌜ r ≡ place-refusal p ⌝ }
 {
@@ -104,7 +105,7 @@ pub fn place_refusal(p: Place) -> u32
     }
 }
 
-// 112 where bytes remain at a place, else 0.
+// 112 if bytes remain from an offset on, else 0.
 pub fn end_refusal(s: &[u8], at: Cursor) -> u32
     ensures { λ r. ⌜ r ≡ end-refusal (now (s .entry)) (at .at) ⌝ }
 {
@@ -114,7 +115,7 @@ pub fn end_refusal(s: &[u8], at: Cursor) -> u32
     0
 }
 
-// What a reading starts from, and what a refused reading holds.
+// The record before the first field, which is also the one of a refused reading.
 pub fn nothing_held() -> Held
     ensures { λ r. ⌜ r ≡ nothing-held ⌝ }
 {
@@ -131,7 +132,7 @@ pub fn nothing_held() -> Held
     }
 }
 
-// A reading that was refused.
+// The answer of a refused reading: refusal n with the empty record.
 pub fn refused(n: u32) -> Read
     ensures { λ r. ⌜ r ≡ read-of (refused n) ⌝ }
 {
@@ -142,7 +143,7 @@ pub fn refused(n: u32) -> Read
     }
 }
 
-// What is held, with the next field at a place, where no refusal is due.
+// The record and the next offset if n is 0, else refusal n.
 pub fn settled(n: u32, held: Held, next: Cursor) -> Read
     ensures { λ r. ⌜ r ≡ read-of (checked n (found held (next .at))) ⌝ }
 {
@@ -155,7 +156,7 @@ pub fn settled(n: u32, held: Held, next: Cursor) -> Read
     }
 }
 
-// Reads the field at a place, where a tag is due.
+// Reads the field at an offset, where this tag is expected, into the record h.
 pub fn read_field(tag: u8, h: Held, s: &[u8], at: Cursor) -> Read
     ensures { λ r. ⌜ r ≡ read-of (read-field tag h (now (s .entry)) (at .at)) ⌝ }
 {
@@ -168,7 +169,7 @@ pub fn read_field(tag: u8, h: Held, s: &[u8], at: Cursor) -> Read
     settled(fields::field_refusal(tag, len, more), more, next)
 }
 
-// Reads the fields with these tags, one after the other, from a place on.
+// Reads the fields with these tags, one after the other from an offset on, into the record h.
 pub fn read_fields(tags: &[u8], h: Held, s: &[u8], start: Cursor) -> Read
     ensures { λ r. ⌜ r ≡ read-of (read-fields (now (tags .entry)) h (now (s .entry)) (start .at)) ⌝ }
 {
@@ -192,7 +193,7 @@ pub fn read_fields(tags: &[u8], h: Held, s: &[u8], start: Cursor) -> Read
     }
 }
 
-// Reads a record: the fields with these tags, and nothing after them.
+// Reads a record: the fields with these tags, after which the input ends.
 pub fn read_record(tags: &[u8], s: &[u8]) -> Read
     ensures { λ r. ⌜ r ≡ read-of (read-record (now (tags .entry)) (now (s .entry))) ⌝ }
 {

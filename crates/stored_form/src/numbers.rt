@@ -4,7 +4,7 @@ ghost use Prim.Native.Nat.{_+_, _≤_};
 ghost use lib.ListN.{length};
 ghost use Rattle.stored_form.specs.Number.{number-of, bytes-of, part};
 
-// The number that k bytes from a place on say.
+// The number decoded from k bytes at an offset.
 pub(crate) fn number_at(s: &[u8], at: usize, k: usize) -> u64
     requires { ⌜ (k ≤ 8) × (at + k ≤ length (now s)) ⌝ }
     ensures { λ r. ⌜ r ≡ number-of (part (now (s .entry)) at k) ⌝ }
@@ -18,6 +18,7 @@ pub(crate) fn number_at(s: &[u8], at: usize, k: usize) -> u64
     n
 }
 
+// A byte as a u64.
 fn wide(b: u8) -> u64
     ensures { λ r. ⌜ r ≡ b ⌝ }
 {

@@ -1,4 +1,7 @@
--- A body that is read and a field that is written determine each other.
+-- A body that is read and a field that is encoded determine each other.
+-- `body-written`: a body that was read stands in the input as an encoded field, and its length is allowed.
+-- `stored-length`: the head of an encoded field gives its body's length.
+-- `body-read`: the body of an encoded field is read back.
 use Prim.Native.Nat.{ℕ, _+_, _^_, _≤_, _<_}
 use mathlib.Core.Path.{_≡_, sym, ap, ap₂, subst₂, _∙_}
 use mathlib.Core.Bool.{true}
@@ -12,8 +15,9 @@ use Rattle.stored_form.proofs.{Digits.part-bytes, Parts.length-part, Readings.t
 use Rattle.stored_form_theorems.specs.Fields.{Field}
 use Rattle.stored_form_theorems.proofs.{Numbers.bytes-number, Numbers.number-bytes-small, Places.part-part, Places.part-add, Places.part-cons, Places.getD-part, Places.stands-within}
 
--- ---- what was read was written so
+-- ---- what was read was encoded so
 
+-- the input has the field of this body at an offset, and the body's length is allowed
 pub record Written (tag : ℕ) (h : Held) (s : List ℕ) (at : ℕ) (body : List ℕ) (next : ℕ) : Type 0 where
   pub field : Field s at (stored tag body) next
   pub allows : rules tag .allows h (length body) ≡ true
@@ -50,9 +54,8 @@ body-written tag h s at {body} {next} b e₀ =
     let e = same-found (p .3) in
     subst₂ (λ (x : List ℕ) (y : ℕ). Written tag h s at x y) (e .0) (e .1) (whole-written tag h s at (p .0) (p .1) b (head-found tag h s at (p .2)))
 
--- ---- what was written is read so
+-- ---- what was encoded is read back
 
--- the head of a field says its body's length
 pub stored-length : (tag : ℕ) (s : List ℕ) (at : ℕ) (body : List ℕ) → length body < 256 ^ 2 → StandsAt s at (stored tag body) → body-length s at ≡ length body
 unfolding stored head-bytes bytes-of body-length
 stored-length tag s at body small stands =

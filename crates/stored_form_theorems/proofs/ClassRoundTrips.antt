@@ -1,5 +1,8 @@
--- The body of a class and the class determine each other: what a body says has that body (`class-body-said`), and the body of a class that no check refuses says the class
--- (`body-said`), is of an allowed length (`body-allowed`) and has room (`class-short`).
+-- The body of a class and the class determine each other.
+-- `class-body-said`: the class that a body decodes to is encoded by that body.
+-- `body-said`: the body of a class that no check refuses decodes to the class.
+-- `body-allowed`: the length of that body is allowed.
+-- `class-short`: the field of such a class is no longer than `class-room`.
 use Prim.Native.Nat.{ℕ, zero, suc, _+_, _*_, _/_, _^_, _≤_}
 use mathlib.Core.Path.{_≡_, refl, sym, ap, ap₂, _∙_}
 use mathlib.Core.Bool.{true}
@@ -17,7 +20,7 @@ use Rattle.stored_form.proofs.{Lengths.class-length-le, Lengths.class-length-ev
 use Rattle.stored_form.proofs.ClassBytes.{length-row}
 use Rattle.stored_form_theorems.proofs.Elements.{Small, elements-bytes, bytes-elements, fits}
 
--- ---- rows and the order in which they are stored
+-- ---- rows, and the order in which they are stored
 
 -- up to three coefficients, highest power first, as a row and back
 row-back : (xs : List ℕ) → length xs ≤ 3 → row-written (length xs) (row-said xs) ≡ xs
@@ -61,7 +64,7 @@ class-body-said body ok b =
     ∙ ap element-bytes (take-append-drop n es)
     ∙ bytes-elements (n + n) body (omega arith) b
 
--- a class by value whose coefficients fit, three places to a row and 0 past the degree
+-- a class whose rows have three coefficients that fit eight bytes, 0 from its degree on
 record Shaped (a : Class) : Type 0 where
   u-three : length (a .u) ≡ 3
   v-three : length (a .v) ≡ 3
@@ -136,7 +139,6 @@ class-length-of (suc (suc zero)) h = refl
 class-length-of (suc (suc (suc zero))) h = refl
 class-length-of (suc (suc (suc (suc n)))) h = absurd (omega arith)
 
--- what the body of a class that is not refused says is the class
 module _ (c : Curve) (a : Class) (ok : refusal c a ≡ 0) where
   pub body-said : class-said (class-body a) ≡ a
   body-said = class-said-field a (shaped c a ok)
@@ -144,7 +146,6 @@ module _ (c : Curve) (a : Class) (ok : refusal c a ≡ 0) where
   pub body-allowed : class-length (length (class-body a)) ≡ true
   body-allowed = let k = shaped c a ok in ap class-length (length-body a k) ∙ class-length-of (a .degree) (k .low)
 
--- the field of a class that is not refused has room in a row
 pub class-short : (tag : ℕ) (c : Curve) (a : Class) → refusal c a ≡ 0 → length (class-field tag a) ≤ class-room
 unfolding class-field
 class-short tag c a ok =

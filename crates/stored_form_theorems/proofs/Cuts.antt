@@ -1,5 +1,7 @@
--- Bytes that begin with k stored fields are cut behind them (`take-cut`, `drop-cut`): the fields of degree and curve (`curve-cut`), that of a count (`count-cut`).
--- What is cut makes the whole (`cut-whole`).
+-- Bytes that begin with k encoded fields, cut after them.
+-- `take-cut`, `drop-cut`: the cut gives these fields, and the rest.
+-- `curve-cut`: bytes that begin with the fields of degree and curve. `count-cut`: those that begin with a count.
+-- `cut-whole`: the two parts of a cut make the whole.
 use Prim.Native.Nat.{ℕ, suc, _+_, _^_, _<_}
 use mathlib.Core.Path.{_≡_, refl, sym, ap, _∙_, subst}
 use mathlib.Core.List.{List, _++_}
@@ -12,7 +14,7 @@ use Rattle.stored_form.proofs.{Digits.length-bytes, ElementBytes.length-element
 use Rattle.stored_form_theorems.specs.Fields.{Field}
 use Rattle.stored_form_theorems.proofs.{Bodies.stored-length, Places.apart, Places.whole}
 
--- k stored fields, from a place to the next
+-- k encoded fields, from an offset to the next
 pub data FieldsAt (s : List ℕ) : ℕ → ℕ → ℕ → Type 0 where
   none : {at : ℕ} → FieldsAt s 0 at at
   field : {k at middle next : ℕ} (tag : ℕ) (body : List ℕ) → length body < 256 ^ 2 → Field s at (stored tag body) middle → FieldsAt s k middle next → FieldsAt s (suc k) at next
@@ -38,7 +40,7 @@ pub cut-whole : (k : ℕ) (s : List ℕ) → take-fields k s ++ drop-fields k s 
 cut-whole k s = take-append-drop (fields-end k s 0) s
 
 module _ (rest : List ℕ) where
-  -- they stand at the start
+  -- bytes at the start of the input
   front : (xs : List ℕ) → Field (xs ++ rest) 0 xs (length xs)
   front xs = let f = apart xs rest (whole (xs ++ rest)) in subst (Field (xs ++ rest) 0 xs) (f .1 .ends ∙ zero-add (length xs)) (f .1)
 

@@ -1,4 +1,6 @@
--- Elements and their bytes determine each other, for numbers that fit eight bytes (`elements-bytes`, `bytes-elements`).
+-- Elements and their bytes determine each other.
+-- `elements-bytes`: elements that fit eight bytes are decoded from their bytes.
+-- `bytes-elements`: bytes are the encoding of the elements that they decode to.
 use Prim.Native.Nat.{ℕ, zero, suc, _+_, _*_, _^_, _≤_, _<_}
 use mathlib.Core.Path.{_≡_, refl, sym, ap, ap₂, _∙_}
 use mathlib.Core.List.{List, [], _∷_, _++_}
@@ -12,7 +14,7 @@ use Rattle.stored_form.specs.{Number.number-of, Number.bytes-of, Number.Bytes, 
 use Rattle.stored_form.proofs.Digits.{part-bytes}
 use Rattle.stored_form_theorems.proofs.Numbers.{bytes-number, number-bytes-small}
 
--- every number fits an element's bytes
+-- every number fits the bytes of an element
 abbrev pub Small : List ℕ → Type 0
 Small = All (λ x. x < 2 ^ 64)
 
@@ -33,6 +35,6 @@ bytes-elements (suc k) s h b =
     (bytes-elements k (drop 8 s) rest (λ i. rw getD-drop (b (8 + i))))
     ∙ take-append-drop 8 s
 
--- numbers below 2^d fit an element's bytes
+-- numbers below 2^d fit the bytes of an element
 pub fits : (d : ℕ) {n : ℕ} → 2 ^ d ≤ 2 ^ 61 → n < 2 ^ d → n < 2 ^ 64
 fits d le lt = lt-of-lt-of-le (lt-of-lt-of-le lt le) (lit≤ tt)

@@ -1,5 +1,9 @@
--- What the law of a tag (`FieldLaw`) gives: one field of a record, in both directions (`more`, `first-value`, `no-more`), and the round trip of a field
--- alone (`value-written`, `value-read-back`). `field-law`: the law, from how a body is written and read.
+-- What the law of a tag (`FieldLaw`) gives for the first field of a record, and for a field alone.
+-- `field-law`: the law of a tag, from how its body is encoded and decoded.
+-- `more`: the field of a valid value can be put first. `first-value`: the first field is that of a valid value.
+-- `no-more`: without a field the record and the bytes are unchanged.
+-- `value-written`: a field that was read has a valid value and is its encoding.
+-- `value-read-back`: the encoded field of a valid value is read back.
 use Prim.Native.Nat.{ℕ, _+_}
 use mathlib.Core.Path.{_≡_, refl, sym, ap, _∙_, subst, subst₂}
 use mathlib.Core.Bool.{true}
@@ -9,8 +13,7 @@ use Rattle.stored_form.specs.{Number.Bytes, Reading.found, Head.stored, Head.St
 use Rattle.stored_form_theorems.specs.{Fields.Field, Fields.FieldLaw, Records.Leads, Records.field, Records.none}
 use Rattle.stored_form_theorems.proofs.FieldRoundTrips.{field-written, field-read-back}
 
--- the law of a tag, from how its body is written and read: the body that is held, that a value which passes is said, is not refused and fits, and that
--- what is said and not refused passes
+-- Builds a FieldLaw from encode, decode, decode after encode on valid values, and that decoded values are valid.
 module _ {A : Type 0} (tag : ℕ) (h : Held) (Ok : A → Type 0) (body : A → List ℕ) (said : List ℕ → A) (with : A → Held) (value : Held → A) where
   pub field-law : ((m : Held) → rules tag .body m ≡ body (value m)) → ((a : A) → value (with a) ≡ a) → ((b : List ℕ) → rules tag .hold b h ≡ with (said b)) →
       ((a : A) → Ok a → (said (body a) ≡ a) × (rules tag .check (length (body a)) (with a) ≡ 0) × (rules tag .allows h (length (body a)) ≡ true)) →
@@ -51,7 +54,7 @@ module _ {A : Type 0} {tag : ℕ} {h : Held} {Ok : A → Type 0} {bytes : A → 
         let p = law .said says in
         (value m, p .0, subst₂ (λ (k : Held) (x : List ℕ). Leads tags k (before ++ x) last s) (p .1) (law .written m) rest)
 
-  -- ---- the field alone: what is read passes and was written so, and what is written of a value that passes is read so
+  -- ---- a field alone
 
   module _ (s : List ℕ) (at : ℕ) where
     pub value-written : {m : Held} {next : ℕ} → Bytes s → read-field tag h s at ≡ found m next → Ok (value m) × (m ≡ with (value m)) × Field s at (bytes (value m)) next
@@ -65,6 +68,5 @@ module _ {A : Type 0} {tag : ℕ} {h : Held} {Ok : A → Type 0} {bytes : A → 
         field-read-back tag h s at (law .says a ok) (subst (StandsAt s at) (sym (its-bytes a)) stands)
         ∙ ap (λ (y : List ℕ). found (with a) (at + length y)) (its-bytes a)
 
--- no field is left
 pub no-more : {h last : Held} {before s : List ℕ} → Leads [] h before last s → (last ≡ h) × (s ≡ before)
 no-more none = (refl, refl)

@@ -1,4 +1,6 @@
--- A field's bytes and what it says determine each other, for every tag: what is read was written so (`field-written`), and what is written so is read so (`field-read-back`).
+-- A field's bytes and the record that it leads to determine each other, for every tag.
+-- `field-written`: a field that was read is the encoding of the record that it led to.
+-- `field-read-back`: the encoded field of such a record is read back.
 use Prim.Native.Nat.{ℕ, _+_}
 use mathlib.Core.Path.{_≡_, sym, ap, _∙_, subst}
 use mathlib.Core.Bool.{true}
@@ -13,11 +15,11 @@ use Rattle.stored_form.proofs.{DrawingBytes.name-said, Readings.then-found, Rea
 use Rattle.stored_form_theorems.specs.Fields.{Field, Says}
 use Rattle.stored_form_theorems.proofs.{Numbers.bytes-number, Elements.bytes-elements, ClassRoundTrips.class-body-said, Bodies.body-written, Bodies.body-read}
 
--- the bytes of a number, as many as it was read from
+-- a number encoded in as many bytes as it was decoded from
 number-body : (k : ℕ) (body : List ℕ) → length body ≡ k → Bytes body → bytes-of k (number-of body) ≡ body
 number-body k body len b = ap (λ (j : ℕ). bytes-of j (number-of body)) (sym len) ∙ bytes-number body b
 
--- a body that was read is the one that is said
+-- a body that was decoded is encoded as the same body
 said-body : (tag : ℕ) (body : List ℕ) (h : Held) → rules tag .allows h (length body) ≡ true → Bytes body → rules tag .body (rules tag .hold body h) ≡ body
 unfolding rules curve-of-degree curve-with curve-said coefficients elements
 said-body tag body h a b =

@@ -1,5 +1,6 @@
--- Tag by tag: fields and values that no check refuses are the same (`degree-law` and its like); and so are the first two fields of a record and its curve
--- (`curve-more`, `first-curve`).
+-- The laws of the tags: fields, and values that no check refuses, determine each other.
+-- `degree-law`, `curve-law`, `drawing-law`, `count-law`, `class-law`, `operation-law`: the law of each tag.
+-- `curve-more`, `first-curve`: the same of the first two fields of a record and its curve.
 use Prim.Native.Nat.{ℕ, _^_, _≤_, _<_}
 use mathlib.Core.Path.{_≡_, refl, sym, ap, _∙_, subst}
 use mathlib.Core.Bool.{Bool, true, false, _||_}
@@ -21,7 +22,7 @@ use Rattle.stored_form_theorems.specs.{Fields.FieldLaw, Records.Leads}
 use Rattle.stored_form_theorems.proofs.{Numbers.number-bytes-small, Elements.Small, Elements.elements-bytes, Elements.fits, ClassRoundTrips.body-said, ClassRoundTrips.body-allowed}
 use Rattle.stored_form_theorems.proofs.FieldLaws.{field-law, more, first-value}
 
--- ---- values that pass fit
+-- ---- values that pass fit their bytes
 
 degree-small : (d : ℕ) → DegreePasses d → d < 256
 degree-small d h = go (eqb d 5) refl h
@@ -34,7 +35,7 @@ count-small : (n : ℕ) → CountPasses n → n < 256 ^ count-length
 unfolding count-limit
 count-small n h = omega arith
 
--- the coefficients of a curve that is not refused fit
+-- the coefficients of a curve that is not refused fit eight bytes each
 curve-fits : (c : Curve) → CurvePasses c → Small (coefficients c)
 curve-fits c ok =
     let p = curve-passes c ok in
@@ -100,7 +101,7 @@ module _ (h : Held) where
       (λ a ok. (body-said (h .curve) a (ok .none), ok .none, operation-lengths h (length (class-body a)) ∙ body-allowed (h .curve) a (ok .none)))
       (λ b none fits. record { none = none })
 
--- ---- the degree and the curve, with which every record begins
+-- ---- degree and curve, with which every record begins
 
 module _ {tags s : List ℕ} {last : Held} where
   pub curve-more : (c : Curve) → CurvePasses c → Leads tags (with-curve c nothing-held) (curve-first-fields c) last s → Leads (0x40 ∷ 0x41 ∷ tags) nothing-held [] last s

@@ -1,4 +1,6 @@
--- A number below 256^k and its k bytes determine each other (`number-bytes-small`, `bytes-number`).
+-- A number below 256^k and its k bytes determine each other.
+-- `number-bytes-small`: a number below 256^k is decoded from its k bytes.
+-- `bytes-number`: bytes are the encoding of the number that they decode to.
 use Prim.Native.Nat.{ℕ, zero, suc, _+_, _*_, _/_, _%_, _^_, _<_}
 use mathlib.Core.Path.{_≡_, refl, sym, ap, ap₂, _∙_}
 use mathlib.Core.List.{List, [], _∷_}
@@ -25,7 +27,7 @@ number-bytes (suc k) n =
 pub number-bytes-small : (k n : ℕ) → n < 256 ^ k → number-of (bytes-of k n) ≡ n
 number-bytes-small k n h = number-bytes k n ∙ mod-eq-of-lt h
 
--- what stands above the k lowest bytes does not count
+-- a number's k lowest bytes do not depend on what is above them
 bytes-above : (k q r : ℕ) → bytes-of k (q * 256 ^ k + r) ≡ bytes-of k r
 unfolding bytes-of
 bytes-above zero q r = refl

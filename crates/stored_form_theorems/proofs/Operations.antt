@@ -1,7 +1,11 @@
--- Operations one behind the other, newest first, as `read-operations` reads them. Of those that were read: the newest and the older ones (`newest`,
--- `no-operations`), how many they are (`operations-counted`), that they are classes of the curve (`operations-sound`), and the bytes that they were
--- written in (`operations-written`). Of those that are written: they are read so (`operations-read-back`), and what is written are bytes
--- (`operations-bytes`), with room for a class each (`operations-short`).
+-- Operations in order, newest first, as `read-operations` reads them.
+-- `newest`, `no-operations`: the newest operation and the older ones, or none.
+-- `operations-counted`: there are as many as were asked for.
+-- `operations-sound`: they are classes that no check refuses on the curve.
+-- `operations-written`: the bytes that were read are their encoding.
+-- `operations-read-back`: the encoding of such operations is read back.
+-- `operations-bytes`: the encoding is a list of bytes.
+-- `operations-short`: it has at most `class-room` bytes for each operation.
 use Prim.Native.Nat.{ℕ, zero, suc, _*_, _≤_}
 use mathlib.Core.Path.{_≡_, refl, sym, ap, _∙_, subst, subst₂}
 use mathlib.Core.List.{List, [], _∷_}
@@ -20,7 +24,7 @@ use Rattle.stored_form_theorems.proofs.{ClassRoundTrips.class-short, Wr
 -- ---- operations that were read
 
 module _ (h : Held) (s : List ℕ) (at : ℕ) where
-  -- the newest operation, what is held with it, and the older ones
+  -- the newest operation, the record with it, and the older ones
   pub record Newest (k : ℕ) (ops : List Class) (end : ℕ) : Type 0 where
     pub held : Held
     pub next : ℕ
@@ -75,7 +79,7 @@ module _ (s : List ℕ) where
       subst (λ (ops : List Class). Field s at (operation-fields ops) end) (sym (m .all))
       (behind (class-field 0x44 (m .held .operation)) (operation-fields (m .older)) (this .2) rest)
 
--- ---- operations that are written
+-- ---- operations that are encoded
 
 pub operations-read-back : (h : Held) (s : List ℕ) (at : ℕ) (ops : List Class) {end : ℕ} → All (ClassPasses (h .curve)) ops → Field s at (operation-fields ops) end →
     read-operations (length ops) h s at ≡ found ops end

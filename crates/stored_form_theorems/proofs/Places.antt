@@ -1,4 +1,7 @@
--- Bytes that stand at a place: parts of a list, one behind the other (`behind`, `apart`), and all of the input (`whole`, `is-whole`, `end-found`, `end-read-back`).
+-- Bytes at an offset: parts of a list, fields in order, and the end of the input.
+-- `behind`: bytes that follow others stand together with them. `apart`: such bytes stand one after the other.
+-- `whole`, `is-whole`: all of the input as one field.
+-- `end-found`, `end-read-back`: the end is found exactly if no byte remains.
 use Prim.Native.Nat.{ℕ, suc, _+_, _-_, _≤_, _<_}
 use mathlib.Core.Path.{_≡_, refl, sym, ap, ap₂, _∙_}
 use mathlib.Core.Bool.{Bool, true, false, cond}
@@ -17,7 +20,7 @@ use Rattle.stored_form_theorems.specs.Fields.{Field}
 pub part-part : (s : List ℕ) (at k i j : ℕ) → i + j ≤ k → part (part s at k) i j ≡ part s (at + i) j
 part-part s at k i j h = rw (drop-take, take-take j (k - i) (drop i (drop at s)) (omega arith), drop-drop)
 
--- a part in two
+-- a part cut in two
 pub part-add : (s : List ℕ) (at i j : ℕ) → part s at (i + j) ≡ part s at i ++ part s (at + i) j
 part-add s at i j = rw (take-add, drop-drop)
 
@@ -27,14 +30,14 @@ part-cons s at k h = let e : suc at ≡ at + 1 = omega arith in rw (drop-cons s 
 pub getD-part : (s : List ℕ) (at k i : ℕ) → i < k → getD (part s at k) i 0 ≡ getD s (at + i) 0
 getD-part s at k i h = rw (getD-take, getD-drop)
 
--- what stands at a place ends within the list
+-- bytes that stand at an offset end within the list
 pub stands-within : (s : List ℕ) (at : ℕ) (x : ℕ) (xs : List ℕ) → StandsAt s at (x ∷ xs) → at + length (x ∷ xs) ≤ length s
 stands-within s at x xs h =
     let e : length (part s at (length (x ∷ xs))) ≡ length (x ∷ xs) = ap length h in
     let f = simp (length-take, length-drop) at e in
     omega arith
 
--- ---- fields one behind the other, and the end
+-- ---- fields in order, and the end
 
 module _ {s : List ℕ} {at : ℕ} where
   pub behind : (xs ys : List ℕ) {middle next : ℕ} → Field s at xs middle → Field s middle ys next → Field s at (xs ++ ys) next
@@ -66,24 +69,23 @@ module _ {s : List ℕ} {at : ℕ} where
         },
       )
 
-  -- what is read where a field stands ends with the field
+  -- what is read at a field's offset ends where the field ends
   pub up-to : {A : Type 0} {x : Reading A} {a : A} {bytes : List ℕ} {next : ℕ} → Field s at bytes next → (StandsAt s at bytes → x ≡ found a (at + length bytes)) →
       x ≡ found a next
   up-to {a = a} h read = read (h .stands) ∙ ap (found a) (sym (h .ends))
 
 module _ (s : List ℕ) where
-  -- all bytes, from the first on
   pub whole : Field s 0 s (length s)
   whole = record { stands = take-length s; ends = sym (zero-add (length s)) }
 
-  -- what stands there from the first byte on, with nothing behind it, is all
+  -- a field from the first byte on, after which no byte remains, is all of the input
   pub is-whole : {bytes : List ℕ} {end : ℕ} → Field s 0 bytes end → length s ≤ end → (s ≡ bytes) × (end ≡ length s)
   is-whole {bytes} {end} h le =
       let e : s ≡ bytes = sym (take-all (length bytes) s (omega (arith, h .ends))) ∙ h .stands in
       (e, h .ends ∙ zero-add (length bytes) ∙ ap length (sym e))
 
   module _ {A : Type 0} (a : A) (at : ℕ) where
-    -- what was found at the end, where nothing remains
+    -- the end was found, so no byte remains
     pub end-found : {b : A} {end : ℕ} → ended s a at ≡ found b end → (a ≡ b) × (at ≡ end) × (length s ≤ at)
     unfolding ended end-refusal
     end-found e =

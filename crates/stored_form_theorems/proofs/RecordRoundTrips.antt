@@ -1,5 +1,7 @@
--- A record's bytes and what is held determine each other, for every list of tags: what is read was written so (`record-written`), and what is written so is read so
--- (`record-read-back`). For fields that do not end the input: `begin-written`, `begin-read-back`.
+-- A record's bytes and its values determine each other, for every list of tags.
+-- `record-written`: a record that was read is the encoding of its values.
+-- `record-read-back`: the encoding of a record is read back.
+-- `begin-written`, `begin-read-back`: the same for fields after which the input does not end.
 use Prim.Native.Nat.{ℕ}
 use mathlib.Core.Path.{_≡_, refl, sym, _∙_, subst, subst₂}
 use mathlib.Core.List.{List, [], _∷_, _++_}
@@ -11,7 +13,7 @@ use Rattle.stored_form_theorems.specs.{Fields.Field, Records.Leads, Reco
 use Rattle.stored_form_theorems.proofs.{FieldRoundTrips.field-written, FieldRoundTrips.field-read-back}
 use Rattle.stored_form_theorems.proofs.Places.{behind, apart, up-to, whole, is-whole, end-found, end-read-back}
 
--- ---- fields behind bytes with which the input begins
+-- ---- fields after bytes with which the input begins
 
 module _ (s : List ℕ) where
   fields-written : (tags : List ℕ) (h : Held) (before : List ℕ) {at end : ℕ} {last : Held} → Bytes s → Field s 0 before at → read-fields tags h s at ≡ found last end →

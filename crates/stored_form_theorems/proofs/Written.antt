@@ -1,4 +1,7 @@
--- What is written are bytes: a number, elements, a field, the fields of a curve and of a class.
+-- What is encoded is a list of numbers below 256.
+-- `number-bytes`: the bytes of a number are. `bytes-append`: two such lists together are.
+-- `field-bytes`: so is a field whose tag and body are bytes.
+-- `class-bytes`, `first-bytes`: so are the field of a class, and the fields of degree and curve.
 use Prim.Native.Nat.{ℕ, zero, suc, _/_, _^_, _<_}
 use mathlib.Core.List.{List, [], _∷_, _++_}
 use native.Mathlib.Nat.{mod-lt}

@@ -1,3 +1,3 @@
--- What a field's bytes say of what is held, the law of a tag, and records as such fields one behind the other.
+-- Which field leads from a record to the next, the law of a tag, and records as such fields in order.
 pub mod Fields
 pub mod Records

@@ -1,1 +1,1 @@
-// What is proved of the stored form: bytes and values determine each other. Definitions in specs/ and theorems in proofs/, no code.
+// Theorems on the stored form: bytes and values determine each other. Definitions and theorems, no code.

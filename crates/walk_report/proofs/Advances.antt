@@ -1,4 +1,4 @@
--- The report's steps by cases: what the tests of the code say of the definitions.
+-- The report's steps by cases, as the code tests them.
 use Prim.Native.Nat.{ℕ, zero, suc, _-_, min}
 use mathlib.Core.Path.{_≡_, refl, sym, ap, ap₂, _∙_}
 use mathlib.Core.Bool.{Bool, true, false}
@@ -21,7 +21,7 @@ use Rattle.text.specs.declared.Line.{Line}
 use Rattle.walk_report.specs.declared.Stage.the-variants.{Undo, Over}
 
 module _ (r : Report) (s : List ℕ) (at : ℕ) where
-  -- no operation is left
+  -- no operation is left to be read
   pub none-older : older (r .reader .due) ≡ 0 → moved (with-stage Over r) at ≡ advanced r s at
   unfolding advanced advanced-by
   none-older e = rw e
@@ -45,12 +45,12 @@ module _ (r : Report) (s : List ℕ) (at : ℕ) where
     unfolding held-next
     next-held e = sym (ap (held-next r at) e) ∙ some-older h
 
--- the line that is due, by the stage
+-- the next line, by the stage
 pub line-staged : (r : Report) (s : List ℕ) (at : ℕ) {g : Stage} {m : Made} → r .stage ≡ g → m ≡ made (next-of g r s at) → m ≡ made (next-line r s at)
 unfolding next-line
 line-staged r s at e h = h ∙ ap (λ (g : Stage). made (next-of g r s at)) (sym e)
 
--- a line that is made of a seal, of the report after it, of the letter and of how many were undone
+-- the line of an undo, from the seal, the state after it, the letter and the number of operations undone
 module _ (r : Report) (s : List ℕ) (at : ℕ) where
   abbrev held : Held
   held = r .reader .held
@@ -68,7 +68,7 @@ module _ (r : Report) (s : List ℕ) (at : ℕ) where
       ap (λ (k : Line). record { line = k; report = with-seal before (x .report); next = x .next }) (f ∙ ap in-line same)
       ∙ ap₂ (λ (z : Class) (y : Moved). record { line = in-line text; report = with-seal z (y .report); next = y .next }) a b
 
--- the report before its first line
+-- the state before the first line
 module _ (x : Reading Reader) where
   pub opened-first : {n : ℕ} → n ≡ 0 → first-report x ≡ opened-by n x
   unfolding opened-by
@@ -79,7 +79,7 @@ module _ (x : Reading Reader) where
   opened-refused zero h = absurd (h refl)
   opened-refused (suc n) h = refl
 
--- as many bytes of a row as it has
+-- the first bytes of a row, at most as many as it has
 take-cases : (n k : ℕ) (xs : List ℕ) → length xs ≡ k → (b : Bool) → leb n k ≡ b → take (min n k) xs ≡ take n xs
 take-cases n k xs e true h = let m : min n k ≡ n = omega (arith, leb-true n k h) in ap (λ (j : ℕ). take j xs) m
 take-cases n k xs e false h =

@@ -1,4 +1,5 @@
--- The lines of the report: the part that a test chooses, and that each has room in a row (`seal-short`, `first-short`, `refusal-line-short`).
+-- The lines of the report: the part that may be empty, and the length of each line.
+-- `seal-short`, `first-short`, `refusal-line-short`: each line fits the row of a line.
 use Prim.Native.Nat.{ℕ, _+_, _≤_}
 use mathlib.Core.Path.{_≡_, refl}
 use mathlib.Core.List.{List, [], _∷_, _++_}

@@ -1,4 +1,4 @@
--- With each line of the report fewer are to come (`lines-fewer`).
+-- `lines-fewer`: after each line of the report fewer lines are to come.
 use Prim.Native.Nat.{ℕ, zero, suc, _-_, _≤_, _<_}
 use mathlib.Core.Path.{_≡_, refl, sym}
 use mathlib.Core.Bool.{true, true≢false}
@@ -19,7 +19,7 @@ due-older zero = refl
 due-older (suc n) = refl
 
 module _ (s : List ℕ) (at : ℕ) where
-  -- an operation was read, or nothing is to come
+  -- an operation was read, or no line is to come
   read-fewer : (n : ℕ) (r : Report) (x : Reading Held) →
       lines-left (held-next r at (x then λ more next. found (reader (operations-due (suc n - 1)) more) next) .report) ≤ suc n
   unfolding held-next _then_ lines-left

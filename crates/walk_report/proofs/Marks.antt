@@ -1,4 +1,4 @@
--- The letters: what the tests of the code say of the definitions, for a `search` that takes them in any order (`marks`).
+-- The letters by cases, as the code tests them; `marks` is the ruleset of all cases.
 use Prim.Native.Nat.{ℕ}
 use mathlib.Core.Path.{_≡_, ap, _∙_}
 use mathlib.Core.Bool.{Bool, true, false, not, _&&_}
@@ -15,7 +15,7 @@ module _ (kept opposes : Bool) (a : Class) where
   unfolding mark neutral
   mark-alone h e = rw (ne-eqb (a .degree) 0 h, not-true kept e)
 
-  -- r is what the code found, asked whether the class is the opposite of the older one
+  -- r is the code's answer to whether the class is the opposite of the older one
   pub mark-r : {r : Bool} → (a .degree ≡ 0 → ⊥) → not kept ≡ false → r ≡ opposes → r ≡ true → _≡_ {A = ℕ} 82 (mark (kept && opposes) a)
   unfolding mark neutral
   mark-r h e f t = rw (ne-eqb (a .degree) 0 h, not-false kept e, ← f, t)
@@ -24,7 +24,7 @@ module _ (kept opposes : Bool) (a : Class) where
   unfolding mark neutral
   mark-other h e f t = rw (ne-eqb (a .degree) 0 h, not-false kept e, ← f, t)
 
-  -- the same letter, where the code found out whether an older one is kept
+  -- the same letter with the code's answer to whether an older operation is kept
   pub mark-found : {r : ℕ} {k : Bool} → r ≡ mark (k && opposes) a → k ≡ kept → r ≡ mark (kept && opposes) a
   mark-found e f = e ∙ ap (λ (b : Bool). mark (b && opposes) a) f
 

@@ -1,4 +1,4 @@
--- The walk of an archive, and the bytes of the walk report.
+-- The walk of an archive, and the bytes of its report.
 pub mod Walk
 pub mod Lines
 pub mod Report

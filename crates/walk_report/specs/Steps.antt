@@ -1,4 +1,4 @@
--- The report on its way: a line, and the report after it (docs/SPECIFICATION.md, 10).
+-- The report made step by step: a line, and the report's state after it (docs/SPECIFICATION.md, 10).
 use Prim.Native.Nat.{ℕ, zero, suc, _-_}
 use mathlib.Core.Bool.{Bool, true, false, _&&_}
 use mathlib.Core.List.{List, [], _∷_}
@@ -11,39 +11,44 @@ use Rattle.walk_report.specs.{Lines.line, Lines.first-line, Lines.refusa
 use Rattle.walk_report.specs.declared.{Stage.Stage, Report.Report, Moved.Moved, Made.Made}
 use Rattle.walk_report.specs.declared.Stage.the-variants.{Refusal, First, Last, Undo, Over}
 
--- a report at a stage, with its reader, the seal that was met last and the operation that is to be undone
+-- the state at a stage, with its reader, the last seal reached and the operation to undo next
 abbrev pub report-at : Stage → Reader → Class → Class → Report
 report-at stage reader seal a = record { stage = stage; reader = reader; seal = seal; operation = a }
 
+-- the state with another stage
 abbrev pub with-stage : Stage → Report → Report
 with-stage stage r = report-at stage (r .reader) (r .seal) (r .operation)
 
+-- the state with another seal
 abbrev pub with-seal : Class → Report → Report
 with-seal seal r = report-at (r .stage) (r .reader) seal (r .operation)
 
+-- the state with the offset of the next field
 abbrev pub moved : Report → ℕ → Moved
 moved r at = record { report = r; next = record { at = at } }
 
--- the operations that are still to be read
+-- the number of operations still to be read
 abbrev pub older : Due → ℕ
 older (due.Opening i) = 0
 older (due.Operations n) = n
 older due.End = 0
 older due.Nothing = 0
 
--- the next operation was read, and is to be undone then; without one the report is over
+-- the state after a step of the reader: its operation is to be undone next; on a refusal the report is over
 unfoldable pub held-next : Report → ℕ → Reading Reader → Moved
 held-next r at (found reader next) = moved (report-at Undo reader (r .seal) (reader .held .operation)) next
 held-next r at (refused n) = moved (with-stage Over r) at
 
+-- the state after the next operation was read, if n is not 0; else the report is over
 unfoldable pub advanced-by : ℕ → Report → List ℕ → ℕ → Moved
 advanced-by zero r s at = moved (with-stage Over r) at
 advanced-by (suc n) r s at = held-next r at (step (r .reader) s at)
 
+-- the state after the next operation was read; the report is over if none is left
 unfoldable pub advanced : Report → List ℕ → ℕ → Moved
 advanced r s at = advanced-by (older (r .reader .due)) r s at
 
--- is there an operation that is to be undone?
+-- whether an operation is to be undone next
 abbrev pub undoing : Stage → Bool
 undoing (Refusal n) = false
 undoing First = false
@@ -51,19 +56,21 @@ undoing Last = false
 undoing Undo = true
 undoing Over = false
 
--- the letter of an operation, where the report stands at the next older one, if there is one
+-- the letter of the operation a, where r is the state at the next older one, if there is one
 abbrev pub letter-before : Curve → Class → Report → ℕ
 letter-before c a r = mark (undoing (r .stage) && opposed c a (r .operation)) a
 
--- a line, the report after it and the place of the next field
+-- a line's text, with the state after it and the offset of the next field
 pub record Next : Type 0 where
   pub text : List ℕ
   pub after : Moved
 
+-- the code's answer for a line
 unfoldable pub made : Next → Made
 made n = record { line = in-line (n .text); report = n .after .report; next = n .after .next }
 
--- the operation is undone: the count less those that are still to be read were undone with it
+-- The line and the state after an undo of the operation.
+-- Its number is the count less the operations that are still to be read.
 unfoldable pub undone : Report → List ℕ → ℕ → Next
 undone r s at =
     let held = r .reader .held in
@@ -74,7 +81,7 @@ undone r s at =
       after = record { report = with-seal seal (m .report); next = m .next };
     }
 
--- the line that is due
+-- the line of a stage, and the state after it
 unfoldable pub next-of : Stage → Report → List ℕ → ℕ → Next
 next-of (Refusal n) r s at = record { text = refusal-line n; after = moved (with-stage Over r) at }
 next-of First r s at = record { text = first-line (r .reader .held .count) (drawing-name (r .reader .held .drawing)); after = moved (with-stage Last r) at }
@@ -82,27 +89,29 @@ next-of Last r s at = record { text = line 0 0x2E (r .seal); after = advanced r 
 next-of Undo r s at = undone r s at
 next-of Over r s at = record { text = []; after = moved (with-stage Over r) at }
 
+-- the next line, and the state after it; the text is empty if the report is over
 unfoldable pub next-line : Report → List ℕ → ℕ → Next
 next-line r s at = next-of (r .stage) r s at
 
--- a report that says a refusal alone
+-- the state of a report that is a refusal alone
 unfoldable pub refused-report : ℕ → Moved
 refused-report n = moved (report-at (Refusal n) start neutral-class neutral-class) 0
 
--- the report once the fields before the operations were read
+-- the state once the header was read
 unfoldable pub first-report : Reading Reader → Moved
 first-report (found reader next) = moved (report-at First reader (reader .held .class) neutral-class) next
 first-report (refused n) = refused-report n
 
+-- the state with refusal n if n is not 0, else the state once the header was read
 unfoldable pub opened-by : ℕ → Reading Reader → Moved
 opened-by zero x = first-report x
 opened-by (suc n) x = refused-report (suc n)
 
--- the report of these bytes before its first line: every check is made first, and then the fields before the operations are read once more
+-- the state before the first line of the report of these bytes: all checks are made, then the header is read again
 unfoldable pub opened : List ℕ → Moved
 opened s = opened-by (archive-refusal s) (opening s)
 
--- is a line still to come?
+-- whether a line is still to come
 abbrev pub pending : Stage → Bool
 pending (Refusal n) = true
 pending First = true
@@ -110,7 +119,7 @@ pending Last = true
 pending Undo = true
 pending Over = false
 
--- how many lines are to come
+-- the number of lines still to come
 unfoldable pub lines-left : Report → ℕ
 lines-left r = elim (r .stage) [
   | Refusal n ↦ 1
@@ -120,7 +129,7 @@ lines-left r = elim (r .stage) [
   | Over ↦ 0
 ]
 
--- the texts of so many lines, from a report and a place on
+-- the texts of the next n lines from a state and an offset on
 unfoldable pub texts : ℕ → Report → List ℕ → ℕ → List (List ℕ)
 texts zero r s at = []
 texts (suc n) r s at = let m = next-line r s at in m .text ∷ texts n (m .after .report) s (m .after .next .at)

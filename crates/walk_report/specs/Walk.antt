@@ -7,28 +7,28 @@ use Rattle.lists.specs.Walk.{walk}
 use Rattle.jacobian.specs.{Classes.same-class, Answer.opposite-answer, declared.Curve.Curve, declared.Class.Class}
 use Rattle.history.specs.Register.{undo-seal}
 
--- the walk: the last seal, then one seal for each class, newest first, by the rule of an undo
+-- the walk: the last seal, then the seal before each operation, newest first, by the rule of an undo
 unfoldable pub seals : Curve → Class → List Class → List Class
 seals c seal ops = walk (undo-seal c) seal ops
 
--- is a class the opposite of another?
+-- whether a class is the opposite of another
 unfoldable pub opposed : Curve → Class → Class → Bool
 opposed c a b = same-class a (opposite-answer c b .class)
 
--- is a class neutral?
+-- whether a class is neutral
 unfoldable pub neutral : Class → Bool
 neutral a = eqb (a .degree) 0
 
--- is there a next older operation, and does this hold of it?
+-- whether there is a next older operation and this holds of it
 unfoldable pub next-older : (Class → Bool) → List Class → Bool
 next-older holds [] = false
 next-older holds (b ∷ older) = holds b
 
--- M for a neutral class, else R for one that is the opposite of the next older one, else -
+-- M for a neutral class, else R if it is the opposite of the next older one, else -
 unfoldable pub mark : Bool → Class → ℕ
 mark opposes a = cond (neutral a) 0x4D (cond opposes 0x52 0x2D)
 
--- the letter of an operation, given the older ones, newest first
+-- the letter of an operation; the older ones are given newest first
 unfoldable pub letter : Curve → Class → List Class → ℕ
 letter c a older = mark (next-older (opposed c a) older) a
 

@@ -5,7 +5,7 @@ ghost use Rattle.walk_report.specs.Walk.{opposed, mark};
 use jacobian::Class;
 use jacobian::Curve;
 
-// Is a class the opposite of another?
+// Whether a class is the opposite of another.
 pub(crate) fn opposed(curve: Curve, a: Class, b: Class) -> bool
     ensures { λ r. ⌜ r ≡ opposed curve a b ⌝ }
 {
@@ -14,7 +14,7 @@ pub(crate) fn opposed(curve: Curve, a: Class, b: Class) -> bool
     jacobian::classes::same_class(a, c)
 }
 
-// M for a neutral class, else R for one that is the opposite of the next older one, where one is kept, else -.
+// M for a neutral class, else R if an older one is kept and the class is its opposite, else -.
 pub(crate) fn letter(curve: Curve, a: Class, kept: bool, older: Class) -> u8
     ensures { λ r. ⌜ r ≡ mark (kept && opposed curve a older) a ⌝ }
 {

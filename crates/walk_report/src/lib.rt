@@ -1,6 +1,6 @@
-// An archive's walk report, line by line. The archive is read twice: once to make every check, then operation by operation as its lines are made.
-// A line is made from the report on its way, which holds what was read, and from the input at the place of the next field: any part of the input
-// that has this field will do.
+// An archive's walk report, line by line.
+// The archive is read twice: once for all checks, then operation by operation as the lines are made.
+// Each line needs the report's state and the input from the next field on.
 ghost use mathlib.Core.Path.{_≡_};
 ghost use Prim.Native.Nat.{ℕ, _-_, min};
 ghost use mathlib.Core.List.{List};
@@ -22,7 +22,7 @@ use stored_form::DRAWING_LIMIT;
 use stored_form::Place;
 use text::Line;
 
-// The line that is due.
+// The line that is expected next.
 pub enum Stage {
     // A refusal's number.
     Refusal(u32),
@@ -30,13 +30,13 @@ pub enum Stage {
     First,
     // The last seal.
     Last,
-    // The seal before the operation that is held.
+    // The seal before the operation to undo next.
     Undo,
-    // None.
+    // None: the report is over.
     Over,
 }
 
-// The report on its way: the line that is due, the reader of the second pass, the seal that was met last and the operation that is to be undone.
+// The report's state: the next line, the reader of the second pass, the last seal and the operation to undo next.
 pub struct Report {
     pub stage: Stage,
     pub reader: Reader,
@@ -44,20 +44,20 @@ pub struct Report {
     pub operation: Class,
 }
 
-// The report, and the place of the next field.
+// The report's state, and the offset of the next field.
 pub struct Moved {
     pub report: Report,
     pub next: Cursor,
 }
 
-// A line, the report after it, and the place of the next field.
+// A line, the report's state after it, and the offset of the next field.
 pub struct Made {
     pub line: Line,
     pub report: Report,
     pub next: Cursor,
 }
 
-// The operations that are still to be read.
+// The number of operations still to be read.
 fn older(due: Due) -> u64
     ensures { λ r. ⌜ r ≡ older due ⌝ }
 {
@@ -69,7 +69,7 @@ fn older(due: Due) -> u64
     }
 }
 
-// The report with another line due.
+// The state with another line expected.
 fn with_stage(stage: Stage, r: Report) -> Report
     ensures { λ t. ⌜ t ≡ with-stage stage r ⌝ }
 {
@@ -84,7 +84,7 @@ fn with_stage(stage: Stage, r: Report) -> Report
     }
 }
 
-// Reads the next operation, which is to be undone then; without one the report is over.
+// Reads the next operation, which is to be undone next; if none is left, the report is over.
 fn advanced(r: Report, s: &[u8], at: Cursor) -> Moved
     ensures { λ m. ⌜ m ≡ advanced r (now (s .entry)) (at .at) ⌝ }
 {
@@ -120,7 +120,7 @@ fn advanced(r: Report, s: &[u8], at: Cursor) -> Moved
     }
 }
 
-// Is there an operation that is to be undone?
+// Whether an operation is to be undone next.
 fn undoing(stage: Stage) -> bool
     ensures { λ r. ⌜ r ≡ undoing stage ⌝ }
 {
@@ -133,7 +133,7 @@ fn undoing(stage: Stage) -> bool
     }
 }
 
-// The letter of an operation, where the report stands at the next older one, if there is one.
+// The letter of the operation a, where r is the state at the next older one, if there is one.
 fn letter_before(curve: Curve, a: Class, r: Report) -> u8
     ensures { λ b. ⌜ b ≡ letter-before curve a r ⌝ }
 {
@@ -142,7 +142,7 @@ fn letter_before(curve: Curve, a: Class, r: Report) -> u8
     letters::letter(curve, a, undoing(stage), older)
 }
 
-// How many operations of so many are undone where some are still to be read.
+// count less older; 0 if that is negative.
 fn undone_of(count: u64, older: u64) -> u64
     ensures { λ r. ⌜ r ≡ count - older ⌝ }
 {
@@ -152,7 +152,7 @@ fn undone_of(count: u64, older: u64) -> u64
     count - older
 }
 
-// Undoes the operation that is held, and makes the line of the seal before it.
+// Undoes the next operation and makes the line of the seal before it.
 fn undone(r: Report, s: &[u8], at: Cursor) -> Made
     ensures { λ m. ⌜ m ≡ made (undone r (now (s .entry)) (at .at)) ⌝ }
 {
@@ -184,7 +184,7 @@ fn undone(r: Report, s: &[u8], at: Cursor) -> Made
     }
 }
 
-// As many bytes as a drawing number has, and no more than it may have.
+// The length, but at most that of the longest drawing number.
 fn name_length(len: usize) -> usize
     ensures { λ r. ⌜ r ≡ min len drawing-limit ⌝ }
 {
@@ -194,7 +194,7 @@ fn name_length(len: usize) -> usize
     DRAWING_LIMIT
 }
 
-// The first line, with the drawing number of a row.
+// The first line, with the first len bytes of a row as the drawing number.
 fn first_line(count: u64, len: usize, bytes: [u8; DRAWING_LIMIT]) -> Line
     ensures { λ r. ⌜ r ≡ in-line (first-line count (take len bytes)) ⌝ }
 {
@@ -202,7 +202,7 @@ fn first_line(count: u64, len: usize, bytes: [u8; DRAWING_LIMIT]) -> Line
     lines::first_line(count, &bytes[..n])
 }
 
-// A line, and the report with another line due.
+// The answer with this line and the state with another line expected.
 fn line_made(line: Line, stage: Stage, r: Report, next: Cursor) -> Made
     ensures { λ m. ⌜ ((text : List ℕ) → line ≡ in-line text → m ≡ made (record { text = text; after = moved (with-stage stage r) (next .at) })) ⌝ }
 {
@@ -210,7 +210,7 @@ fn line_made(line: Line, stage: Stage, r: Report, next: Cursor) -> Made
     Made { line, report, next }
 }
 
-// The line of the last seal; the newest operation is to be undone then.
+// The line of the last seal; the newest operation is to be undone next.
 fn last_line(r: Report, s: &[u8], at: Cursor) -> Made
     ensures { λ m. ⌜ m ≡ made (record { text = line 0 0x2E (r .seal); after = advanced r (now (s .entry)) (at .at) }) ⌝ }
 {
@@ -222,7 +222,7 @@ fn last_line(r: Report, s: &[u8], at: Cursor) -> Made
     Made { line, report, next }
 }
 
-// The first line of the report.
+// The first line of the report, from its state.
 fn opening_line(r: Report) -> Line
     ensures { λ l. ⌜ l ≡ in-line (first-line (r .reader .held .count) (drawing-name (r .reader .held .drawing))) ⌝ }
 {
@@ -233,7 +233,7 @@ fn opening_line(r: Report) -> Line
     first_line(held.count, drawing.len, bytes)
 }
 
-// Makes the line that is due, from the field at a place of the input; an empty one where the report is over.
+// Makes the line that is expected, from the input at an offset; it is empty if the report is over.
 pub fn next_line(r: Report, s: &[u8], at: Cursor) -> Made
     ensures { λ m. ⌜ m ≡ made (next-line r (now (s .entry)) (at .at)) ⌝ }
 {
@@ -247,7 +247,7 @@ pub fn next_line(r: Report, s: &[u8], at: Cursor) -> Made
     }
 }
 
-// A report that says a refusal alone.
+// The state of a report that is a refusal alone.
 fn refused(n: u32) -> Moved
     ensures { λ m. ⌜ m ≡ refused-report n ⌝ }
 {
@@ -264,8 +264,8 @@ fn refused(n: u32) -> Moved
     }
 }
 
-// The report of an archive before its first line, and the place of its first operation: every check is made first, and then the fields before the operations
-// are read once more.
+// The state before the first line of an archive's report, and the offset of its first operation.
+// All checks are made first; then the header is read again.
 pub fn opened(s: &[u8]) -> Moved
     ensures { λ m. ⌜ m ≡ opened (now (s .entry)) ⌝ }
 {
@@ -293,7 +293,7 @@ pub fn opened(s: &[u8]) -> Moved
     }
 }
 
-// Is a line still to come?
+// Whether a line is still to come.
 pub fn pending(r: Report) -> bool
     ensures { λ b. ⌜ b ≡ pending (r .stage) ⌝ }
 {

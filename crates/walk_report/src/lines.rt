@@ -8,7 +8,7 @@ ghost use Rattle.walk_report.specs.Lines.{line, first-line, refusal-line
 use jacobian::Class;
 use text::Line;
 
-// A seal's line.
+// The line of a seal.
 pub(crate) fn seal_line(undone: u64, letter: u8, seal: Class) -> Line
     ensures { λ r. ⌜ r ≡ in-line (line undone letter seal) ⌝ }
 {
@@ -33,7 +33,7 @@ pub(crate) fn refusal_line(n: u32) -> Line
     text::with_byte(told, b'\n')
 }
 
-// walk, the count and the drawing number.
+// The first line: walk, the count and the drawing number.
 pub(crate) fn first_line(count: u64, drawing: &[u8]) -> Line
     requires { ⌜ length (now drawing) ≤ drawing-limit ⌝ }
     ensures { λ r. ⌜ r ≡ in-line (first-line count (now (drawing .entry))) ⌝ }

@@ -1,4 +1,8 @@
--- A range appended where it fits (`append-fits`) and where it does not (`append-outside`); the first bytes, at the start of the output (`front-fits`).
+-- A range appended to an output.
+-- `append-fits`: a range that fits is stored at its offset, and all other bytes stay.
+-- `append-outside`: a range that does not fit changes nothing; the answer is the output's length plus 1.
+-- `append-copied`: the copy that the code makes is `append`.
+-- `front-fits`: the first n bytes of a source, appended at the start of the output.
 use Prim.Native.Nat.{ℕ, _+_, _-_, _≤_, _<_}
 use mathlib.Core.Path.{_≡_, sym, _∙_}
 use mathlib.Core.{Bool.true, Bool.false, List.List, List.[], List._++_, List.append-nil}
@@ -10,7 +14,7 @@ use Rattle.stored_form.proofs.Parts.{length-part}
 use Rattle.written_form.specs.{Effect.effect, Ranges.fits, Ranges.append}
 
 module _ (source start end output at : ℕ) where
-  -- it does not fit: it ends before it begins, behind the source's end, or behind the output's
+  -- it does not fit: it ends before it begins, after the source's end, or after the output's
   pub ends-first : end < start → fits source start end output at ≡ false
   unfolding fits
   ends-first h = rw (lt-leb start end h)
@@ -37,7 +41,7 @@ module _ (s : List ℕ) (start end : ℕ) (out : List ℕ) (at : ℕ) where
   unfolding append
   append-fits h k l = rw (all-fits _ _ _ _ _ h k l)
 
-  -- as the code copies them: the range lent as a part, and the output's part of that length
+  -- as the code copies it: from a part of the source to a part of the output of the same length
   pub append-copied : start ≤ end → end ≤ length s → (l : at + (end - start) ≤ length out) → {copied : List ℕ} → let n = end - start in let m = at + n - at in
       copied ≡ take (length (part s start n)) (part s start n) ++ drop (length (part s start n)) (part out at m)
       → effect (at + n) (take at out ++ (copied ++ drop m (drop at out))) ≡ append s start end (effect at out)
@@ -51,7 +55,6 @@ module _ (s : List ℕ) (start end : ℕ) (out : List ℕ) (at : ℕ) where
       let all : copied ≡ X = e ∙ rw (same, take-length X, rest, append-nil) in
       rw (all, same, drop-drop) (sym (append-fits h k l))
 
--- the first bytes of a source, at the start of the output
 pub front-fits : (s : List ℕ) (n : ℕ) (out : List ℕ) → n ≤ length s → n ≤ length out → append s 0 n (effect 0 out) ≡ effect n (take n s ++ drop n out)
 front-fits s n out h k =
     let e : n - 0 ≡ n = omega arith in

@@ -1,4 +1,9 @@
--- What is put into the lent output, the copy of it, and what a call on byte areas does by what it reads.
+-- Responses written into the lent output, the copy that the code makes, and what a call does for what it reads.
+-- `put-written`, `put-refusal`: the effect of a response that fits, and of a refusal.
+-- `put-accepted`, `put-refused`: the same for a response that depends on a verdict.
+-- `call-short`: an output that is too short is refused with 101.
+-- `call-refused`, `call-found`: a call whose record is refused, and one whose record is read.
+-- `answer-written`, `answer-refused`: a call whose response depends on a verdict.
 use Prim.Native.Nat.{ℕ, _≤_, _<_, min}
 use mathlib.Core.Path.{_≡_, sym, ap, ap₂, _∙_}
 use mathlib.Core.List.{List, _++_}
@@ -13,9 +18,9 @@ use Rattle.stored_form.proofs.Readers.{place-found, place-refused-as}
 use Rattle.written_form.specs.Ranges.{append}
 use Rattle.written_form.proofs.Appending.{front-fits}
 
--- ---- what is put
+-- ---- a response written
 
--- where the output is too short for it, and where it is not
+-- if the output is too short for it, and if it is not
 module _ (o : Handed) (out : List ℕ) where
   put-over : length out < length (o .bytes) → effect 101 out ≡ put o out
   unfolding put refuse
@@ -25,17 +30,14 @@ module _ (o : Handed) (out : List ℕ) where
   unfolding put
   put-in h = simp (le-ltb _ _ h)
 
--- bytes for which there is room
 pub put-written : (bytes out : List ℕ) → length bytes ≤ length out → put (written bytes) out ≡ write bytes out
 unfolding write
 put-written bytes out h = put-in (written bytes) out h
 
--- a refusal writes nothing
 pub put-refusal : (n : ℕ) (out : List ℕ) → put (refusal n) out ≡ refuse n out
 unfolding refuse
 put-refusal n out = put-in (refusal n) out (omega arith)
 
--- after a verdict
 module _ (v : Verdict) (xs out : List ℕ) where
   pub put-accepted : v ≡ accepted → length xs ≤ length out → put (on v xs) out ≡ write xs out
   unfolding on
@@ -45,9 +47,9 @@ module _ (v : Verdict) (xs out : List ℕ) where
   unfolding on
   put-refused {n} e = ap (λ (w : Verdict). put (on w xs) out) e ∙ put-refusal n out
 
--- ---- the copy
+-- ---- the copy that the code makes
 
--- the first bytes of a row, as many as it has, appended at the start of the output
+-- the first bytes of a row, appended at the start of the output
 module _ (answer len : ℕ) (row out : List ℕ) (long : length row ≡ room) {n : ℕ} (e : n ≡ min len room) where
   abbrev xs : List ℕ
   xs = take len row
@@ -68,7 +70,7 @@ module _ (answer len : ℕ) (row out : List ℕ) (long : length row ≡ room) {n
 
 -- ---- a call
 
--- the record that it reads, by the output's room
+-- the record that it reads, by the room of the output
 module _ (has least : ℕ) (tags s : List ℕ) where
   pub room-refused : has < least → read-call has least tags s ≡ refused 101
   unfolding read-call room-refusal unless checked
@@ -112,7 +114,7 @@ module _ (least : ℕ) (tags : List ℕ) (answer : Held → Handed) (s out : Lis
     pub answer-refused : {n : ℕ} → v ≡ said-no n → byte-call least tags answer s out ≡ refuse n out
     answer-refused e = handed-over ∙ put-refused v xs out e
 
-  -- as the code takes it apart: the reader's answer, then the refusal or what is put
+  -- as the code tests it: the reader's answer, then the refusal or the response
   module _ (r : Read) (e : r ≡ read-of (read-call (length out) least tags s)) where
     pub call-unread : {n k : ℕ} → r .place ≡ Refused n → k ≡ place-refusal (r .place) → effect k out ≡ byte-call least tags answer s out
     unfolding refuse

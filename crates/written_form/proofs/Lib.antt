@@ -1,4 +1,4 @@
--- Laws of what a call hands over and leaves, of rows of bytes as the code fills them, and that answers and refusals are told apart.
+-- Laws of a call's response and effect, of rows of bytes as the code fills them; every call wrote or refused.
 pub mod Appending
 pub mod Effects
 pub mod Rows

@@ -1,4 +1,4 @@
--- Numbers and fields stored in a row of bytes, as the code stores them, and what the row hands over.
+-- Numbers and fields stored in a row of bytes, as the code stores them, and the response of the row.
 use Prim.Native.Nat.{ℕ, zero, suc, _+_, _*_, _-_, _/_, _%_, _^_, _≤_, _<_, min}
 use mathlib.Core.Path.{_≡_, refl, sym, ap, ap₂, _∙_}
 use mathlib.Core.List.{List, [], _∷_, _++_, append-nil, reverse, reverse-cons}
@@ -21,7 +21,7 @@ pow-256 (suc i) =
 pub shifted : (x i : ℕ) → x / 2 ^ (8 * i) % 256 ≡ x / 256 ^ i % 256
 shifted x i = ap (λ (p : ℕ). x / p % 256) (pow-256 i)
 
--- the i-th of the k lowest, high byte first
+-- byte i of the k lowest, high byte first
 byte-at : (k x i : ℕ) → i < k → x / 256 ^ (k - 1 - i) % 256 ≡ getD (bytes-of k x) i 0
 unfolding bytes-of
 byte-at zero x i h = absurd (omega arith)
@@ -43,7 +43,7 @@ pub head-filled : (d : List ℕ) (at tag n : ℕ) → sets (set d at tag) (at + 
 unfolding head-bytes
 head-filled d at tag n = let e : at + 1 ≡ suc at = omega arith in rw e
 
--- the head, and the body behind it
+-- the head, and the body after it
 pub field-filled : (d : List ℕ) (at tag : ℕ) (body : List ℕ) {n : ℕ} {headed r : List ℕ} → n ≡ length body → headed ≡ sets d at (head-bytes tag n) → r ≡ sets headed (at + 3) body →
     r ≡ sets d at (stored tag body)
 unfolding stored head-bytes bytes-of
@@ -52,7 +52,7 @@ field-filled d at tag body l e f =
     ∙ ap (λ (h : List ℕ). sets h (at + 3) body) (e ∙ ap (λ (n : ℕ). sets d at (head-bytes tag n)) l)
     ∙ sets-append d at (head-bytes tag (length body)) body
 
--- ---- the coefficients of a class: those from the i-th on, highest power first
+-- ---- the coefficients of a class, from the i-th on, highest power first
 
 module _ (d : List ℕ) (at n : ℕ) (r : List ℕ) (long : length r ≡ 3) (le : n ≤ 3) where
   abbrev from : ℕ → List ℕ
@@ -128,7 +128,7 @@ module _ (row : List ℕ) (at : ℕ) (a : Class) (n : ℕ) (low : n ≡ min (a .
       let s : at + 3 + 8 * n + 8 * n ≡ at + length (class-field 0x43 a) = omega arith in
       (ap₂ (λ (k : ℕ) (b : List ℕ). record { answer = k; len = k; bytes = b }) s stores, omega arith)
 
--- ---- what a filled row hands over
+-- ---- the response of a filled row
 
 module _ (xs ys : List ℕ) (fits : length xs + length ys ≤ room) {k : ℕ} (e : k ≡ length xs) where
   pub filled-hands : {row : List ℕ} {o : Output} → row ≡ sets (replicate room 0) 0 xs → o ≡ filled row k ys → handed o ≡ written (xs ++ ys)
@@ -143,7 +143,7 @@ module _ (xs ys : List ℕ) (fits : length xs + length ys ≤ room) {k : ℕ} (e
       ∙ ap (λ (i : ℕ). (xs ++ ys) ++ drop i zeros) (zero-add (length (xs ++ ys))) in
       ap handed (g ∙ ap (λ (l : List ℕ). filled l k ys) f) ∙ ap₂ hand long (ap₂ take long front ∙ take-append-seam (xs ++ ys) _)
 
--- ---- what is handed over after a call by value
+-- ---- the response after a call by value
 
 module _ (bytes : List ℕ) {o : Outcome} {x : Handed} where
   pub refuses : {n : ℕ} → o ≡ Refused n → x ≡ refusal n → x ≡ on (verdict o) bytes

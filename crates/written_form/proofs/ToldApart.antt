@@ -1,6 +1,8 @@
--- Answers and refusals of a call on byte areas are told apart (docs/SPECIFICATION.md, 6 and 7). A call whose answers are told apart tells them apart on
--- every input and output (`call-told-apart`), and then the answer alone says which of the two it was (`answer-tells`): no length written is the
--- number of a refusal (`never-both`). It is never 117 (`answer-never-117`).
+-- A call on byte areas wrote or refused (docs/SPECIFICATION.md, 6 and 7).
+-- `call-told-apart`: if a call's responses are valid, then on every input and output it wrote or refused.
+-- `answer-tells`: then the answer alone decides which of the two.
+-- `never-both`: no length that a call writes is the number of a refusal.
+-- `answer-never-117`: no such answer is 117.
 use Prim.Native.Nat.{ℕ, _≤_, _<_}
 use mathlib.Core.Path.{_≡_, refl, sym, ap, subst, _∙_}
 use mathlib.Core.{Bool.Bool, Bool.true, Bool.false, List.List, Logic.inr}
@@ -45,7 +47,6 @@ module _ (most : ℕ) (tags : List ℕ) (answer : Held → Handed) (s out : List
       go true e = kept 101 refl (call-short most tags answer s out (ltb-true _ _ e))
       go false e = long-apart (ltb-false _ _ e) apart
 
--- the answer alone says which of the two
 pub answer-tells : {most : ℕ} {out : List ℕ} {e : Effect} → most ≤ longest-answer → ToldApart most out e → AnswerTells most out e
 unfolding write specs.refuse
 answer-tells low (wrote xs short fits is) =
@@ -56,11 +57,9 @@ answer-tells low (kept n i is) =
     let k = ap (λ (o : Effect). o .answer) is in
     record { wrote = λ h. absurd (omega arith); kept = λ h. (subst IsRefusal (sym k) i, ap (λ (o : Effect). o .after) is) }
 
--- and it is not 117
 pub answer-never-117 : {most : ℕ} {out : List ℕ} {e : Effect} → AnswerTells most out e → ¬ (e .answer ≡ 117)
 unfolding Told
 answer-never-117 t is = never-117 _ (inr (t .kept (omega arith) .0)) is
 
--- no length that a call may write is the number of a refusal
 pub never-both : {n : ℕ} → n ≤ longest-answer → IsRefusal n → ⊥
 never-both low i = let l = above-100 _ i in omega arith

@@ -1,4 +1,4 @@
--- Ranges of bytes appended one after the other; the answer is the place after the last.
+-- Ranges of bytes appended to an output one after the other; the answer is the offset after the last.
 use Prim.Native.Nat.{ℕ, _+_, _-_}
 use mathlib.Core.Bool.{Bool, cond, _&&_}
 use mathlib.Core.List.{List, _++_}
@@ -7,12 +7,12 @@ use lib.ListN.{length, take, drop}
 use Rattle.stored_form.specs.Number.{part}
 use Rattle.written_form.specs.Effect.{Effect, effect}
 
--- a range lies in a source of that length, and an output of that length has room for it from a place on
+-- whether start to end is a range of a source of that length, which fits into an output of that length at an offset
 unfoldable pub fits : ℕ → ℕ → ℕ → ℕ → ℕ → Bool
 fits source start end output at = leb start end && leb end source && leb (at + (end - start)) output
 
--- the bytes of s from a start up to an end, stored at the place answered before; the answer is the place after them;
--- where they do not fit the output stays as it was, and the answer is one more than its length, where no range fits
+-- Appends the bytes of s from start to end at the offset of the last answer; the answer is the offset after them.
+-- If they do not fit, the output is unchanged and the answer is its length plus 1, after which no range fits.
 unfoldable pub append : List ℕ → ℕ → ℕ → Effect → Effect
 append s start end e =
     let at = e .answer in

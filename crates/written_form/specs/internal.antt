@@ -1,2 +1,2 @@
--- Promises of functions that are not open.
+-- Definitions for the contracts of functions that are not open.
 pub mod Rows

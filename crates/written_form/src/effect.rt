@@ -1,4 +1,4 @@
-// What a call on byte areas hands over to be written, and the one place that writes it.
+// The response of a call on byte areas, and the one function that writes it.
 ghost use mathlib.Core.Path.{_≡_};
 ghost use Rattle.written_form.specs.Effect.{room, read-call, effect, hand, refusal, handed, put};
 ghost use Rattle.stored_form.specs.Records.{read-of};
@@ -7,22 +7,22 @@ ghost use lib.ListN.{take};
 use crate::ranges;
 use stored_form::Read;
 
-// A count's field, and the seal's behind it.
+// The length of a count's field, and that of a count's field followed by the longest field of a class.
 pub const COUNT_ROOM: usize = 3 + stored_form::COUNT_LENGTH;
 
 pub const REGISTER_ROOM: usize = COUNT_ROOM + stored_form::CLASS_ROOM;
 
-// The most bytes that a call hands over.
+// The most bytes that a response has.
 pub const ROOM: usize = REGISTER_ROOM;
 
-// The answer of a call, and the bytes that it writes at the start of the lent output: the first len of the row.
+// The response of a call: its answer, and the bytes to write at the start of the lent output, the first len of the row.
 pub struct Output {
     pub answer: u32,
     pub len: usize,
     pub bytes: [u8; ROOM],
 }
 
-// The record of a call: 101 where the output has less room than it must have, before any byte of the input is looked at.
+// Reads the record of a call; an output with less room than is required is refused with 101 before any byte is read.
 pub fn read_call(has: usize, least: usize, tags: &[u8], input: &[u8]) -> Read
     ensures { λ r. ⌜ r ≡ read-of (read-call has least (now (tags .entry)) (now (input .entry))) ⌝ }
 {
@@ -32,7 +32,7 @@ pub fn read_call(has: usize, least: usize, tags: &[u8], input: &[u8]) -> Read
     stored_form::read_record(tags, input)
 }
 
-// A refusal's number, and nothing to write.
+// The response of a refusal: its number, and no bytes.
 pub fn refusal(n: u32) -> Output
     ensures { λ r. ⌜ handed r ≡ refusal n ⌝ }
 {
@@ -43,7 +43,7 @@ pub fn refusal(n: u32) -> Output
     }
 }
 
-// No more than a row has.
+// The length, but at most that of the row.
 fn within(len: usize) -> usize
     ensures { λ r. ⌜ r ≡ min len room ⌝ }
 {
@@ -53,7 +53,7 @@ fn within(len: usize) -> usize
     ROOM
 }
 
-// Writes the first bytes of a row at the start of the output and hands on the answer.
+// Writes the first len bytes of a row at the start of the output and answers `answer`; 101 if they do not fit.
 fn put_row(answer: u32, len: usize, row: [u8; ROOM], output: &mut [u8]) -> u32
     ensures { λ r. ⌜ effect r (now (output .exit)) ≡ put (hand answer (take len row)) (now (output .entry)) ⌝ }
 {
@@ -65,8 +65,8 @@ fn put_row(answer: u32, len: usize, row: [u8; ROOM], output: &mut [u8]) -> u32
     answer
 }
 
-// Writes the bytes at the start of the output and hands on the answer.
-// Where the output is shorter than they are nothing is written, and the answer is 101.
+// Writes a response's bytes at the start of the output and answers its answer.
+// If the output is too short for them, nothing is written and the answer is 101.
 pub fn put(o: Output, output: &mut [u8]) -> u32
     ensures { λ r. ⌜ effect r (now (output .exit)) ≡ put (handed o) (now (output .entry)) ⌝ }
 {

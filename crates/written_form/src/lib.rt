@@ -1,4 +1,4 @@
-// What is written: fields laid out in a row of bytes, and the answer of a call on byte areas with the output afterwards.
+// Writing the stored form: fields encoded into a row of bytes, and the response of a call on byte areas.
 pub mod effect;
 pub mod ranges;
 pub mod writing;

@@ -1,4 +1,4 @@
-// The fields that calls on byte areas write, laid out in a row of bytes.
+// The fields that calls on byte areas write, encoded into a row of bytes.
 ghost use mathlib.Core.Path.{_≡_};
 ghost use mathlib.Core.List.{_++_};
 ghost use Prim.Native.Nat.{_+_, _*_, _/_, _%_, _^_, _≤_, _<_, min};
@@ -22,7 +22,7 @@ use jacobian::Outcome;
 use stored_form::COUNT_LENGTH;
 use stored_form::ELEMENT_LENGTH;
 
-// The byte of a number at a place from its lowest byte on.
+// Byte i of a number, counted from the lowest.
 fn byte_of(x: u64, i: usize) -> u8
     requires { ⌜ i < element-length ⌝ }
     ensures { λ r. ⌜ r ≡ x / 256 ^ i % 256 ⌝ }
@@ -30,7 +30,7 @@ fn byte_of(x: u64, i: usize) -> u8
     ((x >> (8 * i)) % 256) as u8
 }
 
-// A row with the k lowest bytes of a number stored from a place on, high byte first.
+// The row with the k lowest bytes of a number stored at an offset, high byte first.
 fn with_number(row: [u8; ROOM], at: usize, k: usize, x: u64) -> [u8; ROOM]
     requires { ⌜ (k ≤ element-length) × (at + k ≤ room) ⌝ }
     ensures { λ r. ⌜ r ≡ sets row at (bytes-of k x) ⌝ }
@@ -44,7 +44,7 @@ fn with_number(row: [u8; ROOM], at: usize, k: usize, x: u64) -> [u8; ROOM]
     r
 }
 
-// A row with the head of a field stored from a place on.
+// The row with the head of a field stored at an offset.
 fn with_head(row: [u8; ROOM], at: usize, tag: u8, len: usize) -> [u8; ROOM]
     requires { ⌜ at + 3 ≤ room ⌝ }
     ensures { λ r. ⌜ r ≡ sets row at (head-bytes tag len) ⌝ }
@@ -54,7 +54,7 @@ fn with_head(row: [u8; ROOM], at: usize, tag: u8, len: usize) -> [u8; ROOM]
     with_number(r, at + 1, 2, len as u64)
 }
 
-// A row with the coefficients below the degree n stored from a place on, highest power first.
+// The row with the coefficients below degree n stored at an offset, highest power first.
 fn with_coefficients(row: [u8; ROOM], at: usize, n: usize, r: [u64; 3]) -> [u8; ROOM]
     requires { ⌜ (n ≤ 3) × (at + element-length * n ≤ room) ⌝ }
     ensures { λ t. ⌜ (t ≡ sets row at (element-bytes (row-written n r))) × (length r ≡ 3) ⌝ }
@@ -69,7 +69,7 @@ fn with_coefficients(row: [u8; ROOM], at: usize, n: usize, r: [u64; 3]) -> [u8; 
     t
 }
 
-// How many coefficients a row has below a degree.
+// The number of coefficients of a row below a degree.
 fn places_of(degree: u64) -> usize
     ensures { λ r. ⌜ r ≡ min degree 3 ⌝ }
 {
@@ -79,7 +79,7 @@ fn places_of(degree: u64) -> usize
     3
 }
 
-// A row with the field of a class behind what stands before a place.
+// The output of a row with the field of a class at an offset, and of all bytes before it.
 fn with_class(row: [u8; ROOM], at: usize, a: Class) -> Output
     requires { ⌜ at + class-room ≤ room ⌝ }
     ensures { λ r. ⌜ (r ≡ filled row at (class-field 0x43 a)) × (length (class-field 0x43 a) ≤ class-room) ⌝ }
@@ -99,7 +99,7 @@ fn with_class(row: [u8; ROOM], at: usize, a: Class) -> Output
     }
 }
 
-// A row with the field of a count stored from a place on.
+// The row with the field of a count stored at an offset.
 fn with_count(row: [u8; ROOM], at: usize, tag: u8, n: u64) -> [u8; ROOM]
     requires { ⌜ at + count-room ≤ room ⌝ }
     ensures { λ r. ⌜ r ≡ sets row at (stored tag (bytes-of count-length n)) ⌝ }
@@ -108,7 +108,7 @@ fn with_count(row: [u8; ROOM], at: usize, tag: u8, n: u64) -> [u8; ROOM]
     with_number(headed, at + 3, COUNT_LENGTH, n)
 }
 
-// The field of a class, unless the call refused.
+// The response with the field of a class, or with the refusal.
 pub fn class_output(a: ClassAnswer) -> Output
     ensures { λ r. ⌜ handed r ≡ class-handed (result (reply a)) ⌝ }
 {
@@ -120,7 +120,7 @@ pub fn class_output(a: ClassAnswer) -> Output
     }
 }
 
-// The fields of a count and a seal, unless the call refused.
+// The response with the fields of a count and a seal, or with the refusal.
 pub fn register_output(o: Outcome, count: u64, seal: Class) -> Output
     ensures { λ r. ⌜ handed r ≡ on (verdict o) (count-field count ++ class-field 0x43 seal) ⌝ }
 {

@@ -1,4 +1,4 @@
--- `archive_refusal` meets its contract: what is left to read is refused as the archive is.
+-- `archive_refusal` meets its contract: reading what is left has the refusal of the archive.
 use borrow.Author.Needs.{needs}
 use mathlib.Core.Path.{_≡_, sym, ap, _∙_}
 use Rattle.stored_form.specs.Reading.{reading-refusal}

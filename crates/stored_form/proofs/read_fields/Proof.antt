@@ -1,4 +1,4 @@
--- `read_fields` meets its contract: the fields from the one that is due on make of what is held what all of them make.
+-- `read_fields` meets its contract: reading the fields from the i-th on gives what reading all of them gives.
 use borrow.Author.Needs.{needs}
 use Prim.Native.Nat.{_-_}
 use mathlib.Core.Path.{_≡_, refl, sym, ap, _∙_}

@@ -1,4 +1,4 @@
--- `drawings::all_printable` meets its contract: the bytes that are left decide.
+-- `drawings::all_printable` meets its contract: the bytes from index i on decide.
 use borrow.Author.Needs.{needs}
 use Prim.Native.Nat.{_≤_, _-_}
 use mathlib.Core.Path.{_≡_, refl, sym, _∙_}
@@ -15,7 +15,7 @@ Inv-loop k bytes i₀ i = (i ≤ k) × (printable (take k bytes) ≡ printable (
 abbrev μ-loop : tie.MeasureT-loop
 μ-loop k bytes i₀ i = k - i
 
--- the row has that many
+-- the row has that many bytes
 within : (c : tie.Start Inv-loop μ-loop) → c .args .k ≤ length (c .args .t1)
 within c = omega (arith, c .good .0 .1 .0 .1, c .pre)
 

@@ -19,7 +19,7 @@ loop-holds : tie.Need-loop-holds Inv-loop μ-loop
 unfolding number-of
 loop-holds c = search needs
 
--- the number that a turn makes fits
+-- the number after a turn of the loop fits
 fits : (c : tie.In-loop Inv-loop μ-loop) →
     let a = c .before .before .before .args in
     c .before .loop .n * 256 + getD (a .s .now) (a .at + c .before .loop .i) 0 < 2 ^ 64
