@@ -102,7 +102,7 @@ impl Field {
     }
 
     /// A root y of y^2 + y = c where there is one: of the two the one for which y = z^2 + z has a root too. In a field of
-    /// odd degree that is so of one of them, since 1 = z^2 + z has none. The stored cases hang on which is taken.
+    /// odd degree that is so of one of them, since 1 = z^2 + z has none. The stored cases depend on which is taken.
     pub fn root_of_artin_schreier(&self, c: u64) -> Option<u64> {
         let even = self.even_root_of_artin_schreier(c)?;
         Some(if self.even_root_of_artin_schreier(even).is_some() { even } else { even ^ 1 })

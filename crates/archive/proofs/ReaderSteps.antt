@@ -11,36 +11,36 @@ use lib.Dec.{ltb}
 use lib.ListN.{length, getD, drop, drop-of-length-le}
 use lib.Seq.{drop-cons}
 use borrow.Author.Tests.{lt-ltb, le-ltb, ltb-true, ltb-false}
-use Rattle.stored_form.specs.{Reading.Reading, Reading.found, Reading.refused, Reading._then_, Reading.reading-refusal, Held.nothing-held}
-use Rattle.stored_form.specs.Records.{read-field, read-fields, read-operations, archive-opening, place-refusal}
-use Rattle.stored_form.specs.declared.{Held.Held, Cursor.Cursor}
-use Rattle.stored_form.specs.declared.Place.the-variants.{Next, Refused}
+use Rattle.stored_form.specs.{Reading.Reading, Reading.found, Reading.refused, Reading._then_, Reading.reading-refusal, Record.empty-record}
+use Rattle.stored_form.specs.Reader.{read-field, read-fields, read-operations, header-layout, offset-refusal}
+use Rattle.stored_form.specs.declared.{Record.Record, Cursor.Cursor}
+use Rattle.stored_form.specs.declared.Offset.the-variants.{Next, Refused}
 use Rattle.stored_form.proofs.Readings.{then-found, then-refused, both-found, same-found, then-same, then-assoc, found-refusal, same-refusal}
 use Rattle.stored_form.proofs.Readers.{placed, answer-found, answer-refused, answer-refusal, field-within}
 use Rattle.archive.specs.Archive.{Tail, read-tail, archive-of, read-archive, archive-refusal}
-use Rattle.archive.specs.declared.{Due.Due, Reader.Reader, Advance.Advance}
-use Rattle.archive.specs.declared.Due.the-variants.{Opening, Operations, End, Nothing}
+use Rattle.archive.specs.declared.{Expected.Expected, Reader.Reader, Advance.Advance}
+use Rattle.archive.specs.declared.Expected.the-variants.{Header, Operations, End, Nothing}
 use Rattle.archive.proofs.Tail.{tail-onward}
-use Rattle.archive.specs.Reader.{reader, start, operations-due, after-opening, read-opening, read-operation, read-end, read-due, pending, advance-of}
+use Rattle.archive.specs.Reader.{reader, start, operations-expected, after-header, read-header-field, read-operation, read-end, read-expected, pending, advance-of}
 
 -- ---- what is left to read, and one step of it
 
 module _ (s : List ℕ) where
-  from-operations : ℕ → Held → ℕ → Reading Tail
+  from-operations : ℕ → Record → ℕ → Reading Tail
   from-operations n h at = read-operations n h s at then λ ops end. read-tail s end
 
-  from-opening : List ℕ → Held → ℕ → Reading Tail
-  from-opening tags h at = read-fields tags h s at then λ h next. from-operations (h .count) h next
+  from-header : List ℕ → Record → ℕ → Reading Tail
+  from-header tags h at = read-fields tags h s at then λ h next. from-operations (h .count) h next
 
   -- the reading of all that is left, by what is expected next
-  pub left : Due → Held → ℕ → Reading Tail
-  left (Opening i) h at = read-field (getD archive-opening i 0) h s at then λ more next. from-opening (drop (suc i) archive-opening) more next
+  pub left : Expected → Record → ℕ → Reading Tail
+  left (Header i) h at = read-field (getD header-layout i 0) h s at then λ more next. from-header (drop (suc i) header-layout) more next
   left (Operations n) h at = read-field 0x44 h s at then λ more next. from-operations (n - 1) more next
   left End h at = read-tail s at
   left Nothing h at = found tt at
 
-  operations-next : (n : ℕ) (h : Held) (at : ℕ) → from-operations n h at ≡ left (operations-due n) h at
-  unfolding from-operations left operations-due read-operations _then_
+  operations-next : (n : ℕ) (h : Record) (at : ℕ) → from-operations n h at ≡ left (operations-expected n) h at
+  unfolding from-operations left operations-expected read-operations _then_
   operations-next zero h at = refl
   operations-next (suc n) h at =
       let e : suc n - 1 ≡ n = omega arith in
@@ -48,31 +48,31 @@ module _ (s : List ℕ) where
       ∙ then-same _ (read-field 0x44 h s at) (λ more next. then-assoc (read-operations n more s next) _ _)
       ∙ ap (λ (k : ℕ). read-field 0x44 h s at then λ more next. from-operations k more next) (sym e)
 
-  module _ (i : ℕ) (h : Held) (at : ℕ) where
-    next : suc i < length archive-opening → from-opening (drop (suc i) archive-opening) h at ≡ left (Opening (suc i)) h at
-    unfolding left from-opening read-fields
+  module _ (i : ℕ) (h : Record) (at : ℕ) where
+    next : suc i < length header-layout → from-header (drop (suc i) header-layout) h at ≡ left (Header (suc i)) h at
+    unfolding left from-header read-fields
     next lt =
-        let tag = getD archive-opening (suc i) 0 in
-        ap (λ (l : List ℕ). read-fields l h s at then λ h next. from-operations (h .count) h next) (drop-cons archive-opening (suc i) 0 lt)
+        let tag = getD header-layout (suc i) 0 in
+        ap (λ (l : List ℕ). read-fields l h s at then λ h next. from-operations (h .count) h next) (drop-cons header-layout (suc i) 0 lt)
         ∙ then-assoc (read-field tag h s at) _ _
 
-    last : length archive-opening ≤ suc i → from-opening (drop (suc i) archive-opening) h at ≡ left (operations-due (h .count)) h at
-    unfolding from-opening read-fields _then_
+    last : length header-layout ≤ suc i → from-header (drop (suc i) header-layout) h at ≡ left (operations-expected (h .count)) h at
+    unfolding from-header read-fields _then_
     last le =
-        ap (λ (l : List ℕ). read-fields l h s at then λ h next. from-operations (h .count) h next) (drop-of-length-le archive-opening le)
+        ap (λ (l : List ℕ). read-fields l h s at then λ h next. from-operations (h .count) h next) (drop-of-length-le header-layout le)
         ∙ operations-next (h .count) h at
 
-  opening-next : (i : ℕ) (h : Held) (at : ℕ) → from-opening (drop (suc i) archive-opening) h at ≡ left (after-opening i (h .count)) h at
-  unfolding after-opening
-  opening-next i h at = go (ltb (suc i) (length archive-opening)) refl
+  header-next : (i : ℕ) (h : Record) (at : ℕ) → from-header (drop (suc i) header-layout) h at ≡ left (after-header i (h .count)) h at
+  unfolding after-header
+  header-next i h at = go (ltb (suc i) (length header-layout)) refl
     where
-      go : (b : Bool) → ltb (suc i) (length archive-opening) ≡ b → from-opening (drop (suc i) archive-opening) h at ≡ left (cond b (Opening (suc i)) (operations-due (h .count))) h at
-      go true e = next i h at (ltb-true (suc i) (length archive-opening) e)
-      go false e = last i h at (ltb-false (suc i) (length archive-opening) e)
+      go : (b : Bool) → ltb (suc i) (length header-layout) ≡ b → from-header (drop (suc i) header-layout) h at ≡ left (cond b (Header (suc i)) (operations-expected (h .count))) h at
+      go true e = next i h at (ltb-true (suc i) (length header-layout) e)
+      go false e = last i h at (ltb-false (suc i) (length header-layout) e)
 
-  pub one-step : (d : Due) (h : Held) (at : ℕ) → left d h at ≡ (read-due d h s at then λ r next. left (r .due) (r .held) next)
-  unfolding left read-opening read-operation read-end _then_
-  one-step (Opening i) h at = then-same _ (read-field (getD archive-opening i 0) h s at) (λ more next. opening-next i more next) ∙ sym (then-assoc (read-field (getD archive-opening i 0) h s at) _ _)
+  pub one-step : (d : Expected) (h : Record) (at : ℕ) → left d h at ≡ (read-expected d h s at then λ r next. left (r .expected) (r .values) next)
+  unfolding left read-header-field read-operation read-end _then_
+  one-step (Header i) h at = then-same _ (read-field (getD header-layout i 0) h s at) (λ more next. header-next i more next) ∙ sym (then-assoc (read-field (getD header-layout i 0) h s at) _ _)
   one-step (Operations n) h at = then-same _ (read-field 0x44 h s at) (λ more next. operations-next (n - 1) more next) ∙ sym (then-assoc (read-field 0x44 h s at) _ _)
   one-step End h at = sym (then-assoc (read-tail s at) _ _ ∙ then-found-same (read-tail s at))
     where
@@ -81,54 +81,54 @@ module _ (s : List ℕ) where
       then-found-same (refused n) = refl
   one-step Nothing h at = refl
 
-  pub nothing-left : (d : Due) (h : Held) (at : ℕ) → pending d ≡ false → left d h at ≡ found tt at
+  pub nothing-left : (d : Expected) (h : Record) (at : ℕ) → pending d ≡ false → left d h at ≡ found tt at
   unfolding left pending
-  nothing-left (Opening i) h at e = absurd (true≢false e)
+  nothing-left (Header i) h at e = absurd (true≢false e)
   nothing-left (Operations n) h at e = absurd (true≢false e)
   nothing-left End h at e = absurd (true≢false e)
   nothing-left Nothing h at e = refl
 
-  pub begun : {r : Reader} → r ≡ start → archive-refusal s ≡ reading-refusal (left (r .due) (r .held) 0)
-  unfolding archive-refusal read-archive start left from-opening from-operations read-fields
+  pub begun : {r : Reader} → r ≡ start → archive-refusal s ≡ reading-refusal (left (r .expected) (r .values) 0)
+  unfolding archive-refusal read-archive start left from-header from-operations read-fields
   begun e =
-      same-refusal (read-fields archive-opening nothing-held s 0) _ (λ h next. from-operations (h .count) h next)
+      same-refusal (read-fields header-layout empty-record s 0) _ (λ h next. from-operations (h .count) h next)
       (λ h first. same-refusal (read-operations (h .count) h s first) _ (λ ops end. read-tail s end) (λ ops end. found-refusal (read-tail s end) (λ tail. archive-of h ops)))
-      ∙ ap reading-refusal (then-assoc (read-field 0x40 nothing-held s 0) _ _)
-      ∙ ap (λ (r : Reader). reading-refusal (left (r .due) (r .held) 0)) (sym e)
+      ∙ ap reading-refusal (then-assoc (read-field 0x40 empty-record s 0) _ _)
+      ∙ ap (λ (r : Reader). reading-refusal (left (r .expected) (r .values) 0)) (sym e)
 
 -- ---- a step that reads a field, as the code makes it
 
-pub some-due : (n : ℕ) → (n ≡ 0 → ⊥) → Operations n ≡ operations-due n
-unfolding operations-due
-some-due zero h = absurd (h refl)
-some-due (suc n) h = refl
+pub some-expected : (n : ℕ) → (n ≡ 0 → ⊥) → Operations n ≡ operations-expected n
+unfolding operations-expected
+some-expected zero h = absurd (h refl)
+some-expected (suc n) h = refl
 
 module _ (i count : ℕ) where
-  pub opening-more : suc i < length archive-opening → Opening (i + 1) ≡ after-opening i count
-  unfolding after-opening
-  opening-more lt = let e : i + 1 ≡ suc i = omega arith in rw (lt-ltb (suc i) (length archive-opening) lt) (ap Opening e)
+  pub header-more : suc i < length header-layout → Header (i + 1) ≡ after-header i count
+  unfolding after-header
+  header-more lt = let e : i + 1 ≡ suc i = omega arith in rw (lt-ltb (suc i) (length header-layout) lt) (ap Header e)
 
-  pub opening-over : {d : Due} → length archive-opening ≤ suc i → d ≡ operations-due count → d ≡ after-opening i count
-  unfolding after-opening
-  opening-over le e = rw (le-ltb (suc i) (length archive-opening) le) e
+  pub header-over : {d : Expected} → length header-layout ≤ suc i → d ≡ operations-expected count → d ≡ after-header i count
+  unfolding after-header
+  header-over le e = rw (le-ltb (suc i) (length header-layout) le) e
 
-module _ (tag : ℕ) (due : Held → Due) (h : Held) (s : List ℕ) (at : ℕ) where
+module _ (tag : ℕ) (expected : Record → Expected) (h : Record) (s : List ℕ) (at : ℕ) where
   -- a field, and what is expected after it
   abbrev field-step : Reading Reader
-  field-step = read-field tag h s at then λ more next. found (reader (due more) more) next
+  field-step = read-field tag h s at then λ more next. found (reader (expected more) more) next
 
   pub step-refused : {n : ℕ} → read-field tag h s at ≡ refused n → refused n ≡ field-step
   step-refused e = sym (then-refused _ e)
 
-  pub step-found : {more : Held} {next : ℕ} {d : Due} → read-field tag h s at ≡ found more next → d ≡ due more → found (reader d more) next ≡ field-step
-  step-found {more} {next} e f = ap (λ (d : Due). found (reader d more) next) f ∙ sym (then-found _ e)
+  pub step-found : {more : Record} {next : ℕ} {d : Expected} → read-field tag h s at ≡ found more next → d ≡ expected more → found (reader d more) next ≡ field-step
+  step-found {more} {next} e f = ap (λ (d : Expected). found (reader d more) next) f ∙ sym (then-found _ e)
 
 -- ---- a step leaves less to read
 
-weight : Due → ℕ
+weight : Expected → ℕ
 weight d = cond (pending d) 1 0
 
-light : (d : Due) → weight d ≤ 1
+light : (d : Expected) → weight d ≤ 1
 unfolding weight
 light d = go (pending d)
   where
@@ -137,41 +137,41 @@ light d = go (pending d)
     go false = omega arith
 
 -- twice the bytes that are left, and one if something is expected
-pub rank : List ℕ → Due → ℕ → ℕ
+pub rank : List ℕ → Expected → ℕ → ℕ
 rank s d at = weight d + 2 * (length s - at)
 
-module _ (s : List ℕ) (h : Held) (at : ℕ) {r : Reader} {next : ℕ} where
-  field-less : (tag : ℕ) (f : Held → Due) → (read-field tag h s at then λ more next. found (reader (f more) more) next) ≡ found r next → weight (r .due) + 2 * (length s - next) < 1 + 2 * (length s - at)
+module _ (s : List ℕ) (h : Record) (at : ℕ) {r : Reader} {next : ℕ} where
+  field-less : (tag : ℕ) (f : Record → Expected) → (read-field tag h s at then λ more next. found (reader (f more) more) next) ≡ found r next → weight (r .expected) + 2 * (length s - next) < 1 + 2 * (length s - at)
   field-less tag f e =
       let p = both-found _ (read-field tag h s at) e in
       let w = field-within tag h s at (p .2) in
       let n = same-found (p .3) .1 in
-      omega (arith, w .0, w .1, n, light (r .due))
+      omega (arith, w .0, w .1, n, light (r .expected))
 
-  pub less-left : (d : Due) → pending d ≡ true → read-due d h s at ≡ found r next → rank s (r .due) next < rank s d at
-  unfolding rank weight pending read-opening read-operation read-end
-  less-left (Opening i) p e = field-less (getD archive-opening i 0) _ e
+  pub less-left : (d : Expected) → pending d ≡ true → read-expected d h s at ≡ found r next → rank s (r .expected) next < rank s d at
+  unfolding rank weight pending read-header-field read-operation read-end
+  less-left (Header i) p e = field-less (getD header-layout i 0) _ e
   less-left (Operations n) p e = field-less 0x44 _ e
   less-left End p e =
       let t = both-found _ (read-tail s at) e in
       let c = same-found (t .3) in
-      let none : weight (r .due) ≡ 0 = ap (λ (q : Reader). weight (q .due)) (sym (c .0)) in
+      let none : weight (r .expected) ≡ 0 = ap (λ (q : Reader). weight (q .expected)) (sym (c .0)) in
       omega (arith, none, c .1, tail-onward s at (t .2))
   less-left Nothing p e = absurd (false≢true p)
 
 -- ---- the reading that a code's answer stands for
 
-advance-back : (x : Reading Reader) → placed (advance-of x .place) (advance-of x .reader) ≡ x
+advance-back : (x : Reading Reader) → placed (advance-of x .offset) (advance-of x .reader) ≡ x
 unfolding advance-of placed
 advance-back (found r n) = refl
 advance-back (refused n) = refl
 
 module _ (t : Advance) {x : Reading Reader} (e : t ≡ advance-of x) where
-  pub advance-found : {next : Cursor} → t .place ≡ Next next → x ≡ found (t .reader) (next .at)
-  advance-found = answer-found (λ q. q .place) (λ q. q .reader) advance-of advance-back t x e
+  pub advance-found : {next : Cursor} → t .offset ≡ Next next → x ≡ found (t .reader) (next .at)
+  advance-found = answer-found (λ q. q .offset) (λ q. q .reader) advance-of advance-back t x e
 
-  pub advance-refused : {n : ℕ} → t .place ≡ Refused n → x ≡ refused n
-  advance-refused = answer-refused (λ q. q .place) (λ q. q .reader) advance-of advance-back t x e
+  pub advance-refused : {n : ℕ} → t .offset ≡ Refused n → x ≡ refused n
+  advance-refused = answer-refused (λ q. q .offset) (λ q. q .reader) advance-of advance-back t x e
 
-pub advance-refusal : (t : Advance) (x : Reading Reader) → t ≡ advance-of x → place-refusal (t .place) ≡ reading-refusal x
-advance-refusal = answer-refusal (λ q. q .place) (λ q. q .reader) advance-of advance-back
+pub advance-refusal : (t : Advance) (x : Reading Reader) → t ≡ advance-of x → offset-refusal (t .offset) ≡ reading-refusal x
+advance-refusal = answer-refusal (λ q. q .offset) (λ q. q .reader) advance-of advance-back

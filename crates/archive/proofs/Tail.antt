@@ -6,11 +6,11 @@ use mathlib.Core.Path.{_≡_}
 use mathlib.Core.List.{List}
 use native.Mathlib.Omega.{arith}
 use Rattle.stored_form.specs.{Reading.found, Fields.ended}
-use Rattle.stored_form.proofs.{Readings.checked-found, Readings.same-found, ToldApart.Tells, ToldApart.end-tells}
+use Rattle.stored_form.proofs.{Readings.checked-found, Readings.same-found, Valid.ValidReading, Valid.end-tells}
 use Rattle.archive.specs.Archive.{Tail, read-tail}
 
 module _ (s : List ℕ) (at : ℕ) where
-  pub tail-tells : Tells (read-tail s at)
+  pub tail-tells : ValidReading (read-tail s at)
   unfolding read-tail
   tail-tells = end-tells s tt at
 

@@ -2,8 +2,8 @@
 use Prim.Native.Nat.{ℕ}
 use mathlib.Core.List.{List}
 use Rattle.jacobian.specs.declared.{Curve.Curve, Class.Class}
-use Rattle.stored_form.specs.{Reading.Reading, Reading.found, Reading._then_, Reading.reading-refusal, Fields.ended, Held.drawing-name, Held.nothing-held}
-use Rattle.stored_form.specs.{Records.read-fields, Records.read-operations, Records.archive-opening, declared.Held.Held}
+use Rattle.stored_form.specs.{Reading.Reading, Reading.found, Reading._then_, Reading.reading-refusal, Fields.ended, Record.drawing-name, Record.empty-record}
+use Rattle.stored_form.specs.{Reader.read-fields, Reader.read-operations, Reader.header-layout, declared.Record.Record}
 
 -- the values of an archive; its operations are in order, newest first
 pub record Archive : Type 0 where
@@ -21,13 +21,13 @@ unfoldable pub read-tail : List ℕ → ℕ → Reading Tail
 read-tail s at = ended s tt at
 
 -- the archive with this header and these operations
-unfoldable pub archive-of : Held → List Class → Archive
+unfoldable pub archive-of : Record → List Class → Archive
 archive-of h ops = record { curve = h .curve; drawing = drawing-name (h .drawing); seal = h .class; operations = ops }
 
 -- reads an archive: the header (0x40, 0x41, 0x46, 0x42, 0x43), as many 0x44 as its count says, and what follows them
 unfoldable pub read-archive : List ℕ → Reading Archive
 read-archive s =
-    read-fields archive-opening nothing-held s 0 then λ h first.
+    read-fields header-layout empty-record s 0 then λ h first.
     read-operations (h .count) h s first then λ ops end.
     read-tail s end then λ tail end.
     found (archive-of h ops) end

@@ -2,19 +2,19 @@
 ghost use mathlib.Core.Path.{_≡_};
 ghost use lib.ListN.{getD};
 ghost use Rattle.stored_form.specs.Reading.{found, refused};
-ghost use Rattle.stored_form.specs.Records.{archive-opening};
+ghost use Rattle.stored_form.specs.Reader.{header-layout};
 ghost use Rattle.archive.specs.Archive.{archive-refusal};
-ghost use Rattle.archive.specs.Reader.{reader, start, after-opening, operations-due, read-opening, read-operation, read-end, step, pending, opening, advance-of};
-use stored_form::ARCHIVE_OPENING;
+ghost use Rattle.archive.specs.Reader.{reader, start, after-header, operations-expected, read-header-field, read-operation, read-end, read-next, pending, read-header, advance-of};
 use stored_form::Cursor;
-use stored_form::Held;
-use stored_form::OPENING_FIELDS;
-use stored_form::Place;
+use stored_form::HEADER_FIELDS;
+use stored_form::HEADER_LAYOUT;
+use stored_form::Offset;
+use stored_form::Record;
 
 // What is expected next.
-pub enum Due {
+pub enum Expected {
     // The field of the header with this index.
-    Opening(usize),
+    Header(usize),
     // This many operations, at least one.
     Operations(u64),
     // The end of the input.
@@ -25,13 +25,13 @@ pub enum Due {
 
 // The state of the reading: what is expected next, and the record of what was read.
 pub struct Reader {
-    pub due: Due,
-    pub held: Held,
+    pub expected: Expected,
+    pub values: Record,
 }
 
 // The state after a field, with the offset of the next one; the first state on a refusal.
 pub struct Advance {
-    pub place: Place,
+    pub offset: Offset,
     pub reader: Reader,
 }
 
@@ -39,20 +39,20 @@ pub struct Advance {
 pub fn start() -> Reader
     ensures { λ r. ⌜ r ≡ start ⌝ }
 {
-    let held = stored_form::nothing_held();
+    let values = stored_form::empty_record();
     Reader {
-        due: Due::Opening(0),
-        held,
+        expected: Expected::Header(0),
+        values,
     }
 }
 
 // The answer with this state and the offset of the next field.
-fn moved(due: Due, held: Held, next: Cursor) -> Advance
-    ensures { λ r. ⌜ r ≡ advance-of (found (reader due held) (next .at)) ⌝ }
+fn advance_to(expected: Expected, values: Record, next: Cursor) -> Advance
+    ensures { λ r. ⌜ r ≡ advance-of (found (reader expected values) (next .at)) ⌝ }
 {
     Advance {
-        place: Place::Next(next),
-        reader: Reader { due, held },
+        offset: Offset::Next(next),
+        reader: Reader { expected, values },
     }
 }
 
@@ -62,121 +62,121 @@ fn stopped(n: u32) -> Advance
 {
     let reader = start();
     Advance {
-        place: Place::Refused(n),
+        offset: Offset::Refused(n),
         reader,
     }
 }
 
 // The tag of field i of the header, and 0, which is no tag, if there is none.
-fn opening_tag(i: usize) -> u8
-    ensures { λ r. ⌜ r ≡ getD archive-opening i 0 ⌝ }
+fn header_tag(i: usize) -> u8
+    ensures { λ r. ⌜ r ≡ getD header-layout i 0 ⌝ }
 {
-    let tags = ARCHIVE_OPENING;
-    if i < OPENING_FIELDS {
+    let tags = HEADER_LAYOUT;
+    if i < HEADER_FIELDS {
         return tags[i];
     }
     0
 }
 
 // What is expected if this many operations are left.
-fn operations_due(left: u64) -> Due
-    ensures { λ r. ⌜ r ≡ operations-due left ⌝ }
+fn operations_expected(left: u64) -> Expected
+    ensures { λ r. ⌜ r ≡ operations-expected left ⌝ }
 {
     if left == 0 {
-        return Due::End;
+        return Expected::End;
     }
-    Due::Operations(left)
+    Expected::Operations(left)
 }
 
 // What is expected after field i of the header.
-fn after_opening(i: usize, count: u64) -> Due
-    ensures { λ r. ⌜ r ≡ after-opening i count ⌝ }
+fn after_header(i: usize, count: u64) -> Expected
+    ensures { λ r. ⌜ r ≡ after-header i count ⌝ }
 {
-    if i < OPENING_FIELDS - 1 {
-        return Due::Opening(i + 1);
+    if i < HEADER_FIELDS - 1 {
+        return Expected::Header(i + 1);
     }
-    operations_due(count)
+    operations_expected(count)
 }
 
 // Reads field i of the header.
-fn read_opening(i: usize, h: Held, s: &[u8], at: Cursor) -> Advance
-    ensures { λ r. ⌜ r ≡ advance-of (read-opening i h (now (s .entry)) (at .at)) ⌝ }
+fn read_header_field(i: usize, h: Record, s: &[u8], at: Cursor) -> Advance
+    ensures { λ r. ⌜ r ≡ advance-of (read-header-field i h (now (s .entry)) (at .at)) ⌝ }
 {
-    let r = stored_form::read_field(opening_tag(i), h, s, at);
-    let place = r.place;
-    let Place::Next(next) = place else {
-        return stopped(stored_form::place_refusal(place));
+    let r = stored_form::read_field(header_tag(i), h, s, at);
+    let offset = r.offset;
+    let Offset::Next(next) = offset else {
+        return stopped(stored_form::offset_refusal(offset));
     };
-    let held = r.held;
-    moved(after_opening(i, held.count), held, next)
+    let values = r.values;
+    advance_to(after_header(i, values.count), values, next)
 }
 
 // Reads an operation; this many are left, with this one.
-fn read_operation(left: u64, h: Held, s: &[u8], at: Cursor) -> Advance
+fn read_operation(left: u64, h: Record, s: &[u8], at: Cursor) -> Advance
     ensures { λ r. ⌜ r ≡ advance-of (read-operation left h (now (s .entry)) (at .at)) ⌝ }
 {
     let r = stored_form::read_field(stored_form::OPERATION, h, s, at);
-    let place = r.place;
-    let Place::Next(next) = place else {
-        return stopped(stored_form::place_refusal(place));
+    let offset = r.offset;
+    let Offset::Next(next) = offset else {
+        return stopped(stored_form::offset_refusal(offset));
     };
-    let held = r.held;
+    let values = r.values;
     if left == 0 {
-        return moved(Due::End, held, next);
+        return advance_to(Expected::End, values, next);
     }
-    moved(operations_due(left - 1), held, next)
+    advance_to(operations_expected(left - 1), values, next)
 }
 
 // Reads the end of the input.
-fn read_end(h: Held, s: &[u8], at: Cursor) -> Advance
+fn read_end(h: Record, s: &[u8], at: Cursor) -> Advance
     ensures { λ r. ⌜ r ≡ advance-of (read-end h (now (s .entry)) (at .at)) ⌝ }
 {
     let n = stored_form::end_refusal(s, at);
     if n != 0 {
         return stopped(n);
     }
-    moved(Due::Nothing, h, at)
+    advance_to(Expected::Nothing, h, at)
 }
 
 // One step: reads what is expected at an offset.
-pub fn step(r: Reader, s: &[u8], at: Cursor) -> Advance
-    ensures { λ t. ⌜ t ≡ advance-of (step r (now (s .entry)) (at .at)) ⌝ }
+pub fn read_next(r: Reader, s: &[u8], at: Cursor) -> Advance
+    ensures { λ t. ⌜ t ≡ advance-of (read-next r (now (s .entry)) (at .at)) ⌝ }
 {
-    let due = r.due;
-    let held = r.held;
-    match due {
-        Due::Opening(i) => read_opening(i, held, s, at),
-        Due::Operations(left) => read_operation(left, held, s, at),
-        Due::End => read_end(held, s, at),
-        Due::Nothing => moved(Due::Nothing, held, at),
+    let expected = r.expected;
+    let values = r.values;
+    match expected {
+        Expected::Header(i) => read_header_field(i, values, s, at),
+        Expected::Operations(left) => read_operation(left, values, s, at),
+        Expected::End => read_end(values, s, at),
+        Expected::Nothing => advance_to(Expected::Nothing, values, at),
     }
 }
 
 // Whether a field or the end is expected.
 fn pending(r: Reader) -> bool
-    ensures { λ b. ⌜ b ≡ pending (r .due) ⌝ }
+    ensures { λ b. ⌜ b ≡ pending (r .expected) ⌝ }
 {
-    let due = r.due;
-    match due {
-        Due::Opening(_) => true,
-        Due::Operations(_) => true,
-        Due::End => true,
-        Due::Nothing => false,
+    let expected = r.expected;
+    match expected {
+        Expected::Header(_) => true,
+        Expected::Operations(_) => true,
+        Expected::End => true,
+        Expected::Nothing => false,
     }
 }
 
 // Reads the header; the operations are expected then.
-pub fn opening(s: &[u8]) -> Advance
-    ensures { λ r. ⌜ r ≡ advance-of (opening (now (s .entry))) ⌝ }
+pub fn read_header(s: &[u8]) -> Advance
+    ensures { λ r. ⌜ r ≡ advance-of (read-header (now (s .entry))) ⌝ }
 {
-    let tags = ARCHIVE_OPENING;
-    let r = stored_form::read_fields(&tags, stored_form::nothing_held(), s, Cursor { at: 0 });
-    let place = r.place;
-    let Place::Next(next) = place else {
-        return stopped(stored_form::place_refusal(place));
+    let tags = HEADER_LAYOUT;
+    let r = stored_form::read_fields(&tags, stored_form::empty_record(), s, Cursor { at: 0 });
+    let offset = r.offset;
+    let Offset::Next(next) = offset else {
+        return stopped(stored_form::offset_refusal(offset));
     };
-    let held = r.held;
-    moved(operations_due(held.count), held, next)
+    let values = r.values;
+    advance_to(operations_expected(values.count), values, next)
 }
 
 // The refusal of an archive, and 0 if it is accepted. Takes steps until nothing is expected or a field is refused.
@@ -186,10 +186,10 @@ pub fn archive_refusal(s: &[u8]) -> u32
     let mut r = start();
     let mut at = 0;
     while pending(r) {
-        let t = step(r, s, Cursor { at });
-        let place = t.place;
-        let Place::Next(next) = place else {
-            return stored_form::place_refusal(place);
+        let t = read_next(r, s, Cursor { at });
+        let offset = t.offset;
+        let Offset::Next(next) = offset else {
+            return stored_form::offset_refusal(offset);
         };
         let more = t.reader;
         r = more;

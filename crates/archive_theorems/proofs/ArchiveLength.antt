@@ -5,23 +5,23 @@ use mathlib.Core.List.{List, _++_}
 use native.Mathlib.Omega.{arith}
 use lib.ListN.{length, length-append}
 use Rattle.jacobian.specs.{Curves.coefficients, declared.Curve.Curve}
-use Rattle.stored_form.specs.{Number.bytes-of, Number.Bytes, Reading.found, Head.degree-length, Head.curve-length, Head.head-bytes, Head.stored, Elements.element-bytes}
+use Rattle.stored_form.specs.{Number.encode-number, Number.Bytes, Reading.found, Head.degree-length, Head.curve-length, Head.head-bytes, Head.encode-field, Elements.encode-elements}
 use Rattle.stored_form.specs.{Fields.degree-field, Fields.drawing-field, Fields.count-field, Fields.count-limit}
-use Rattle.stored_form.specs.Classes.{curve-field, curve-first-fields, class-field, operation-fields}
+use Rattle.stored_form.specs.Classes.{curve-field, curve-fields-bytes, class-field, operation-fields}
 use Rattle.stored_form.proofs.Lengths.{length-stored, length-count}
 use Rattle.stored_form_theorems.proofs.{ClassRoundTrips.class-short, Operations.operations-short}
 use Rattle.archive.specs.Archive.{Archive, read-archive}
 use Rattle.archive_theorems.specs.Written.{archive-bytes, Storable}
 use Rattle.archive_theorems.proofs.ArchiveRoundTrips.{archive-written}
 
-first-length : (c : Curve) → length (curve-first-fields c) ≡ 3 + degree-length + (3 + curve-length)
-unfolding curve-first-fields degree-field curve-field coefficients stored head-bytes element-bytes bytes-of
+first-length : (c : Curve) → length (curve-fields-bytes c) ≡ 3 + degree-length + (3 + curve-length)
+unfolding curve-fields-bytes degree-field curve-field coefficients encode-field head-bytes encode-elements encode-number
 first-length c = refl
 
 stored-short : (a : Archive) → Storable a → length (archive-bytes a) < 65536
 unfolding archive-bytes drawing-field count-limit
 stored-short a ok =
-    let first : List ℕ = curve-first-fields (a .curve) in
+    let first : List ℕ = curve-fields-bytes (a .curve) in
     let name : List ℕ = drawing-field (a .drawing) in
     let count : List ℕ = count-field (length (a .operations)) in
     let seal : List ℕ = class-field 0x43 (a .seal) in

@@ -8,11 +8,11 @@ use native.Mathlib.Nat.{le-refl}
 use lib.ListN.{length}
 use Rattle.lists.specs.Lists.{All}
 use Rattle.jacobian.specs.declared.{Curve.Curve, Class.Class}
-use Rattle.stored_form.specs.{Number.Bytes, Reading.found, Fields.drawing-field, Fields.count-field, Classes.curve-first-fields, Classes.class-field, Classes.operation-fields}
-use Rattle.stored_form.specs.{Passing.CurvePasses, Passing.DrawingPasses, Passing.CountPasses, Passing.ClassPasses, Records.read-fields, Records.archive-opening, declared.Held.Held}
-use Rattle.stored_form.specs.Held.{drawing-said, nothing-held, with-curve, with-drawing, with-count, with-class}
-use Rattle.stored_form.proofs.{Readings.then-found, DrawingBytes.name-said}
-use Rattle.stored_form_theorems.specs.{Fields.Field, Records.Leads}
+use Rattle.stored_form.specs.{Number.Bytes, Reading.found, Fields.drawing-field, Fields.count-field, Classes.curve-fields-bytes, Classes.class-field, Classes.operation-fields}
+use Rattle.stored_form.specs.{Passing.CurvePasses, Passing.DrawingPasses, Passing.CountPasses, Passing.ClassPasses, Reader.read-fields, Reader.header-layout, declared.Record.Record}
+use Rattle.stored_form.specs.Record.{decode-drawing, empty-record, with-curve, with-drawing, with-count, with-class}
+use Rattle.stored_form.proofs.{Readings.then-found, DrawingBytes.name-decoded}
+use Rattle.stored_form_theorems.specs.{Fields.Field, Records.RecordEncodes}
 use Rattle.stored_form_theorems.specs.Records as records
 use Rattle.stored_form_theorems.proofs.{Places.behind, Places.apart, Places.whole, Places.is-whole, Operations.operations-counted, Operations.operations-sound, Operations.operations-written, Operations.operations-read-back}
 use Rattle.stored_form_theorems.proofs.{RecordRoundTrips.begin-written, RecordRoundTrips.begin-read-back, FieldLaws.first-value, FieldLaws.no-more}
@@ -25,18 +25,18 @@ use Rattle.archive_theorems.proofs.{Parts.parts-of, Tail.tail-written, 
 -- ---- the header
 
 -- its record
-abbrev named : Curve → List ℕ → Held
-named c name = with-drawing (drawing-said name) (with-curve c nothing-held)
+abbrev named : Curve → List ℕ → Record
+named c name = with-drawing (decode-drawing name) (with-curve c empty-record)
 
-abbrev counted : Curve → List ℕ → ℕ → Held
+abbrev counted : Curve → List ℕ → ℕ → Record
 counted c name n = with-count n (named c name)
 
 -- its bytes
-abbrev opening-bytes : Curve → List ℕ → ℕ → Class → List ℕ
-opening-bytes c name n seal = curve-first-fields c ++ drawing-field name ++ count-field n ++ class-field 0x43 seal
+abbrev header-bytes : Curve → List ℕ → ℕ → Class → List ℕ
+header-bytes c name n seal = curve-fields-bytes c ++ drawing-field name ++ count-field n ++ class-field 0x43 seal
 
 -- values that pass, and the encoded header with them at the start of the input
-record Opens (s : List ℕ) (h : Held) (first : ℕ) : Type 0 where
+record Opens (s : List ℕ) (h : Record) (first : ℕ) : Type 0 where
   curve : Curve
   drawing : List ℕ
   count : ℕ
@@ -45,14 +45,14 @@ record Opens (s : List ℕ) (h : Held) (first : ℕ) : Type 0 where
   drawing-passes : DrawingPasses drawing
   count-passes : CountPasses count
   seal-passes : ClassPasses curve seal
-  held : h ≡ with-class seal (counted curve drawing count)
-  field : Field s 0 (opening-bytes curve drawing count seal) first
+  values : h ≡ with-class seal (counted curve drawing count)
+  field : Field s 0 (header-bytes curve drawing count seal) first
 
-opening-written : (s : List ℕ) {h : Held} {first : ℕ} → Bytes s → read-fields archive-opening nothing-held s 0 ≡ found h first → Opens s h first
-opening-written s {first = first} b e =
-    let w = begin-written s archive-opening b e in
+header-written : (s : List ℕ) {h : Record} {first : ℕ} → Bytes s → read-fields header-layout empty-record s 0 ≡ found h first → Opens s h first
+header-written s {first = first} b e =
+    let w = begin-written s header-layout b e in
     let c = first-curve (w .1) in
-    let name = first-value (drawing-law (with-curve (c .0) nothing-held)) (c .2) in
+    let name = first-value (drawing-law (with-curve (c .0) empty-record)) (c .2) in
     let n = first-value (count-law (named (c .0) (name .0))) (name .2) in
     let seal = first-value (class-law (counted (c .0) (name .0) (n .0))) (n .2) in
     let last = no-more (seal .2) in
@@ -65,7 +65,7 @@ opening-written s {first = first} b e =
       drawing-passes = name .1;
       count-passes = n .1;
       seal-passes = seal .1;
-      held = last .0;
+      values = last .0;
       field = subst (λ (x : List ℕ). Field s 0 x first) (last .1) (w .2);
     }
 
@@ -78,34 +78,34 @@ archive-read-back a ok =
     let c : Curve = a .curve in
     let n : ℕ = length (a .operations) in
     let name : List ℕ = a .drawing in
-    let parts = apart (opening-bytes c name n (a .seal)) (operation-fields (a .operations)) (whole s) in
-    let leads : Leads archive-opening nothing-held [] (with-class (a .seal) (counted c name n)) (opening-bytes c name n (a .seal)) =
+    let parts = apart (header-bytes c name n (a .seal)) (operation-fields (a .operations)) (whole s) in
+    let leads : RecordEncodes header-layout empty-record [] (with-class (a .seal) (counted c name n)) (header-bytes c name n (a .seal)) =
     curve-more c (ok .curve-allowed)
-    (fields.more (drawing-law (with-curve c nothing-held)) name (ok .drawing-printable, ok .drawing-short)
+    (fields.more (drawing-law (with-curve c empty-record)) name (ok .drawing-printable, ok .drawing-short)
     (fields.more (count-law (named c name)) n (ok .count-within)
     (fields.more (class-law (counted c name n)) (a .seal) (ok .seal-allowed) records.none))) in
     then-found _ (begin-read-back s leads (parts .1))
     ∙ then-found _ (operations-read-back _ s (parts .0) (a .operations) (ok .operations-allowed) (parts .2))
     ∙ then-found _ (tail-read-back s (length s) (le-refl _))
-    ∙ ap (λ (x : List ℕ). found (record { curve = c; drawing = x; seal = a .seal; operations = a .operations }) (length s)) (name-said name)
+    ∙ ap (λ (x : List ℕ). found (record { curve = c; drawing = x; seal = a .seal; operations = a .operations }) (length s)) (name-decoded name)
 
 pub archive-written : (s : List ℕ) {a : Archive} {end : ℕ} → Bytes s → read-archive s ≡ found a end →
     (s ≡ archive-bytes a) × (end ≡ length s) × Storable a
 unfolding archive-bytes archive-of
 archive-written s {a} {end} b h =
     let p = parts-of s h in
-    let o = opening-written s b (p .opening-read) in
+    let o = header-written s b (p .header-read) in
     let t = tail-written s (p .last) (p .tail-read) in
-    let field = operations-written s (p .held .count) (p .held) (p .first) b (p .operations-read) in
-    let number : length (p .operations) ≡ o .count = operations-counted s (p .held .count) (p .held) (p .first) (p .operations-read) ∙ ap (λ (k : Held). k .count) (o .held) in
-    let sound = subst (λ (k : Held). All (ClassPasses (k .curve)) (p .operations)) (o .held) (operations-sound s (p .held .count) (p .held) (p .first) (p .operations-read)) in
+    let field = operations-written s (p .values .count) (p .values) (p .first) b (p .operations-read) in
+    let number : length (p .operations) ≡ o .count = operations-counted s (p .values .count) (p .values) (p .first) (p .operations-read) ∙ ap (λ (k : Record). k .count) (o .values) in
+    let sound = subst (λ (k : Record). All (ClassPasses (k .curve)) (p .operations)) (o .values) (operations-sound s (p .values .count) (p .values) (p .first) (p .operations-read)) in
     let ends = is-whole s (behind _ _ (o .field) field) (t .1) in
-    let bytes = ap (λ (n : ℕ). opening-bytes (o .curve) (o .drawing) n (o .seal) ++ operation-fields (p .operations)) (sym number) in
+    let bytes = ap (λ (n : ℕ). header-bytes (o .curve) (o .drawing) n (o .seal) ++ operation-fields (p .operations)) (sym number) in
     let value : Archive = record { curve = o .curve; drawing = o .drawing; seal = o .seal; operations = p .operations } in
     let is : a ≡ value =
     p .archive
-    ∙ ap (λ (k : Held). archive-of k (p .operations)) (o .held)
-    ∙ ap (λ (x : List ℕ). record { curve = o .curve; drawing = x; seal = o .seal; operations = p .operations }) (name-said (o .drawing)) in
+    ∙ ap (λ (k : Record). archive-of k (p .operations)) (o .values)
+    ∙ ap (λ (x : List ℕ). record { curve = o .curve; drawing = x; seal = o .seal; operations = p .operations }) (name-decoded (o .drawing)) in
     let storable : Storable value = record {
       curve-allowed = o .curve-passes;
       drawing-printable = o .drawing-passes .0;

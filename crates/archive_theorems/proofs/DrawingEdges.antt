@@ -12,41 +12,41 @@ use lib.ListN.{length, getD}
 use borrow.Author.Tests.{le-leb, lt-leb}
 use Rattle.jacobian.specs.Checks.{unless}
 use Rattle.stored_form.specs.{Number.part, Reading.found, Reading.refused, Reading.checked, Reading.reading-refusal, Fields.printable, Fields.drawing-refusal}
-use Rattle.stored_form.specs.{Head.drawing-limit, Head.body-length, Held.drawing-said, Held.nothing-held, Held.with-drawing, Tags.rules}
-use Rattle.stored_form.specs.{Records.curve-fields, Records.body-at, Records.read-field, Records.read-fields, declared.Held.Held}
-use Rattle.stored_form.proofs.{DrawingBytes.name-said, Heads.head-104, Heads.head-105, Heads.head-whole, Readings.then-found, Readings.then-refused, Readers.field-refused, Readers.fields-append}
+use Rattle.stored_form.specs.{Head.drawing-limit, Head.body-length, Record.decode-drawing, Record.empty-record, Record.with-drawing, Tags.rules}
+use Rattle.stored_form.specs.{Reader.curve-layout, Reader.read-body, Reader.read-field, Reader.read-fields, declared.Record.Record}
+use Rattle.stored_form.proofs.{DrawingBytes.name-decoded, Heads.head-104, Heads.head-105, Heads.head-whole, Readings.then-found, Readings.then-refused, Readers.field-refused, Readers.fields-append}
 use Rattle.archive.specs.Archive.{read-archive, archive-refusal}
 
-module _ (s : List ℕ) {h : Held} {at : ℕ} (first : read-fields curve-fields nothing-held s 0 ≡ found h at) (fits : at + 3 ≤ length s) (due : getD s at 0 ≡ 0x46) where
+module _ (s : List ℕ) {h : Record} {at : ℕ} (first : read-fields curve-layout empty-record s 0 ≡ found h at) (fits : at + 3 ≤ length s) (expected : getD s at 0 ≡ 0x46) where
   -- the refusal of the drawing number is the archive's
   archive-refused : {n : ℕ} → read-field 0x46 h s at ≡ refused n → archive-refusal s ≡ n
   unfolding archive-refusal read-archive read-fields
-  archive-refused e = ap reading-refusal (then-refused _ (fields-append curve-fields (0x46 ∷ 0x42 ∷ 0x43 ∷ []) nothing-held s 0 ∙ then-found _ first ∙ then-refused _ e))
+  archive-refused e = ap reading-refusal (then-refused _ (fields-append curve-layout (0x46 ∷ 0x42 ∷ 0x43 ∷ []) empty-record s 0 ∙ then-found _ first ∙ then-refused _ e))
 
   pub drawing-above-limit : drawing-limit < body-length s at → archive-refusal s ≡ 104
   unfolding rules
-  drawing-above-limit e = archive-refused (field-refused 0x46 h s at (head-104 0x46 h s at refl fits due (lt-leb _ _ e)))
+  drawing-above-limit e = archive-refused (field-refused 0x46 h s at (head-104 0x46 h s at refl fits expected (lt-leb _ _ e)))
 
   module _ (short : body-length s at ≤ drawing-limit) where
     pub drawing-cut : length s < at + 3 + body-length s at → archive-refusal s ≡ 105
     unfolding rules
-    drawing-cut e = archive-refused (field-refused 0x46 h s at (head-105 0x46 h s at refl fits due (le-leb _ _ short) e))
+    drawing-cut e = archive-refused (field-refused 0x46 h s at (head-105 0x46 h s at refl fits expected (le-leb _ _ short) e))
 
     module _ (whole : at + 3 + body-length s at ≤ length s) where
       -- the body, the record with it, and the check of its bytes
       body-checked : let body = part s (at + 3) (body-length s at) in
-          read-field 0x46 h s at ≡ checked (drawing-refusal body) (found (with-drawing (drawing-said body) h) (at + 3 + body-length s at))
-      unfolding read-field body-at rules
+          read-field 0x46 h s at ≡ checked (drawing-refusal body) (found (with-drawing (decode-drawing body) h) (at + 3 + body-length s at))
+      unfolding read-field read-body rules
       body-checked =
           let body = part s (at + 3) (body-length s at) in
-          then-found _ (then-found _ (head-whole 0x46 h s at refl fits due (le-leb _ _ short) whole))
-          ∙ ap (λ (x : List ℕ). checked (drawing-refusal x) (found (with-drawing (drawing-said body) h) (at + 3 + body-length s at))) (name-said body)
+          then-found _ (then-found _ (head-whole 0x46 h s at refl fits expected (le-leb _ _ short) whole))
+          ∙ ap (λ (x : List ℕ). checked (drawing-refusal x) (found (with-drawing (decode-drawing body) h) (at + 3 + body-length s at))) (name-decoded body)
 
       pub drawing-unprintable : printable (part s (at + 3) (body-length s at)) ≡ false → archive-refusal s ≡ 108
       unfolding drawing-refusal unless checked
       drawing-unprintable e = archive-refused (body-checked ∙ rw e refl)
 
       pub drawing-within-limit : let body = part s (at + 3) (body-length s at) in
-          printable body ≡ true → read-field 0x46 h s at ≡ found (with-drawing (drawing-said body) h) (at + 3 + body-length s at)
+          printable body ≡ true → read-field 0x46 h s at ≡ found (with-drawing (decode-drawing body) h) (at + 3 + body-length s at)
       unfolding drawing-refusal unless checked
       drawing-within-limit e = body-checked ∙ rw e refl

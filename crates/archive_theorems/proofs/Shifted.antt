@@ -5,18 +5,18 @@ use mathlib.Core.Bool.{Bool, true, false}
 use lib.Dec.{ltb}
 use borrow.Author.Tests.{lt-ltb, le-ltb, ltb-true, ltb-false}
 use Rattle.stored_form.specs.{Reading.Reading, Reading.found, Reading.refused, Reading.checked, Reading._then_}
-use Rattle.archive_theorems.specs.Places.{after}
+use Rattle.archive_theorems.specs.Places.{shift}
 
-pub checked-after : {A : Type 0} (k n : ℕ) (a : A) (next : ℕ) → checked n (found a (k + next)) ≡ after k (checked n (found a next))
-unfolding after checked
-checked-after k zero a next = refl
-checked-after k (suc n) a next = refl
+pub checked-shift : {A : Type 0} (k n : ℕ) (a : A) (next : ℕ) → checked n (found a (k + next)) ≡ shift k (checked n (found a next))
+unfolding shift checked
+checked-shift k zero a next = refl
+checked-shift k (suc n) a next = refl
 
-pub then-after : {A B : Type 0} (k : ℕ) (x : Reading A) {y : Reading A} (F G : A → ℕ → Reading B) → y ≡ after k x →
-    ((a : A) (n : ℕ) → G a (k + n) ≡ after k (F a n)) → (y then G) ≡ after k (x then F)
-unfolding after _then_
-then-after k (found a n) F G e h = rw e (h a n)
-then-after k (refused n) F G e h = rw e
+pub then-shift : {A B : Type 0} (k : ℕ) (x : Reading A) {y : Reading A} (F G : A → ℕ → Reading B) → y ≡ shift k x →
+    ((a : A) (n : ℕ) → G a (k + n) ≡ shift k (F a n)) → (y then G) ≡ shift k (x then F)
+unfolding shift _then_
+then-shift k (found a n) F G e h = rw e (h a n)
+then-shift k (refused n) F G e h = rw e
 
 pub same-test : (a b c d : ℕ) → (c < d → a < b) → (d ≤ c → b ≤ a) → ltb a b ≡ ltb c d
 same-test a b c d less most = go (ltb c d) refl

@@ -10,8 +10,8 @@ use lib.ListN.{length, take, drop, length-take, length-drop}
 use Rattle.stored_form.specs.{Reading.found, Fields.end-refusal, Fields.ended, Tags.longest-body}
 use Rattle.stored_form_theorems.proofs.Places.{end-found, end-read-back}
 use Rattle.archive.specs.Archive.{Tail, read-tail}
-use Rattle.archive_theorems.specs.Places.{after}
-use Rattle.archive_theorems.proofs.Shifted.{checked-after, same-test}
+use Rattle.archive_theorems.specs.Places.{shift}
+use Rattle.archive_theorems.proofs.Shifted.{checked-shift, same-test}
 
 module _ (s : List ℕ) (at : ℕ) where
   pub tail-written : {t : Tail} {end : ℕ} → read-tail s at ≡ found t end → (at ≡ end) × (length s ≤ at)
@@ -23,11 +23,11 @@ module _ (s : List ℕ) (at : ℕ) where
   tail-read-back h = end-read-back s tt at h
 
   -- with offsets shifted by k
-  pub tail-after : (k : ℕ) → read-tail s (k + at) ≡ after k (read-tail (drop k s) at)
+  pub tail-after : (k : ℕ) → read-tail s (k + at) ≡ shift k (read-tail (drop k s) at)
   unfolding read-tail ended end-refusal
   tail-after k =
       rw (same-test (k + at) (length s) at (length (drop k s)) (λ h. omega (arith, length-drop k s)) (λ h. omega (arith, length-drop k s)))
-      (checked-after k (end-refusal (drop k s) at) tt at)
+      (checked-shift k (end-refusal (drop k s) at) tt at)
 
   -- from the first m bytes, if they have room for the longest field
   pub tail-within : (m : ℕ) → at + (3 + longest-body) ≤ m → read-tail (take m s) at ≡ read-tail s at

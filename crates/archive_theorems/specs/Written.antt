@@ -6,13 +6,13 @@ use mathlib.Core.List.{List, _++_}
 use lib.ListN.{length}
 use Rattle.lists.specs.Lists.{All}
 use Rattle.stored_form.specs.{Head.drawing-limit, Fields.drawing-field, Fields.count-field, Fields.printable}
-use Rattle.stored_form.specs.{Classes.curve-first-fields, Classes.class-field, Classes.operation-fields, Passing.CurvePasses, Passing.CountPasses, Passing.ClassPasses}
+use Rattle.stored_form.specs.{Classes.curve-fields-bytes, Classes.class-field, Classes.operation-fields, Passing.CurvePasses, Passing.CountPasses, Passing.ClassPasses}
 use Rattle.archive.specs.Archive.{Archive}
 
 -- an archive encoded: 0x40, 0x41, 0x46, 0x42, 0x43 and one 0x44 for each operation
 unfoldable pub archive-bytes : Archive → List ℕ
 archive-bytes a =
-    curve-first-fields (a .curve)
+    curve-fields-bytes (a .curve)
     ++ drawing-field (a .drawing)
     ++ count-field (length (a .operations))
     ++ class-field 0x43 (a .seal)

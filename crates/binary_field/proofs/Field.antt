@@ -1,7 +1,7 @@
 -- The numbers of the field's operations, and the element of a number.
 -- `add-number`, `mul-number`: the number of a sum and of a product.
 -- `inverse-number`, `root-number`: the number of an inverse and of a square root.
--- `nought-number`, `one-number`: the numbers of 0 and 1.
+-- `zero-number`, `one-number`: the numbers of 0 and 1.
 -- `element-small`: the element of a number below 2^d has that number.
 -- `element-number`: an element is the element of its number.
 -- `computing`: under `unfolding field element computing` operations on closed elements compute.
@@ -21,9 +21,9 @@ module _ (d : ℕ) (ok : Accepted d) where
   unfolding field
   mul-number x y = refl
 
-  pub nought-number : (field d ok .ring .nought) .0 ≡ 0
+  pub zero-number : (field d ok .ring .zero) .0 ≡ 0
   unfolding field
-  nought-number = refl
+  zero-number = refl
 
   pub one-number : (field d ok .ring .one) .0 ≡ 1
   unfolding field

@@ -3,4 +3,4 @@ pub mod Field
 pub mod Checks
 pub mod Degrees
 pub mod Replies
-pub mod Told
+pub mod Valid

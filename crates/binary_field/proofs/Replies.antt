@@ -17,7 +17,7 @@ use Rattle.binary_field_theory.specs.{Carryless._⊕_, Element.is-degree, Eleme
 use Rattle.binary_field_theory.proofs.{Linear.both, Elements.element-path, Theorems.one-inverse, Theorems.even-root-found, Theorems.even-root-none, Theorems.even-root-by-trace, Theorems.none-by-trace}
 use Rattle.binary_field.specs.{Field.field, Answer.element, Answer.refusal, Answer.reply, Answer.below, Answer.degree-refusal, Answer.element-refusal, Answer.inverse-refusal, Answer.answered, Answer.sum-reply, Answer.product-reply, Answer.square-reply, Answer.root-reply, Answer.inverse-reply, Answer.InverseMeans, Answer.solved, Answer.quadratic-answer, Answer.Means, Checks.unless, Checks._or-else_}
 use Rattle.field_laws.specs.Division.{inverse-of}
-use Rattle.binary_field.proofs.Field.{add-number, mul-number, nought-number, root-number, inverse-number, element-small}
+use Rattle.binary_field.proofs.Field.{add-number, mul-number, zero-number, root-number, inverse-number, element-small}
 use Rattle.binary_field.proofs.Checks.{then-zero}
 
 refusal-of : (k v : ℕ) → (k ≡ 0 → ⊥) → refusal k ≡ answered k v
@@ -162,10 +162,10 @@ module _ (d : ℕ) (ok : Accepted d) (a : ℕ) (ha : a < 2 ^ d) where
   pub root-in-field : root-reply d a ≡ element ((field d ok .root (at d ok a)) .0)
   root-in-field = rw (root-number d ok, element-small d ok a ha) (root-replies d a ok ha)
 
-  pub inverse-in-field : (ne : ¬ (at d ok a ≡ field d ok .ring .nought)) → inverse-reply d a ≡ element ((inverse-of (field d ok) (at d ok a) ne) .0)
+  pub inverse-in-field : (ne : ¬ (at d ok a ≡ field d ok .ring .zero)) → inverse-reply d a ≡ element ((inverse-of (field d ok) (at d ok a) ne) .0)
   inverse-in-field ne =
       let small = element-small d ok a ha in
-      let not-zero : ¬ (a ≡ 0) = λ e. ne (element-path d (small ∙ e ∙ sym (nought-number d ok))) in
+      let not-zero : ¬ (a ≡ 0) = λ e. ne (element-path d (small ∙ e ∙ sym (zero-number d ok))) in
       inverse-replies d a ok ha not-zero
       ∙ ap element (sym (inverse-number d ok (at d ok a) (λ e. not-zero (sym small ∙ e)) ∙ ap (λ n. power d n (2 ^ d - 2)) small))
 

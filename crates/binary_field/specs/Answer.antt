@@ -46,8 +46,8 @@ unfoldable pub element-refusals : List ℕ
 element-refusals = 106 ∷ 110 ∷ 117 ∷ []
 
 -- a valid refusal of a call on elements: 0, or one of these numbers
-unfoldable pub ElementTold : ℕ → Type 0
-ElementTold n = (n ≡ 0) ⊎ (listed n element-refusals ≡ true)
+unfoldable pub ValidElementRefusal : ℕ → Type 0
+ValidElementRefusal n = (n ≡ 0) ⊎ (listed n element-refusals ≡ true)
 
 -- the refusal where it is not 0, else the element v
 unfoldable pub answered : ℕ → ℕ → Reply

@@ -20,12 +20,12 @@ module _ (d : ℕ) (ok : Accepted d) where
       record {
         add = λ x y. (x .0 ⊕ y .0, Sums.sum-lt d (x .0) (y .0) (x .1) (y .1));
         mul = λ x y. (product d (x .0) (y .0), Products.product-lt d (low-lt d ok) (x .0) (y .0));
-        nought = (0, pow-pos d);
+        zero = (0, pow-pos d);
         one = (1, Products.one-lt d (low-lt d ok));
         isSet = hedberg (Fin-discrete (2 ^ d));
         add-comm = λ x y. element-path d (Sums.sum-comm (x .0) (y .0));
         add-assoc = λ x y z. element-path d (Sums.sum-assoc (x .0) (y .0) (z .0));
-        add-nought = λ x. element-path d (Sums.sum-zero (x .0));
+        add-zero = λ x. element-path d (Sums.sum-zero (x .0));
         add-self = λ x. element-path d (Sums.sum-self (x .0));
         mul-comm = λ x y. element-path d (Products.product-comm d (x .0) (y .0));
         mul-assoc = λ x y z. element-path d (Products.product-assoc d (low-lt d ok) (x .0) (y .0) (z .0));
@@ -40,7 +40,7 @@ module _ (d : ℕ) (ok : Accepted d) where
       record {
         ring = ring;
         discrete = Fin-discrete (2 ^ d);
-        one≢nought = λ e. let z : _≡_ {A = ℕ} 1 0 = ap (λ (x : Element d). x .0) e in omega arith;
+        one≢zero = λ e. let z : _≡_ {A = ℕ} 1 0 = ap (λ (x : Element d). x .0) e in omega arith;
         inverse = λ x. (chain-inverse d (x .0), Elements.chain-lt d ok (x .0) (x .1));
         mul-inverse = λ x ne. element-path d (Elements.product-chain d ok (x .0) (x .1) (λ z. ne (element-path d z)));
         root = λ x. (spreadings d (d - 1) (x .0), Elements.spreadings-lt d ok (x .0) (x .1));

@@ -75,10 +75,10 @@ certified =
 pub idempotent-lt : (d : ℕ) → Certified d → (a : ℕ) → a < 2 ^ d → square d a ≡ a → a < 2
 idempotent-lt d c a ha e =
     let same : combine (c .values) (square d a ⊕ a) ≡ a ⊕ a % 2 = basis undone cleared undone-additive cleared-additive d (c .undo) a ha in
-    let nought : combine (c .values) (square d a ⊕ a) ≡ 0 =
+    let vanishes : combine (c .values) (square d a ⊕ a) ≡ 0 =
     ap (λ x. combine (c .values) (x ⊕ a)) e ∙ ap (combine (c .values)) (sum-self a)
     ∙ additive-zero (combine (c .values)) (combine-additive (c .values)) in
-    let digit : a ≡ a % 2 = sum-cancel a (a % 2) (sym same ∙ nought) in
+    let digit : a ≡ a % 2 = sum-cancel a (a % 2) (sym same ∙ vanishes) in
     omega arith
   where
     undone : ℕ → ℕ

@@ -119,8 +119,8 @@ module _ (d : ℕ) (c : Certified d) where
   pub two-roots : {a y b : ℕ} → Root d a y → Root d a b → (b ≡ y) ⊎ (b ≡ y ⊕ 1)
   unfolding quadratic
   two-roots {a} {y} {b} r s =
-      let nought : quadratic d (y ⊕ b) ≡ 0 = quadratic-sum d (c .fits) y b ∙ ap₂ _⊕_ (r .solves) (s .solves) ∙ sum-self a in
-      by (y ⊕ b) (idempotent-lt d c (y ⊕ b) (sum-lt d y b (r .below) (s .below)) (sum-cancel _ _ nought)) refl
+      let vanishes : quadratic d (y ⊕ b) ≡ 0 = quadratic-sum d (c .fits) y b ∙ ap₂ _⊕_ (r .solves) (s .solves) ∙ sum-self a in
+      by (y ⊕ b) (idempotent-lt d c (y ⊕ b) (sum-lt d y b (r .below) (s .below)) (sum-cancel _ _ vanishes)) refl
     where
       back : {e : ℕ} → y ⊕ b ≡ e → b ≡ y ⊕ e
       back e = sym (sum-self-left y b) ∙ ap (λ x. y ⊕ x) e

@@ -9,7 +9,7 @@ use Rattle.field_laws.specs.Ring.{Ring2}
 use Rattle.char2_algebra.proofs.Ring.{ring2, 𝟘-·, 𝟘-⊞, ⊞-self, ⊞-𝟘}
 
 module _ {A : Type 0} (R : Ring2 A) where
-  open Ring2 R using (add as _⊞_, mul as _·_, nought as 𝟘, one as 𝟙)
+  open Ring2 R using (add as _⊞_, mul as _·_, zero as 𝟘, one as 𝟙)
 
   infixl 60 _⊞_
   infixl 70 _·_

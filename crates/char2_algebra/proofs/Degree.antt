@@ -4,7 +4,7 @@
 -- `len-is`: the highest coefficient that is not zero determines the length.
 -- `len-add`, `len-add-less`: the length of a sum.
 -- `len-con`, `con-of-len`: the polynomials of length at most 1 are the constants.
--- `con-injective`, `con-nought`, `con-one`, `con-mul`: the constants are the field's elements.
+-- `con-injective`, `con-of-zero`, `con-one`, `con-mul`: the constants are the field's elements.
 -- `len-x-mul`: the length of a multiple of x.
 -- `split`: a polynomial is its lowest coefficient plus x times the rest, its tail.
 -- `coeff-tail`, `len-tail`: coefficients and length of the tail.
@@ -17,15 +17,15 @@ use Rattle.char2_algebra.proofs.Ring.{⊞-comm, ⊞-𝟘, 𝟘-⊞, ⊞
 
 module _ {K P : Type 0} {F : Field2 K} (A : Polynomials F P) where
   open Polynomials A using (ring as R, coeff, con, x, len, quot, rem)
-  open Ring2 (A .ring) using (add as _⊞_, mul as _·_, nought as 𝟘, one as 𝟙)
-  open Ring2 (F .ring) using (add as _⊞ₖ_, mul as _·ₖ_, nought as 𝟘ₖ, one as 𝟙ₖ)
+  open Ring2 (A .ring) using (add as _⊞_, mul as _·_, zero as 𝟘, one as 𝟙)
+  open Ring2 (F .ring) using (add as _⊞ₖ_, mul as _·ₖ_, zero as 𝟘ₖ, one as 𝟙ₖ)
 
   infixl 60 _⊞_
   infixl 70 _·_
   infixl 60 _⊞ₖ_
   infixl 70 _·ₖ_
-  pub coeff-nought : (i : ℕ) → coeff 𝟘 i ≡ 𝟘ₖ
-  coeff-nought i = ap (λ z. coeff z i) (sym (⊞-self R 𝟘)) ∙ A .coeff-add 𝟘 𝟘 i ∙ ⊞-self (F .ring) (coeff 𝟘 i)
+  pub coeff-zero : (i : ℕ) → coeff 𝟘 i ≡ 𝟘ₖ
+  coeff-zero i = ap (λ z. coeff z i) (sym (⊞-self R 𝟘)) ∙ A .coeff-add 𝟘 𝟘 i ∙ ⊞-self (F .ring) (coeff 𝟘 i)
 
   pub len-bound : (p : P) (n : ℕ) → ((i : ℕ) → n ≤ i → coeff p i ≡ 𝟘ₖ) → len p ≤ n
   len-bound p n h = go (len p) refl
@@ -35,16 +35,16 @@ module _ {K P : Type 0} {F : Field2 K} (A : Polynomials F P) where
       go (suc k) e = elim (decLe (suc k) n) [ yes l ↦ omega arith | no m ↦ absurd (A .len-top p k e (h k (omega arith))) ]
 
   pub len-zero : (p : P) → len p ≡ 0 → p ≡ 𝟘
-  len-zero p e = A .ext p 𝟘 (λ i. A .len-past p i (omega arith) ∙ sym (coeff-nought i))
+  len-zero p e = A .ext p 𝟘 (λ i. A .len-past p i (omega arith) ∙ sym (coeff-zero i))
 
-  pub len-nought : len 𝟘 ≡ 0
-  len-nought = let h : len 𝟘 ≤ 0 = len-bound 𝟘 0 (λ i _. coeff-nought i) in omega arith
+  pub len-of-zero : len 𝟘 ≡ 0
+  len-of-zero = let h : len 𝟘 ≤ 0 = len-bound 𝟘 0 (λ i _. coeff-zero i) in omega arith
 
   pub len-nonzero : (p : P) → ¬ (p ≡ 𝟘) → 0 < len p
   len-nonzero p h = elim (decLe 1 (len p)) [ yes l ↦ l | no m ↦ absurd (h (len-zero p (omega arith))) ]
 
   pub nonzero-of-len : (p : P) → 0 < len p → ¬ (p ≡ 𝟘)
-  nonzero-of-len p h e = let k : len p ≡ 0 = ap len e ∙ len-nought in omega arith
+  nonzero-of-len p h e = let k : len p ≡ 0 = ap len e ∙ len-of-zero in omega arith
 
   pub len-is : (p : P) (n : ℕ) → len p ≤ suc n → ¬ (coeff p n ≡ 𝟘ₖ) → len p ≡ suc n
   len-is p n h t = elim (decLe (len p) n) [ yes l ↦ absurd (t (A .len-past p n l)) | no m ↦ omega arith ]
@@ -88,12 +88,12 @@ module _ {K P : Type 0} {F : Field2 K} (A : Polynomials F P) where
   pub con-injective : (a b : K) → con a ≡ con b → a ≡ b
   con-injective a b e = sym (A .coeff-con a) ∙ ap (λ p. coeff p 0) e ∙ A .coeff-con b
 
-  pub con-nought : con 𝟘ₖ ≡ 𝟘
-  con-nought = A .ext (con 𝟘ₖ) 𝟘 go
+  pub con-of-zero : con 𝟘ₖ ≡ 𝟘
+  con-of-zero = A .ext (con 𝟘ₖ) 𝟘 go
     where
       go : (i : ℕ) → coeff (con 𝟘ₖ) i ≡ coeff 𝟘 i
-      go zero = A .coeff-con 𝟘ₖ ∙ sym (coeff-nought 0)
-      go (suc i) = A .coeff-con-suc 𝟘ₖ i ∙ sym (coeff-nought (suc i))
+      go zero = A .coeff-con 𝟘ₖ ∙ sym (coeff-zero 0)
+      go (suc i) = A .coeff-con-suc 𝟘ₖ i ∙ sym (coeff-zero (suc i))
 
   pub con-one : con 𝟙ₖ ≡ 𝟙
   con-one = sym (A .one-con)
@@ -106,10 +106,10 @@ module _ {K P : Type 0} {F : Field2 K} (A : Polynomials F P) where
       go (suc i) = A .coeff-con-suc (a ·ₖ b) i ∙ sym (A .coeff-con-mul a (con b) (suc i) ∙ ap (λ z. a ·ₖ z) (A .coeff-con-suc b i) ∙ ·-𝟘 (F .ring) a)
 
   pub con-nonzero : (a : K) → ¬ (a ≡ 𝟘ₖ) → ¬ (con a ≡ 𝟘)
-  con-nonzero a h e = h (con-injective a 𝟘ₖ (e ∙ sym con-nought))
+  con-nonzero a h e = h (con-injective a 𝟘ₖ (e ∙ sym con-of-zero))
 
   pub len-one : len 𝟙 ≡ 1
-  len-one = ap len (A .one-con) ∙ len-con 𝟙ₖ (F .one≢nought)
+  len-one = ap len (A .one-con) ∙ len-con 𝟙ₖ (F .one≢zero)
 
   pub one-nonzero : ¬ (𝟙 ≡ 𝟘)
   one-nonzero = nonzero-of-len 𝟙 (let h : len 𝟙 ≡ 1 = len-one in omega arith)
@@ -141,8 +141,8 @@ module _ {K P : Type 0} {F : Field2 K} (A : Polynomials F P) where
   x-nonzero = nonzero-of-len x (let h : len x ≡ 2 = len-x in omega arith)
 
   -- whether a polynomial is 0 is decided by its length
-  unfoldable pub is-nought : (p : P) → Dec (p ≡ 𝟘)
-  is-nought p = go (len p) refl
+  unfoldable pub is-zero : (p : P) → Dec (p ≡ 𝟘)
+  is-zero p = go (len p) refl
     where
       go : (n : ℕ) → len p ≡ n → Dec (p ≡ 𝟘)
       go zero e = yes (len-zero p e)

@@ -5,15 +5,15 @@ use Rattle.char2_algebra.specs.Divides.{Divides}
 use Rattle.char2_algebra.proofs.Ring.{ring2, ⊞-·, ·-comm, ·-assoc, 𝟙-·, ·-𝟘, 𝟘-·}
 
 module _ {A : Type 0} (R : Ring2 A) where
-  open Ring2 R using (add as _⊞_, mul as _·_, nought as 𝟘, one as 𝟙)
+  open Ring2 R using (add as _⊞_, mul as _·_, zero as 𝟘, one as 𝟙)
 
   infixl 60 _⊞_
   infixl 70 _·_
   pub divides-refl : (a : A) → Divides R a a
   divides-refl a = (𝟙, sym (𝟙-· R a))
 
-  pub divides-nought : (b : A) → Divides R b 𝟘
-  divides-nought b = (𝟘, sym (𝟘-· R b))
+  pub divides-zero : (b : A) → Divides R b 𝟘
+  divides-zero b = (𝟘, sym (𝟘-· R b))
 
   pub one-divides : (a : A) → Divides R 𝟙 a
   one-divides a = (a, sym (R .mul-one a))
@@ -45,5 +45,5 @@ module _ {A : Type 0} (R : Ring2 A) where
   pub divides-by-eq : {b b' a : A} → b ≡ b' → Divides R b a → Divides R b' a
   divides-by-eq e (q, h) = (q, h ∙ ap (λ z. q · z) e)
 
-  pub nought-divides : {a : A} → Divides R 𝟘 a → a ≡ 𝟘
-  nought-divides (q, h) = h ∙ ·-𝟘 R q
+  pub zero-divides : {a : A} → Divides R 𝟘 a → a ≡ 𝟘
+  zero-divides (q, h) = h ∙ ·-𝟘 R q

@@ -13,7 +13,7 @@ use native.Mathlib.{Omega.arith, Decide.decLe}
 use Rattle.field_laws.specs.{Ring.Ring2, Field.Field2}
 use Rattle.char2_algebra.specs.{Polynomials.Polynomials, Divides.Divides}
 use Rattle.char2_algebra.proofs.Ring.{ring2, ⊞-comm, ⊞-𝟘, 𝟘-⊞, ·-comm, 𝟘-·, eq-of-sum, sum-of-eq, by, both, combine}
-use Rattle.char2_algebra.proofs.Degree.{len-nought, len-nonzero, nonzero-of-len, len-add, len-add-less, is-nought}
+use Rattle.char2_algebra.proofs.Degree.{len-of-zero, len-nonzero, nonzero-of-len, len-add, len-add-less, is-zero}
 use Rattle.char2_algebra.proofs.{Product.len-mul-monotone, Product.cancel-right, Product.len-mul, Product.integral, Divides.divides-right}
 
 -- identities of a few terms, over plain variables
@@ -33,7 +33,7 @@ module _ {A : Type 0} (R : Ring2 A) where
 
 module _ {K P : Type 0} {F : Field2 K} (A : Polynomials F P) where
   open Polynomials A using (ring as R, coeff, con, x, len, quot, rem)
-  open Ring2 (A .ring) using (add as _⊞_, mul as _·_, nought as 𝟘, one as 𝟙)
+  open Ring2 (A .ring) using (add as _⊞_, mul as _·_, zero as 𝟘, one as 𝟙)
 
   infixl 60 _⊞_
   infixl 70 _·_
@@ -45,7 +45,7 @@ module _ {K P : Type 0} {F : Field2 K} (A : Polynomials F P) where
       omega arith
 
   pub divides-short : {b a : P} → Divides R b a → len a < len b → a ≡ 𝟘
-  divides-short {b} {a} d h = elim (is-nought A a) [ yes e ↦ e | no k ↦ absurd (let l : len b ≤ len a = divides-len d k in omega arith) ]
+  divides-short {b} {a} d h = elim (is-zero A a) [ yes e ↦ e | no k ↦ absurd (let l : len b ≤ len a = divides-len d k in omega arith) ]
 
   pub congruent-short : (b a a' : P) → Divides R b (a ⊞ a') → len a < len b → len a' < len b → a ≡ a'
   congruent-short b a a' d h k = eq-of-sum R a a' (divides-short d (go (len b) refl))
@@ -93,7 +93,7 @@ module _ {K P : Type 0} {F : Field2 K} (A : Polynomials F P) where
         sym (rem-is a' b (quot a b ⊞ k) (rem a b) (A .rem-len a b h) (congruent-division R b k a a' (quot a b) (rem a b) e (A .division a b h)))
 
     pub rem-of-divides : (a : P) → Divides R b a → rem a b ≡ 𝟘
-    rem-of-divides a (q, e) = rem-is a b q 𝟘 (let l : len 𝟘 ≡ 0 = len-nought A in let m : 0 < len b = len-nonzero A b h in omega arith) (e ∙ sym (⊞-𝟘 R (q · b)))
+    rem-of-divides a (q, e) = rem-is a b q 𝟘 (let l : len 𝟘 ≡ 0 = len-of-zero A in let m : 0 < len b = len-nonzero A b h in omega arith) (e ∙ sym (⊞-𝟘 R (q · b)))
 
     pub divides-of-rem : (a : P) → rem a b ≡ 𝟘 → Divides R b a
     divides-of-rem a e = (quot a b, A .division a b h ∙ ap (λ z. quot a b · b ⊞ z) e ∙ ⊞-𝟘 R (quot a b · b))
@@ -129,5 +129,5 @@ module _ {K P : Type 0} {F : Field2 K} (A : Polynomials F P) where
         (let l : suc (len a) ≡ len (quot a b) + len b = len-quot b h a k in
         let m : 0 < len b = len-nonzero A b h in
         omega arith)
-    | no k ↦ (let l : len (quot a b) ≡ 0 = ap len (quot-short a b (omega arith)) ∙ len-nought A in omega arith)
+    | no k ↦ (let l : len (quot a b) ≡ 0 = ap len (quot-short a b (omega arith)) ∙ len-of-zero A in omega arith)
   ]

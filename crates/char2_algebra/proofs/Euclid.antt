@@ -1,6 +1,6 @@
 -- Euclid's algorithm gives a greatest common divisor of two or three polynomials with its coefficients.
 -- `bezout-is`, `bezout3-is`: it is a combination of the polynomials, divides each, and is monic unless all are 0.
--- `bezout-scaled-is`, `bezout-noughts-is`: the last call, where b is 0. `bezout-step-is`: one call on the remainder.
+-- `bezout-scaled-is`, `bezout-zeros-is`: the last call, where b is 0. `bezout-step-is`: one call on the remainder.
 -- `bezout-constant-is`: a constant other than 0 has the divisor 1 with every polynomial.
 -- `len-substituted`: a call keeps the coefficients short.
 -- `bezout-twice`: the divisor of three, from that of two and that of this divisor and the third.
@@ -13,12 +13,12 @@ use mathlib.Core.Path.{_≡_, refl, sym, _∙_, ap}
 use native.Mathlib.{Omega.arith, Decide.decLe}
 use Rattle.field_laws.specs.{Ring.Ring2, Field.Field2, Division.inverse-of}
 use Rattle.char2_algebra.specs.{Polynomials.Polynomials, Divides.Divides, Lead.lead, Lead.Monic}
-use Rattle.char2_algebra.specs.Euclid.{Bezout, Bezout3, IsBezout, IsBezout3, bezout-nought, bezout-to, bezout, bezout3}
+use Rattle.char2_algebra.specs.Euclid.{Bezout, Bezout3, IsBezout, IsBezout3, bezout-zero, bezout-to, bezout, bezout3}
 use Rattle.char2_algebra.proofs.Ring.{ring2, ⊞-𝟘, 𝟘-⊞, ·-𝟘, 𝟘-·, by, both, combine}
 use Rattle.char2_algebra.proofs.Degree.{len-zero, len-nonzero, len-add, nonzero-of-len}
 use Rattle.char2_algebra.proofs.{Product.len-mul-le, Division.len-quot, Division.rem-short, Division.quot-short}
-use Rattle.char2_algebra.proofs.Divides.{divides-eq, divides-nought, divides-add, divides-mul, divides-trans, divides-by-eq, nought-divides, one-divides}
-use Rattle.char2_algebra.proofs.Lead.{scaled-factor, scaled-monic, scaled-len, nought-of-lead, monic-nonzero, monic-antisym, monic-one, monic-constant}
+use Rattle.char2_algebra.proofs.Divides.{divides-eq, divides-zero, divides-add, divides-mul, divides-trans, divides-by-eq, zero-divides, one-divides}
+use Rattle.char2_algebra.proofs.Lead.{scaled-factor, scaled-monic, scaled-len, zero-of-lead, monic-nonzero, monic-antisym, monic-one, monic-constant}
 
 -- from g = s b + t r and a = q b + r
 back-substitution : {A : Type 0} (R : Ring2 A) (a b g q r s t : A) → g ≡ R .add (R .mul s b) (R .mul t r) → a ≡ R .add (R .mul q b) r
@@ -33,14 +33,14 @@ substitution R a b c g e s t s' t' h k = combine R e _ (both R (by R s' h) (by R
 
 module _ {K P : Type 0} {F : Field2 K} (A : Polynomials F P) where
   open Polynomials A using (ring as R, con, len, quot, rem)
-  open Ring2 (A .ring) using (add as _⊞_, mul as _·_, nought as 𝟘, one as 𝟙)
-  open Ring2 (F .ring) using (mul as _·ₖ_, nought as 𝟘ₖ, one as 𝟙ₖ)
+  open Ring2 (A .ring) using (add as _⊞_, mul as _·_, zero as 𝟘, one as 𝟙)
+  open Ring2 (F .ring) using (mul as _·ₖ_, zero as 𝟘ₖ, one as 𝟙ₖ)
 
   infixl 60 _⊞_
   infixl 70 _·_
   infixl 70 _·ₖ_
   -- the two cases of a call
-  bezout-stop : (n : ℕ) (a b : P) → len b ≡ 0 → bezout-to A (suc n) a b ≡ bezout-nought A a
+  bezout-stop : (n : ℕ) (a b : P) → len b ≡ 0 → bezout-to A (suc n) a b ≡ bezout-zero A a
   unfolding bezout-to
   bezout-stop n a b e = rw (e, bezout-to)
 
@@ -54,21 +54,21 @@ module _ {K P : Type 0} {F : Field2 K} (A : Polynomials F P) where
   bezout-scaled-is a b c unit e = record {
     combination = sym (ap (λ z. con c · a ⊞ z) (𝟘-· R b) ∙ ⊞-𝟘 R _);
     divides-first = (con (lead A a), scaled-factor A a c unit);
-    divides-second = divides-eq R (sym e) (divides-nought R _);
+    divides-second = divides-eq R (sym e) (divides-zero R _);
     monic = λ _. scaled-monic A a c unit;
   }
 
-  pub bezout-noughts-is : (a b : P) → a ≡ 𝟘 → b ≡ 𝟘 → IsBezout A a b (record { g = 𝟘; s = 𝟘; t = 𝟘 })
-  bezout-noughts-is a b h k = record {
+  pub bezout-zeros-is : (a b : P) → a ≡ 𝟘 → b ≡ 𝟘 → IsBezout A a b (record { g = 𝟘; s = 𝟘; t = 𝟘 })
+  bezout-zeros-is a b h k = record {
     combination = sym (ap (λ z. z ⊞ 𝟘 · b) (𝟘-· R a) ∙ 𝟘-⊞ R _ ∙ 𝟘-· R b);
-    divides-first = divides-eq R (sym h) (divides-nought R 𝟘);
-    divides-second = divides-eq R (sym k) (divides-nought R 𝟘);
+    divides-first = divides-eq R (sym h) (divides-zero R 𝟘);
+    divides-second = divides-eq R (sym k) (divides-zero R 𝟘);
     monic = λ n. absurd (n (h, k));
   }
 
-  bezout-nought-is : (a b : P) → b ≡ 𝟘 → IsBezout A a b (bezout-nought A a)
-  unfolding bezout-nought
-  bezout-nought-is a b e = go (F .discrete (lead A a) 𝟘ₖ)
+  bezout-zero-is : (a b : P) → b ≡ 𝟘 → IsBezout A a b (bezout-zero A a)
+  unfolding bezout-zero
+  bezout-zero-is a b e = go (F .discrete (lead A a) 𝟘ₖ)
     where
       go : (d : Dec (lead A a ≡ 𝟘ₖ))
           → IsBezout A a b
@@ -76,7 +76,7 @@ module _ {K P : Type 0} {F : Field2 K} (A : Polynomials F P) where
             | yes _ ↦ record { g = 𝟘; s = 𝟘; t = 𝟘 }
             | no shown ↦ record { g = con (inverse-of F (lead A a) shown) · a; s = con (inverse-of F (lead A a) shown); t = 𝟘 }
           ])
-      go (yes z) = bezout-noughts-is a b (nought-of-lead A a z) e
+      go (yes z) = bezout-zeros-is a b (zero-of-lead A a z) e
       go (no n) = bezout-scaled-is a b _ (F .mul-inverse (lead A a) n) e
 
   pub bezout-step-is : (a b : P) (r : Bezout P) → ¬ (b ≡ 𝟘) → IsBezout A b (rem a b) r
@@ -121,7 +121,7 @@ module _ {K P : Type 0} {F : Field2 K} (A : Polynomials F P) where
   bezout-to-is (suc n) a b h = go (bezout-to-is n b (rem a b)) (len b) refl
     where
       go : (len (rem a b) < n → IsBezout A b (rem a b) (bezout-to A n b (rem a b))) → (k : ℕ) → len b ≡ k → IsBezout A a b (bezout-to A (suc n) a b)
-      go ih zero e = rw (bezout-stop n a b e) (bezout-nought-is a b (len-zero A b e))
+      go ih zero e = rw (bezout-stop n a b e) (bezout-zero-is a b (len-zero A b e))
       go ih (suc k) e =
           let b-nonzero : ¬ (b ≡ 𝟘) = nonzero-of-len A b (omega arith) in
           let l : len (rem a b) < len b = A .rem-len a b b-nonzero in
@@ -138,7 +138,7 @@ module _ {K P : Type 0} {F : Field2 K} (A : Polynomials F P) where
     divides-first = divides-trans R (second .divides-first) (first .divides-first);
     divides-second = divides-trans R (second .divides-first) (first .divides-second);
     divides-third = second .divides-second;
-    monic = λ h. second .monic (λ z. h (nought-divides R (divides-by-eq R (z .0) (first .divides-first)), nought-divides R (divides-by-eq R (z .0) (first .divides-second)), z .1));
+    monic = λ h. second .monic (λ z. h (zero-divides R (divides-by-eq R (z .0) (first .divides-first)), zero-divides R (divides-by-eq R (z .0) (first .divides-second)), z .1));
   }
 
   pub bezout3-is : (a b c : P) → IsBezout3 A a b c (bezout3 A a b c)

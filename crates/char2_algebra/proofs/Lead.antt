@@ -1,6 +1,6 @@
 -- Leading coefficients and monic polynomials.
 -- `lead-mul`, `lead-add-less`, `lead-con`: the leading coefficient of a product, a sum and a constant.
--- `lead-nonzero`, `nought-of-lead`: it is zero only for the polynomial 0.
+-- `lead-nonzero`, `zero-of-lead`: it is zero only for the polynomial 0.
 -- `monic-mul`, `monic-cofactor`: products and cofactors of monic polynomials are monic.
 -- `monic-top`, `len-by-top`, `monic-by-top`: 1 at n and zero above is monic of length n + 1.
 -- `monic-constant`: the only monic constant is 1.
@@ -13,14 +13,14 @@ use mathlib.Core.Path.{_≡_, refl, sym, _∙_, ap, ap₂}
 use native.Mathlib.Omega.{arith}
 use Rattle.field_laws.specs.{Ring.Ring2, Field.Field2, Division.inverse-of}
 use Rattle.char2_algebra.specs.{Polynomials.Polynomials, Divides.Divides, Lead.lead, Lead.Monic, Lead.monic-of}
-use Rattle.char2_algebra.proofs.{Ring.𝟘-⊞, Ring.·-comm, Ring.·-assoc, Ring.·-𝟘, Ring.𝟘-·, Ring.·-𝟙, Ring.𝟙-·, Divides.divides-eq, Divides.divides-nought}
-use Rattle.char2_algebra.proofs.Degree.{coeff-nought, len-bound, len-is, len-zero, len-nonzero, nonzero-of-len, len-add-less, len-one, len-con, con-mul, con-of-len, coeff-one, is-nought}
+use Rattle.char2_algebra.proofs.{Ring.𝟘-⊞, Ring.·-comm, Ring.·-assoc, Ring.·-𝟘, Ring.𝟘-·, Ring.·-𝟙, Ring.𝟙-·, Divides.divides-eq, Divides.divides-zero}
+use Rattle.char2_algebra.proofs.Degree.{coeff-zero, len-bound, len-is, len-zero, len-nonzero, nonzero-of-len, len-add-less, len-one, len-con, con-mul, con-of-len, coeff-one, is-zero}
 use Rattle.char2_algebra.proofs.{Product.len-mul, Product.coeff-mul-top, Product.len-con-mul, Product.inverse-only, Division.divides-len, Division.quot-exact}
 
 module _ {K P : Type 0} {F : Field2 K} (A : Polynomials F P) where
   open Polynomials A using (ring as R, coeff, con, x, len, quot, rem)
-  open Ring2 (A .ring) using (add as _⊞_, mul as _·_, nought as 𝟘, one as 𝟙)
-  open Ring2 (F .ring) using (add as _⊞ₖ_, mul as _·ₖ_, nought as 𝟘ₖ, one as 𝟙ₖ)
+  open Ring2 (A .ring) using (add as _⊞_, mul as _·_, zero as 𝟘, one as 𝟙)
+  open Ring2 (F .ring) using (add as _⊞ₖ_, mul as _·ₖ_, zero as 𝟘ₖ, one as 𝟙ₖ)
 
   infixl 60 _⊞_
   infixl 70 _·_
@@ -30,9 +30,9 @@ module _ {K P : Type 0} {F : Field2 K} (A : Polynomials F P) where
   unfolding lead
   lead-is p n e = ap (coeff p) (omega arith)
 
-  pub lead-nought : lead A 𝟘 ≡ 𝟘ₖ
+  pub lead-zero : lead A 𝟘 ≡ 𝟘ₖ
   unfolding lead
-  lead-nought = coeff-nought A _
+  lead-zero = coeff-zero A _
 
   pub lead-nonzero : (p : P) → ¬ (p ≡ 𝟘) → ¬ (lead A p ≡ 𝟘ₖ)
   lead-nonzero p h = go (len p) refl
@@ -47,10 +47,10 @@ module _ {K P : Type 0} {F : Field2 K} (A : Polynomials F P) where
       go : (m n : ℕ) → len p ≡ m → len q ≡ n → lead A (p · q) ≡ lead A p ·ₖ lead A q
       go zero n d e =
           let p-is : p ≡ 𝟘 = len-zero A p d in
-          ap (lead A) (ap (λ z. z · q) p-is ∙ 𝟘-· R q) ∙ lead-nought ∙ sym (ap (λ z. z ·ₖ lead A q) (ap (lead A) p-is ∙ lead-nought) ∙ 𝟘-· (F .ring) (lead A q))
+          ap (lead A) (ap (λ z. z · q) p-is ∙ 𝟘-· R q) ∙ lead-zero ∙ sym (ap (λ z. z ·ₖ lead A q) (ap (lead A) p-is ∙ lead-zero) ∙ 𝟘-· (F .ring) (lead A q))
       go (suc m) zero d e =
           let q-is : q ≡ 𝟘 = len-zero A q e in
-          ap (lead A) (ap (λ z. p · z) q-is ∙ ·-𝟘 R p) ∙ lead-nought ∙ sym (ap (λ z. lead A p ·ₖ z) (ap (lead A) q-is ∙ lead-nought) ∙ ·-𝟘 (F .ring) (lead A p))
+          ap (lead A) (ap (λ z. p · z) q-is ∙ ·-𝟘 R p) ∙ lead-zero ∙ sym (ap (λ z. lead A p ·ₖ z) (ap (lead A) q-is ∙ lead-zero) ∙ ·-𝟘 (F .ring) (lead A p))
       go (suc m) (suc n) d e =
           let l : suc (len (p · q)) ≡ len p + len q = len-mul A p q (nonzero-of-len A p (omega arith)) (nonzero-of-len A q (omega arith)) in
           lead-is (p · q) (m + n) (omega arith)
@@ -76,7 +76,7 @@ module _ {K P : Type 0} {F : Field2 K} (A : Polynomials F P) where
   monic-one = lead-is 𝟙 0 (len-one A) ∙ coeff-one A
 
   pub monic-nonzero : (p : P) → Monic A p → ¬ (p ≡ 𝟘)
-  monic-nonzero p m e = F .one≢nought (sym m ∙ ap (lead A) e ∙ lead-nought)
+  monic-nonzero p m e = F .one≢zero (sym m ∙ ap (lead A) e ∙ lead-zero)
 
   pub monic-mul : (p q : P) → Monic A p → Monic A q → Monic A (p · q)
   monic-mul p q m n = lead-mul p q ∙ ap₂ _·ₖ_ m n ∙ ·-𝟙 (F .ring) 𝟙ₖ
@@ -88,7 +88,7 @@ module _ {K P : Type 0} {F : Field2 K} (A : Polynomials F P) where
   monic-top p n m e = sym (lead-is p n e) ∙ m
 
   pub len-by-top : (p : P) (n : ℕ) → coeff p n ≡ 𝟙ₖ → ((i : ℕ) → n < i → coeff p i ≡ 𝟘ₖ) → len p ≡ suc n
-  len-by-top p n e h = len-is A p n (len-bound A p (suc n) h) (λ z. F .one≢nought (sym e ∙ z))
+  len-by-top p n e h = len-is A p n (len-bound A p (suc n) h) (λ z. F .one≢zero (sym e ∙ z))
 
   pub monic-by-top : (p : P) (n : ℕ) → coeff p n ≡ 𝟙ₖ → ((i : ℕ) → n < i → coeff p i ≡ 𝟘ₖ) → Monic A p
   monic-by-top p n e h = lead-is p n (len-by-top p n e h) ∙ e
@@ -101,7 +101,7 @@ module _ {K P : Type 0} {F : Field2 K} (A : Polynomials F P) where
   -- p times a constant c whose product with the leading coefficient is 1
   module _ (p : P) (c : K) (unit : lead A p ·ₖ c ≡ 𝟙ₖ) where
     c≢ : ¬ (c ≡ 𝟘ₖ)
-    c≢ e = F .one≢nought (sym unit ∙ ap (λ z. lead A p ·ₖ z) e ∙ ·-𝟘 (F .ring) (lead A p))
+    c≢ e = F .one≢zero (sym unit ∙ ap (λ z. lead A p ·ₖ z) e ∙ ·-𝟘 (F .ring) (lead A p))
 
     pub scaled-factor : p ≡ con (lead A p) · (con c · p)
     scaled-factor =
@@ -121,20 +121,20 @@ module _ {K P : Type 0} {F : Field2 K} (A : Polynomials F P) where
     monic-of-scaled = go (F .discrete (lead A p) 𝟘ₖ)
       where
         go : (d : Dec (lead A p ≡ 𝟘ₖ)) → elim d as (λ _. P) [ yes _ ↦ p | no shown ↦ con (inverse-of F (lead A p) shown) · p ] ≡ con c · p
-        go (yes e) = absurd (F .one≢nought (sym unit ∙ ap (λ z. z ·ₖ c) e ∙ 𝟘-· (F .ring) c))
+        go (yes e) = absurd (F .one≢zero (sym unit ∙ ap (λ z. z ·ₖ c) e ∙ 𝟘-· (F .ring) c))
         go (no n) = ap (λ z. con z · p) (sym (inverse-only F (lead A p) c n unit))
 
-  pub nought-of-lead : (p : P) → lead A p ≡ 𝟘ₖ → p ≡ 𝟘
-  nought-of-lead p e = elim (is-nought A p) [ yes z ↦ z | no h ↦ absurd (lead-nonzero p h e) ]
+  pub zero-of-lead : (p : P) → lead A p ≡ 𝟘ₖ → p ≡ 𝟘
+  zero-of-lead p e = elim (is-zero A p) [ yes z ↦ z | no h ↦ absurd (lead-nonzero p h e) ]
 
   -- the polynomial 0 stays 0
-  monic-of-nought : (p : P) → p ≡ 𝟘 → monic-of A p ≡ p
+  monic-of-zero : (p : P) → p ≡ 𝟘 → monic-of A p ≡ p
   unfolding monic-of
-  monic-of-nought p e = go (F .discrete (lead A p) 𝟘ₖ)
+  monic-of-zero p e = go (F .discrete (lead A p) 𝟘ₖ)
     where
       go : (d : Dec (lead A p ≡ 𝟘ₖ)) → elim d as (λ _. P) [ yes _ ↦ p | no shown ↦ con (inverse-of F (lead A p) shown) · p ] ≡ p
       go (yes _) = refl
-      go (no n) = absurd (n (ap (lead A) e ∙ lead-nought))
+      go (no n) = absurd (n (ap (lead A) e ∙ lead-zero))
 
   -- p made monic
   module _ (p : P) (h : ¬ (p ≡ 𝟘)) where
@@ -151,24 +151,24 @@ module _ {K P : Type 0} {F : Field2 K} (A : Polynomials F P) where
     monic-of-nonzero = monic-nonzero (monic-of A p) monic-of-monic
 
   pub len-monic-of : (p : P) → len (monic-of A p) ≡ len p
-  len-monic-of p = go (is-nought A p)
+  len-monic-of p = go (is-zero A p)
     where
       go : Dec (p ≡ 𝟘) → len (monic-of A p) ≡ len p
-      go (yes e) = ap len (monic-of-nought p e)
+      go (yes e) = ap len (monic-of-zero p e)
       go (no h) = ap len (monic-of-scaled p _ (unit p h)) ∙ scaled-len p _ (unit p h)
 
   pub monic-of-divides : (p : P) → Divides R (monic-of A p) p
-  monic-of-divides p = go (is-nought A p)
+  monic-of-divides p = go (is-zero A p)
     where
       go : Dec (p ≡ 𝟘) → Divides R (monic-of A p) p
-      go (yes e) = divides-eq R (sym e) (divides-nought R (monic-of A p))
+      go (yes e) = divides-eq R (sym e) (divides-zero R (monic-of A p))
       go (no h) = (con (lead A p), monic-of-factor p h)
 
   pub divides-monic-of : (p : P) → Divides R p (monic-of A p)
-  divides-monic-of p = go (is-nought A p)
+  divides-monic-of p = go (is-zero A p)
     where
       go : Dec (p ≡ 𝟘) → Divides R p (monic-of A p)
-      go (yes e) = (𝟙, monic-of-nought p e ∙ sym (𝟙-· R p))
+      go (yes e) = (𝟙, monic-of-zero p e ∙ sym (𝟙-· R p))
       go (no h) = (_, monic-of-scaled p _ (unit p h))
 
   pub monic-antisym : (p q : P) → Monic A p → Monic A q → Divides R p q → Divides R q p → p ≡ q

@@ -13,7 +13,7 @@ use Rattle.char2_algebra.proofs.{Ring.𝟘-⊞, Ring.⊞-𝟘, Ring.·-
 
 module _ {K : Type 0} (F : Field2 K) where
   open Field2 F using (ring, discrete)
-  open Ring2 ring using (add as _⊞_, mul as _·_, nought as 𝟘, one as 𝟙)
+  open Ring2 ring using (add as _⊞_, mul as _·_, zero as 𝟘, one as 𝟙)
 
   infixl 60 _⊞_
   infixl 70 _·_
@@ -58,8 +58,8 @@ module _ {K : Type 0} (F : Field2 K) where
   at-trim (a ∷ p) zero = at-attach a (trim F p) 0
   at-trim (a ∷ p) (suc i) = at-attach a (trim F p) (suc i) ∙ at-trim p i
 
-  pub not-nought : (a : K) → Nonzero F a → ¬ (a ≡ 𝟘)
-  not-nought a n = by-test (discrete a 𝟘) n
+  pub not-zero : (a : K) → Nonzero F a → ¬ (a ≡ 𝟘)
+  not-zero a n = by-test (discrete a 𝟘) n
     where
       by-test : (d : Dec (a ≡ 𝟘)) → IsNo d → ¬ (a ≡ 𝟘)
       by-test (yes _) n = absurd n
@@ -70,7 +70,7 @@ module _ {K : Type 0} (F : Field2 K) where
   trimmed-tail a (b ∷ p) t = t
 
   pub at-end : (a : K) (p : List K) → Trimmed F (a ∷ p) → ¬ (at (a ∷ p) (length p) ≡ 𝟘)
-  at-end a [] t = not-nought a t
+  at-end a [] t = not-zero a t
   at-end a (b ∷ p) t = at-end b p t
 
   pub at-last : (p : List K) → Trimmed F p → (i : ℕ) → length p ≡ suc i → ¬ (at p i ≡ 𝟘)

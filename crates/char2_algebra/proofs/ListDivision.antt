@@ -7,14 +7,14 @@ use mathlib.Core.{Path._≡_, Path.refl, Path.sym, Path._∙_, Path.ap, Path.ap�
 use native.Mathlib.{Omega.arith, Decide.ℕ-discrete}
 use lib.ListN.{length, List·getD-eq-default}
 use Rattle.field_laws.specs.{Ring.Ring2, Field.Field2, Division.inverse-of}
-use Rattle.char2_algebra.specs.Polynomial.{Polynomial, Trimmed, trim, trim-trimmed, of-list, add-lists, scale-list, invert, divide-steps, divide-lists, coeff, nought, con, x, add, mul, quot, rem}
+use Rattle.char2_algebra.specs.Polynomial.{Polynomial, Trimmed, trim, trim-trimmed, of-list, add-lists, scale-list, invert, divide-steps, divide-lists, coeff, zero-polynomial, con, x, add, mul, quot, rem}
 use Rattle.char2_algebra.proofs.Ring.{ring2, 𝟘-·, 𝟘-⊞, ⊞-𝟘, ⊞-self, ·-𝟘, by, combine}
 use Rattle.char2_algebra.proofs.ListCoefficients.{at, at-add, at-scale, at-trim, at-end, length-le}
 use Rattle.char2_algebra.proofs.PolynomialRing.{ext, coeff-of-list, coeff-add, coeff-con, coeff-con-suc, coeff-con-mul, coeff-x-mul, coeff-x-mul-suc, ring}
 
 -- one step of the division, over plain variables
 module _ {A : Type 0} (R : Ring2 A) where
-  open Ring2 R using (add as _⊞_, mul as _·_, nought as 𝟘)
+  open Ring2 R using (add as _⊞_, mul as _·_, zero as 𝟘)
 
   infixl 60 _⊞_
   infixl 70 _·_
@@ -23,7 +23,7 @@ module _ {A : Type 0} (R : Ring2 A) where
 
 module _ {K : Type 0} (F : Field2 K) where
   open Field2 F using (ring as K-ring, discrete)
-  open Ring2 K-ring using (add as _⊞_, mul as _·_, nought as 𝟘, one as 𝟙)
+  open Ring2 K-ring using (add as _⊞_, mul as _·_, zero as 𝟘, one as 𝟙)
 
   infixl 60 _⊞_
   infixl 70 _·_
@@ -81,15 +81,15 @@ module _ {K : Type 0} (F : Field2 K) where
       (ap (λ z. mul F z (of-list F b)) (sym (of-cons c q)))
       (ap₂ (add F) (sym (of-cons a r)) (sym (of-scale c b)) ∙ sym (of-add (a ∷ r) (scale-list F c b)) ∙ sym (of-trim (add-lists F (a ∷ r) (scale-list F c b))))
 
-  nought-law : (b : Polynomial F) (p : List K) → of-list F p ≡ add F (mul F (of-list F []) b) (of-list F p)
-  unfolding ring of-list nought
-  nought-law b p =
+  zero-law : (b : Polynomial F) (p : List K) → of-list F p ≡ add F (mul F (of-list F []) b) (of-list F p)
+  unfolding ring of-list zero-polynomial
+  zero-law b p =
       sym (𝟘-⊞ (ring F) (of-list F p)) ∙ ap (λ z. add F z (of-list F p)) (sym (𝟘-· (ring F) b))
 
   pub steps-law : (b : List K) (d : ℕ) (i : K) (p : List K)
       → of-list F p ≡ add F (mul F (of-list F ((divide-steps F b d i p) .0)) (of-list F b)) (of-list F ((divide-steps F b d i p) .1))
   unfolding divide-steps
-  steps-law b d i [] = nought-law (of-list F b) []
+  steps-law b d i [] = zero-law (of-list F b) []
   steps-law b d i (a ∷ p) =
       let s : List K × List K = divide-steps F b d i p in
       step-law b (s .0) (s .1) p (at F (a ∷ s .1) d · i) a (steps-law b d i p)
@@ -97,14 +97,14 @@ module _ {K : Type 0} (F : Field2 K) where
   pub divide-law : (p b : List K)
       → of-list F p ≡ add F (mul F (of-list F ((divide-lists F p b) .0)) (of-list F b)) (of-list F ((divide-lists F p b) .1))
   unfolding divide-lists
-  divide-law p [] = nought-law (of-list F []) p
+  divide-law p [] = zero-law (of-list F []) p
   divide-law p (a ∷ b) = by-test (discrete (at F (a ∷ b) (length b)) 𝟘)
     where
       leading : K
       leading = at F (a ∷ b) (length b)
 
       by-test : (t : Dec (leading ≡ 𝟘)) → (let s : List K × List K = elim t as (λ _. List K × List K) [ yes _ ↦ ([], p) | no shown ↦ divide-steps F (a ∷ b) (length b) (invert F leading shown) p ] in of-list F p ≡ add F (mul F (of-list F (s .0)) (of-list F (a ∷ b))) (of-list F (s .1)))
-      by-test (yes _) = nought-law (of-list F (a ∷ b)) p
+      by-test (yes _) = zero-law (of-list F (a ∷ b)) p
       by-test (no shown) = steps-law (a ∷ b) (length b) (invert F leading shown) p
 
   -- a step makes the coefficient at the divisor's degree zero

@@ -7,7 +7,7 @@ use Prim.Native.Nat.{ℕ, suc}
 use mathlib.Core.{Path._≡_, Path.refl, Path.sym, Path._∙_, Path.ap, Path.ap₂, Path.fun-ext, List.List, List.[], List._∷_, List.List·isSet}
 use mathlib.Core.HLevel.{isProp→PathP, collapsible→set, Unit-prop, ⊥-prop}
 use Rattle.field_laws.specs.{Ring.Ring2, Field.Field2}
-use Rattle.char2_algebra.specs.Polynomial.{Polynomial, IsNo, Trimmed, of-list, add-lists, mul-lists, coeff, nought, con, x, add, mul}
+use Rattle.char2_algebra.specs.Polynomial.{Polynomial, IsNo, Trimmed, of-list, add-lists, mul-lists, coeff, zero-polynomial, con, x, add, mul}
 use Rattle.char2_algebra.proofs.Convolution.{conv, conv-zero, conv-comm, conv-assoc, conv-add, conv-con, conv-shift}
 use Rattle.char2_algebra.proofs.Ring.{𝟘-·, 𝟙-·}
 use Rattle.char2_algebra.proofs.ListCoefficients.{at, at-add, at-mul, at-trim, eq-of-at}
@@ -18,7 +18,7 @@ IsNo-prop (no _) = Unit-prop
 
 module _ {K : Type 0} (F : Field2 K) where
   open Field2 F using (ring as K-ring, discrete)
-  open Ring2 K-ring using (add as _⊞_, mul as _·_, nought as 𝟘, one as 𝟙)
+  open Ring2 K-ring using (add as _⊞_, mul as _·_, zero as 𝟘, one as 𝟙)
 
   infixl 60 _⊞_
   infixl 70 _·_
@@ -56,9 +56,9 @@ module _ {K : Type 0} (F : Field2 K) where
   unfolding coeff mul
   coeff-mul p q i = coeff-of-list (mul-lists F (p .coefficients) (q .coefficients)) i ∙ at-mul F (p .coefficients) (q .coefficients) i
 
-  pub coeff-nought : (i : ℕ) → coeff F (nought F) i ≡ 𝟘
-  unfolding coeff nought
-  coeff-nought i = refl
+  pub coeff-zero : (i : ℕ) → coeff F (zero-polynomial F) i ≡ 𝟘
+  unfolding coeff zero-polynomial
+  coeff-zero i = refl
 
   pub coeff-con : (a : K) → coeff F (con F a) 0 ≡ a
   unfolding con
@@ -86,12 +86,12 @@ module _ {K : Type 0} (F : Field2 K) where
       ∙ 𝟙-· K-ring (coeff F p i)
 
   unfoldable pub ring : Ring2 (Polynomial F)
-  unfolding add mul nought con
+  unfolding add mul zero-polynomial con
   ring =
       record {
         add = add F;
         mul = mul F;
-        nought = nought F;
+        zero = zero-polynomial F;
         one = con F 𝟙;
         isSet = polynomial-set;
         add-comm = λ p q. ext (add F p q) (add F q p) (λ i. coeff-add p q i ∙ K-ring .add-comm (coeff F p i) (coeff F q i) ∙ sym (coeff-add q p i));
@@ -102,8 +102,8 @@ module _ {K : Type 0} (F : Field2 K) where
             ∙ K-ring .add-assoc (coeff F p i) (coeff F q i) (coeff F r i)
             ∙ ap (λ z. coeff F p i ⊞ z) (sym (coeff-add q r i))
             ∙ sym (coeff-add p (add F q r) i));
-        add-nought = λ p. ext (add F p (nought F)) p (λ i. coeff-add p (nought F) i ∙ ap (λ z. coeff F p i ⊞ z) (coeff-nought i) ∙ K-ring .add-nought (coeff F p i));
-        add-self = λ p. ext (add F p p) (nought F) (λ i. coeff-add p p i ∙ K-ring .add-self (coeff F p i) ∙ sym (coeff-nought i));
+        add-zero = λ p. ext (add F p (zero-polynomial F)) p (λ i. coeff-add p (zero-polynomial F) i ∙ ap (λ z. coeff F p i ⊞ z) (coeff-zero i) ∙ K-ring .add-zero (coeff F p i));
+        add-self = λ p. ext (add F p p) (zero-polynomial F) (λ i. coeff-add p p i ∙ K-ring .add-self (coeff F p i) ∙ sym (coeff-zero i));
         mul-comm = λ p q. ext (mul F p q) (mul F q p) (λ i. coeff-mul p q i ∙ conv-comm K-ring (coeff F p) (coeff F q) i ∙ sym (coeff-mul q p i));
         mul-assoc = λ p q r.
             ext (mul F (mul F p q) r) (mul F p (mul F q r))

@@ -10,11 +10,11 @@ use native.Mathlib.Omega.{arith}
 use Rattle.field_laws.specs.{Ring.Ring2, Field.Field2, Division.inverse-of}
 use Rattle.char2_algebra.specs.{Polynomials.Polynomials, Square.tail}
 use Rattle.char2_algebra.proofs.Ring.{⊞-𝟘, 𝟘-⊞, ⊞-self, ⊞-·, ·-⊞, ·-comm, ·-assoc, ·-𝟙, 𝟙-·, ·-𝟘, 𝟘-·, eq-of-sum, sum-of-eq}
-use Rattle.char2_algebra.proofs.Degree.{len-bound, len-zero, len-is, len-nonzero, len-nought, nonzero-of-len, con-of-len, split, len-tail, coeff-tail, is-nought, con-nonzero, len-con}
+use Rattle.char2_algebra.proofs.Degree.{len-bound, len-zero, len-is, len-nonzero, len-of-zero, nonzero-of-len, con-of-len, split, len-tail, coeff-tail, is-zero, con-nonzero, len-con}
 
 -- the field alone
 module _ {K : Type 0} (F : Field2 K) where
-  open Ring2 (F .ring) using (mul as _·ₖ_, nought as 𝟘ₖ, one as 𝟙ₖ)
+  open Ring2 (F .ring) using (mul as _·ₖ_, zero as 𝟘ₖ, one as 𝟙ₖ)
 
   infixl 70 _·ₖ_
   pub field-integral : (a b : K) → ¬ (a ≡ 𝟘ₖ) → a ·ₖ b ≡ 𝟘ₖ → b ≡ 𝟘ₖ
@@ -35,8 +35,8 @@ module _ {K : Type 0} (F : Field2 K) where
 
 module _ {K P : Type 0} {F : Field2 K} (A : Polynomials F P) where
   open Polynomials A using (ring as R, coeff, con, x, len)
-  open Ring2 (A .ring) using (add as _⊞_, mul as _·_, nought as 𝟘, one as 𝟙)
-  open Ring2 (F .ring) using (add as _⊞ₖ_, mul as _·ₖ_, nought as 𝟘ₖ)
+  open Ring2 (A .ring) using (add as _⊞_, mul as _·_, zero as 𝟘, one as 𝟙)
+  open Ring2 (F .ring) using (add as _⊞ₖ_, mul as _·ₖ_, zero as 𝟘ₖ)
 
   infixl 60 _⊞_
   infixl 70 _·_
@@ -95,7 +95,7 @@ module _ {K P : Type 0} {F : Field2 K} (A : Polynomials F P) where
       nonzero-of-len A (p · q) (omega arith) e
 
   pub integral : (p q : P) → ¬ (p ≡ 𝟘) → p · q ≡ 𝟘 → q ≡ 𝟘
-  integral p q h e = elim (is-nought A q) [ yes d ↦ d | no k ↦ absurd (mul-nonzero p q h k e) ]
+  integral p q h e = elim (is-zero A q) [ yes d ↦ d | no k ↦ absurd (mul-nonzero p q h k e) ]
 
   pub left-nonzero : (p q : P) → ¬ (p · q ≡ 𝟘) → ¬ (p ≡ 𝟘)
   left-nonzero p q h e = h (ap (λ z. z · q) e ∙ 𝟘-· R q)
@@ -112,14 +112,14 @@ module _ {K P : Type 0} {F : Field2 K} (A : Polynomials F P) where
   pub square-nonzero : (p : P) → ¬ (p ≡ 𝟘) → ¬ (p · p ≡ 𝟘)
   square-nonzero p h = mul-nonzero p p h h
 
-  pub square-nought : (p : P) → p · p ≡ 𝟘 → p ≡ 𝟘
-  square-nought p e = elim (is-nought A p) [ yes d ↦ d | no h ↦ absurd (square-nonzero p h e) ]
+  pub square-zero : (p : P) → p · p ≡ 𝟘 → p ≡ 𝟘
+  square-zero p e = elim (is-zero A p) [ yes d ↦ d | no h ↦ absurd (square-nonzero p h e) ]
 
   pub len-square : (p : P) → ¬ (p ≡ 𝟘) → suc (len (p · p)) ≡ len p + len p
   len-square p h = len-mul p p h h
 
   pub len-con-mul : (a : K) (p : P) → ¬ (a ≡ 𝟘ₖ) → len (con a · p) ≡ len p
-  len-con-mul a p h = go (is-nought A p)
+  len-con-mul a p h = go (is-zero A p)
     where
       go : Dec (p ≡ 𝟘) → len (con a · p) ≡ len p
       go (yes e) = ap len (ap (λ z. con a · z) e ∙ ·-𝟘 R (con a) ∙ sym e)
@@ -129,10 +129,10 @@ module _ {K P : Type 0} {F : Field2 K} (A : Polynomials F P) where
           omega arith
 
   pub len-mul-monotone : (p q : P) → ¬ (q ≡ 𝟘) → len p ≤ len (p · q)
-  len-mul-monotone p q k = go (is-nought A p)
+  len-mul-monotone p q k = go (is-zero A p)
     where
       go : Dec (p ≡ 𝟘) → len p ≤ len (p · q)
-      go (yes e) = let l : len p ≡ 0 = ap len e ∙ len-nought A in omega arith
+      go (yes e) = let l : len p ≡ 0 = ap len e ∙ len-of-zero A in omega arith
       go (no h) =
           let l : suc (len (p · q)) ≡ len p + len q = len-mul p q h k in
           let c : 0 < len q = len-nonzero A q k in

@@ -6,7 +6,7 @@ use mathlib.Core.Path.{_≡_, sym, _∙_, ap, ap₂}
 use Rattle.field_laws.specs.Ring.{Ring2}
 
 module _ {A : Type 0} (R : Ring2 A) where
-  open Ring2 R using (add as _⊞_, mul as _·_, nought as 𝟘, one as 𝟙)
+  open Ring2 R using (add as _⊞_, mul as _·_, zero as 𝟘, one as 𝟙)
 
   infixl 60 _⊞_
   infixl 70 _·_
@@ -20,7 +20,7 @@ module _ {A : Type 0} (R : Ring2 A) where
   ⊞-left-comm a b c = sym (⊞-assoc a b c) ∙ ap (λ z. z ⊞ c) (⊞-comm a b) ∙ ⊞-assoc b a c
 
   pub ⊞-𝟘 : (a : A) → a ⊞ 𝟘 ≡ a
-  ⊞-𝟘 a = R .add-nought a
+  ⊞-𝟘 a = R .add-zero a
 
   pub 𝟘-⊞ : (a : A) → 𝟘 ⊞ a ≡ a
   𝟘-⊞ a = ⊞-comm 𝟘 a ∙ ⊞-𝟘 a
@@ -61,7 +61,7 @@ module _ {A : Type 0} (R : Ring2 A) where
 pub ruleset ring2 = (⊞-assoc, ⊞-comm, ⊞-left-comm, ⊞-𝟘, 𝟘-⊞, ⊞-self, ⊞-cancel, ·-assoc, ·-comm, ·-left-comm, ·-𝟙, 𝟙-·, ·-⊞, ⊞-·, ·-𝟘, 𝟘-·)
 
 module _ {A : Type 0} (R : Ring2 A) where
-  open Ring2 R using (add as _⊞_, mul as _·_, nought as 𝟘, one as 𝟙)
+  open Ring2 R using (add as _⊞_, mul as _·_, zero as 𝟘, one as 𝟙)
 
   infixl 60 _⊞_
   infixl 70 _·_

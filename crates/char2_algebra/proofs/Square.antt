@@ -9,14 +9,14 @@ use native.Mathlib.Omega.{arith}
 use Rattle.field_laws.specs.{Ring.Ring2, Field.Field2}
 use Rattle.char2_algebra.specs.{Polynomials.Polynomials, Lead.lead, Lead.Monic, Square.tail, Square.sqrt-to, Square.sqrt}
 use Rattle.char2_algebra.proofs.{Ring.ring2, Ring.𝟘-⊞, Ring.·-𝟙, Ring.·-𝟘, Ring.square-⊞, Ring.eq-of-sum, Ring.sum-of-eq, Lead.lead-mul}
-use Rattle.char2_algebra.proofs.Degree.{split, coeff-tail, len-tail, len-zero, con-mul, con-nought, coeff-con-add-x-mul, coeff-con-add-x-mul-suc, nonzero-of-len}
+use Rattle.char2_algebra.proofs.Degree.{split, coeff-tail, len-tail, len-zero, con-mul, con-of-zero, coeff-con-add-x-mul, coeff-con-add-x-mul-suc, nonzero-of-len}
 use Rattle.char2_algebra.proofs.Product.{field-integral, left-nonzero, len-square}
 
 square-of-split : {A : Type 0} (R : Ring2 A) (c x p : A) → R .mul (R .add c (R .mul x p)) (R .add c (R .mul x p)) ≡ R .add (R .mul c c) (R .mul x (R .mul x (R .mul p p)))
 square-of-split R c x p = simp (ring2, R)
 
 module _ {K : Type 0} (F : Field2 K) where
-  open Ring2 (F .ring) using (add as _⊞ₖ_, mul as _·ₖ_, nought as 𝟘ₖ, one as 𝟙ₖ)
+  open Ring2 (F .ring) using (add as _⊞ₖ_, mul as _·ₖ_, zero as 𝟘ₖ, one as 𝟙ₖ)
 
   infixl 60 _⊞ₖ_
   infixl 70 _·ₖ_
@@ -35,8 +35,8 @@ module _ {K : Type 0} (F : Field2 K) where
 
 module _ {K P : Type 0} {F : Field2 K} (A : Polynomials F P) where
   open Polynomials A using (ring as R, coeff, con, x, len)
-  open Ring2 (A .ring) using (add as _⊞_, mul as _·_, nought as 𝟘, one as 𝟙)
-  open Ring2 (F .ring) using (add as _⊞ₖ_, mul as _·ₖ_, nought as 𝟘ₖ, one as 𝟙ₖ)
+  open Ring2 (A .ring) using (add as _⊞_, mul as _·_, zero as 𝟘, one as 𝟙)
+  open Ring2 (F .ring) using (add as _⊞ₖ_, mul as _·ₖ_, zero as 𝟘ₖ, one as 𝟙ₖ)
 
   infixl 60 _⊞_
   infixl 70 _·_
@@ -80,7 +80,7 @@ module _ {K P : Type 0} {F : Field2 K} (A : Polynomials F P) where
       ∙ ap
       (λ z. con (coeff p 0) ⊞ x · z)
       (split A (tail A p)
-      ∙ ap (λ z. z ⊞ x · tail A (tail A p)) (ap con (coeff-tail A p 0 ∙ e) ∙ con-nought A)
+      ∙ ap (λ z. z ⊞ x · tail A (tail A p)) (ap con (coeff-tail A p 0 ∙ e) ∙ con-of-zero A)
       ∙ 𝟘-⊞ R (x · tail A (tail A p)))
 
   sqrt-to-square : (n : ℕ) (p : P) → len p ≤ n + n → ((i : ℕ) → coeff p (suc (i + i)) ≡ 𝟘ₖ) → sqrt-to A n p · sqrt-to A n p ≡ p

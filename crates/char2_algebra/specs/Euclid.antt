@@ -19,7 +19,7 @@ pub record Bezout3 (P : Type 0) : Type 0 where
 
 module _ {K P : Type 0} {F : Field2 K} (A : Polynomials F P) where
   open Polynomials A using (ring, len, con, quot, rem)
-  open Ring2 ring using (add as _⊞_, mul as _·_, nought as 𝟘, one as 𝟙)
+  open Ring2 ring using (add as _⊞_, mul as _·_, zero as 𝟘, one as 𝟙)
 
   infixl 60 _⊞_
   infixl 70 _·_
@@ -40,9 +40,9 @@ module _ {K P : Type 0} {F : Field2 K} (A : Polynomials F P) where
     pub monic : ¬ ((a ≡ 𝟘) × (b ≡ 𝟘) × (c ≡ 𝟘)) → Monic A (B .e)
 
   -- the divisor of a and 0: a divided by its leading coefficient, and 0 where a is 0 too
-  unfoldable pub bezout-nought : P → Bezout P
-  bezout-nought a =
-      elim (F .discrete (lead A a) (F .ring .nought)) [
+  unfoldable pub bezout-zero : P → Bezout P
+  bezout-zero a =
+      elim (F .discrete (lead A a) (F .ring .zero)) [
         | yes _ ↦ record { g = 𝟘; s = 𝟘; t = 𝟘 }
         | no shown ↦ (let c = con (inverse-of F (lead A a) shown) in record { g = c · a; s = c; t = 𝟘 })
       ]
@@ -50,11 +50,11 @@ module _ {K P : Type 0} {F : Field2 K} (A : Polynomials F P) where
   -- Euclid's algorithm, which recurs on b and the remainder r of a by b:
   -- from g = s b + t r and a = q b + r follows g = t a + (s + t q) b; the first number bounds the calls
   unfoldable pub bezout-to : ℕ → P → P → Bezout P
-  unfolding bezout-nought
+  unfolding bezout-zero
   bezout-to zero a b = record { g = a; s = 𝟙; t = 𝟘 }
   bezout-to (suc n) a b =
       elim (len b) [
-        | zero ↦ bezout-nought a
+        | zero ↦ bezout-zero a
         | suc m ↦
             (let r = bezout-to n b (rem a b) in
             record { g = r .g; s = r .t; t = r .s ⊞ r .t · quot a b })

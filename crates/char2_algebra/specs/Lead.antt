@@ -15,4 +15,4 @@ module _ {K P : Type 0} {F : Field2 K} (A : Polynomials F P) where
 
   -- p divided by its leading coefficient; the polynomial 0 stays 0
   unfoldable pub monic-of : P → P
-  monic-of p = elim (F .discrete (lead p) (F .ring .nought)) [ yes _ ↦ p | no shown ↦ A .ring .mul (A .con (inverse-of F (lead p) shown)) p ]
+  monic-of p = elim (F .discrete (lead p) (F .ring .zero)) [ yes _ ↦ p | no shown ↦ A .ring .mul (A .con (inverse-of F (lead p) shown)) p ]

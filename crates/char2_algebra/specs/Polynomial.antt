@@ -13,7 +13,7 @@ IsNo (no _) = Unit {0}
 
 module _ {K : Type 0} (F : Field2 K) where
   open Field2 F using (ring, discrete)
-  open Ring2 ring using (nought as 𝟘)
+  open Ring2 ring using (zero as 𝟘)
 
   -- a is not zero, by the field's test of equality
   abbrev pub Nonzero : K → Type 0
@@ -32,7 +32,7 @@ pub record Polynomial {K : Type 0} (F : Field2 K) : Type 0 where
 
 module _ {K : Type 0} (F : Field2 K) where
   open Field2 F using (ring, discrete)
-  open Ring2 ring using (add as _⊞_, mul as _·_, nought as 𝟘, one as 𝟙)
+  open Ring2 ring using (add as _⊞_, mul as _·_, zero as 𝟘, one as 𝟙)
 
   infixl 60 _⊞_
   infixl 70 _·_
@@ -128,8 +128,8 @@ module _ {K : Type 0} (F : Field2 K) where
   len p = length (p .coefficients)
 
   -- the polynomial 0
-  unfoldable pub nought : Polynomial F
-  nought = record { coefficients = []; trimmed = tt }
+  unfoldable pub zero-polynomial : Polynomial F
+  zero-polynomial = record { coefficients = []; trimmed = tt }
 
   -- the constant a
   unfoldable pub con : K → Polynomial F

@@ -12,7 +12,7 @@ module _ {K P : Type 0} {F : Field2 K} (A : Polynomials F P) where
 
   -- the first n terms of √p₀ + x (√p₂ + x (√p₄ + ..))
   unfoldable pub sqrt-to : ℕ → P → P
-  sqrt-to zero p = ring .nought
+  sqrt-to zero p = ring .zero
   sqrt-to (suc n) p = ring .add (con (F .root (coeff p 0))) (ring .mul x (sqrt-to n (tail (tail p))))
 
   -- the square root of p, if p has no odd powers; as many terms as p has coefficients are enough

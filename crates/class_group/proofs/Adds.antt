@@ -8,7 +8,7 @@ use native.Mathlib.{Omega.arith, Decide.decLe}
 use Rattle.field_laws.specs.{Ring.Ring2, Field.Field2}
 use Rattle.char2_algebra.specs.{Polynomials.Polynomials, Divides.Divides, Lead.monic-of, Euclid.Bezout3}
 use Rattle.char2_algebra.proofs.{Ring.ring2, Ring.·-𝟙, Degree.len-zero, Degree.len-one, Product.mul-nonzero, Product.cancel-left, Lead.monic-constant, Lead.monic-nonzero, Lead.len-monic-of}
-use Rattle.char2_algebra.proofs.Divides.{divides-eq, divides-refl, one-divides, divides-nought}
+use Rattle.char2_algebra.proofs.Divides.{divides-eq, divides-refl, one-divides, divides-zero}
 use Rattle.class_group.specs.Composition.{Combines, composed-monic}
 use Rattle.class_group.specs.{Curve.Curve, Composition.composed, Group.CommutativeGroup}
 use Rattle.class_group.specs.Mumford.{Pair, Reduced, value, neutral, opposite}
@@ -20,7 +20,7 @@ use Rattle.class_group.proofs.Classes.{functions, ideal, equal-class, t
 
 module _ {K P : Type 0} {F : Field2 K} {A : Polynomials F P} (C : Curve A) where
   open Polynomials A using (ring as R, len, quot, rem)
-  open Ring2 (A .ring) using (add as _⊞_, mul as _·_, nought as 𝟘, one as 𝟙)
+  open Ring2 (A .ring) using (add as _⊞_, mul as _·_, zero as 𝟘, one as 𝟙)
   open Curve C using (f, f-len)
 
   infixl 60 _⊞_
@@ -56,7 +56,7 @@ module _ {K P : Type 0} {F : Field2 K} {A : Polynomials F P} (C : Curve A) where
   opposite-divides : {D : Pair P} → Reduced C D → Divides R (D .u) (D .v ⊞ opposite C D .v ⊞ 𝟙)
   opposite-divides {D} r = elim (decLe (len (D .u)) 1) [
     | yes h ↦ rw (monic-constant A (D .u) (r .u-monic) h) (one-divides R _)
-    | no h ↦ rw (opposite-long C D (omega arith)) (divides-eq R (twice (D .v)) (divides-nought R (D .u)))
+    | no h ↦ rw (opposite-long C D (omega arith)) (divides-eq R (twice (D .v)) (divides-zero R (D .u)))
   ]
     where
       twice : (v : P) → 𝟘 ≡ v ⊞ (v ⊞ 𝟙) ⊞ 𝟙

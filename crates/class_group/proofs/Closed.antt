@@ -14,7 +14,7 @@ use native.Mathlib.{Omega.arith, Decide.decLe}
 use borrow.Author.Tests.{lt-ltb, le-ltb}
 use Rattle.field_laws.specs.{Ring.Ring2, Field.Field2}
 use Rattle.char2_algebra.specs.Polynomials.{Polynomials}
-use Rattle.char2_algebra.proofs.{Degree.len-add, Degree.len-one, Degree.len-nought, Divides.divides-eq, Divides.one-divides, Lead.monic-one}
+use Rattle.char2_algebra.proofs.{Degree.len-add, Degree.len-one, Degree.len-of-zero, Divides.divides-eq, Divides.one-divides, Lead.monic-one}
 use Rattle.class_group.specs.Curve.{Curve}
 use Rattle.class_group.specs.Mumford.{Pair, Reduced, neutral, opposite}
 use Rattle.class_group.specs.Operations.{counted-sum, counted-double, sum, double}
@@ -23,7 +23,7 @@ use Rattle.class_group.proofs.Composed.{compose-is, compose-double-is, 
 
 module _ {K P : Type 0} {F : Field2 K} {A : Polynomials F P} (C : Curve A) where
   open Polynomials A using (ring as R, len)
-  open Ring2 (A .ring) using (add as _⊞_, nought as 𝟘, one as 𝟙)
+  open Ring2 (A .ring) using (add as _⊞_, zero as 𝟘, one as 𝟙)
 
   infixl 60 _⊞_
   -- demand 2: the neutral class is reduced
@@ -31,7 +31,7 @@ module _ {K P : Type 0} {F : Field2 K} {A : Polynomials F P} (C : Curve A) where
   unfolding neutral
   neutral-reduced =
       let h : len 𝟙 ≡ 1 = len-one A in
-      let k : len 𝟘 ≡ 0 = len-nought A in
+      let k : len 𝟘 ≡ 0 = len-of-zero A in
       record { u-monic = monic-one A; u-len = omega arith; v-len = omega arith; divides = one-divides R _ }
 
   pub opposite-long : (D : Pair P) → 1 < len (D .u) → opposite C D ≡ record { u = D .u; v = D .v ⊞ 𝟙 }

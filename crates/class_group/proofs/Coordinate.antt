@@ -12,7 +12,7 @@ use Rattle.char2_algebra.proofs.Ring.{ring2}
 
 -- The identities for the ring laws, over plain variables.
 module _ {P : Type 0} (R : Ring2 P) where
-  open Ring2 R using (add as _⊞_, mul as _·_, nought as 𝟘, one as 𝟙)
+  open Ring2 R using (add as _⊞_, mul as _·_, zero as 𝟘, one as 𝟙)
 
   infixl 60 _⊞_
   infixl 70 _·_
@@ -61,7 +61,7 @@ module _ {P : Type 0} (R : Ring2 P) where
   norm-mul′ f p q p′ q′ = simp (ring2, R)
 
 module _ {P : Type 0} (R : Ring2 P) (f : P) where
-  open Ring2 R using (add as _⊞_, mul as _·_, nought as 𝟘, one as 𝟙)
+  open Ring2 R using (add as _⊞_, mul as _·_, zero as 𝟘, one as 𝟙)
 
   infixl 60 _⊞_
   infixl 70 _·_
@@ -69,12 +69,12 @@ module _ {P : Type 0} (R : Ring2 P) (f : P) where
   coordinate = record {
     add = λ x y. (x .0 ⊞ y .0, x .1 ⊞ y .1);
     mul = λ x y. (x .0 · y .0 ⊞ x .1 · y .1 · f, x .0 · y .1 ⊞ x .1 · y .0 ⊞ x .1 · y .1);
-    nought = (𝟘, 𝟘);
+    zero = (𝟘, 𝟘);
     one = (𝟙, 𝟘);
     isSet = Σ-set (R .isSet) (λ p. R .isSet);
     add-comm = λ x y i. (R .add-comm (x .0) (y .0) i, R .add-comm (x .1) (y .1) i);
     add-assoc = λ x y z i. (R .add-assoc (x .0) (y .0) (z .0) i, R .add-assoc (x .1) (y .1) (z .1) i);
-    add-nought = λ x i. (R .add-nought (x .0) i, R .add-nought (x .1) i);
+    add-zero = λ x i. (R .add-zero (x .0) i, R .add-zero (x .1) i);
     add-self = λ x i. (R .add-self (x .0) i, R .add-self (x .1) i);
     mul-comm = λ x y i. (comm₀ R f (x .0) (x .1) (y .0) (y .1) i, comm₁ R (x .0) (x .1) (y .0) (y .1) i);
     mul-assoc = λ x y z i. (assoc₀ R f (x .0) (x .1) (y .0) (y .1) (z .0) (z .1) i, assoc₁ R f (x .0) (x .1) (y .0) (y .1) (z .0) (z .1) i);

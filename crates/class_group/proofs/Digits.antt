@@ -13,13 +13,13 @@ use Rattle.class_group.proofs.Doublings.{double-multiple}
 pub digits-left : (n i : ℕ) → n / 2 ^ suc i ≡ n / 2 ^ i / 2
 digits-left n i = ap (λ k. n / k) (pow-suc 2 i) ∙ sym (div-div-eq-div-mul n (2 ^ i) 2)
 
-module _ {X : Type 0} {Member : X → Type 0} {_⊞_ : X → X → X} {nought : X} {minus double : X → X} (D : Doubling Member _⊞_ nought minus double) where
+module _ {X : Type 0} {Member : X → Type 0} {_⊞_ : X → X → X} {neutral : X} {minus double : X → X} (D : Doubling Member _⊞_ neutral minus double) where
   infixl 60 _⊞_
-  abbrev G : CommutativeGroup Member _⊞_ nought minus
+  abbrev G : CommutativeGroup Member _⊞_ neutral minus
   G = D .group
 
   abbrev times : ℕ → X → X
-  times n a = multiple _⊞_ nought n a
+  times n a = multiple _⊞_ neutral n a
 
   pub even-turn : (n : ℕ) {a : X} → Member a → n % 2 ≡ 0 → double (times (n / 2) a) ≡ times n a
   even-turn n {a} h e = double-multiple D (n / 2) h ∙ ap (λ k. times k a) (let f : n / 2 + n / 2 ≡ n = omega arith in f)

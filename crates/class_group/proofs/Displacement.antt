@@ -16,16 +16,16 @@ use mathlib.Core.List.{List, _∷_, _++_}
 use native.Mathlib.Omega.{arith}
 use lib.{ListN.length, ListN.getD, ListN.set, ListN.length-append, ListN.length-drop, Seq.set-split, Seq.split-at}
 use Rattle.class_group.specs.Group.{CommutativeGroup, Doubling, Halving}
-use Rattle.lists.specs.{Lists.All, Lists.none, Lists.more, Lists.ChangedAt, Walk.after, Walk.Reversible}
+use Rattle.lists.specs.{Lists.All, Lists.none, Lists.more, Lists.ChangedAt, Walk.foldl, Walk.Reversible}
 use Rattle.class_group.specs.Multiples.{repeat, weighted-sum, forward}
 use Rattle.class_group.proofs.GroupLaws.{sums, add-subtract, subtract-add, neutral-sum, cancel-left, cancel-right, eq-of-difference, interchange}
 use Rattle.class_group.proofs.Doublings.{double-member, half-double, repeat-inner, doublings-member, doublings-sum, doublings-opposite, doublings-neutral, doublings-injective}
 use Rattle.lists.proofs.Lists.{all-take, all-drop, all-head, all-split, all-at, changed-members}
-use Rattle.lists.proofs.Walk.{after-append, after-member, after-injective}
+use Rattle.lists.proofs.Walk.{foldl-append, foldl-member, foldl-injective}
 
-module _ {X : Type 0} {Member : X → Type 0} {_⊞_ : X → X → X} {nought : X} {minus double : X → X} (D : Doubling Member _⊞_ nought minus double) where
+module _ {X : Type 0} {Member : X → Type 0} {_⊞_ : X → X → X} {neutral : X} {minus double : X → X} (D : Doubling Member _⊞_ neutral minus double) where
   infixl 60 _⊞_
-  abbrev G : CommutativeGroup Member _⊞_ nought minus
+  abbrev G : CommutativeGroup Member _⊞_ neutral minus
   G = D .group
 
   abbrev walked : X → List X → X
@@ -35,14 +35,14 @@ module _ {X : Type 0} {Member : X → Type 0} {_⊞_ : X → X → X} {nought : 
   forward-closed s d h k = G .sum-closed (double-member D h) k
 
   pub forward-member : {s : X} {l : List X} → Member s → All Member l → Member (walked s l)
-  forward-member = after-member (λ s d. double s ⊞ d) forward-closed
+  forward-member = foldl-member (λ s d. double s ⊞ d) forward-closed
 
   moved : {s t d : X} → Member s → Member t → Member d → double (s ⊞ t) ⊞ d ≡ double s ⊞ d ⊞ double t
   moved {s} {t} {d} h k m = rw (D .double-sum (G .sum-closed h k), D .double-sum h, D .double-sum k) (simp (sums, G))
 
   pub start-displacement : {s t : X} {l : List X} → Member s → Member t → All Member l
       → walked (s ⊞ t) l ≡ walked s l ⊞ repeat double (length l) t
-  unfolding after repeat
+  unfolding foldl repeat
   start-displacement h k none = refl
   start-displacement {s} {t} h k (more {a = d} {l = l} m r) =
       ap (λ z. walked z l) (moved h k m)
@@ -51,20 +51,20 @@ module _ {X : Type 0} {Member : X → Type 0} {_⊞_ : X → X → X} {nought : 
 
   pub forward-injective : {s t : X} {l : List X} → Member s → Member t → All Member l → walked s l ≡ walked t l → s ≡ t
   forward-injective =
-      after-injective (λ s d. double s ⊞ d) forward-closed
+      foldl-injective (λ s d. double s ⊞ d) forward-closed
       (λ s t d h k m e. D .double-injective h k (cancel-right G (double-member D h) (double-member D k) m e))
 
-  weighted-member : {l : List X} → All Member l → Member (weighted-sum _⊞_ nought double l)
+  weighted-member : {l : List X} → All Member l → Member (weighted-sum _⊞_ neutral double l)
   unfolding weighted-sum
   weighted-member none = G .neutral-closed
   weighted-member (more {l = l} h r) = G .sum-closed (doublings-member D (length l) h) (weighted-member r)
 
-  pub forward-end : {s : X} {l : List X} → Member s → All Member l → walked s l ≡ repeat double (length l) s ⊞ weighted-sum _⊞_ nought double l
-  unfolding after repeat weighted-sum
+  pub forward-end : {s : X} {l : List X} → Member s → All Member l → walked s l ≡ repeat double (length l) s ⊞ weighted-sum _⊞_ neutral double l
+  unfolding foldl repeat weighted-sum
   forward-end h none = sym (G .sum-neutral h)
   forward-end {s} h (more {a = d} {l = l} k r) =
       let n = length l in
-      let w = weighted-sum _⊞_ nought double l in
+      let w = weighted-sum _⊞_ neutral double l in
       forward-end (forward-closed s d h k) r
       ∙ ap (λ z. z ⊞ w) (doublings-sum D n (double-member D h) k ∙ ap (λ z. z ⊞ repeat double n d) (repeat-inner double n s))
       ∙ G .assoc (double-member D (doublings-member D n h)) (doublings-member D n k) (weighted-member r)
@@ -78,8 +78,8 @@ module _ {X : Type 0} {Member : X → Type 0} {_⊞_ : X → X → X} {nought : 
     before = double-member D (forward-member hs hl)
 
     split : (c : X) → walked s (l ++ (c ∷ m)) ≡ walked (double (walked s l) ⊞ c) m
-    unfolding after
-    split c = after-append (λ s d. double s ⊞ d) s l (c ∷ m)
+    unfolding foldl
+    split c = foldl-append (λ s d. double s ⊞ d) s l (c ∷ m)
 
     replaced : double (walked s l) ⊞ e ≡ double (walked s l) ⊞ d ⊞ (e ⊞ minus d)
     replaced =
@@ -106,7 +106,7 @@ module _ {X : Type 0} {Member : X → Type 0} {_⊞_ : X → X → X} {nought : 
     unfolding repeat
     doubled-again h =
         let x = doublings-member D n (difference hd he) in
-        let none : nought ≡ repeat double n (e ⊞ minus d) = cancel-left G (G .neutral-closed) x x (G .sum-neutral x ∙ h ∙ D .double-sum x) in
+        let none : neutral ≡ repeat double n (e ⊞ minus d) = cancel-left G (G .neutral-closed) x x (G .sum-neutral x ∙ h ∙ D .double-sum x) in
         sym (eq-of-difference G he hd (doublings-injective D n (difference hd he) (G .neutral-closed) (sym none ∙ sym (doublings-neutral D n))))
 
     turned : repeat double n (e ⊞ minus d) ≡ repeat double n (d ⊞ minus e) → d ≡ e
@@ -165,22 +165,22 @@ module _ {X : Type 0} {Member : X → Type 0} {_⊞_ : X → X → X} {nought : 
 
   -- e at index k, counted from 0: as many doublings as there are elements after it
   pub displacement-at : {s e : X} {l : List X} (k : ℕ) → k < length l → Member s → Member e → All Member l
-      → walked s (set l k e) ≡ walked s l ⊞ repeat double (length l - suc k) (e ⊞ minus (getD l k nought))
+      → walked s (set l k e) ≡ walked s l ⊞ repeat double (length l - suc k) (e ⊞ minus (getD l k neutral))
   displacement-at {s} {e} {l} k b hs he hl =
-      let d = getD l k nought in
+      let d = getD l k neutral in
       ap (walked s) (set-split l k e b)
-      ∙ displaced hs (all-take k hl) (all-at k nought b hl) he (all-drop (suc k) hl)
-      ∙ ap₂ (λ m n. walked s m ⊞ repeat double n (e ⊞ minus d)) (sym (split-at l k nought b)) (length-drop (suc k) l)
+      ∙ displaced hs (all-take k hl) (all-at k neutral b hl) he (all-drop (suc k) hl)
+      ∙ ap₂ (λ m n. walked s m ⊞ repeat double n (e ⊞ minus d)) (sym (split-at l k neutral b)) (length-drop (suc k) l)
 
   pub suppression : {s : X} {l : List X} (k : ℕ) → k < length l → Member s → All Member l
-      → walked s (set l k nought) ≡ walked s l ⊞ minus (repeat double (length l - suc k) (getD l k nought))
+      → walked s (set l k neutral) ≡ walked s l ⊞ minus (repeat double (length l - suc k) (getD l k neutral))
   suppression {s} {l} k b hs hl =
       let n = length l - suc k in
-      let d = all-at k nought b hl in
+      let d = all-at k neutral b hl in
       displacement-at k b hs (G .neutral-closed) hl
       ∙ ap (λ z. walked s l ⊞ z) (ap (repeat double n) (neutral-sum G (G .opposite-closed d)) ∙ doublings-opposite D n d)
 
-module _ {X : Type 0} {Member : X → Type 0} {_⊞_ : X → X → X} {nought : X} {minus double half : X → X} (H : Halving Member _⊞_ nought minus double half) where
+module _ {X : Type 0} {Member : X → Type 0} {_⊞_ : X → X → X} {neutral : X} {minus double half : X → X} (H : Halving Member _⊞_ neutral minus double half) where
   infixl 60 _⊞_
   pub reversible : Reversible Member Member (λ s d. double s ⊞ d) (λ s d. half (s ⊞ minus d))
   reversible =

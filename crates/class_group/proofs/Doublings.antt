@@ -35,13 +35,13 @@ module _ {X : Type 0} (step : X → X) {Member : X → Type 0} (closed : (a : X)
   repeat-back back undo (suc k) {a} h =
       sym (repeat-inner back k (step (repeat step k a))) ∙ ap (repeat back k) (undo (repeat step k a) (repeat-member k h)) ∙ repeat-back back undo k h
 
-module _ {X : Type 0} {Member : X → Type 0} {_⊞_ : X → X → X} {nought : X} {minus double : X → X} (D : Doubling Member _⊞_ nought minus double) where
+module _ {X : Type 0} {Member : X → Type 0} {_⊞_ : X → X → X} {neutral : X} {minus double : X → X} (D : Doubling Member _⊞_ neutral minus double) where
   infixl 60 _⊞_
-  abbrev G : CommutativeGroup Member _⊞_ nought minus
+  abbrev G : CommutativeGroup Member _⊞_ neutral minus
   G = D .group
 
   abbrev times : ℕ → X → X
-  times n a = multiple _⊞_ nought n a
+  times n a = multiple _⊞_ neutral n a
 
   pub double-member : {a : X} → Member a → Member (double a)
   double-member h = rw (D .double-sum h) (G .sum-closed h h)
@@ -68,7 +68,7 @@ module _ {X : Type 0} {Member : X → Type 0} {_⊞_ : X → X → X} {nought : 
   doublings-opposite k h =
       doublings-multiple k (G .opposite-closed h) ∙ multiple-opposite G (2 ^ k) h ∙ ap minus (sym (doublings-multiple k h))
 
-  pub doublings-neutral : (k : ℕ) → repeat double k nought ≡ nought
+  pub doublings-neutral : (k : ℕ) → repeat double k neutral ≡ neutral
   doublings-neutral k = doublings-multiple k (G .neutral-closed) ∙ multiple-neutral G (2 ^ k)
 
   pub doublings-injective : (k : ℕ) {a b : X} → Member a → Member b → repeat double k a ≡ repeat double k b → a ≡ b
@@ -76,7 +76,7 @@ module _ {X : Type 0} {Member : X → Type 0} {_⊞_ : X → X → X} {nought : 
   doublings-injective zero h m e = e
   doublings-injective (suc k) h m e = doublings-injective k h m (D .double-injective (doublings-member k h) (doublings-member k m) e)
 
-module _ {X : Type 0} {Member : X → Type 0} {_⊞_ : X → X → X} {nought : X} {minus double half : X → X} (H : Halving Member _⊞_ nought minus double half) where
+module _ {X : Type 0} {Member : X → Type 0} {_⊞_ : X → X → X} {neutral : X} {minus double half : X → X} (H : Halving Member _⊞_ neutral minus double half) where
   pub half-double : {a : X} → Member a → half (double a) ≡ a
   half-double h =
       let d = double-member (H .doubling) h in

@@ -9,7 +9,7 @@ use Rattle.char2_algebra.specs.Polynomials.{Polynomials}
 use Rattle.char2_algebra.specs.Lead.{Monic}
 use Rattle.char2_algebra.specs.Square.{sqrt}
 use Rattle.char2_algebra.proofs.Ring.{·-𝟘, 𝟘-·}
-use Rattle.char2_algebra.proofs.Degree.{len-bound, len-is, coeff-nought}
+use Rattle.char2_algebra.proofs.Degree.{len-bound, len-is, coeff-zero}
 use Rattle.char2_algebra.proofs.Product.{len-con-mul}
 use Rattle.char2_algebra.proofs.Lead.{lead-is}
 use Rattle.char2_algebra.proofs.Square.{sqrt-square, len-sqrt-is, sqrt-monic}
@@ -17,7 +17,7 @@ use Rattle.class_group.proofs.Rows.{Even}
 
 module _ {K P : Type 0} {F : Field2 K} (A : Polynomials F P) where
   open Polynomials A using (ring, coeff, con, len)
-  open Ring2 (F .ring) using (mul as _·ₖ_, nought as 𝟘ₖ, one as 𝟙ₖ)
+  open Ring2 (F .ring) using (mul as _·ₖ_, zero as 𝟘ₖ, one as 𝟙ₖ)
 
   infixl 70 _·ₖ_
   -- a is monic of degree m, and a² = c p
@@ -28,10 +28,10 @@ module _ {K P : Type 0} {F : Field2 K} (A : Polynomials F P) where
     pub length : len a ≡ suc m
 
   even-top : (c : K) (m : ℕ) (p : P) → Even A c m p → ¬ (coeff p (m + m) ≡ 𝟘ₖ)
-  even-top c m p e z = F .one≢nought (sym (e .top) ∙ ap (λ y. c ·ₖ y) z ∙ ·-𝟘 (F .ring) c)
+  even-top c m p e z = F .one≢zero (sym (e .top) ∙ ap (λ y. c ·ₖ y) z ∙ ·-𝟘 (F .ring) c)
 
-  pub even-nonzero : {c : K} {m : ℕ} {p : P} → Even A c m p → ¬ (p ≡ ring .nought)
-  even-nonzero {c} {m} {p} e z = even-top c m p e (ap (λ y. coeff y (m + m)) z ∙ coeff-nought A (m + m))
+  pub even-nonzero : {c : K} {m : ℕ} {p : P} → Even A c m p → ¬ (p ≡ ring .zero)
+  even-nonzero {c} {m} {p} e z = even-top c m p e (ap (λ y. coeff y (m + m)) z ∙ coeff-zero A (m + m))
 
   pub even-root : (c : K) (m : ℕ) (p : P) → Even A c m p → MonicRoot c m p (sqrt A (ring .mul (con c) p))
   even-root c m p e =
@@ -41,7 +41,7 @@ module _ {K P : Type 0} {F : Field2 K} (A : Polynomials F P) where
       cp = ring .mul (con c) p
 
       c≢ : ¬ (c ≡ 𝟘ₖ)
-      c≢ z = F .one≢nought (sym (e .top) ∙ ap (λ y. y ·ₖ coeff p (m + m)) z ∙ 𝟘-· (F .ring) _)
+      c≢ z = F .one≢zero (sym (e .top) ∙ ap (λ y. y ·ₖ coeff p (m + m)) z ∙ 𝟘-· (F .ring) _)
 
       odd : (i : ℕ) → coeff cp (suc (i + i)) ≡ 𝟘ₖ
       odd i = A .coeff-con-mul c p _ ∙ ap (λ y. c ·ₖ y) (e .odd i) ∙ ·-𝟘 (F .ring) c

@@ -29,7 +29,7 @@ use Rattle.class_group.proofs.Classes.{functions, ideal, transitive, co
 
 module _ {K P : Type 0} {F : Field2 K} {A : Polynomials F P} (C : Curve A) where
   open Polynomials A using (ring as R, len)
-  open Ring2 (A .ring) using (add as _⊞_, nought as 𝟘, one as 𝟙)
+  open Ring2 (A .ring) using (add as _⊞_, zero as 𝟘, one as 𝟙)
 
   infixl 60 _⊞_
   -- composition by any coefficients of e, and reduction

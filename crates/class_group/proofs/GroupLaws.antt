@@ -8,7 +8,7 @@
 use mathlib.Core.Path.{_≡_, sym, _∙_, ap, ap₂}
 use Rattle.class_group.specs.Group.{CommutativeGroup}
 
-module _ {X : Type 0} {Member : X → Type 0} {_⊞_ : X → X → X} {nought : X} {minus : X → X} (G : CommutativeGroup Member _⊞_ nought minus) where
+module _ {X : Type 0} {Member : X → Type 0} {_⊞_ : X → X → X} {neutral : X} {minus : X → X} (G : CommutativeGroup Member _⊞_ neutral minus) where
   infixl 60 _⊞_
   pub ⊞-member : {a b : X} → Member a → Member b → Member (a ⊞ b)
   ⊞-member h k = G .sum-closed h k
@@ -24,7 +24,7 @@ module _ {X : Type 0} {Member : X → Type 0} {_⊞_ : X → X → X} {nought : 
 
 pub ruleset sums = (⊞-member, ⊞-assoc, ⊞-comm, ⊞-left-comm)
 
-module _ {X : Type 0} {Member : X → Type 0} {_⊞_ : X → X → X} {nought : X} {minus : X → X} (G : CommutativeGroup Member _⊞_ nought minus) where
+module _ {X : Type 0} {Member : X → Type 0} {_⊞_ : X → X → X} {neutral : X} {minus : X → X} (G : CommutativeGroup Member _⊞_ neutral minus) where
   infixl 60 _⊞_
   pub add-subtract : {a b : X} → Member a → Member b → a ⊞ b ⊞ minus b ≡ a
   add-subtract {a} {b} h k = G .assoc h k (G .opposite-closed k) ∙ ap (λ z. a ⊞ z) (G .sum-opposite k) ∙ G .sum-neutral h
@@ -32,7 +32,7 @@ module _ {X : Type 0} {Member : X → Type 0} {_⊞_ : X → X → X} {nought : 
   pub subtract-add : {a b : X} → Member a → Member b → a ⊞ minus b ⊞ b ≡ a
   subtract-add {a} {b} h k = let m = G .opposite-closed k in G .assoc h m k ∙ ap (λ z. a ⊞ z) (G .comm m k ∙ G .sum-opposite k) ∙ G .sum-neutral h
 
-  pub neutral-sum : {a : X} → Member a → nought ⊞ a ≡ a
+  pub neutral-sum : {a : X} → Member a → neutral ⊞ a ≡ a
   neutral-sum h = G .comm (G .neutral-closed) h ∙ G .sum-neutral h
 
   pub cancel-right : {a b c : X} → Member a → Member b → Member c → a ⊞ c ≡ b ⊞ c → a ≡ b
@@ -41,13 +41,13 @@ module _ {X : Type 0} {Member : X → Type 0} {_⊞_ : X → X → X} {nought : 
   pub cancel-left : {a b c : X} → Member a → Member b → Member c → c ⊞ a ≡ c ⊞ b → a ≡ b
   cancel-left h k l e = cancel-right h k l (G .comm h l ∙ e ∙ G .comm l k)
 
-  pub eq-of-difference : {a b : X} → Member a → Member b → a ⊞ minus b ≡ nought → a ≡ b
+  pub eq-of-difference : {a b : X} → Member a → Member b → a ⊞ minus b ≡ neutral → a ≡ b
   eq-of-difference h k e = cancel-right h k (G .opposite-closed k) (e ∙ sym (G .sum-opposite k))
 
-  pub opposite-unique : {a b : X} → Member a → Member b → a ⊞ b ≡ nought → a ≡ minus b
+  pub opposite-unique : {a b : X} → Member a → Member b → a ⊞ b ≡ neutral → a ≡ minus b
   opposite-unique {a} {b} h k e = cancel-right h (G .opposite-closed k) k (e ∙ sym (G .sum-opposite k) ∙ G .comm k (G .opposite-closed k))
 
-  pub opposite-neutral : minus nought ≡ nought
+  pub opposite-neutral : minus neutral ≡ neutral
   opposite-neutral = sym (opposite-unique (G .neutral-closed) (G .neutral-closed) (G .sum-neutral (G .neutral-closed)))
 
   pub interchange : {a b c d : X} → Member a → Member b → Member c → Member d → a ⊞ b ⊞ (c ⊞ d) ≡ a ⊞ c ⊞ (b ⊞ d)
@@ -64,7 +64,7 @@ module _ {X : Type 0} {Member : X → Type 0} {_⊞_ : X → X → X} {nought : 
       ∙ ap₂ _⊞_ (G .sum-opposite h) (G .sum-opposite k)
       ∙ G .sum-neutral (G .neutral-closed)))
 
-  pub doubling-injective : ((a : X) → Member a → a ⊞ a ≡ nought → a ≡ nought) → {a b : X} → Member a → Member b → a ⊞ a ≡ b ⊞ b → a ≡ b
+  pub doubling-injective : ((a : X) → Member a → a ⊞ a ≡ neutral → a ≡ neutral) → {a b : X} → Member a → Member b → a ⊞ a ≡ b ⊞ b → a ≡ b
   doubling-injective torsion {a} {b} h k e =
       let m = G .opposite-closed k in
       eq-of-difference h k

@@ -16,7 +16,7 @@ use Rattle.char2_algebra.proofs.Division.{quot-exact}
 use Rattle.char2_algebra.proofs.Lead.{lead-add-less, monic-nonzero, monic-cofactor, monic-top}
 use Rattle.class_group.specs.Curve.{Curve}
 use Rattle.class_group.specs.Mumford.{Pair, Reduced, value}
-use Rattle.class_group.specs.Half.{Triple, triple, lift, step, halved, half, half-by, half-of-degree-1, half-of-degree-2, half-of-degree-3, stepped-of-degree-3, lifted-half-of-degree-2, lifted-half-of-degree-3}
+use Rattle.class_group.specs.Half.{Triple, triple, lift, exchange, halved, half, half-by, half-of-degree-1, half-of-degree-2, half-of-degree-3, exchanged-of-degree-3, lifted-half-of-degree-2, lifted-half-of-degree-3}
 use Rattle.class_group.proofs.Triple.{Meets, Chain, start, lifted, stepped}
 use Rattle.class_group.proofs.Rows.{Even, row-1, row-2, row-2-square, row-3, row-3-square, second-lift, first-lift-nonzero}
 use Rattle.class_group.specs.Half.{first-lift}
@@ -24,7 +24,7 @@ use Rattle.class_group.proofs.EvenRoot.{MonicRoot, even-root, even-nonz
 
 module _ {K P : Type 0} {F : Field2 K} {A : Polynomials F P} (C : Curve A) where
   open Polynomials A using (ring, coeff, con, len)
-  open Ring2 ring using (add as _⊞_, mul as _·_, nought as 𝟘, one as 𝟙)
+  open Ring2 ring using (add as _⊞_, mul as _·_, zero as 𝟘, one as 𝟙)
   open Curve C using (f, f-len, f-monic)
 
   infixl 60 _⊞_
@@ -85,32 +85,32 @@ module _ {K P : Type 0} {F : Field2 K} {A : Polynomials F P} (C : Curve A) where
         record { c = c; m = m; T = T; chain = k; root = even-root A c m (T .u) e; short = h; v-is = refl }
 
     degree-1 : len (D .u) ≡ 2 → HalfChain (half-of-degree-1 A (triple C D))
-    unfolding half-of-degree-1 triple lift step
+    unfolding half-of-degree-1 triple lift exchange
     degree-1 e =
         let row : Even A _ 3 _ =
         row-1 A (D .u) w e (monic-top A (D .u) 1 (r .u-monic) e) (omega (arith, w-len)) (monic-top A w 6 w-monic (omega (arith, w-len))) in
         from-even _ 3 _ (omega arith) (stepped (even-nonzero A row) (lifted _ start)) row
 
     degree-2 : len (D .u) ≡ 3 → HalfChain (half-of-degree-2 A (triple C D))
-    unfolding half-of-degree-2 lifted-half-of-degree-2 triple lift step
-    degree-2 e = go (F .discrete (coeff (D .u) 1) (F .ring .nought))
+    unfolding half-of-degree-2 lifted-half-of-degree-2 triple lift exchange
+    degree-2 e = go (F .discrete (coeff (D .u) 1) (F .ring .zero))
       where
         u-top : coeff (D .u) 2 ≡ F .ring .one
         u-top = monic-top A (D .u) 2 (r .u-monic) e
 
-        lifts : (n : ¬ (coeff (D .u) 1 ≡ F .ring .nought)) → HalfChain (lifted-half-of-degree-2 A (triple C D) n)
+        lifts : (n : ¬ (coeff (D .u) 1 ≡ F .ring .zero)) → HalfChain (lifted-half-of-degree-2 A (triple C D) n)
         lifts n =
             let row : Even A _ 3 _ = row-2 A (D .u) w e u-top (omega (arith, w-len)) (monic-top A w 5 w-monic (omega (arith, w-len))) _ (F .mul-inverse _ n) in
             from-even _ 3 _ (omega arith) (stepped (even-nonzero A row) (lifted _ start)) row
 
-        go : (d : Dec (coeff (D .u) 1 ≡ F .ring .nought))
+        go : (d : Dec (coeff (D .u) 1 ≡ F .ring .zero))
             → HalfChain (elim d as (λ _. Pair P) [ yes _ ↦ halved A (F .ring .one) (triple C D) | no n ↦ lifted-half-of-degree-2 A (triple C D) n ])
         go (yes z) = from-even _ 1 _ (omega arith) start (row-2-square A (D .u) e u-top z)
         go (no n) = lifts n
 
     degree-3 : len (D .u) ≡ 4 → HalfChain (half-of-degree-3 A (triple C D))
-    unfolding half-of-degree-3 stepped-of-degree-3 lifted-half-of-degree-3 triple lift step first-lift second-lift
-    degree-3 e = go (F .discrete (F .root (coeff (first-lift A (D .u) w) 1)) (F .ring .nought))
+    unfolding half-of-degree-3 exchanged-of-degree-3 lifted-half-of-degree-3 triple lift exchange first-lift second-lift
+    degree-3 e = go (F .discrete (F .root (coeff (first-lift A (D .u) w) 1)) (F .ring .zero))
       where
         u-top : coeff (D .u) 3 ≡ F .ring .one
         u-top = monic-top A (D .u) 3 (r .u-monic) e
@@ -121,13 +121,13 @@ module _ {K P : Type 0} {F : Field2 K} {A : Polynomials F P} (C : Curve A) where
         first≢ : ¬ (first-lift A (D .u) w ≡ 𝟘)
         first≢ = first-lift-nonzero A (D .u) w e u-top (omega (arith, w-len)) w-top
 
-        lifts : (n : ¬ (F .root (coeff (first-lift A (D .u) w) 1) ≡ F .ring .nought)) → HalfChain (lifted-half-of-degree-3 A (triple C D) n)
+        lifts : (n : ¬ (F .root (coeff (first-lift A (D .u) w) 1) ≡ F .ring .zero)) → HalfChain (lifted-half-of-degree-3 A (triple C D) n)
         lifts n =
             let row : Even A _ 3 _ = row-3 A (D .u) w e u-top (omega (arith, w-len)) w-top _ (F .mul-inverse _ n) in
             from-even _ 3 _ (omega arith) (stepped (even-nonzero A row) (lifted _ (stepped first≢ (lifted _ start)))) row
 
-        go : (d : Dec (F .root (coeff (first-lift A (D .u) w) 1) ≡ F .ring .nought))
-            → HalfChain (elim d as (λ _. Pair P) [ yes _ ↦ halved A (F .ring .one) (stepped-of-degree-3 A (triple C D)) | no n ↦ lifted-half-of-degree-3 A (triple C D) n ])
+        go : (d : Dec (F .root (coeff (first-lift A (D .u) w) 1) ≡ F .ring .zero))
+            → HalfChain (elim d as (λ _. Pair P) [ yes _ ↦ halved A (F .ring .one) (exchanged-of-degree-3 A (triple C D)) | no n ↦ lifted-half-of-degree-3 A (triple C D) n ])
         go (yes z) = from-even _ 2 _ (omega arith) (stepped first≢ (lifted _ start)) (row-3-square A (D .u) w e u-top (omega (arith, w-len)) w-top z)
         go (no n) = lifts n
 

@@ -14,7 +14,7 @@ use Rattle.char2_algebra.specs.{Polynomials.Polynomials, Divides.Divides}
 use Rattle.char2_algebra.proofs.{Ring.ring2, Ring.⊞-cancel, Ring.by, Ring.both, Ring.combine, Degree.con-mul, Degree.con-one, Degree.one-nonzero, Product.cancel-left}
 use Rattle.char2_algebra.proofs.{Divides.divides-refl, Divides.divides-eq, Divides.divides-trans, Divides.divides-right, Divides.divides-product, Divides.divides-add, Division.rem-divides, Lead.monic-nonzero}
 use Rattle.class_group.specs.{Curve.Curve, Mumford.Pair, Mumford.Reduced, Mumford.value, Mumford.neutral, Mumford.opposite, Operations.sum, Operations.double, Group.Halving}
-use Rattle.class_group.specs.Half.{Triple, triple, lift, step, half, half-by}
+use Rattle.class_group.specs.Half.{Triple, triple, lift, exchange, half, half-by}
 use Rattle.class_group.proofs.{Reduction.~-step, Composition.~-double, Ideal.Equivalent, Ideal.~-sym}
 use Rattle.class_group.proofs.{Triple.Meets, Triple.Chain, Triple.start, Triple.lifted, Triple.stepped, Triple.chain-meets}
 use Rattle.class_group.proofs.{HalfChain.HalfChain, HalfChain.half-chain, HalfChain.triple-meets}
@@ -41,7 +41,7 @@ module _ {B : Type 0} (R : Ring2 B) where
 
 module _ {K P : Type 0} {F : Field2 K} {A : Polynomials F P} (C : Curve A) where
   open Polynomials A using (ring as R, len, rem, con)
-  open Ring2 (A .ring) using (add as _⊞_, mul as _·_, nought as 𝟘, one as 𝟙)
+  open Ring2 (A .ring) using (add as _⊞_, mul as _·_, zero as 𝟘, one as 𝟙)
   open Curve C using (f)
 
   infixl 60 _⊞_
@@ -54,7 +54,7 @@ module _ {K P : Type 0} {F : Field2 K} {A : Polynomials F P} (C : Curve A) where
 
   -- a chain of lifts and steps keeps the class
   chain-class : {S T : Triple P} → Meets C S → Chain C S T → Same (pair-of S) (pair-of T)
-  unfolding lift step value
+  unfolding lift exchange value
   chain-class m start = equal-class C (λ x h. h) (λ x h. h)
   chain-class m (lifted {T = T} k c) =
       transitive C (chain-class m c)

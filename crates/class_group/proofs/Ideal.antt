@@ -12,13 +12,13 @@ use Rattle.field_laws.specs.Ring.{Ring2}
 use Rattle.char2_algebra.proofs.Ring.{𝟘-⊞, ⊞-·, ·-𝟘, 𝟘-·, 𝟙-·, ·-left-comm}
 
 module _ {B : Type 0} (S : Ring2 B) where
-  open Ring2 S using (add as _⊞_, mul as _·_, nought as 𝟘, one as 𝟙)
+  open Ring2 S using (add as _⊞_, mul as _·_, zero as 𝟘, one as 𝟙)
 
   infixl 60 _⊞_
   infixl 70 _·_
   -- an ideal: closed under sums and under multiples by any element, with zero in it
   pub record Ideal (I : B → Type 0) : Type 0 where
-    pub nought : I 𝟘
+    pub zero : I 𝟘
     pub sum : {a b : B} → I a → I b → I (a ⊞ b)
     pub multiple : (c : B) {a : B} → I a → I (c · a)
 
@@ -36,7 +36,7 @@ module _ {B : Type 0} (S : Ring2 B) where
     more : {z : B} (a b c : B) → I a → J b → Product I J c → z ≡ a · b ⊞ c → Product I J z
 
   pub product-of : {I J : B → Type 0} (a b : B) → I a → J b → Product I J (a · b)
-  product-of a b i j = more {z = a · b} a b 𝟘 i j (none refl) (sym (S .add-nought (a · b)))
+  product-of a b i j = more {z = a · b} a b 𝟘 i j (none refl) (sym (S .add-zero (a · b)))
 
   pub product-within : {I J I′ J′ : B → Type 0} → Within I I′ → Within J J′ → Within (Product I J) (Product I′ J′)
   product-within h k z (none e) = none e
@@ -71,7 +71,7 @@ module _ {B : Type 0} (S : Ring2 B) where
       (product-within (λ x t. product-comm x t) (λ x t. t) z (product-comm z h))))
 
   pub product-least : {I J M : B → Type 0} → Ideal M → ((a b : B) → I a → J b → M (a · b)) → Within (Product I J) M
-  product-least {M = M} m h z (none e) = subst M (sym e) (m .nought)
+  product-least {M = M} m h z (none e) = subst M (sym e) (m .zero)
   product-least {M = M} m h z (more a b c i j r e) = subst M (sym e) (m .sum (h a b i j) (product-least m h c r))
 
   pub product-whole : {I : B → Type 0} → Ideal I → Within (Product Whole I) I
@@ -157,7 +157,7 @@ module _ {B : Type 0} (S : Ring2 B) where
 
   pub scaled-ideal : {I : B → Type 0} (α : B) → Ideal I → Ideal (Scaled α I)
   scaled-ideal α h = record {
-    nought = (𝟘, h .nought, sym (·-𝟘 S α));
+    zero = (𝟘, h .zero, sym (·-𝟘 S α));
     sum = λ s t. (s .0 ⊞ t .0, h .sum (s .1) (t .1), ap₂ _⊞_ (s .2) (t .2) ∙ sym (S .mul-add α (s .0) (t .0)));
     multiple = λ c s. (c · s .0, h .multiple c (s .1), ap (λ z. c · z) (s .2) ∙ ·-left-comm S c α (s .0));
   }

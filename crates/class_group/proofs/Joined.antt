@@ -38,7 +38,7 @@ module _ {P : Type 0} (R : Ring2 P) where
 
 module _ {K P : Type 0} {F : Field2 K} {A : Polynomials F P} (C : Curve A) where
   open Polynomials A using (ring as R, len, quot, rem)
-  open Ring2 (A .ring) using (add as _⊞_, mul as _·_, nought as 𝟘, one as 𝟙)
+  open Ring2 (A .ring) using (add as _⊞_, mul as _·_, zero as 𝟘, one as 𝟙)
   open Curve C using (f)
 
   infixl 60 _⊞_

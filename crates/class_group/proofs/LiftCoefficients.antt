@@ -21,7 +21,7 @@ module _ {B : Type 0} (R : Ring2 B) where
 module _ {K P : Type 0} {F : Field2 K} (A : Polynomials F P) where
   open Polynomials A using (ring, coeff, con, x)
   open Ring2 ring using (add as _⊞_, mul as _·_)
-  open Ring2 (F .ring) using (add as _⊞ₖ_, mul as _·ₖ_, nought as 𝟘ₖ)
+  open Ring2 (F .ring) using (add as _⊞ₖ_, mul as _·ₖ_, zero as 𝟘ₖ)
 
   infixl 60 _⊞_
   infixl 70 _·_

@@ -14,12 +14,12 @@ use Rattle.class_group.specs.Group.{CommutativeGroup}
 use Rattle.class_group.specs.Multiples.{multiple}
 use Rattle.class_group.proofs.GroupLaws.{neutral-sum, interchange, opposite-sum, opposite-neutral}
 
-module _ {X : Type 0} {Member : X → Type 0} {_⊞_ : X → X → X} {nought : X} {minus : X → X} (G : CommutativeGroup Member _⊞_ nought minus) where
+module _ {X : Type 0} {Member : X → Type 0} {_⊞_ : X → X → X} {neutral : X} {minus : X → X} (G : CommutativeGroup Member _⊞_ neutral minus) where
   infixl 60 _⊞_
   abbrev times : ℕ → X → X
-  times n a = multiple _⊞_ nought n a
+  times n a = multiple _⊞_ neutral n a
 
-  pub multiple-zero : (a : X) → times 0 a ≡ nought
+  pub multiple-zero : (a : X) → times 0 a ≡ neutral
   unfolding multiple
   multiple-zero a = refl
 
@@ -56,10 +56,10 @@ module _ {X : Type 0} {Member : X → Type 0} {_⊞_ : X → X → X} {nought : 
   multiple-sum (suc n) {a} {b} h k =
       ap (λ z. a ⊞ b ⊞ z) (multiple-sum n h k) ∙ interchange G h k (multiple-member n h) (multiple-member n k)
 
-  pub multiple-neutral : (n : ℕ) → times n nought ≡ nought
+  pub multiple-neutral : (n : ℕ) → times n neutral ≡ neutral
   unfolding multiple
   multiple-neutral zero = refl
-  multiple-neutral (suc n) = ap (λ z. nought ⊞ z) (multiple-neutral n) ∙ G .sum-neutral (G .neutral-closed)
+  multiple-neutral (suc n) = ap (λ z. neutral ⊞ z) (multiple-neutral n) ∙ G .sum-neutral (G .neutral-closed)
 
   pub multiple-opposite : (n : ℕ) {a : X} → Member a → times n (minus a) ≡ minus (times n a)
   unfolding multiple

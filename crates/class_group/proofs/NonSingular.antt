@@ -9,7 +9,7 @@ use Rattle.class_group.specs.{Curve.Curve, Multiples.multiple}
 use Rattle.class_group.specs.NonSingular.{Over, weighted, derivative, evaluate, evaluate-at, derivative-by-y, equation, equation-over, Singular}
 
 module _ {L : Type 0} (R : Ring2 L) where
-  open Ring2 R using (add as _⊞_, mul as _·_, nought as 𝟘, one as 𝟙)
+  open Ring2 R using (add as _⊞_, mul as _·_, zero as 𝟘, one as 𝟙)
 
   infixl 60 _⊞_
   infixl 70 _·_
@@ -24,4 +24,4 @@ module _ {K P : Type 0} {F : Field2 K} {A : Polynomials F P} (C : Curve A) where
   -- demand 3 ('on every accepted curve'): no curve has to be refused as singular
   pub non-singular : {L : Type 0} (E : Over K L) (x y : L) → ¬ Singular C E x y
   unfolding equation-over
-  non-singular E x y s = E .one≢nought (sym (derivative-by-y-is-one (E .ring) _ x y) ∙ s .by-y)
+  non-singular E x y s = E .one≢zero (sym (derivative-by-y-is-one (E .ring) _ x y) ∙ s .by-y)

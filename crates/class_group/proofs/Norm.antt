@@ -12,13 +12,13 @@ use Rattle.field_laws.specs.Ring.{Ring2}
 use Rattle.field_laws.specs.Field.{Field2}
 use Rattle.char2_algebra.specs.Polynomials.{Polynomials}
 use Rattle.char2_algebra.proofs.Ring.{ring2, ·-𝟘}
-use Rattle.char2_algebra.proofs.Degree.{len-zero, len-nought, nonzero-of-len, len-add, len-add-less, len-one, one-nonzero}
-use Rattle.char2_algebra.proofs.Product.{len-mul-le, len-mul, mul-nonzero, square-nonzero, square-nought, len-square}
+use Rattle.char2_algebra.proofs.Degree.{len-zero, len-of-zero, nonzero-of-len, len-add, len-add-less, len-one, one-nonzero}
+use Rattle.char2_algebra.proofs.Product.{len-mul-le, len-mul, mul-nonzero, square-nonzero, square-zero, len-square}
 use Rattle.class_group.proofs.Coordinate.{coordinate, norm, norm-mul, norm-constant, norm-value}
 
 module _ {K P : Type 0} {F : Field2 K} (A : Polynomials F P) (f : P) (f-len : A .len f ≡ 8) where
   open Polynomials A using (ring as R, len)
-  open Ring2 (A .ring) using (add as _⊞_, mul as _·_, nought as 𝟘, one as 𝟙)
+  open Ring2 (A .ring) using (add as _⊞_, mul as _·_, zero as 𝟘, one as 𝟙)
 
   infixl 60 _⊞_
   infixl 70 _·_
@@ -80,16 +80,16 @@ module _ {K P : Type 0} {F : Field2 K} (A : Polynomials F P) (f : P) (f-len : A 
 
   pub norm-nonzero : (x : P × P) → ¬ (x ≡ (𝟘, 𝟘)) → ¬ (norm R f x ≡ 𝟘)
   norm-nonzero x h z =
-      let q≡𝟘 = norm-short (x .0) (x .1) (let a : len (norm R f x) ≡ 0 = ap len z ∙ len-nought A in omega arith) in
-      h (λ i. (square-nought A (x .0) (sym (norm-constant R f (x .0)) ∙ ap (λ q. norm R f (x .0, q)) (sym q≡𝟘) ∙ z) i, q≡𝟘 i))
+      let q≡𝟘 = norm-short (x .0) (x .1) (let a : len (norm R f x) ≡ 0 = ap len z ∙ len-of-zero A in omega arith) in
+      h (λ i. (square-zero A (x .0) (sym (norm-constant R f (x .0)) ∙ ap (λ q. norm R f (x .0, q)) (sym q≡𝟘) ∙ z) i, q≡𝟘 i))
 
-  pub coordinate-domain : (a b : P × P) → ¬ (a ≡ coordinate R f .nought) → ¬ (b ≡ coordinate R f .nought)
-      → ¬ (coordinate R f .mul a b ≡ coordinate R f .nought)
+  pub coordinate-domain : (a b : P × P) → ¬ (a ≡ coordinate R f .zero) → ¬ (b ≡ coordinate R f .zero)
+      → ¬ (coordinate R f .mul a b ≡ coordinate R f .zero)
   unfolding coordinate
   coordinate-domain a b h k z =
       mul-nonzero A (norm R f a) (norm R f b) (norm-nonzero a h) (norm-nonzero b k)
       (sym (norm-mul R f a b) ∙ ap (norm R f) z ∙ norm-constant R f 𝟘 ∙ ·-𝟘 R 𝟘)
 
-  pub coordinate-one : ¬ (coordinate R f .one ≡ coordinate R f .nought)
+  pub coordinate-one : ¬ (coordinate R f .one ≡ coordinate R f .zero)
   unfolding coordinate
   coordinate-one z = one-nonzero A (ap (λ x. x .0) z)

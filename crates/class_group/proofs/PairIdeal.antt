@@ -11,7 +11,7 @@ use Rattle.class_group.proofs.Coordinate.{coordinate}
 use Rattle.class_group.proofs.Ideal.{Ideal, Whole, Within}
 
 module _ {P : Type 0} (R : Ring2 P) where
-  open Ring2 R using (add as _⊞_, mul as _·_, nought as 𝟘, one as 𝟙)
+  open Ring2 R using (add as _⊞_, mul as _·_, zero as 𝟘, one as 𝟙)
 
   infixl 60 _⊞_
   infixl 70 _·_
@@ -20,8 +20,8 @@ module _ {P : Type 0} (R : Ring2 P) where
   pair-ideal u v x = Divides R u (x .0 ⊞ x .1 · v)
 
   -- The identities, over plain variables.
-  nought-eq : (u v : P) → 𝟘 ⊞ 𝟘 · v ≡ 𝟘 · u
-  nought-eq u v = simp (ring2, R)
+  zero-eq : (u v : P) → 𝟘 ⊞ 𝟘 · v ≡ 𝟘 · u
+  zero-eq u v = simp (ring2, R)
 
   sum-eq : (u v p q k p′ q′ k′ : P) → p ⊞ q · v ≡ k · u → p′ ⊞ q′ · v ≡ k′ · u → p ⊞ p′ ⊞ (q ⊞ q′) · v ≡ (k ⊞ k′) · u
   sum-eq u v p q k p′ q′ k′ h h′ = combine R _ _ (both R (by R 𝟙 h) (by R 𝟙 h′)) (simp (ring2, R))
@@ -34,14 +34,14 @@ module _ {P : Type 0} (R : Ring2 P) where
   modulo-eq u v v′ t p q k e h = combine R _ _ (both R (by R q e) (by R 𝟙 h)) (simp (ring2, R))
 
 module _ {P : Type 0} (R : Ring2 P) (f : P) where
-  open Ring2 R using (add as _⊞_, mul as _·_, nought as 𝟘, one as 𝟙)
+  open Ring2 R using (add as _⊞_, mul as _·_, zero as 𝟘, one as 𝟙)
 
   infixl 60 _⊞_
   infixl 70 _·_
   pub pair-ideal-ideal : (u v : P) → Divides R u (v · v ⊞ v ⊞ f) → Ideal (coordinate R f) (pair-ideal R u v)
   unfolding coordinate
   pair-ideal-ideal u v d = record {
-    nought = (𝟘, nought-eq R u v);
+    zero = (𝟘, zero-eq R u v);
     sum = λ {a} {b} h k. (_, sum-eq R u v (a .0) (a .1) (h .0) (b .0) (b .1) (k .0) (h .1) (k .1));
     multiple = λ c {a} h. (_, multiple-eq R f u v (d .0) (c .0) (c .1) (h .0) (a .0) (a .1) (d .1) (h .1));
   }

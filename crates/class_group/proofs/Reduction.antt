@@ -9,7 +9,7 @@ use Rattle.class_group.proofs.PairIdeal.{pair-ideal}
 
 -- The identities, over plain variables; (y + v)(y + v + 1) = u w.
 module _ {P : Type 0} (R : Ring2 P) where
-  open Ring2 R using (add as _⊞_, mul as _·_, nought as 𝟘, one as 𝟙)
+  open Ring2 R using (add as _⊞_, mul as _·_, zero as 𝟘, one as 𝟙)
 
   infixl 60 _⊞_
   infixl 70 _·_
@@ -34,7 +34,7 @@ module _ {P : Type 0} (R : Ring2 P) where
   back₁ u v w p q k h = combine R _ _ (by R 𝟙 h) (simp (ring2, R))
 
 module _ {P : Type 0} (R : Ring2 P) (f : P) where
-  open Ring2 R using (add as _⊞_, mul as _·_, nought as 𝟘, one as 𝟙)
+  open Ring2 R using (add as _⊞_, mul as _·_, zero as 𝟘, one as 𝟙)
 
   infixl 60 _⊞_
   infixl 70 _·_

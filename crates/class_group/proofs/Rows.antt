@@ -10,13 +10,13 @@ use Rattle.field_laws.specs.Ring.{Ring2}
 use Rattle.field_laws.specs.Field.{Field2}
 use Rattle.char2_algebra.specs.Polynomials.{Polynomials}
 use Rattle.char2_algebra.proofs.Ring.{ring2, ·-𝟘, by, both, combine}
-use Rattle.char2_algebra.proofs.Degree.{coeff-nought}
+use Rattle.char2_algebra.proofs.Degree.{coeff-zero}
 use Rattle.class_group.specs.Half.{first-lift}
 use Rattle.class_group.proofs.LiftCoefficients.{lifted, lifted-one, lifted-three, lifted-past}
 
 module _ {K P : Type 0} {F : Field2 K} (A : Polynomials F P) where
   open Polynomials A using (coeff)
-  open Ring2 (F .ring) using (mul as _·_, nought as 𝟘, one as 𝟙)
+  open Ring2 (F .ring) using (mul as _·_, zero as 𝟘, one as 𝟙)
 
   infixl 70 _·_
   -- p has degree 2m and no odd power, and c times its highest coefficient is 1
@@ -26,7 +26,7 @@ module _ {K P : Type 0} {F : Field2 K} (A : Polynomials F P) where
     pub odd : (i : ℕ) → coeff p (suc (i + i)) ≡ 𝟘
 
 module _ {B : Type 0} (R : Ring2 B) where
-  open Ring2 R using (add as _⊞_, mul as _·_, nought as 𝟘, one as 𝟙)
+  open Ring2 R using (add as _⊞_, mul as _·_, zero as 𝟘, one as 𝟙)
 
   infixl 60 _⊞_
   infixl 70 _·_
@@ -98,7 +98,7 @@ module _ {B : Type 0} (R : Ring2 B) where
 
 module _ {K P : Type 0} {F : Field2 K} (A : Polynomials F P) where
   open Polynomials A using (coeff, len)
-  open Ring2 (F .ring) using (add as _⊞_, mul as _·_, nought as 𝟘, one as 𝟙)
+  open Ring2 (F .ring) using (add as _⊞_, mul as _·_, zero as 𝟘, one as 𝟙)
   open Field2 F using (ring as 𝕂, root, inverse)
 
   infixl 60 _⊞_
@@ -221,8 +221,8 @@ module _ {K P : Type 0} {F : Field2 K} (A : Polynomials F P) where
     L-past (suc (suc (suc (suc j)))) h =
         lifted-past A _ _ _ u w j ∙ stays-first 𝕂 _ _ _ _ _ (u-past _ (omega arith)) ∙ A .len-past w _ (omega arith)
 
-    pub first-lift-nonzero : ¬ (first-lift A u w ≡ A .ring .nought)
-    first-lift-nonzero e = F .one≢nought (sym L-four ∙ ap (λ z. coeff z 4) e ∙ coeff-nought A 4)
+    pub first-lift-nonzero : ¬ (first-lift A u w ≡ A .ring .zero)
+    first-lift-nonzero e = F .one≢zero (sym L-four ∙ ap (λ z. coeff z 4) e ∙ coeff-zero A 4)
 
     pub row-3-square : root (coeff L 1) ≡ 𝟘 → Even A 𝟙 2 L
     row-3-square e =

@@ -7,7 +7,7 @@ use Rattle.char2_algebra.specs.Polynomials.{Polynomials}
 use Rattle.char2_algebra.proofs.Ring.{ring2, by, combine}
 use Rattle.class_group.specs.Curve.{Curve}
 use Rattle.class_group.specs.Mumford.{value}
-use Rattle.class_group.specs.Half.{Triple, lift, step}
+use Rattle.class_group.specs.Half.{Triple, lift, exchange}
 
 module _ {B : Type 0} (R : Ring2 B) where
   open Ring2 R using (add as _⊞_, mul as _·_, one as 𝟙)
@@ -32,15 +32,15 @@ module _ {K P : Type 0} {F : Field2 K} {A : Polynomials F P} (C : Curve A) where
   unfolding value lift
   lift-meets k T h = lift-identity (A .ring) (T .u) (T .v) (T .w) (C .f) k h
 
-  pub step-meets : (T : Triple P) → Meets T → Meets (step A T)
-  unfolding value step
+  pub step-meets : (T : Triple P) → Meets T → Meets (exchange A T)
+  unfolding value exchange
   step-meets T h = step-identity (A .ring) (T .u) (T .v) (T .w) (C .f) h
 
   -- T comes from S by lifts, and by steps at which w is not 0
   pub data Chain (S : Triple P) : Triple P → Type 0 where
     start : Chain S S
     lifted : {T : Triple P} (k : P) → Chain S T → Chain S (lift A k T)
-    stepped : {T : Triple P} → ¬ (T .w ≡ A .ring .nought) → Chain S T → Chain S (step A T)
+    stepped : {T : Triple P} → ¬ (T .w ≡ A .ring .zero) → Chain S T → Chain S (exchange A T)
 
   pub chain-meets : {S T : Triple P} → Chain S T → Meets S → Meets T
   chain-meets start m = m

@@ -21,7 +21,7 @@ pub mod Constant
 
 module _ {K P : Type 0} {F : Field2 K} (A : Polynomials F P) (f : P) (f-len : A .len f ≡ 8) where
   open Polynomials A using (ring as R, len)
-  open Ring2 (A .ring) using (add as _⊞_, mul as _·_, nought as 𝟘, one as 𝟙)
+  open Ring2 (A .ring) using (add as _⊞_, mul as _·_, zero as 𝟘, one as 𝟙)
 
   infixl 60 _⊞_
   infixl 70 _·_
@@ -93,7 +93,7 @@ module _ {K P : Type 0} {F : Field2 K} (A : Polynomials F P) (f : P) (f-len : A 
       unfolding g
       γ≡g i = (γ .0, γ₁≡𝟘 i)
 
-      conj≢𝟘 : ¬ (conj R f (h .β) ≡ S R f .nought)
+      conj≢𝟘 : ¬ (conj R f (h .β) ≡ S R f .zero)
       unfolding k coordinate
       conj≢𝟘 z = k≢𝟘 (ap (λ x. x .0) (sym (mul-conj R f (h .β)) ∙ ap (S R f .mul (h .β)) z ∙ ·-𝟘 (S R f) (h .β)))
 

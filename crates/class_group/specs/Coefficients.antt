@@ -21,9 +21,9 @@ module _ {K : Type 0} (F : Field2 K) (c : ℕ → K) where
   top = coeff-of F _ 7
 
   -- its coefficients above x^7 are zero
-  pub past : (i : ℕ) → 7 < i → polynomials F .coeff monic-7 i ≡ F .ring .nought
+  pub past : (i : ℕ) → 7 < i → polynomials F .coeff monic-7 i ≡ F .ring .zero
   unfolding monic-7
-  past i h = coeff-of F _ i ∙ List·getD-eq-default (c 0 ∷ c 1 ∷ c 2 ∷ c 3 ∷ c 4 ∷ c 5 ∷ c 6 ∷ F .ring .one ∷ []) (F .ring .nought) h
+  past i h = coeff-of F _ i ∙ List·getD-eq-default (c 0 ∷ c 1 ∷ c 2 ∷ c 3 ∷ c 4 ∷ c 5 ∷ c 6 ∷ F .ring .one ∷ []) (F .ring .zero) h
 
   -- the curve with this polynomial as f
   unfoldable pub curve-of : Curve (polynomials F)

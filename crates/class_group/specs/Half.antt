@@ -22,7 +22,7 @@ pub record Triple (P : Type 0) : Type 0 where
 module _ {K P : Type 0} {F : Field2 K} (A : Polynomials F P) where
   open Polynomials A using (ring, coeff, con, x, rem)
   open Ring2 ring using (add as _⊞_, mul as _·_, one as 𝟙)
-  open Ring2 (F .ring) using (add as _⊞ₖ_, mul as _·ₖ_, nought as 𝟘ₖ, one as 𝟙ₖ)
+  open Ring2 (F .ring) using (add as _⊞ₖ_, mul as _·ₖ_, zero as 𝟘ₖ, one as 𝟙ₖ)
   open Field2 F using (root, discrete)
 
   infixl 60 _⊞_
@@ -34,8 +34,8 @@ module _ {K P : Type 0} {F : Field2 K} (A : Polynomials F P) where
   lift k T = record { u = T .u; v = T .v ⊞ k · T .u; w = T .w ⊞ k ⊞ k · k · T .u }
 
   -- a step: u and w are exchanged, and v becomes v + 1, not reduced modulo the new u
-  unfoldable pub step : Triple P → Triple P
-  step T = record { u = T .w; v = T .v ⊞ 𝟙; w = T .u }
+  unfoldable pub exchange : Triple P → Triple P
+  exchange T = record { u = T .w; v = T .v ⊞ 𝟙; w = T .u }
 
   -- [a, v modulo a], where c times the first polynomial is a²
   unfoldable pub halved : K → Triple P → Pair P
@@ -50,7 +50,7 @@ module _ {K P : Type 0} {F : Field2 K} (A : Polynomials F P) where
   half-of-degree-1 T =
       let k1 = root (coeff (T .w) 3) in
       let k = quadratic (root (coeff (T .w) 5)) k1 (root (coeff (T .w) 1 ⊞ₖ k1)) in
-      halved 𝟙ₖ (step (lift k T))
+      halved 𝟙ₖ (exchange (lift k T))
 
   -- degree 2, u1 not zero: the lift with k2 = 1/√u1, k1 = √(w3/u1), k0 = √((w1 + k1)/u1), and a step
   unfoldable pub lifted-half-of-degree-2 : (T : Triple P) → ¬ (coeff (T .u) 1 ≡ 𝟘ₖ) → Pair P
@@ -59,7 +59,7 @@ module _ {K P : Type 0} {F : Field2 K} (A : Polynomials F P) where
       let i = inverse-of F u1 shown in
       let k1 = root (coeff (T .w) 3 ·ₖ i) in
       let k = quadratic (root i) k1 (root ((coeff (T .w) 1 ⊞ₖ k1) ·ₖ i)) in
-      halved u1 (step (lift k T))
+      halved u1 (exchange (lift k T))
 
   -- degree 2: where u1 is zero, u is a square; else by a lift
   unfoldable pub half-of-degree-2 : Triple P → Pair P
@@ -70,22 +70,22 @@ module _ {K P : Type 0} {F : Field2 K} (A : Polynomials F P) where
   first-lift u w = let k = quadratic 𝟘ₖ 𝟘ₖ (root (coeff w 3)) in w ⊞ k ⊞ k · k · u
 
   -- degree 3: the triple after the lift by √w3 and a step; its first polynomial is x⁴ + e2 x² + t² x + e0
-  unfoldable pub stepped-of-degree-3 : Triple P → Triple P
-  stepped-of-degree-3 T = step (lift (quadratic 𝟘ₖ 𝟘ₖ (root (coeff (T .w) 3))) T)
+  unfoldable pub exchanged-of-degree-3 : Triple P → Triple P
+  exchanged-of-degree-3 T = exchange (lift (quadratic 𝟘ₖ 𝟘ₖ (root (coeff (T .w) 3))) T)
 
   -- degree 3, t not zero: the lift by (x + q)/t with q = √(u1 + 1/t), where u1 is that of the class, and a step
-  unfoldable pub lifted-half-of-degree-3 : (T : Triple P) → ¬ (root (coeff (stepped-of-degree-3 T .u) 1) ≡ 𝟘ₖ) → Pair P
+  unfoldable pub lifted-half-of-degree-3 : (T : Triple P) → ¬ (root (coeff (exchanged-of-degree-3 T .u) 1) ≡ 𝟘ₖ) → Pair P
   lifted-half-of-degree-3 T shown =
-      let S = stepped-of-degree-3 T in
+      let S = exchanged-of-degree-3 T in
       let t = root (coeff (S .u) 1) in
       let i = inverse-of F t shown in
       let q = root (coeff (T .u) 1 ⊞ₖ i) in
-      halved (t ·ₖ t) (step (lift (quadratic 𝟘ₖ i (q ·ₖ i)) S))
+      halved (t ·ₖ t) (exchange (lift (quadratic 𝟘ₖ i (q ·ₖ i)) S))
 
   -- degree 3: where t is zero, x⁴ + e2 x² + e0 is a square; else by a second lift
   unfoldable pub half-of-degree-3 : Triple P → Pair P
   half-of-degree-3 T =
-      let S = stepped-of-degree-3 T in
+      let S = exchanged-of-degree-3 T in
       elim (discrete (root (coeff (S .u) 1)) 𝟘ₖ) [ yes _ ↦ halved 𝟙ₖ S | no shown ↦ lifted-half-of-degree-3 T shown ]
 
 module _ {K P : Type 0} {F : Field2 K} {A : Polynomials F P} (C : Curve A) where

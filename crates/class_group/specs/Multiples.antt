@@ -2,7 +2,7 @@
 use Prim.Native.Nat.{ℕ, zero, suc}
 use mathlib.Core.List.{List, [], _∷_}
 use lib.ListN.{length}
-use Rattle.lists.specs.Walk.{after}
+use Rattle.lists.specs.Walk.{foldl}
 
 -- a function applied k times, as k doublings or k halvings
 unfoldable pub repeat : {X : Type 0} → (X → X) → ℕ → X → X
@@ -27,4 +27,4 @@ module _ {X : Type 0} (_⊞_ : X → X → X) (double : X → X) where
   infixl 60 _⊞_
   -- the end of the walk from s by double and add
   abbrev pub forward : X → List X → X
-  forward s l = after (λ s d. double s ⊞ d) s l
+  forward s l = foldl (λ s d. double s ⊞ d) s l

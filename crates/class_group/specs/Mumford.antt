@@ -16,7 +16,7 @@ pub record Pair (P : Type 0) : Type 0 where
 
 module _ {K P : Type 0} {F : Field2 K} {A : Polynomials F P} (C : Curve A) where
   open Polynomials A using (ring, len)
-  open Ring2 ring using (add as _⊞_, mul as _·_, nought as 𝟘, one as 𝟙)
+  open Ring2 ring using (add as _⊞_, mul as _·_, zero as 𝟘, one as 𝟙)
   open Curve C using (f)
 
   infixl 60 _⊞_

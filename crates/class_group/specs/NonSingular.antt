@@ -13,7 +13,7 @@ use Rattle.class_group.specs.{Curve.Curve, Multiples.multiple}
 -- a ring L of characteristic 2 with 1 ≠ 0, and a map of K to L: an inclusion of fields, or any other map
 pub record Over (K L : Type 0) : Type 0 where
   pub ring : Ring2 L
-  pub one≢nought : ¬ (ring .one ≡ ring .nought)
+  pub one≢zero : ¬ (ring .one ≡ ring .zero)
   pub embed : K → L
 
 -- the first n values of a function
@@ -32,7 +32,7 @@ derivative multiple [] = []
 derivative multiple (a ∷ p) = weighted multiple 1 p
 
 module _ {L : Type 0} (R : Ring2 L) where
-  open Ring2 R using (add as _⊞_, mul as _·_, nought as 𝟘, one as 𝟙)
+  open Ring2 R using (add as _⊞_, mul as _·_, zero as 𝟘, one as 𝟙)
 
   infixl 60 _⊞_
   infixl 70 _·_
@@ -67,6 +67,6 @@ module _ {K P : Type 0} {F : Field2 K} {A : Polynomials F P} (C : Curve A) where
 
   -- a singular point lies on the curve, and both partial derivatives vanish there
   pub record Singular {L : Type 0} (E : Over K L) (x y : L) : Type 0 where
-    pub on-curve : evaluate-at (E .ring) (equation-over E) x y ≡ E .ring .nought
-    pub by-x : evaluate-at (E .ring) (derivative-by-x (E .ring) (equation-over E)) x y ≡ E .ring .nought
-    pub by-y : evaluate-at (E .ring) (derivative-by-y (E .ring) (equation-over E)) x y ≡ E .ring .nought
+    pub on-curve : evaluate-at (E .ring) (equation-over E) x y ≡ E .ring .zero
+    pub by-x : evaluate-at (E .ring) (derivative-by-x (E .ring) (equation-over E)) x y ≡ E .ring .zero
+    pub by-y : evaluate-at (E .ring) (derivative-by-y (E .ring) (equation-over E)) x y ≡ E .ring .zero

@@ -8,7 +8,7 @@ use Rattle.binary_field_theory.specs.Element.{Accepted}
 use Rattle.binary_field.specs.Answer.{bound}
 use Rattle.binary_field.proofs.Degrees.{bound-accepted}
 use Rattle.char2_algebra.specs.Lead.{Monic}
-use Rattle.char2_algebra.proofs.{Degree.len-zero, Degree.len-nought, Division.rem-of-divides, Division.divides-of-rem, Lead.monic-nonzero}
+use Rattle.char2_algebra.proofs.{Degree.len-zero, Degree.len-of-zero, Division.rem-of-divides, Division.divides-of-rem, Lead.monic-nonzero}
 use Rattle.class_group.specs.Curve as Theory
 use Rattle.class_group.specs.{Mumford.value, Reduction.Counted}
 use Rattle.row_theory.specs.{Field.degree-of, Field.Poly, Field.𝔸, Field.el, Field.poly, Row.InRange, Row.Stands, Row.row-len}
@@ -18,17 +18,17 @@ use Rattle.class_rows.proofs.ReductionRows.{reduced-on, value-stands}
 use Rattle.class_rows.specs.declared.{row.RowPair.RowPair, reduction.CountedRows.CountedRows, RowsAnswer.RowsAnswer}
 
 -- ---- tests that decide a statement
-pub yes-it-is : {P : Type 0} → P → Decides true P
-yes-it-is p = (λ _. p, λ _. refl)
+pub decides-true : {P : Type 0} → P → Decides true P
+decides-true p = (λ _. p, λ _. refl)
 
-pub denied : {t : Bool} {P : Type 0} → Decides t P → t ≡ false → ¬ P
-denied h e p = true≢false (sym (h .1 p) ∙ e)
+pub decides-not : {t : Bool} {P : Type 0} → Decides t P → t ≡ false → ¬ P
+decides-not h e p = true≢false (sym (h .1 p) ∙ e)
 
-pub no-it-is-not : {t : Bool} {P : Type 0} → t ≡ false → ¬ P → Decides t P
-no-it-is-not e h = (λ t. absurd (true≢false (sym t ∙ e)), λ p. absurd (h p))
+pub decides-false : {t : Bool} {P : Type 0} → t ≡ false → ¬ P → Decides t P
+decides-false e h = (λ t. absurd (true≢false (sym t ∙ e)), λ p. absurd (h p))
 
-pub also : {t : Bool} {P Q : Type 0} → Decides t P → (P → Q) → (Q → P) → Decides t Q
-also h f g = (λ e. f (h .0 e), λ q. h .1 (g q))
+pub decides-iff : {t : Bool} {P Q : Type 0} → Decides t P → (P → Q) → (Q → P) → Decides t Q
+decides-iff h f g = (λ e. f (h .0 e), λ q. h .1 (g q))
 
 pub by-number : {m n : ℕ} {P : Type 0} → (m ≡ n → P) → (P → m ≡ n) → Decides (eqb m n) P
 by-number {m} {n} f g = (λ e. f (eqb-true m n e), λ p. eq-eqb m n (g p))
@@ -66,7 +66,7 @@ module _ (d : ℕ) where
   pub monic-decides : (r : List ℕ) {n : ℕ} → length r ≡ 12 → InRange d r → n ≡ row-len d r → ¬ (n ≡ 0)
       → Decides (eqb (getD r (n - 1) 0) 1) (Monic (𝔸 d) (poly d r))
   monic-decides r {n} size range e h =
-      let l = leads d r size range e (λ z. h (e ∙ ap (𝔸 d .len) z ∙ len-nought (𝔸 d))) in
+      let l = leads d r size range e (λ z. h (e ∙ ap (𝔸 d .len) z ∙ len-of-zero (𝔸 d))) in
       by-number (λ k. lead-row l ∙ ap (el d) k ∙ el-one d) (λ m. one-of-one d (getD r (n - 1) 0) (range (n - 1)) (sym (lead-row l) ∙ m))
 
 -- ---- a pair
@@ -108,15 +108,15 @@ module _ {d : ℕ} {f : List ℕ} {a : RowPair} where
           };
         };
       })
-      (λ D. same ∙ ap (𝔸 d .len) (rem-of-divides (𝔸 d) (poly d (a .u)) nonzero (value C (poly d (a .v))) (reduced-on d (D .reduced) (h .curve .1) .divides)) ∙ len-nought (𝔸 d))
+      (λ D. same ∙ ap (𝔸 d .len) (rem-of-divides (𝔸 d) (poly d (a .u)) nonzero (value C (poly d (a .v))) (reduced-on d (D .reduced) (h .curve .1) .divides)) ∙ len-of-zero (𝔸 d))
 
 -- ---- the answer of an open function
 module _ {d : ℕ} {f : List ℕ} {asked : Type 0} {a : RowPair} {t : Bool} (h : Decides t asked) {of : Theory.Curve (𝔸 d) → Counted (Poly d)} where
   pub rows-refused : {r : RowsAnswer} → t ≡ false → r ≡ record { divisor = false; rows = record { pair = a; steps = 0 } } → Gives d f asked a of r
   rows-refused e k =
       let no = ap (λ r. r .divisor) k in
-      record { decides = no-it-is-not no (denied h e); stands = λ n. absurd (true≢false (sym n ∙ no)); else = λ _. ap (λ r. r .rows) k }
+      record { decides = decides-false no (decides-not h e); stands = λ n. absurd (true≢false (sym n ∙ no)); else = λ _. ap (λ r. r .rows) k }
 
   pub rows-given : {b : CountedRows} → t ≡ true
       → ((C : Theory.Curve (𝔸 d)) → OnCurve d f C → StandsCounted d b (of C)) → Gives d f asked a of (record { divisor = true; rows = b })
-  rows-given e s = record { decides = yes-it-is (h .0 e); stands = λ _. s; else = λ k. absurd (true≢false k) }
+  rows-given e s = record { decides = decides-true (h .0 e); stands = λ _. s; else = λ k. absurd (true≢false k) }

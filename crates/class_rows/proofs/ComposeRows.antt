@@ -16,7 +16,7 @@ use Rattle.class_rows.proofs.{ReductionRows.reduced-on, DoubleRows.redu
 
 module _ (d : ℕ) where
   open Polynomials (𝔸 d) using (ring as R, len, quot, rem)
-  open Ring2 (𝔸 d .ring) using (add as _⊞_, mul as _·_, nought as 𝟘, one as 𝟙)
+  open Ring2 (𝔸 d .ring) using (add as _⊞_, mul as _·_, zero as 𝟘, one as 𝟙)
 
   infixl 60 _⊞_
   infixl 70 _·_
@@ -125,7 +125,7 @@ module _ (d : ℕ) where
 
 module _ {d : ℕ} {f : List ℕ} {a b : RowPair} {g s t sum one c e s′ t′ : List ℕ} (k : Common d f a b g s t sum one c e s′ t′) where
   open Polynomials (𝔸 d) using (ring as R, quot)
-  open Ring2 (𝔸 d .ring) using (add as _⊞_, mul as _·_, nought as 𝟘, one as 𝟙)
+  open Ring2 (𝔸 d .ring) using (add as _⊞_, mul as _·_, zero as 𝟘, one as 𝟙)
   open Common k using (reduced₁ as A, reduced₂ as B, first-is as I, sum-is as S, second-is as J)
 
   infixl 60 _⊞_

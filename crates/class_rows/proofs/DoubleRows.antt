@@ -17,7 +17,7 @@ use Rattle.class_rows.proofs.ReductionRows.{pair-eq, reduced-on, semi-r
 
 module _ (d : ℕ) where
   open Polynomials (𝔸 d) using (len, quot, rem)
-  open Ring2 (𝔸 d .ring) using (add as _⊞_, mul as _·_, nought as 𝟘)
+  open Ring2 (𝔸 d .ring) using (add as _⊞_, mul as _·_, zero as 𝟘)
 
   infixl 60 _⊞_
   infixl 70 _·_

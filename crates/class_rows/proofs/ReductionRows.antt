@@ -25,7 +25,7 @@ value-stands d v on s = s .stands ∙ ap (𝔸 d .ring .add _) (on .is-f)
 
 module _ (d : ℕ) where
   open Polynomials (𝔸 d) using (ring as R, len, quot, rem)
-  open Ring2 (𝔸 d .ring) using (add as _⊞_, mul as _·_, nought as 𝟘)
+  open Ring2 (𝔸 d .ring) using (add as _⊞_, mul as _·_, zero as 𝟘)
 
   infixl 60 _⊞_
   infixl 70 _·_
@@ -124,9 +124,9 @@ module _ (d : ℕ) where
         }
 
     -- a reduction step leads to rows of a semi-reduced pair
-    pub stepped-rows : {a b : RowPair} → SemiReducedRows d f a → 4 < row-len d (a .u) → Stepped f a b → SemiReducedRows d f b
+    pub exchanged-rows : {a b : RowPair} → SemiReducedRows d f a → 4 < row-len d (a .u) → Stepped f a b → SemiReducedRows d f b
     unfolding rows-pair
-    stepped-rows {a} s h t =
+    exchanged-rows {a} s h t =
         let r = semi-on s (s .on-curve) in
         let k : len (reduction-step (s .C) (rows-pair d a) .u) ≤ 5 = step-len (s .C) r h (s .u-len) .0 in
         semi-rows (s .on-curve) (step-semi (s .C) r) (omega arith) (t (s .C) (s .on-curve))

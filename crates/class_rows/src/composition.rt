@@ -12,22 +12,22 @@ use crate::euclid::bezout;
 use crate::reduction::cofactor;
 use crate::row::Row;
 use crate::row::RowPair;
-use crate::row::add_rows;
 use crate::row::divide;
 use crate::row::length;
-use crate::row::multiply;
 use crate::row::one;
+use crate::row::product_rows;
+use crate::row::sum_rows;
 
 // The pair [d1 d2, v1 + d1 (m mod d2) modulo d1 d2].
 fn joined_rows(d: u8, d1: Row, d2: Row, v1: Row, m: Row) -> RowPair
-    requires { ⌜ Accepted d × Short d 4 d1 × Short d 4 d2 × InRange d v1 × InRange d m × ¬ (poly d d1 ≡ 𝔸 d .ring .nought) × ¬ (poly d d2 ≡ 𝔸 d .ring .nought) ⌝ }
+    requires { ⌜ Accepted d × Short d 4 d1 × Short d 4 d2 × InRange d v1 × InRange d m × ¬ (poly d d1 ≡ 𝔸 d .ring .zero) × ¬ (poly d d2 ≡ 𝔸 d .ring .zero) ⌝ }
     ensures { λ r. ⌜ StandsPair d r (joined (𝔸 d) (poly d d1) (poly d d2) (poly d v1) (poly d m)) ⌝ }
 {
-    let u = multiply(d, d1, d2);
+    let u = product_rows(d, d1, d2);
     let h = divide(d, m, d2);
     let k = h.remainder;
-    let p = multiply(d, d1, k);
-    let s = add_rows(d, v1, p);
+    let p = product_rows(d, d1, k);
+    let s = sum_rows(d, v1, p);
     let j = divide(d, s, u);
     let v = j.remainder;
     RowPair { u, v }
@@ -41,10 +41,10 @@ fn multiple_row(d: u8, sum: Row, w: Row, first: Combination, second: Combination
     let s = first.s;
     let s0 = second.s;
     let s3 = second.t;
-    let s1 = multiply(d, s0, s);
-    let p = multiply(d, s1, sum);
-    let q = multiply(d, s3, w);
-    add_rows(d, p, q)
+    let s1 = product_rows(d, s0, s);
+    let p = product_rows(d, s1, sum);
+    let q = product_rows(d, s3, w);
+    sum_rows(d, p, q)
 }
 
 // The composition where u1 and u2 have a common divisor: e is the greatest common divisor of these and v1 + v2 + 1.
@@ -57,9 +57,9 @@ fn compose_common(d: u8, f: Row, a: RowPair, b: RowPair, first: Combination) -> 
     let u2 = b.u;
     let v2 = b.v;
     let g = first.g;
-    let sum = add_rows(d, v1, v2);
+    let sum = sum_rows(d, v1, v2);
     let unit = one();
-    let c = add_rows(d, sum, unit);
+    let c = sum_rows(d, sum, unit);
     let second = bezout(d, g, c);
     let e = second.g;
     let w = cofactor(d, f, a);
@@ -87,7 +87,7 @@ pub(crate) fn compose_rows(d: u8, f: Row, a: RowPair, b: RowPair) -> RowPair
         return compose_common(d, f, a, b, first);
     }
     let s = first.s;
-    let sum = add_rows(d, v1, v2);
-    let m = multiply(d, s, sum);
+    let sum = sum_rows(d, v1, v2);
+    let m = product_rows(d, s, sum);
     joined_rows(d, u1, u2, v1, m)
 }

@@ -8,10 +8,10 @@ ghost use Rattle.class_rows.specs.Core.{OnCurve};
 ghost use Rattle.class_rows.specs.{Checked.Decides, Checked.Divisor, internal.Check.FormedPair, internal.Check.FormedRows, internal.Check.CheckedRows};
 use crate::row::Row;
 use crate::row::RowPair;
-use crate::row::add_rows;
 use crate::row::divide;
 use crate::row::length;
 use crate::row::square_row;
+use crate::row::sum_rows;
 
 // Whether a pair is a divisor, and if so its cofactor.
 pub(crate) struct Check {
@@ -103,8 +103,8 @@ pub(crate) fn curve_value(d: u8, f: Row, v: Row) -> Row
     ensures { λ r. ⌜ Stands d r (𝔸 d .ring .add (𝔸 d .ring .add (𝔸 d .ring .mul (poly d v) (poly d v)) (poly d v)) (poly d f)) ⌝ }
 {
     let square = square_row(d, v);
-    let sum = add_rows(d, square, v);
-    add_rows(d, sum, f)
+    let sum = sum_rows(d, square, v);
+    sum_rows(d, sum, f)
 }
 
 // The check of a pair: is v² + v + f a multiple of u?

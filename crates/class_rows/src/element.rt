@@ -17,7 +17,7 @@ fn number(answer: Answer) -> u64
 }
 
 // The sum.
-pub(crate) fn plus(d: u8, a: u64, b: u64) -> u64
+pub(crate) fn sum_of(d: u8, a: u64, b: u64) -> u64
     requires { ⌜ Accepted d × (a < 2 ^ degree-of d) × (b < 2 ^ degree-of d) ⌝ }
     ensures { λ r. ⌜ Is d r (F d .ring .add (el d a) (el d b)) ⌝ }
 {
@@ -25,7 +25,7 @@ pub(crate) fn plus(d: u8, a: u64, b: u64) -> u64
 }
 
 // The product. No call is made where a factor is 0 or 1.
-pub(crate) fn times(d: u8, a: u64, b: u64) -> u64
+pub(crate) fn product_of(d: u8, a: u64, b: u64) -> u64
     requires { ⌜ Accepted d × (a < 2 ^ degree-of d) × (b < 2 ^ degree-of d) ⌝ }
     ensures { λ r. ⌜ Is d r (F d .ring .mul (el d a) (el d b)) ⌝ }
 {

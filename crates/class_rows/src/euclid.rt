@@ -6,13 +6,13 @@ ghost use Rattle.binary_field_theory.specs.Element.{Accepted};
 ghost use Rattle.row_theory.specs.{Field.degree-of, Field.𝔸, Field.el, Field.poly, Row.InRange, Row.Stands, Row.row-len};
 ghost use Rattle.class_rows.specs.internal.Bezout.{Combines};
 use crate::row::Row;
-use crate::row::add_rows;
 use crate::row::divide;
 use crate::row::leading;
 use crate::row::length;
-use crate::row::multiply;
 use crate::row::one;
+use crate::row::product_rows;
 use crate::row::scale;
+use crate::row::sum_rows;
 
 // A common divisor g = s a + t b.
 pub(crate) struct Combination {
@@ -30,7 +30,7 @@ pub(crate) fn constant(d: u8, c: u64) -> Row
 }
 
 // The greatest common divisor of a and 0: a made monic.
-fn bezout_nought(d: u8, a: Row) -> Combination
+fn bezout_zero(d: u8, a: Row) -> Combination
     requires { ⌜ Accepted d × InRange d a ⌝ }
     ensures { λ r. ⌜ ((b : List ℕ) → row-len d b ≡ 0 → Combines d a b r) ⌝ }
 {
@@ -71,8 +71,8 @@ fn substituted(d: u8, q: Row, r: Combination) -> Combination
     let g = r.g;
     let s = r.t;
     let rest = r.s;
-    let product = multiply(d, s, q);
-    let t = add_rows(d, rest, product);
+    let product = product_rows(d, s, q);
+    let t = sum_rows(d, rest, product);
     Combination { g, s, t }
 }
 
@@ -84,7 +84,7 @@ pub(crate) fn bezout(d: u8, a: Row, b: Row) -> Combination
 {
     let n = length(b);
     if n == 0 {
-        return bezout_nought(d, a);
+        return bezout_zero(d, a);
     }
     if n == 1 {
         return bezout_constant(d, b);

@@ -13,19 +13,19 @@ ghost use Rattle.row_theory.specs.internal.Halving.{second-square, second-remai
 ghost use Rattle.class_rows.specs.{Pair.StandsPair, Pair.rows-pair, internal.Cofactor.CofactorRow};
 ghost use Rattle.class_rows.specs.Core.{OnCurve, ReducedRows};
 use crate::element::inverted;
-use crate::element::plus;
+use crate::element::product_of;
 use crate::element::root_of;
-use crate::element::times;
+use crate::element::sum_of;
 use crate::row::Row;
 use crate::row::RowPair;
 use crate::row::add_multiple;
-use crate::row::add_rows;
 use crate::row::divide;
 use crate::row::length;
-use crate::row::multiply;
 use crate::row::one;
+use crate::row::product_rows;
 use crate::row::root_row;
 use crate::row::scale;
+use crate::row::sum_rows;
 
 // The row of k2 x² + k1 x + k0.
 fn quadratic_row(d: u8, k2: u64, k1: u64, k0: u64) -> Row
@@ -48,8 +48,8 @@ fn add_product(d: u8, a: Row, k: Row, b: Row) -> Row
     requires { ⌜ Accepted d × InRange d a × InRange d k × InRange d b × (row-len d k + row-len d b ≤ 13) ⌝ }
     ensures { λ r. ⌜ Stands d r (𝔸 d .ring .add (poly d a) (𝔸 d .ring .mul (poly d k) (poly d b))) ⌝ }
 {
-    let p = multiply(d, k, b);
-    add_rows(d, a, p)
+    let p = product_rows(d, k, b);
+    sum_rows(d, a, p)
 }
 
 // The row of w + k + m u: the third polynomial of a lift, where m stands for k².
@@ -57,23 +57,23 @@ fn lifted_row(d: u8, w: Row, k: Row, m: Row, u: Row) -> Row
     requires { ⌜ Accepted d × InRange d w × InRange d k × InRange d m × InRange d u × (row-len d m + row-len d u ≤ 13) ⌝ }
     ensures { λ r. ⌜ Stands d r (𝔸 d .ring .add (𝔸 d .ring .add (poly d w) (poly d k)) (𝔸 d .ring .mul (poly d m) (poly d u))) ⌝ }
 {
-    let s = add_rows(d, w, k);
+    let s = sum_rows(d, w, k);
     add_product(d, s, m, u)
 }
 
 // The row of v + k u + 1: the second polynomial after a lift and a step.
-fn stepped_row(d: u8, v: Row, k: Row, u: Row) -> Row
+fn exchanged_row(d: u8, v: Row, k: Row, u: Row) -> Row
     requires { ⌜ Accepted d × InRange d v × InRange d k × InRange d u × (row-len d k + row-len d u ≤ 13) ⌝ }
     ensures { λ r. ⌜ Stands d r (𝔸 d .ring .add (𝔸 d .ring .add (poly d v) (𝔸 d .ring .mul (poly d k) (poly d u))) (𝔸 d .ring .one)) ⌝ }
 {
     let s = add_product(d, v, k, u);
     let unit = one();
-    add_rows(d, s, unit)
+    sum_rows(d, s, unit)
 }
 
 // The pair [a, v modulo a] for a square p = a².
 fn root_pair(d: u8, p: Row, v: Row) -> RowPair
-    requires { ⌜ Accepted d × InRange d p × InRange d v × ¬ (sqrt (𝔸 d) (poly d p) ≡ 𝔸 d .ring .nought) ⌝ }
+    requires { ⌜ Accepted d × InRange d p × InRange d v × ¬ (sqrt (𝔸 d) (poly d p) ≡ 𝔸 d .ring .zero) ⌝ }
     ensures { λ r. ⌜ StandsPair d r (root-pair (𝔸 d) (poly d p) (poly d v)) ⌝ }
 {
     let a = root_row(d, p);
@@ -92,12 +92,12 @@ fn half_of_degree_1(d: u8, u: Row, v: Row, w: Row) -> RowPair
     let w1 = w[1];
     let k2 = root_of(d, w5);
     let k1 = root_of(d, w3);
-    let s = plus(d, w1, k1);
+    let s = sum_of(d, w1, k1);
     let k0 = root_of(d, s);
     let k = quadratic_row(d, k2, k1, k0);
     let m = quartic_row(d, w5, w3, s);
     let p = lifted_row(d, w, k, m, u);
-    let q = stepped_row(d, v, k, u);
+    let q = exchanged_row(d, v, k, u);
     root_pair(d, p, q)
 }
 
@@ -112,17 +112,17 @@ fn lifted_half_of_degree_2(d: u8, u: Row, v: Row, w: Row) -> RowPair
     let w1 = w[1];
     let i = inverted(d, u1);
     let k2 = root_of(d, i);
-    let y = times(d, w3, i);
+    let y = product_of(d, w3, i);
     let k1 = root_of(d, y);
-    let s = plus(d, w1, k1);
-    let z = times(d, s, i);
+    let s = sum_of(d, w1, k1);
+    let z = product_of(d, s, i);
     let k0 = root_of(d, z);
     let k = quadratic_row(d, k2, k1, k0);
     let m = quartic_row(d, 1, w3, s);
     let cw = scale(d, u1, w);
     let ck = scale(d, u1, k);
     let p = lifted_row(d, cw, ck, m, u);
-    let q = stepped_row(d, v, k, u);
+    let q = exchanged_row(d, v, k, u);
     root_pair(d, p, q)
 }
 
@@ -156,7 +156,7 @@ fn second_square(d: u8, u: Row, s: Row, t: u64, q: u64, g: u64) -> Row
     ensures { λ r. ⌜ Stands d r (second-square (𝔸 d) (poly d u) (poly d s) (el d t) (el d q) (el d g)) ⌝ }
 {
     let e = s[1];
-    let tq = times(d, t, q);
+    let tq = product_of(d, t, q);
     let k = quadratic_row(d, 0, t, tq);
     let m = quartic_row(d, 0, 1, g);
     let eu = scale(d, e, u);
@@ -171,10 +171,10 @@ fn second_remainder(d: u8, u: Row, v: Row, s: Row, a: Row, r: u64, i: u64, q: u6
     let first = divide(d, s, a);
     let b = first.remainder;
     let y = quadratic_row(d, 0, 1, q);
-    let p = multiply(d, y, b);
+    let p = product_rows(d, y, b);
     let last = divide(d, p, a);
     let z = last.remainder;
-    let h = add_rows(d, u, a);
+    let h = sum_rows(d, u, a);
     let l = add_multiple(d, v, r, h, 0);
     add_multiple(d, l, i, z, 0)
 }
@@ -191,12 +191,12 @@ fn half_of_degree_3(d: u8, u: Row, v: Row, w: Row) -> RowPair
     let t = root_of(d, e);
     if t == 0 {
         let k = quadratic_row(d, 0, 0, r);
-        let o = stepped_row(d, v, k, u);
+        let o = exchanged_row(d, v, k, u);
         return root_pair(d, s, o);
     }
     let i = inverted(d, t);
     let u1 = u[1];
-    let g = plus(d, u1, i);
+    let g = sum_of(d, u1, i);
     let q = root_of(d, g);
     let p = second_square(d, u, s, t, q, g);
     let a = root_row(d, p);

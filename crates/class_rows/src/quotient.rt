@@ -5,8 +5,8 @@ ghost use lib.ListN.{getD};
 ghost use Rattle.binary_field_theory.specs.Element.{Accepted};
 ghost use Rattle.char2_algebra.specs.Lead.{Monic};
 ghost use Rattle.row_theory.specs.{Field.𝔸, Field.poly, internal.Elements.Is, Row.InRange, Row.Stands};
-use crate::element::plus;
-use crate::element::times;
+use crate::element::product_of;
+use crate::element::sum_of;
 use crate::row::Row;
 use crate::row::length;
 
@@ -19,8 +19,8 @@ fn product_at(d: u8, q: Row, b: Row, from: usize, k: usize) -> u64
     let mut j = from;
     while j <= k {
         let i = k - j;
-        let term = times(d, q[j], b[i]);
-        sum = plus(d, sum, term);
+        let term = product_of(d, q[j], b[i]);
+        sum = sum_of(d, sum, term);
         j += 1;
     }
     sum
@@ -38,7 +38,7 @@ pub(crate) fn quotient(d: u8, a: Row, b: Row) -> Row
         k -= 1;
         let s = k - top;
         let above = product_at(d, q, b, s + 1, k);
-        q[s] = plus(d, a[k], above);
+        q[s] = sum_of(d, a[k], above);
     }
     q
 }

@@ -13,13 +13,13 @@ use crate::divisor::curve_value;
 use crate::quotient::quotient;
 use crate::row::Row;
 use crate::row::RowPair;
-use crate::row::add_rows;
 use crate::row::divide;
 use crate::row::length;
 use crate::row::monic;
-use crate::row::multiply;
 use crate::row::one;
+use crate::row::product_rows;
 use crate::row::square_row;
+use crate::row::sum_rows;
 
 // A reduced pair, and how many reduction steps led to it.
 pub struct CountedRows {
@@ -52,7 +52,7 @@ fn step(d: u8, f: Row, a: RowPair, w: Row) -> RowPair
     let v = a.v;
     let next = monic(d, w);
     let unit = one();
-    let other = add_rows(d, v, unit);
+    let other = sum_rows(d, v, unit);
     let division = divide(d, other, next);
     let rest = division.remainder;
     RowPair { u: next, v: rest }
@@ -103,7 +103,7 @@ fn squared_rows(d: u8, f: Row, a: RowPair) -> Squared
     let v = a.v;
     let square = square_row(d, u);
     let other = square_row(d, v);
-    let sum = add_rows(d, other, f);
+    let sum = sum_rows(d, other, f);
     let division = divide(d, sum, square);
     let quotient = division.quotient;
     let remainder = division.remainder;
@@ -124,9 +124,9 @@ fn squared_cofactor(d: u8, f: Row, a: RowPair, w: Row, s: Squared) -> Row
     let q = s.quotient;
     let square = square_row(d, w);
     let factor = square_row(d, q);
-    let product = multiply(d, factor, u);
-    let sum = add_rows(d, square, q);
-    add_rows(d, sum, product)
+    let product = product_rows(d, factor, u);
+    let sum = sum_rows(d, square, q);
+    sum_rows(d, sum, product)
 }
 
 // The double of a reduced pair, given its cofactor w.

@@ -5,10 +5,10 @@ ghost use Rattle.binary_field_theory.specs.Element.{Accepted};
 ghost use Rattle.char2_algebra.specs.{Lead.lead, Lead.monic-of, Square.sqrt};
 ghost use Rattle.row_theory.specs.{Field.degree-of, Field.𝔸, Field.el, Field.poly, internal.Elements.Inverts, Row.InRange, Row.Stands, Row.places, Row.row-len, internal.Elements.x-power};
 use crate::element::inverted;
-use crate::element::plus;
+use crate::element::product_of;
 use crate::element::root_of;
 use crate::element::squared;
-use crate::element::times;
+use crate::element::sum_of;
 
 // The coefficients, the lowest first, and 0 after them.
 pub type Row = [u64; 12];
@@ -54,7 +54,7 @@ pub(crate) fn one() -> Row
 
 // The index and the inverse of the leading coefficient. 1 is not inverted.
 pub(crate) fn leading(d: u8, a: Row) -> Lead
-    requires { ⌜ Accepted d × InRange d a × ¬ (poly d a ≡ 𝔸 d .ring .nought) ⌝ }
+    requires { ⌜ Accepted d × InRange d a × ¬ (poly d a ≡ 𝔸 d .ring .zero) ⌝ }
     ensures { λ r. ⌜ (row-len d a ≡ suc (r .top)) × Inverts d (r .inverse) (lead (𝔸 d) (poly d a)) ⌝ }
 {
     let top = length(a) - 1;
@@ -63,7 +63,7 @@ pub(crate) fn leading(d: u8, a: Row) -> Lead
 }
 
 // The sum.
-pub(crate) fn add_rows(d: u8, a: Row, b: Row) -> Row
+pub(crate) fn sum_rows(d: u8, a: Row, b: Row) -> Row
     requires { ⌜ Accepted d × InRange d a × InRange d b ⌝ }
     ensures { λ r. ⌜ Stands d r (𝔸 d .ring .add (poly d a) (poly d b)) ⌝ }
 {
@@ -83,7 +83,7 @@ pub(crate) fn add_multiple(d: u8, a: Row, c: u64, b: Row, shift: usize) -> Row
     let mut i = 0;
     while i < n {
         let j = shift + i;
-        r[j] = plus(d, r[j], times(d, c, b[i]));
+        r[j] = sum_of(d, r[j], product_of(d, c, b[i]));
         i += 1;
     }
     r
@@ -113,7 +113,7 @@ pub(crate) fn square_row(d: u8, a: Row) -> Row
 }
 
 // The product.
-pub(crate) fn multiply(d: u8, a: Row, b: Row) -> Row
+pub(crate) fn product_rows(d: u8, a: Row, b: Row) -> Row
     requires { ⌜ Accepted d × InRange d a × InRange d b × (row-len d a + row-len d b ≤ 13) ⌝ }
     ensures { λ r. ⌜ Stands d r (𝔸 d .ring .mul (poly d a) (poly d b)) ⌝ }
 {
@@ -130,7 +130,7 @@ pub(crate) fn multiply(d: u8, a: Row, b: Row) -> Row
 
 // Quotient and remainder. The leading coefficient of b is inverted once, and not at all where it is 1.
 pub(crate) fn divide(d: u8, a: Row, b: Row) -> Division
-    requires { ⌜ Accepted d × InRange d a × InRange d b × ¬ (poly d b ≡ 𝔸 d .ring .nought) ⌝ }
+    requires { ⌜ Accepted d × InRange d a × InRange d b × ¬ (poly d b ≡ 𝔸 d .ring .zero) ⌝ }
     ensures { λ r. ⌜ Stands d (r .quotient) (𝔸 d .quot (poly d a) (poly d b)) × Stands d (r .remainder) (𝔸 d .rem (poly d a) (poly d b)) ⌝ }
 {
     let first = leading(d, b);
@@ -143,7 +143,7 @@ pub(crate) fn divide(d: u8, a: Row, b: Row) -> Division
     let mut k = length(a);
     while top < k {
         k -= 1;
-        let c = times(d, r[k], inverse);
+        let c = product_of(d, r[k], inverse);
         let s = k - top;
         q[s] = c;
         r[k] = 0;
@@ -158,7 +158,7 @@ pub(crate) fn divide(d: u8, a: Row, b: Row) -> Division
 
 // a divided by its leading coefficient.
 pub(crate) fn monic(d: u8, a: Row) -> Row
-    requires { ⌜ Accepted d × InRange d a × ¬ (poly d a ≡ 𝔸 d .ring .nought) ⌝ }
+    requires { ⌜ Accepted d × InRange d a × ¬ (poly d a ≡ 𝔸 d .ring .zero) ⌝ }
     ensures { λ r. ⌜ Stands d r (monic-of (𝔸 d) (poly d a)) ⌝ }
 {
     let first = leading(d, a);

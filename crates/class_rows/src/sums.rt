@@ -15,9 +15,9 @@ use crate::reduction::cofactor;
 use crate::reduction::double_of_reduced;
 use crate::reduction::reduce_rows;
 use crate::row::RowPair;
-use crate::row::add_rows;
 use crate::row::length;
 use crate::row::one;
+use crate::row::sum_rows;
 
 // The sum: compose, then reduce.
 pub(crate) fn sum_of_reduced(d: u8, f: [u64; 12], a: RowPair, b: RowPair) -> CountedRows
@@ -39,7 +39,7 @@ pub(crate) fn opposite_of_reduced(d: u8, a: RowPair) -> RowPair
         return a;
     }
     let unit = one();
-    let w = add_rows(d, v, unit);
+    let w = sum_rows(d, v, unit);
     RowPair { u, v: w }
 }
 

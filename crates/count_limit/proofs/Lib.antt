@@ -1,2 +1,3 @@
--- Counts within the limit and above it.
+-- Counts within the limit and above it; a count's refusal is valid.
 pub mod Limit
+pub mod Valid

@@ -4,5 +4,5 @@ use mathlib.Core.Path.{_≡_}
 use Rattle.field_laws.specs.Field.{Field2}
 
 -- the inverse of a, which is shown not to be zero
-abbrev pub inverse-of : {A : Type 0} (F : Field2 A) (a : A) → ¬ (a ≡ F .ring .nought) → A
+abbrev pub inverse-of : {A : Type 0} (F : Field2 A) (a : A) → ¬ (a ≡ F .ring .zero) → A
 inverse-of F a shown = F .inverse a

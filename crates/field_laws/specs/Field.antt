@@ -7,8 +7,8 @@ use Rattle.field_laws.specs.Ring.{Ring2}
 pub record Field2 (A : Type 0) : Type 0 where
   pub ring : Ring2 A
   pub discrete : Discrete A
-  pub one≢nought : ¬ (ring .one ≡ ring .nought)
+  pub one≢zero : ¬ (ring .one ≡ ring .zero)
   pub inverse : A → A
-  pub mul-inverse : (a : A) → ¬ (a ≡ ring .nought) → ring .mul a (inverse a) ≡ ring .one
+  pub mul-inverse : (a : A) → ¬ (a ≡ ring .zero) → ring .mul a (inverse a) ≡ ring .one
   pub root : A → A
   pub root-square : (a : A) → ring .mul (root a) (root a) ≡ a

@@ -21,15 +21,15 @@ use mathlib.Core.Path.{_≡_, refl, sym, _∙_, ap, ap₂, subst}
 use mathlib.Core.List.{List, [], _∷_, _++_, reverse, reverse-reverse}
 use native.Mathlib.Omega.{arith}
 use lib.ListN.{length, length-append, length-map, length-reverse}
-use Rattle.lists.specs.{Lists.All, Lists.none, Lists.more, Lists.ChangedAt, Walk.after}
+use Rattle.lists.specs.{Lists.All, Lists.none, Lists.more, Lists.ChangedAt, Walk.foldl}
 use Rattle.class_group.specs.{Group.Doubling, Multiples.repeat, Multiples.multiple, Multiples.forward}
-use Rattle.lists.proofs.{Lists.all-reverse, Lists.changed-members, Walk.after-agrees, Walk.after-state, Walk.after-back, Walk.turned}
+use Rattle.lists.proofs.{Lists.all-reverse, Lists.changed-members, Walk.foldl-agrees, Walk.foldl-state, Walk.foldl-back, Walk.turned}
 use Rattle.class_group.proofs.Displacement as group
 use Rattle.jacobian.specs.{Answer.Verdict, Answer.accepted, Answer.refused, Answer.Accepts, Answer.result, Answer.gives, Answer.neutral-class, Answer.sum-answer}
 use Rattle.jacobian.specs.Group.{sum-of, opposite-of, double-of, difference, doublings}
 use Rattle.jacobian.specs.declared.{Curve.Curve, Class.Class}
 use Rattle.jacobian.proofs.{Representation.accepts-curve, Representation.accepts-both, Group.class-is, Group.doubling, Group.sum-given, Group.difference-accepts, Group.doublings-accept, Group.doublings-sum}
-use Rattle.history.specs.Register.{RegisterReply, commit-seal, undo-seal, moved, stepped}
+use Rattle.history.specs.Register.{RegisterReply, commit-seal, undo-seal, with-count-and-seal, stepped}
 use Rattle.history.specs.Machine as definition
 use Rattle.history.specs.Calls.{Call, answer, registers, Event, run, last, newest, classes, OnlyCommits, walk-back, operations, Variants, displaced}
 use Rattle.history.specs.declared.{Register.Register, Step.Step, Step.the-variants.Commit}
@@ -38,17 +38,17 @@ use Rattle.history.proofs.{Seals.commit-sound, Seals.commit-sum, Seals.
 -- ---- the commit's rule over lists of classes
 module _ {c : Curve} {k : ℕ} {d e s : Class} {l m : List Class} (at : ChangedAt k d e l m) (hs : Accepts c s) (hl : All (Accepts c) l) (hm : All (Accepts c) m) where
   abbrev end : List Class → Class
-  end x = after (commit-seal c) s x
+  end x = foldl (commit-seal c) s x
 
   G : Doubling (Accepts c) (sum-of c) neutral-class (opposite-of c) (double-of c)
   G = doubling c (accepts-curve hs)
 
   -- the rule is double and add in the group
   in-group : {x : List Class} → All (Accepts c) x → end x ≡ forward (sum-of c) (double-of c) s x
-  in-group h = after-agrees (commit-seal c) (λ a b ha hb. commit-sound ha hb) (λ a b. sum-of c (double-of c a) b) (λ a b ha hb. commit-sum ha hb) hs h
+  in-group h = foldl-agrees (commit-seal c) (λ a b ha hb. commit-sound ha hb) (λ a b. sum-of c (double-of c a) b) (λ a b ha hb. commit-sum ha hb) hs h
 
   end-accepts : Accepts c (end l)
-  end-accepts = after-state (reversible c) hs hl
+  end-accepts = foldl-state (reversible c) hs hl
 
   difference-accepted : Accepts c (difference c e d)
   difference-accepted = difference-accepts c (changed-members at hl hm .1) (changed-members at hl hm .0)
@@ -57,10 +57,10 @@ module _ {c : Curve} {k : ℕ} {d e s : Class} {l m : List Class} (at : ChangedA
   reached : sum-of c (end l) (doublings c (length l - k) (difference c e d)) ≡ end m
   reached = ap (λ z. sum-of c z (doublings c (length l - k) (difference c e d))) (in-group hl) ∙ sym (in-group hm ∙ group.displacement G at hs hl hm)
 
-  pub seals-displaced : displaced c (length l - k) d e (after (commit-seal c) s l) ≡ gives (after (commit-seal c) s m)
+  pub seals-displaced : displaced c (length l - k) d e (foldl (commit-seal c) s l) ≡ gives (foldl (commit-seal c) s m)
   seals-displaced = sum-given c end-accepts (doublings-accept c difference-accepted (length l - k)) ∙ ap gives reached
 
-  pub seals-move : ¬ (d ≡ e) → ¬ (after (commit-seal c) s l ≡ after (commit-seal c) s m)
+  pub seals-move : ¬ (d ≡ e) → ¬ (foldl (commit-seal c) s l ≡ foldl (commit-seal c) s m)
   seals-move n h = group.changed-end G at hs hl hm n (sym (in-group hl) ∙ h ∙ in-group hm)
 
   -- a sum with the end of the first list, by the calls, as the same sum in the group
@@ -71,10 +71,10 @@ module _ {c : Curve} {k : ℕ} {d e s : Class} {l m : List Class} (at : ChangedA
       ∙ sym (class-is (sym (sum-given c end-accepts h) ∙ same))
       ∙ ap (λ z. sum-of c z x) (in-group hl)
 
-  pub seals-not-one-more : ¬ (d ≡ e) → ¬ (displaced c (suc (length l - k)) d e (after (commit-seal c) s l) ≡ gives (after (commit-seal c) s m))
+  pub seals-not-one-more : ¬ (d ≡ e) → ¬ (displaced c (suc (length l - k)) d e (foldl (commit-seal c) s l) ≡ gives (foldl (commit-seal c) s m))
   seals-not-one-more n h = group.one-doubling-more G at hs hl hm n (other-sum (doublings-accept c difference-accepted (suc (length l - k))) h)
 
-  pub seals-not-turned : ¬ (d ≡ e) → ¬ (displaced c (length l - k) e d (after (commit-seal c) s l) ≡ gives (after (commit-seal c) s m))
+  pub seals-not-turned : ¬ (d ≡ e) → ¬ (displaced c (length l - k) e d (foldl (commit-seal c) s l) ≡ gives (foldl (commit-seal c) s m))
   seals-not-turned n h =
       group.turned-difference G at hs hl hm n
       (other-sum (doublings-accept c (difference-accepts c (changed-members at hl hm .0) (changed-members at hl hm .1)) (length l - k)) h)
@@ -82,8 +82,8 @@ module _ {c : Curve} {k : ℕ} {d e s : Class} {l m : List Class} (at : ChangedA
 -- ---- a list of calls on a register
 -- where all accepted calls are commits, the last seal is the end of the commit rule over their classes, oldest first
 commits-end : (r : Register) (cs : List Call) → OnlyCommits (definition.accepted-of (run r cs))
-    → last r cs .seal ≡ after (commit-seal (r .curve)) (r .seal) (classes (definition.accepted-of (run r cs)))
-unfolding definition.run definition.last definition.event definition.accepted-of after classes answer stepped moved
+    → last r cs .seal ≡ foldl (commit-seal (r .curve)) (r .seal) (classes (definition.accepted-of (run r cs)))
+unfolding definition.run definition.last definition.event definition.accepted-of foldl classes answer stepped with-count-and-seal
 commits-end r [] none = refl
 commits-end r (c ∷ cs) only = go (answer r c .outcome) refl only (commits-end (answer r c .register) cs)
   where
@@ -94,22 +94,22 @@ commits-end r (c ∷ cs) only = go (answer r c .outcome) refl only (commits-end 
     taken e k = ap (λ (x : RegisterReply). x .register) (step-taken (c .step) r (c .class) e) ∙ ap (λ (x : Step). stepped x r (c .class)) k
 
     go : (v : Verdict) → answer r c .outcome ≡ v → OnlyCommits (elim v [ accepted ↦ definition.event registers r c ∷ rest | refused n ↦ rest ])
-        → (OnlyCommits rest → last (answer r c .register) cs .seal ≡ after (commit-seal (answer r c .register .curve)) (answer r c .register .seal) (classes rest))
+        → (OnlyCommits rest → last (answer r c .register) cs .seal ≡ foldl (commit-seal (answer r c .register .curve)) (answer r c .register .seal) (classes rest))
         → last (answer r c .register) cs .seal
-        ≡ after (commit-seal (r .curve)) (r .seal) (classes (elim v [ accepted ↦ definition.event registers r c ∷ rest | refused n ↦ rest ]))
-    go accepted e (more h hs) on = on hs ∙ ap (λ (t : Register). after (commit-seal (t .curve)) (t .seal) (classes rest)) (taken e h)
-    go (refused n) e hs on = on hs ∙ ap (λ (t : Register). after (commit-seal (t .curve)) (t .seal) (classes rest)) (refused-stays r c n e)
+        ≡ foldl (commit-seal (r .curve)) (r .seal) (classes (elim v [ accepted ↦ definition.event registers r c ∷ rest | refused n ↦ rest ]))
+    go accepted e (more h hs) on = on hs ∙ ap (λ (t : Register). foldl (commit-seal (t .curve)) (t .seal) (classes rest)) (taken e h)
+    go (refused n) e hs on = on hs ∙ ap (λ (t : Register). foldl (commit-seal (t .curve)) (t .seal) (classes rest)) (refused-stays r c n e)
 
 module _ (r : Register) (cs : List Call) where
   oldest-first : operations (newest r cs) ≡ classes (definition.accepted-of (run r cs))
   unfolding definition.newest
   oldest-first = ap classes (reverse-reverse (definition.accepted-of (run r cs)))
 
-  commits-lead : OnlyCommits (newest r cs) → last r cs .seal ≡ after (commit-seal (r .curve)) (r .seal) (operations (newest r cs))
+  commits-lead : OnlyCommits (newest r cs) → last r cs .seal ≡ foldl (commit-seal (r .curve)) (r .seal) (operations (newest r cs))
   unfolding definition.newest
   commits-lead only =
       commits-end r cs (subst OnlyCommits (reverse-reverse (definition.accepted-of (run r cs))) (all-reverse only))
-      ∙ ap (after (commit-seal (r .curve)) (r .seal)) (sym oldest-first)
+      ∙ ap (foldl (commit-seal (r .curve)) (r .seal)) (sym oldest-first)
 
   operation-count : length (operations (newest r cs)) ≡ length (newest r cs)
   unfolding classes
@@ -140,10 +140,10 @@ module _ (r t : Register) (cs ds : List Call) {k : ℕ} {d e : Class} (v : Varia
   changed-accept : All (Accepts (r .curve)) (operations (newest t ds))
   changed-accept = subst (λ x. All (Accepts x) (operations (newest t ds))) (v .same-curve) (operations-accept t ds (some .1))
 
-  changed-lead : last t ds .seal ≡ after (commit-seal (r .curve)) (r .seal) (operations (newest t ds))
+  changed-lead : last t ds .seal ≡ foldl (commit-seal (r .curve)) (r .seal) (operations (newest t ds))
   changed-lead =
       commits-lead t ds (v .changed-commits)
-      ∙ ap₂ (λ x s. after (commit-seal x) s (operations (newest t ds))) (v .same-curve) (v .same-seal)
+      ∙ ap₂ (λ x s. foldl (commit-seal x) s (operations (newest t ds))) (v .same-curve) (v .same-seal)
 
   -- so the opposite, the difference and the doublings of them are not refused (Group of jacobian)
   pub both-accept : Accepts (r .curve) d × Accepts (r .curve) e
@@ -175,8 +175,8 @@ module _ (r t : Register) (cs ds : List Call) {k : ℕ} {d e : Class} (v : Varia
 
   -- an equation on the last seals as one on the ends of the commit rule
   by-rule : (a b : Class) (f : ℕ → ℕ) → displaced (r .curve) (f (length (newest r cs) - k)) a b (last r cs .seal) ≡ gives (last t ds .seal)
-      → displaced (r .curve) (f (length (operations (newest r cs)) - k)) a b (after (commit-seal (r .curve)) (r .seal) (operations (newest r cs)))
-      ≡ gives (after (commit-seal (r .curve)) (r .seal) (operations (newest t ds)))
+      → displaced (r .curve) (f (length (operations (newest r cs)) - k)) a b (foldl (commit-seal (r .curve)) (r .seal) (operations (newest r cs)))
+      ≡ gives (foldl (commit-seal (r .curve)) (r .seal) (operations (newest t ds)))
   by-rule a b f h =
       ap₂ (λ n s. displaced (r .curve) (f (n - k)) a b s) (operation-count r cs) (sym (commits-lead r cs (v .commits))) ∙ h ∙ ap gives changed-lead
 
@@ -193,17 +193,17 @@ module _ {c : Curve} {s t : Class} {xs ys : List Class} (hs : Accepts c s) (hx :
     (same : walk-back c s xs ≡ walk-back c t ys) {k : ℕ} {d e : Class} (at : ChangedAt k d e (reverse xs) (reverse ys)) where
   earliest : Accepts c (walk-back c s xs)
   unfolding walk-back
-  earliest = after-state (turned (reversible c)) hs hx
+  earliest = foldl-state (turned (reversible c)) hs hx
 
   -- commits of the same classes, oldest first, lead from the end of the walk to its first seal
-  leads : {a : Class} {l : List Class} → Accepts c a → All (Accepts c) l → after (commit-seal c) (walk-back c a l) (reverse l) ≡ a
+  leads : {a : Class} {l : List Class} → Accepts c a → All (Accepts c) l → foldl (commit-seal c) (walk-back c a l) (reverse l) ≡ a
   unfolding walk-back
   leads {a} {l} h k =
-      ap (λ x. after (commit-seal c) (after (undo-seal c) a x) (reverse l)) (sym (reverse-reverse l))
-      ∙ after-back (reversible c) h (all-reverse k)
+      ap (λ x. foldl (commit-seal c) (foldl (undo-seal c) a x) (reverse l)) (sym (reverse-reverse l))
+      ∙ foldl-back (reversible c) h (all-reverse k)
 
-  leads-changed : after (commit-seal c) (walk-back c s xs) (reverse ys) ≡ t
-  leads-changed = ap (λ z. after (commit-seal c) z (reverse ys)) same ∙ leads ht hy
+  leads-changed : foldl (commit-seal c) (walk-back c s xs) (reverse ys) ≡ t
+  leads-changed = ap (λ z. foldl (commit-seal c) z (reverse ys)) same ∙ leads ht hy
 
   pub walk-displacement : displaced c (length xs - k) d e s ≡ gives t
   walk-displacement =

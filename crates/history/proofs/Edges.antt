@@ -14,7 +14,7 @@ use Rattle.jacobian.specs.declared.Class.{Class}
 use Rattle.jacobian.proofs.{Representation.accepts-curve, Calls.two-accept}
 use Rattle.count_limit.specs.Limit.{count-limit}
 use Rattle.count_limit.proofs.Limit.{within-limit, above-limit}
-use Rattle.history.specs.Register.{edge, edge-refusal, moved, stepped, RegisterReply, follows, step-answer, commit-answer, undo-answer}
+use Rattle.history.specs.Register.{edge, edge-refusal, with-count-and-seal, stepped, RegisterReply, follows, step-answer, commit-answer, undo-answer}
 use Rattle.history.specs.declared.{Register.Register, Step.Step, Step.the-variants.Commit, Step.the-variants.Undo}
 use Rattle.history.proofs.{Registers.follows-zero, Numbers.step-above, Numbers.step-at, Numbers.step-off}
 
@@ -40,7 +40,7 @@ module _ (r : Register) (a : Class) (none : refusal-of-two (r .curve) (r .seal) 
   commit-below-limit h = off-edge Commit (omega arith) (λ e. omega arith)
 
   pub commit-to-limit : suc (r .count) ≡ count-limit → commit-answer r a .register .count ≡ count-limit
-  unfolding stepped moved
+  unfolding stepped with-count-and-seal
   commit-to-limit e = ap (λ (x : RegisterReply). x .register .count) (commit-below-limit (omega arith)) ∙ (omega arith)
 
   pub commit-at-limit : r .count ≡ count-limit → commit-answer r a ≡ record { outcome = refused 114; register = r }

@@ -3,7 +3,7 @@
 -- `failing-last`: the register after the list is the first one.
 use mathlib.Core.Path.{_≡_, refl, sym, _∙_, ap}
 use mathlib.Core.List.{List, [], _∷_, map}
-use Rattle.lists.specs.Walk.{after}
+use Rattle.lists.specs.Walk.{foldl}
 use Rattle.jacobian.specs.Answer.{refused}
 use Rattle.jacobian.proofs.ByValue.Checks.{first-due}
 use Rattle.history.specs.Register.{register-refusal, step-refusal, RegisterReply, stepped, follows, step-answer}
@@ -25,6 +25,6 @@ module _ (r : Register) (fails : ¬ (register-refusal r ≡ 0)) where
   failing-run (c ∷ cs) = rw (failing-answer c) (ap (λ es. record { before = r; call = c; outcome = refused (register-refusal r); left = r } ∷ es) (failing-run cs))
 
   pub failing-last : (cs : List Call) → last r cs ≡ r
-  unfolding definition.last after
+  unfolding definition.last foldl
   failing-last [] = refl
   failing-last (c ∷ cs) = ap (λ (x : RegisterReply). last (x .register) cs) (failing-answer c) ∙ failing-last cs

@@ -13,4 +13,4 @@ pub mod Displacement
 pub mod Edges
 pub mod Numbers
 pub mod Answers
-pub mod Told
+pub mod Valid

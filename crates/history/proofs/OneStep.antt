@@ -10,7 +10,7 @@ use Rattle.jacobian.specs.Answer.{accepted, Accepts}
 use Rattle.jacobian.specs.declared.Class.{Class}
 use Rattle.jacobian.proofs.Representation.{accepts-class, accepts-both}
 use Rattle.count_limit.specs.Limit.{count-limit}
-use Rattle.history.specs.Register.{moved, edge, stepped, other, RegisterReply, step-answer}
+use Rattle.history.specs.Register.{with-count-and-seal, edge, stepped, other, RegisterReply, step-answer}
 use Rattle.history.specs.declared.{Register.Register, Step.Step, Step.the-variants.Commit, Step.the-variants.Undo}
 use Rattle.history.proofs.Seals.{commit-sound, undo-sound, undo-of-commit, commit-of-undo}
 use Rattle.history.proofs.Registers.{Passes, Passing, step-passes, passes-step, follows-accepted, follows-zero}
@@ -21,17 +21,17 @@ taken r = record { outcome = accepted; register = r }
 
 -- ---- the next register, by its parts
 pub stepped-curve : (k : Step) (r : Register) (a : Class) → stepped k r a .curve ≡ r .curve
-unfolding stepped moved
+unfolding stepped with-count-and-seal
 stepped-curve Commit r a = refl
 stepped-curve Undo r a = refl
 
-moved-passes : (n : ℕ) (s : Class) (r : Register) → Passes r → n ≤ count-limit → Accepts (r .curve) s → Passes (moved n s r)
-unfolding moved
-moved-passes n s r p h k = record { curve-passes = p .curve-passes; count-passes = h; seal-passes = accepts-class k }
+register-passes : (n : ℕ) (s : Class) (r : Register) → Passes r → n ≤ count-limit → Accepts (r .curve) s → Passes (with-count-and-seal n s r)
+unfolding with-count-and-seal
+register-passes n s r p h k = record { curve-passes = p .curve-passes; count-passes = h; seal-passes = accepts-class k }
 
-moved-to-itself : (n : ℕ) (s : Class) (r : Register) → n ≡ r .count → s ≡ r .seal → moved n s r ≡ r
-unfolding moved
-moved-to-itself n s r e f = ap₂ (λ m t. moved m t r) e f
+register-itself : (n : ℕ) (s : Class) (r : Register) → n ≡ r .count → s ≡ r .seal → with-count-and-seal n s r ≡ r
+unfolding with-count-and-seal
+register-itself n s r e f = ap₂ (λ m t. with-count-and-seal m t r) e f
 
 pub step-taken : (k : Step) (r : Register) (a : Class) → step-answer k r a .outcome ≡ accepted → step-answer k r a ≡ taken (stepped k r a)
 unfolding step-answer
@@ -49,23 +49,23 @@ module _ (r : Register) (a : Class) where
   unfolding stepped edge
   stepped-passes Commit p =
       let l = p .register .count-passes in
-      moved-passes _ _ r (p .register) (omega (arith, p .off-edge)) (commit-sound (seal-sound p) (class-sound p))
+      register-passes _ _ r (p .register) (omega (arith, p .off-edge)) (commit-sound (seal-sound p) (class-sound p))
   stepped-passes Undo p =
       let l = p .register .count-passes in
-      moved-passes _ _ r (p .register) (omega arith) (undo-sound (seal-sound p) (class-sound p))
+      register-passes _ _ r (p .register) (omega arith) (undo-sound (seal-sound p) (class-sound p))
 
   class-still : (k : Step) → Passing k r a → ¬ (stepped k r a .count ≡ edge (other k)) → Passing (other k) (stepped k r a) a
   class-still k p h = record { register = stepped-passes k p; class-passes = rw (stepped-curve k r a) (p .class-passes); off-edge = h }
 
   other-passes : (k : Step) → Passing k r a → Passing (other k) (stepped k r a) a
-  unfolding stepped moved edge other
+  unfolding stepped with-count-and-seal edge other
   other-passes Commit p = class-still Commit p (λ e. omega arith)
   other-passes Undo p = class-still Undo p (let l = p .register .count-passes in λ e. omega (arith, p .off-edge))
 
   stepped-back : (k : Step) → Passing k r a → stepped (other k) (stepped k r a) a ≡ r
-  unfolding stepped moved edge other
-  stepped-back Commit p = moved-to-itself _ _ r (omega arith) (undo-of-commit (seal-sound p) (class-sound p))
-  stepped-back Undo p = moved-to-itself _ _ r (omega (arith, p .off-edge)) (commit-of-undo (seal-sound p) (class-sound p))
+  unfolding stepped with-count-and-seal edge other
+  stepped-back Commit p = register-itself _ _ r (omega arith) (undo-of-commit (seal-sound p) (class-sound p))
+  stepped-back Undo p = register-itself _ _ r (omega (arith, p .off-edge)) (commit-of-undo (seal-sound p) (class-sound p))
 
   pub step-taken-back : (k : Step) → step-answer k r a .outcome ≡ accepted → step-answer (other k) (step-answer k r a .register) a ≡ taken r
   unfolding step-answer

@@ -9,12 +9,12 @@ use mathlib.Core.Path.{_≡_, refl, sym, _∙_, ap}
 use mathlib.Core.List.{List, [], _∷_, map}
 use native.Mathlib.Omega.{arith}
 use lib.ListN.{length, take, getD}
-use Rattle.lists.specs.{Lists.All, Lists.none, Lists.more, Walk.after, Walk.walk}
+use Rattle.lists.specs.{Lists.All, Lists.none, Lists.more, Walk.foldl, Walk.walk}
 use Rattle.jacobian.specs.{Answer.accepted, Answer.Result, Answer.result, Answer.refusal, Answer.refusal-of-two, Answer.subtract-and-halve-answer}
 use Rattle.jacobian.specs.declared.{Curve.Curve, Class.Class}
 use Rattle.jacobian.proofs.Representation.Unrefused.{zero-then}
 use Rattle.count_limit.specs.Limit.{count-limit}
-use Rattle.history.specs.Register.{RegisterReply, undo-seal, sealed, edge, moved, stepped, step-answer, undo-answer}
+use Rattle.history.specs.Register.{RegisterReply, undo-seal, sealed, edge, with-count-and-seal, stepped, step-answer, undo-answer}
 use Rattle.history.specs.Machine as definition
 use Rattle.history.specs.Calls.{undo, answer, run, steps-back}
 use Rattle.history.specs.declared.{Register.Register, Step.the-variants.Undo}
@@ -32,8 +32,8 @@ module _ (r : Register) (a : Class) (e : undo-answer r a .outcome ≡ accepted) 
   unfolding step-answer
   passing = step-passes Undo r a (follows-accepted _ r (stepped Undo r a) e)
 
-  undo-hands : undo-answer r a .register ≡ stepped Undo r a
-  undo-hands = ap (λ (x : RegisterReply). x .register) (step-taken Undo r a e)
+  undo-answers : undo-answer r a .register ≡ stepped Undo r a
+  undo-answers = ap (λ (x : RegisterReply). x .register) (step-taken Undo r a e)
 
   step-of-undo : step-back (r .curve) (r .seal) a ≡ record { outcome = accepted; class = undo-seal (r .curve) (r .seal) a }
   unfolding refusal refusal-of-two sealed
@@ -43,21 +43,21 @@ module _ (r : Register) (a : Class) (e : undo-answer r a .outcome ≡ accepted) 
 
 pub undos-steps : (t : Register) (ops : List Class) → All (λ e. e .outcome ≡ accepted) (run t (map undo ops))
     → steps-back (t .curve) (t .seal) ops ≡ map (λ e. record { outcome = accepted; class = e .left .seal }) (run t (map undo ops))
-unfolding definition.run definition.event answer steps-back stepped moved
+unfolding definition.run definition.event answer steps-back stepped with-count-and-seal
 undos-steps t [] none = refl
 undos-steps t (a ∷ ops) (more h hs) =
     ap (λ (x : Result). x ∷ steps-back (t .curve) (x .class) ops) (step-of-undo t a h)
-    ∙ ap (λ (x : Register). record { outcome = accepted; class = x .seal } ∷ steps-back (x .curve) (x .seal) ops) (sym (undo-hands t a h))
+    ∙ ap (λ (x : Register). record { outcome = accepted; class = x .seal } ∷ steps-back (x .curve) (x .seal) ops) (sym (undo-answers t a h))
     ∙ ap (λ l. record { outcome = accepted; class = answer t (undo a) .register .seal } ∷ l) (undos-steps (answer t (undo a) .register) ops hs)
 
 -- a run of accepted undos has at most as many as the count
 undos-count : (t : Register) (ops : List Class) → All (λ e. e .outcome ≡ accepted) (run t (map undo ops)) → length ops ≤ t .count
-unfolding definition.run definition.event answer stepped moved edge
+unfolding definition.run definition.event answer stepped with-count-and-seal edge
 undos-count t [] none = omega arith
 undos-count t (a ∷ ops) (more h hs) =
     let b : ¬ (t .count ≡ 0) = passing t a h .off-edge in
     let l : length ops ≤ answer t (undo a) .register .count = undos-count (answer t (undo a) .register) ops hs in
-    let m : answer t (undo a) .register .count ≡ t .count - 1 = ap (λ (x : Register). x .count) (undo-hands t a h) in
+    let m : answer t (undo a) .register .count ≡ t .count - 1 = ap (λ (x : Register). x .count) (undo-answers t a h) in
     omega arith
 
 pub undos-few : (t : Register) (ops : List Class) → All (λ e. e .outcome ≡ accepted) (run t (map undo ops)) → length ops ≤ count-limit
@@ -88,8 +88,8 @@ steps-walk c s (a ∷ ops) (more h hs) =
     ∙ ap (λ l. s ∷ l) (steps-walk c (step-back c s a .class) ops hs)
 
 -- ---- the first part of a walk
-pub walk-at : {X Y : Type 0} (rule : X → Y → X) (s : X) (l : List Y) (k : ℕ) (x : X) → k ≤ length l → after rule s (take k l) ≡ getD (walk rule s l) k x
-unfolding after walk
+pub walk-at : {X Y : Type 0} (rule : X → Y → X) (s : X) (l : List Y) (k : ℕ) (x : X) → k ≤ length l → foldl rule s (take k l) ≡ getD (walk rule s l) k x
+unfolding foldl walk
 walk-at rule s [] zero x h = refl
 walk-at rule s (c ∷ l) zero x h = refl
 walk-at rule s [] (suc k) x h = absurd (omega arith)

@@ -2,7 +2,7 @@
 use Prim.Native.Nat.{ℕ}
 use mathlib.Core.Path.{_≡_}
 use mathlib.Core.List.{List, [], _∷_, map, reverse}
-use Rattle.lists.specs.{Lists.All, Lists.ChangedAt, Walk.after}
+use Rattle.lists.specs.{Lists.All, Lists.ChangedAt, Walk.foldl}
 use Rattle.jacobian.specs.{Answer.accepted, Answer.Result, Answer.result, Answer.sum-answer, Answer.subtract-and-halve-answer, Group.difference, Group.doublings}
 use Rattle.jacobian.specs.declared.{Curve.Curve, Class.Class}
 use Rattle.history.specs.Register.{RegisterReply, step-answer, other, undo-seal}
@@ -79,7 +79,7 @@ seals-back r cs = last r cs .seal ∷ map (λ e. e .before .seal) (newest r cs)
 
 -- the end of a walk back: the undo rule applied to the seal once for each class; for no class the seal itself
 unfoldable pub walk-back : Curve → Class → List Class → Class
-walk-back c seal ops = after (undo-seal c) seal ops
+walk-back c seal ops = foldl (undo-seal c) seal ops
 
 -- the answers of the walk's steps, in order; each step starts from the seal that the step before it answered
 unfoldable pub steps-back : Curve → Class → List Class → List Result

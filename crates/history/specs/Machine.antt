@@ -3,7 +3,7 @@
 use Prim.Native.Nat.{ℕ}
 use mathlib.Core.Path.{_≡_}
 use mathlib.Core.List.{List, [], _∷_, map, reverse}
-use Rattle.lists.specs.Walk.{after}
+use Rattle.lists.specs.Walk.{foldl}
 use Rattle.jacobian.specs.Answer.{Verdict, accepted, refused}
 
 -- a machine: for each state and call an outcome and the next state
@@ -35,7 +35,7 @@ module _ {State Call : Type 0} (M : Machine State Call) where
 
   -- the state after the list
   unfoldable pub last : State → List Call → State
-  last s cs = after (M .next) s cs
+  last s cs = foldl (M .next) s cs
 
   -- the accepted calls of the list, newest first
   unfoldable pub newest : State → List Call → List (Event State Call)

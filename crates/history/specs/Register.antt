@@ -47,13 +47,13 @@ step-refusal k r a = register-refusal r or-else class-refusal (r .curve) a or-el
 
 -- ---- the register that follows
 -- the register with this count and this seal, all else as it was
-unfoldable pub moved : ℕ → Class → Register → Register
-moved n seal r = record { curve = r .curve; count = n; seal = seal }
+unfoldable pub with-count-and-seal : ℕ → Class → Register → Register
+with-count-and-seal n seal r = record { curve = r .curve; count = n; seal = seal }
 
 -- the register after a step: a commit adds 1 to the count, an undo subtracts 1
 unfoldable pub stepped : Step → Register → Class → Register
-stepped Commit r a = moved (r .count + 1) (commit-seal (r .curve) (r .seal) a) r
-stepped Undo r a = moved (r .count - 1) (undo-seal (r .curve) (r .seal) a) r
+stepped Commit r a = with-count-and-seal (r .count + 1) (commit-seal (r .curve) (r .seal) a) r
+stepped Undo r a = with-count-and-seal (r .count - 1) (undo-seal (r .curve) (r .seal) a) r
 
 -- the step that takes a step back
 unfoldable pub other : Step → Step
@@ -88,6 +88,6 @@ abbrev pub undo-answer : Register → Class → RegisterReply
 undo-answer = step-answer Undo
 
 -- an acceptance with the next register, or a listed refusal with the register as it was given
-pub data StepTold (given : Register) : RegisterReply → Type 0 where
-  acceptance : (next : Register) → StepTold given (record { outcome = accepted; register = next })
-  refusal : (n : ℕ) → IsRefusal n → StepTold given (record { outcome = refused n; register = given })
+pub data ValidRegisterReply (given : Register) : RegisterReply → Type 0 where
+  acceptance : (next : Register) → ValidRegisterReply given (record { outcome = accepted; register = next })
+  refusal : (n : ℕ) → IsRefusal n → ValidRegisterReply given (record { outcome = refused n; register = given })

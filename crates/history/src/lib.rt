@@ -8,7 +8,7 @@ ghost use Rattle.jacobian.specs.{Checks._or-else_, Curves.curve-refusal, Answer
 ghost use Rattle.jacobian.specs.declared.Class.{Class as Seal};
 ghost use Rattle.count_limit.specs.Limit.{count-refusal};
 ghost use Rattle.history.specs.declared.Register.{Register as Value};
-ghost use Rattle.history.specs.Register.{edge, edge-refusal, moved, sealed, register-reply, follows, step-answer, commit-answer, undo-answer};
+ghost use Rattle.history.specs.Register.{edge, edge-refusal, with-count-and-seal, sealed, register-reply, follows, step-answer, commit-answer, undo-answer};
 use jacobian::Class;
 use jacobian::ClassAnswer;
 use jacobian::Curve;
@@ -87,7 +87,7 @@ fn kept(register: Register, n: u32) -> RegisterAnswer
 
 // The register with this count and the answered seal, or the answered refusal with the register as it was given.
 fn followed(register: Register, count: u64, answer: ClassAnswer) -> RegisterAnswer
-    ensures { λ r. ⌜ ((n : ℕ) (seal : Seal) → result (reply answer) ≡ sealed n seal → register-reply r ≡ follows n register (moved count seal register)) ⌝ }
+    ensures { λ r. ⌜ ((n : ℕ) (seal : Seal) → result (reply answer) ≡ sealed n seal → register-reply r ≡ follows n register (with-count-and-seal count seal register)) ⌝ }
 {
     let outcome = answer.outcome;
     let n = jacobian::outcome_refusal(outcome);

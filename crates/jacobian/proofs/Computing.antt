@@ -4,7 +4,7 @@ use Rattle.binary_field.specs.Field.{field, element}
 use Rattle.binary_field.proofs.Field.{computing as numbers-computing}
 use Rattle.char2_algebra.specs.Polynomial.{of-list}
 use Rattle.char2_algebra.specs.Lead.{lead, monic-of}
-use Rattle.char2_algebra.specs.Euclid.{bezout-nought, bezout-to, bezout, bezout3}
+use Rattle.char2_algebra.specs.Euclid.{bezout-zero, bezout-to, bezout, bezout3}
 use Rattle.char2_algebra.specs.Square.{tail, sqrt-to, sqrt}
 use Rattle.polynomial_lists.specs.Polynomials.{polynomials}
 use Rattle.class_group.specs.Mumford.{value, neutral, opposite}
@@ -12,7 +12,7 @@ use Rattle.class_group.specs.Coefficients.{monic-7, curve-of}
 use Rattle.class_group.specs.Composition.{composed, compose, compose-double}
 use Rattle.class_group.specs.Reduction.{reduction-step, reduce-to, reduce}
 use Rattle.class_group.specs.Operations.{counted-sum, counted-double, sum, double}
-use Rattle.class_group.specs.Half.{lift, step, halved, quadratic, half-of-degree-1, lifted-half-of-degree-2, half-of-degree-2, stepped-of-degree-3, lifted-half-of-degree-3, half-of-degree-3, triple, half-by, half}
+use Rattle.class_group.specs.Half.{lift, exchange, halved, quadratic, half-of-degree-1, lifted-half-of-degree-2, half-of-degree-2, exchanged-of-degree-3, lifted-half-of-degree-3, half-of-degree-3, triple, half-by, half}
 use Rattle.row_theory.specs.Field.{degree-of, accepted, F, 𝔸, el, poly}
 use Rattle.jacobian.specs.Curves.{coefficients, curve-with, f-row, degree-refusal, coefficient-refusal, curve-refusal, curve}
 use Rattle.jacobian.specs.Checks.{unless, _or-else_, blank}
@@ -25,7 +25,7 @@ unfolding degree-of accepted field element numbers-computing F el
 elements = tt
 
 unfoldable pub polynomials-computing : Unit {0}
-unfolding elements polynomials of-list 𝔸 poly lead monic-of bezout-nought bezout-to bezout bezout3 tail sqrt-to sqrt
+unfolding elements polynomials of-list 𝔸 poly lead monic-of bezout-zero bezout-to bezout bezout3 tail sqrt-to sqrt
 polynomials-computing = tt
 
 unfoldable pub operations : Unit {0}
@@ -33,7 +33,7 @@ unfolding value neutral opposite composed compose compose-double reduction-step 
 operations = tt
 
 unfoldable pub halving : Unit {0}
-unfolding lift step halved quadratic half-of-degree-1 lifted-half-of-degree-2 half-of-degree-2 stepped-of-degree-3 lifted-half-of-degree-3 half-of-degree-3 triple half-by half
+unfolding lift exchange halved quadratic half-of-degree-1 lifted-half-of-degree-2 half-of-degree-2 exchanged-of-degree-3 lifted-half-of-degree-3 half-of-degree-3 triple half-by half
 halving = tt
 
 unfoldable pub by-value : Unit {0}

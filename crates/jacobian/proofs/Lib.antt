@@ -7,4 +7,4 @@ pub mod Calls
 pub mod Moves
 pub mod Group
 pub mod Refusals
-pub mod Told
+pub mod Valid

@@ -1,6 +1,6 @@
 -- Refusals: 0 or a listed number, and never 117.
--- `told-none`, `told-unless`, `told-or-else`: no refusal, one check, and one check after another are valid refusals.
--- `refused-told`: a verdict of a valid refusal refuses with a listed number.
+-- `valid-none`, `valid-unless`, `valid-or-else`: no refusal, one check, and one check after another are valid refusals.
+-- `refused-valid`: a verdict of a valid refusal refuses with a listed number.
 -- `above-100`: every listed number is above 100, so that no length up to 100 is one.
 -- `never-117`: no valid refusal is 117.
 -- `verdict-never-117`, `reply-never-117`: no valid verdict and no valid reply refuses with 117.
@@ -9,10 +9,10 @@ use mathlib.Core.{Path._≡_, Path.refl, Path.sym, Path.ap, Path.subst, Bool.Boo
 use native.Mathlib.Omega.{arith}
 use lib.Dec.{eqb, ltb}
 use borrow.Author.Tests.{ltb-true, eqb-true}
-use Rattle.jacobian.specs.{Checks.unless, Checks._or-else_, Refusals.refusals, Refusals.listed, Refusals.IsRefusal, Refusals.Told}
+use Rattle.jacobian.specs.{Checks.unless, Checks._or-else_, Refusals.refusals, Refusals.listed, Refusals.IsRefusal, Refusals.ValidRefusal}
 use Rattle.jacobian.specs.Answer.{Verdict, accepted, refused, verdict-of, Reply}
-use Rattle.jacobian.specs.Told.{VerdictTold, ReplyTold}
-use Rattle.jacobian.specs.Told as told
+use Rattle.jacobian.specs.Valid.{ValidVerdict, ValidReply}
+use Rattle.jacobian.specs.Valid as valid
 use Rattle.jacobian.proofs.ByValue.Checks.{both}
 
 -- ---- every number of the list is above 100
@@ -42,25 +42,25 @@ not-listed : ¬ IsRefusal 117
 unfolding IsRefusal refusals listed
 not-listed e = false≢true e
 
-pub never-117 : (n : ℕ) → Told n → ¬ (n ≡ 117)
-unfolding Told
+pub never-117 : (n : ℕ) → ValidRefusal n → ¬ (n ≡ 117)
+unfolding ValidRefusal
 never-117 n (inl z) e = omega arith
 never-117 n (inr r) e = not-listed (subst IsRefusal e r)
 
 -- ---- checks
-pub told-none : Told 0
-unfolding Told
-told-none = inl refl
+pub valid-none : ValidRefusal 0
+unfolding ValidRefusal
+valid-none = inl refl
 
-pub told-unless : (b : Bool) (n : ℕ) → IsRefusal n → Told (unless b n)
-unfolding Told unless
-told-unless true n r = inl refl
-told-unless false n r = inr r
+pub valid-unless : (b : Bool) (n : ℕ) → IsRefusal n → ValidRefusal (unless b n)
+unfolding ValidRefusal unless
+valid-unless true n r = inl refl
+valid-unless false n r = inr r
 
-pub told-or-else : (m n : ℕ) → Told m → Told n → Told (m or-else n)
+pub valid-or-else : (m n : ℕ) → ValidRefusal m → ValidRefusal n → ValidRefusal (m or-else n)
 unfolding _or-else_
-told-or-else zero n t u = u
-told-or-else (suc m) n t u = t
+valid-or-else zero n t u = u
+valid-or-else (suc m) n t u = t
 
 accepted-not-refused : {n : ℕ} → _≡_ {A = Verdict} accepted (refused n) → ⊥
 accepted-not-refused h = let z : _≡_ {A = ℕ} 0 1 = cc in omega arith
@@ -70,18 +70,18 @@ number accepted = 0
 number (refused n) = n
 
 -- no valid verdict and no valid reply refuses with 117
-pub verdict-never-117 : {v : Verdict} → VerdictTold v → ¬ (v ≡ refused 117)
-unfolding Told number
-verdict-never-117 told.VerdictTold.acceptance e = accepted-not-refused e
-verdict-never-117 (told.VerdictTold.refusal n i) e = never-117 n (inr i) (ap number e)
+pub verdict-never-117 : {v : Verdict} → ValidVerdict v → ¬ (v ≡ refused 117)
+unfolding ValidRefusal number
+verdict-never-117 valid.ValidVerdict.acceptance e = accepted-not-refused e
+verdict-never-117 (valid.ValidVerdict.refusal n i) e = never-117 n (inr i) (ap number e)
 
-pub reply-never-117 : {r : Reply} → ReplyTold r → ¬ (r .outcome ≡ refused 117)
-reply-never-117 (told.ReplyTold.acceptance a n) = verdict-never-117 told.VerdictTold.acceptance
-reply-never-117 (told.ReplyTold.refusal n i) = verdict-never-117 (told.VerdictTold.refusal n i)
+pub reply-never-117 : {r : Reply} → ValidReply r → ¬ (r .outcome ≡ refused 117)
+reply-never-117 (valid.ValidReply.acceptance a n) = verdict-never-117 valid.ValidVerdict.acceptance
+reply-never-117 (valid.ValidReply.refusal n i) = verdict-never-117 (valid.ValidVerdict.refusal n i)
 
 -- a verdict of a valid refusal refuses with a listed number
-pub refused-told : (m n : ℕ) → Told m → verdict-of m ≡ refused n → IsRefusal n
-unfolding Told verdict-of number
-refused-told zero n t e = absurd (accepted-not-refused e)
-refused-told (suc m) n (inl z) e = absurd (omega arith)
-refused-told (suc m) n (inr r) e = subst IsRefusal (ap number e) r
+pub refused-valid : (m n : ℕ) → ValidRefusal m → verdict-of m ≡ refused n → IsRefusal n
+unfolding ValidRefusal verdict-of number
+refused-valid zero n t e = absurd (accepted-not-refused e)
+refused-valid (suc m) n (inl z) e = absurd (omega arith)
+refused-valid (suc m) n (inr r) e = subst IsRefusal (ap number e) r

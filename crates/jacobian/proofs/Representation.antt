@@ -11,7 +11,7 @@ use mathlib.Core.List.{List}
 use mathlib.Core.Logic.{_↔_}
 use lib.ListN.{getD}
 use Rattle.char2_algebra.specs.Divides.{Divides}
-use Rattle.char2_algebra.proofs.Degree.{len-nought}
+use Rattle.char2_algebra.proofs.Degree.{len-of-zero}
 use Rattle.char2_algebra.proofs.Lead.{monic-nonzero}
 use Rattle.char2_algebra.proofs.Division.{rem-of-divides}
 use Rattle.class_group.specs.Mumford.{Pair, Reduced, value}
@@ -51,7 +51,7 @@ module _ (c : Curve) (ok : curve-refusal c ≡ 0) where
       (record {
         shape = h .shape;
         range = record { u-below = range-in (a .u) (h .u-range); v-below = range-in (a .v) (h .v-range) };
-        divides = ap (P .len) (rem-of-divides P (D .u) nonzero (value (curve c) (D .v)) k) ∙ len-nought P;
+        divides = ap (P .len) (rem-of-divides P (D .u) nonzero (value (curve c) (D .v)) k) ∙ len-of-zero P;
       })
 
 -- ---- acceptance: neither the curve nor the class is refused

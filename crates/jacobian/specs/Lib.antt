@@ -7,5 +7,5 @@ pub mod Classes
 pub mod Examples
 pub mod Answer
 pub mod Group
-pub mod Told
+pub mod Valid
 pub mod internal

@@ -13,5 +13,5 @@ unfoldable pub IsRefusal : ℕ → Type 0
 IsRefusal n = listed n refusals ≡ true
 
 -- a valid refusal: 0, or the number of a refusal
-unfoldable pub Told : ℕ → Type 0
-Told n = (n ≡ 0) ⊎ IsRefusal n
+unfoldable pub ValidRefusal : ℕ → Type 0
+ValidRefusal n = (n ≡ 0) ⊎ IsRefusal n

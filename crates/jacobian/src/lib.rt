@@ -135,7 +135,7 @@ pub fn refused(n: u32) -> ClassAnswer
 }
 
 // The class of a pair with its steps where the rows that were checked are divisors, else refusal 111.
-fn settled(divisor: bool, pair: RowPair, steps: u32) -> ClassAnswer
+fn answered(divisor: bool, pair: RowPair, steps: u32) -> ClassAnswer
     ensures { λ r. ⌜ ((d : ℕ) (D : Counted (Poly d)) → (divisor ≡ true → StandsCounted d (record { pair = pair; steps = steps }) D) → reply r ≡ answered d (unless divisor 111) D) ⌝ }
 {
     if !divisor {
@@ -161,7 +161,7 @@ fn on_one(op: Unary, curve: Curve, a: Class) -> ClassAnswer
     let rows = classes::to_rows(a);
     let given = unary_rows(op, curve.degree, f, rows);
     let pair = given.rows.pair;
-    settled(given.divisor, pair, given.rows.steps)
+    answered(given.divisor, pair, given.rows.steps)
 }
 
 // The body of the calls on two classes.
@@ -177,7 +177,7 @@ fn on_two(op: Binary, curve: Curve, a: Class, b: Class) -> ClassAnswer
     let right = classes::to_rows(b);
     let answer = binary_rows(op, curve.degree, f, left, right);
     let pair = answer.rows.pair;
-    settled(answer.divisor, pair, answer.rows.steps)
+    answered(answer.divisor, pair, answer.rows.steps)
 }
 
 // Is the pair a class of the curve?

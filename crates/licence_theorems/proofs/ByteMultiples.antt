@@ -20,7 +20,7 @@ use native.Mathlib.Omega.{arith}
 use lib.{Dec.lit<, ListN.length, Pow.pow-lt}
 use Rattle.class_group.specs.Multiples.{repeat}
 use Rattle.jacobian.specs.{Answer.Result, Answer.result, Answer.neutral-class, Answer.double-answer, Answer.half-answer, Group.doublings, declared.Curve.Curve, declared.Class.Class}
-use Rattle.stored_form.specs.{Number.Bytes, Reading.found, Head.class-room, Classes.class-field, Passing.ClassPasses, Records.read-record, Records.class-record, declared.Held.Held}
+use Rattle.stored_form.specs.{Number.Bytes, Reading.found, Head.class-room, Classes.class-field, Passing.ClassPasses, Reader.read-record, Reader.class-layout, declared.Record.Record}
 use Rattle.written_form.specs.Effect.{write}
 use Rattle.stored_form_theorems.proofs.Cuts.{cut-whole}
 use Rattle.seal.specs.{Records.class-record-bytes, Rebuilt.last-field, Rebuilt.class-rebuilt, Calls.half-call, Calls.sum-call, Group.sum-record-of}
@@ -41,7 +41,7 @@ halved k c a = halvings-answer c a k
 
 -- ---- what is written
 
-module _ (s out : List ℕ) (room : class-room ≤ length out) {h : Held} {end : ℕ} (read : read-record class-record s ≡ found h end) where
+module _ (s out : List ℕ) (room : class-room ≤ length out) {h : Record} {end : ℕ} (read : read-record class-layout s ≡ found h end) where
   pub multiple-writes : (n : ℕ) → n < multiple-limit → multiple-call n s out ≡ write (class-field 0x43 (multiple-answer (h .curve) (h .class) n .class)) out
   unfolding answered times
   multiple-writes n l = call-writes s out room read (times n) (multiple-given (class-holds s read) n l)
@@ -78,7 +78,7 @@ module _ {c : Curve} {a : Class} (p : ClassPasses c a) (out : List ℕ) (room : 
 
 -- ---- the laws, for every record that is read
 
-module _ (s : List ℕ) (bytes : Bytes s) {h : Held} {end : ℕ} (read : read-record class-record s ≡ found h end) where
+module _ (s : List ℕ) (bytes : Bytes s) {h : Record} {end : ℕ} (read : read-record class-layout s ≡ found h end) where
   abbrev c : Curve
   c = is-stored s bytes read .curve
 
@@ -149,7 +149,7 @@ module _ (s : List ℕ) (bytes : Bytes s) {h : Held} {end : ℕ} (read : read-re
       halves-write k =
           let p = halves-accept passes k in
           stored-writes (halved-at k) p (λ x b. result (half-answer x b)) (half-given p) mid room'
-          ∙ ap (λ (g : Held). write (class-field 0x43 (halves (g .curve) (suc k) (g .class))) mid) (sym (is-stored s bytes read .held))
+          ∙ ap (λ (g : Record). write (class-field 0x43 (halves (g .curve) (suc k) (g .class))) mid) (sym (is-stored s bytes read .values))
 
       pub doublings-bytes : (k : ℕ) → k < 61 → class-rebuilt s (multiple-call (2 ^ k) s out) ≡ doubled-record mid k s
       doublings-bytes k l =

@@ -1,4 +1,4 @@
 -- Multiples and repeated halves by bytes: what passes, that each call wrote or refused, and the laws.
 pub mod Passing
-pub mod ToldApart
+pub mod WroteOrRefused
 pub mod ByteMultiples

@@ -4,9 +4,9 @@ use mathlib.Core.List.{List, [], _∷_}
 
 module _ {X Y : Type 0} (rule : X → Y → X) where
   -- the last state: the rule is applied once for each element of the list, in order
-  unfoldable pub after : X → List Y → X
-  after s [] = s
-  after s (c ∷ l) = after (rule s c) l
+  unfoldable pub foldl : X → List Y → X
+  foldl s [] = s
+  foldl s (c ∷ l) = foldl (rule s c) l
 
   -- all states in order, from the start to the last
   unfoldable pub walk : X → List Y → List X

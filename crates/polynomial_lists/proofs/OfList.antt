@@ -15,11 +15,11 @@ module _ {K : Type 0} (F : Field2 K) where
   open Field2 F using (ring as K-ring)
   open Polynomials (polynomials F) using (ring, coeff, con, x, len)
 
-  pub coeff-of : (l : List K) (i : ℕ) → coeff (of-list F l) i ≡ getD l i (K-ring .nought)
+  pub coeff-of : (l : List K) (i : ℕ) → coeff (of-list F l) i ≡ getD l i (K-ring .zero)
   unfolding polynomials
   coeff-of l i = coeff-of-list F l i
 
-  pub of-nil : of-list F [] ≡ ring .nought
+  pub of-nil : of-list F [] ≡ ring .zero
   unfolding polynomials
   of-nil = refl
 

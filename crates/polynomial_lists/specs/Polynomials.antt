@@ -5,7 +5,7 @@
 use mathlib.Core.Path.{refl}
 use lib.ListN.{List·getD-eq-default}
 use Rattle.field_laws.specs.{Ring.Ring2, Field.Field2}
-use Rattle.char2_algebra.specs.{Polynomials.Polynomials, Polynomial.Polynomial, Polynomial.nought, Polynomial.con, Polynomial.x, Polynomial.add, Polynomial.mul}
+use Rattle.char2_algebra.specs.{Polynomials.Polynomials, Polynomial.Polynomial, Polynomial.zero-polynomial, Polynomial.con, Polynomial.x, Polynomial.add, Polynomial.mul}
 use Rattle.char2_algebra.specs.Polynomial.{coeff, len, quot, rem}
 use Rattle.char2_algebra.proofs.PolynomialRing as Laws
 use Rattle.char2_algebra.proofs.{ListCoefficients.at-last, ListDivision.division, ListDivision.divide-short}
@@ -13,18 +13,18 @@ use Rattle.char2_algebra.proofs.{ListCoefficients.at-last, ListDivision.divisio
 module _ {K : Type 0} (F : Field2 K) where
   -- the ring of the trimmed lists of coefficients
   unfoldable pub ring : Ring2 (Polynomial F)
-  unfolding add mul nought con Laws.ring
+  unfolding add mul zero-polynomial con Laws.ring
   ring =
       let laws = Laws.ring F in
       record {
         add = add F;
         mul = mul F;
-        nought = nought F;
+        zero = zero-polynomial F;
         one = con F (F .ring .one);
         isSet = laws .isSet;
         add-comm = laws .add-comm;
         add-assoc = laws .add-assoc;
-        add-nought = laws .add-nought;
+        add-zero = laws .add-zero;
         add-self = laws .add-self;
         mul-comm = laws .mul-comm;
         mul-assoc = laws .mul-assoc;
@@ -50,10 +50,10 @@ module _ {K : Type 0} (F : Field2 K) where
         coeff-x-mul = Laws.coeff-x-mul F;
         coeff-x-mul-suc = Laws.coeff-x-mul-suc F;
         len = len F;
-        len-past = λ p i l. List·getD-eq-default (p .coefficients) (F .ring .nought) l;
+        len-past = λ p i l. List·getD-eq-default (p .coefficients) (F .ring .zero) l;
         len-top = λ p i e. at-last F (p .coefficients) (p .trimmed) i e;
         quot = quot F;
         rem = rem F;
         division = λ a b _. division F a b;
-        rem-len = λ a b h. divide-short F (a .coefficients) (b .coefficients) (b .trimmed) (λ e. h (Laws.eq-of-coefficients F b (nought F) e));
+        rem-len = λ a b h. divide-short F (a .coefficients) (b .coefficients) (b .trimmed) (λ e. h (Laws.eq-of-coefficients F b (zero-polynomial F) e));
       }

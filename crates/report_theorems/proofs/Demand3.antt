@@ -16,7 +16,7 @@ use Rattle.stored_form.specs.{Reading.found, Head.drawing-limit, Fields.printab
 use Rattle.archive.specs.Archive.{Archive, read-archive}
 use Rattle.archive_theorems.specs.Written.{archive-bytes}
 use Rattle.archive_theorems.proofs.{ArchiveRoundTrips.archive-read-back, ArchiveBytes.archive-is-bytes}
-use Rattle.seal_register.specs.InPlace.{Made, calls, Session, left-by, newest-made, seals-made}
+use Rattle.seal_register.specs.InPlace.{RecordedCall, calls, Session, left-by, newest-recorded, seals-recorded}
 use Rattle.seal_register.proofs.InPlace.{left-by-last, newest-is}
 use Rattle.walk_report.specs.Walk.{seals}
 use Rattle.report_theorems.specs.Demand3.{Keeps, kept-archive, Encodes}
@@ -47,20 +47,20 @@ module _ (r : Register) (cs : List Call) (only : OnlyCommits (newest r cs)) wher
 
 -- ---- each call by value or in place
 
-module _ (r : Register) (ms : List Made) (session : Session r ms) (only : OnlyCommits (newest-made r ms)) where
+module _ (r : Register) (ms : List RecordedCall) (session : Session r ms) (only : OnlyCommits (newest-recorded r ms)) where
   only-by-value : OnlyCommits (newest r (calls ms))
   only-by-value = rw (newest-is r ms session) at only
 
-  module _ (s : List ℕ) {a : Archive} {end : ℕ} (reads : read-archive s ≡ found a end) (keeps : Keeps a r (left-by r ms) (newest-made r ms)) where
-    pub left-archive-seals : seals (a .curve) (a .seal) (a .operations) ≡ seals-made r ms
-    unfolding seals-back seals-made
+  module _ (s : List ℕ) {a : Archive} {end : ℕ} (reads : read-archive s ≡ found a end) (keeps : Keeps a r (left-by r ms) (newest-recorded r ms)) where
+    pub left-archive-seals : seals (a .curve) (a .seal) (a .operations) ≡ seals-recorded r ms
+    unfolding seals-back seals-recorded
     left-archive-seals =
         rw (newest-is r ms session, left-by-last r ms session)
         (archive-seals r (calls ms) only-by-value s reads (rw (newest-is r ms session, left-by-last r ms session) at keeps))
 
-    pub left-archive-seal : (k : ℕ) → getD (seals (a .curve) (a .seal) (a .operations)) k (a .seal) ≡ getD (seals-made r ms) k (a .seal)
+    pub left-archive-seal : (k : ℕ) → getD (seals (a .curve) (a .seal) (a .operations)) k (a .seal) ≡ getD (seals-recorded r ms) k (a .seal)
     left-archive-seal k = ap (λ l. getD l k (a .seal)) left-archive-seals
 
   pub left-archive-exists : register-refusal r ≡ 0 → (drawing : List ℕ) → printable drawing ≡ true → length drawing ≤ drawing-limit →
-      Encodes r (left-by r ms) (newest-made r ms) drawing (kept-archive r (left-by r ms) (newest-made r ms) drawing)
+      Encodes r (left-by r ms) (newest-recorded r ms) drawing (kept-archive r (left-by r ms) (newest-recorded r ms) drawing)
   left-archive-exists = rw (newest-is r ms session, left-by-last r ms session) (archive-exists r (calls ms) only-by-value)

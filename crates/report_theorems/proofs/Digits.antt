@@ -1,6 +1,6 @@
 -- The digits that a report prints of a number.
--- `digits-said`: they parse to the number.
--- `decimal-said`, `hexadecimal-said`: twenty decimal and sixteen hexadecimal digits suffice for every 64-bit number.
+-- `parse-of-digits`: they parse to the number.
+-- `parse-decimal`, `parse-hexadecimal`: twenty decimal and sixteen hexadecimal digits suffice for every 64-bit number.
 -- `no-leading-zero`: a number other than 0 is printed without leading zeros.
 use Prim.Native.Nat.{ℕ, zero, suc, _+_, _*_, _/_, _%_, _^_, _≤_, _<_}
 use mathlib.Core.Path.{_≡_, refl, ap, ap₂, _∙_}
@@ -11,20 +11,20 @@ use native.Mathlib.Omega.{arith}
 use lib.Dec.{ltb, lit<, lit≤}
 use borrow.Author.Tests.{lt-ltb, le-ltb, ltb-true, ltb-false}
 use Rattle.text.specs.Text.{digit, digits, decimal, hexadecimal}
-use Rattle.report_theorems.specs.Numerals.{digit-said, said-behind, said, Begins}
+use Rattle.report_theorems.specs.Numerals.{parse-digit, parse-from, parse-digits, Begins}
 
-digit-back : (n : ℕ) → n < 16 → digit-said (digit n) ≡ n
-unfolding digit-said digit
+digit-back : (n : ℕ) → n < 16 → parse-digit (digit n) ≡ n
+unfolding parse-digit digit
 digit-back n h = go (ltb n 10) refl
   where
-    go : (b : Bool) → ltb n 10 ≡ b → digit-said (cond b (0x30 + n) (0x57 + n)) ≡ n
+    go : (b : Bool) → ltb n 10 ≡ b → parse-digit (cond b (0x30 + n) (0x57 + n)) ≡ n
     go true e = rw (lt-ltb (0x30 + n) 0x61 (omega (arith, ltb-true n 10 e))) (omega arith)
     go false e = rw (le-ltb (0x57 + n) 0x61 (omega (arith, ltb-false n 10 e))) (omega arith)
 
-said-snoc : (base n : ℕ) (bs : List ℕ) (b : ℕ) → said-behind base n (bs ++ b ∷ []) ≡ said-behind base n bs * base + digit-said b
-unfolding said-behind
-said-snoc base n [] b = refl
-said-snoc base n (x ∷ bs) b = said-snoc base (n * base + digit-said x) bs b
+parse-snoc : (base n : ℕ) (bs : List ℕ) (b : ℕ) → parse-from base n (bs ++ b ∷ []) ≡ parse-from base n bs * base + parse-digit b
+unfolding parse-from
+parse-snoc base n [] b = refl
+parse-snoc base n (x ∷ bs) b = parse-snoc base (n * base + parse-digit x) bs b
 
 digit-some : (n : ℕ) → 0 < n → digit n ≡ 0x30 → ⊥
 unfolding digit
@@ -39,24 +39,24 @@ module _ (base : ℕ) (least : 2 ≤ base) (most : base ≤ 16) where
   more-digits zero n h le = absurd (omega (arith, rw (pow-suc, pow-zero, one-mul) at h))
   more-digits (suc k) n h le = omega arith
 
-  one-more : (k n : ℕ) → n < base ^ suc k → (0 < k → n / base < base ^ k → said base (digits base k (n / base)) ≡ n / base) →
-      said base (digits base (suc k) n) ≡ n
-  unfolding said said-behind digits
+  one-more : (k n : ℕ) → n < base ^ suc k → (0 < k → n / base < base ^ k → parse-digits base (digits base k (n / base)) ≡ n / base) →
+      parse-digits base (digits base (suc k) n) ≡ n
+  unfolding parse-digits parse-from digits
   one-more k n h rest = go (ltb n base) refl
     where
-      go : (b : Bool) → ltb n base ≡ b → said-behind base 0 (cond b (digit n ∷ []) (digits base k (n / base) ++ digit (n % base) ∷ [])) ≡ n
+      go : (b : Bool) → ltb n base ≡ b → parse-from base 0 (cond b (digit n ∷ []) (digits base k (n / base) ++ digit (n % base) ∷ [])) ≡ n
       go true e = omega (arith, digit-back n (omega (arith, ltb-true n base e)), zero-mul base)
       go false e =
           let le : base ≤ n = ltb-false n base e in
           let low : n / base < base ^ k = div-lt-iff-lt-mul {k = base} (omega arith) .1 (rw pow-suc at h) in
           let small : n % base < base = mod-lt n (omega arith) in
-          said-snoc base 0 (digits base k (n / base)) (digit (n % base))
+          parse-snoc base 0 (digits base k (n / base)) (digit (n % base))
           ∙ ap₂ (λ (x y : ℕ). x * base + y) (rest (more-digits k n h le) low) (digit-back (n % base) (omega arith))
           ∙ div-add-mod' n base
 
-  pub digits-said : (k n : ℕ) → 0 < k → n < base ^ k → said base (digits base k n) ≡ n
-  digits-said zero n pos h = absurd (omega arith)
-  digits-said (suc k) n pos h = one-more k n h (λ p l. digits-said k (n / base) p l)
+  pub parse-of-digits : (k n : ℕ) → 0 < k → n < base ^ k → parse-digits base (digits base k n) ≡ n
+  parse-of-digits zero n pos h = absurd (omega arith)
+  parse-of-digits (suc k) n pos h = one-more k n h (λ p l. parse-of-digits k (n / base) p l)
 
   begins-more : (k n : ℕ) → 0 < n → n < base ^ suc k → (0 < n / base → n / base < base ^ k → Begins (digits base k (n / base))) → Begins (digits base (suc k) n)
   unfolding digits
@@ -75,10 +75,10 @@ module _ (base : ℕ) (least : 2 ≤ base) (most : base ≤ 16) where
   no-leading-zero zero n pos h = absurd (omega (arith, rw pow-zero at h))
   no-leading-zero (suc k) n pos h = begins-more k n pos h (λ p l. no-leading-zero k (n / base) p l)
 
-pub decimal-said : (n : ℕ) → n < 2 ^ 64 → said 10 (decimal n) ≡ n
+pub parse-decimal : (n : ℕ) → n < 2 ^ 64 → parse-digits 10 (decimal n) ≡ n
 unfolding decimal
-decimal-said n h = digits-said 10 (lit≤ tt) (lit≤ tt) _ n (lit< tt) (lt-of-lt-of-le h (lit≤ tt))
+parse-decimal n h = parse-of-digits 10 (lit≤ tt) (lit≤ tt) _ n (lit< tt) (lt-of-lt-of-le h (lit≤ tt))
 
-pub hexadecimal-said : (n : ℕ) → n < 2 ^ 64 → said 16 (hexadecimal n) ≡ n
+pub parse-hexadecimal : (n : ℕ) → n < 2 ^ 64 → parse-digits 16 (hexadecimal n) ≡ n
 unfolding hexadecimal
-hexadecimal-said n h = digits-said 16 (lit≤ tt) (lit≤ tt) _ n (lit< tt) (lt-of-lt-of-le h (lit≤ tt))
+parse-hexadecimal n h = parse-of-digits 16 (lit≤ tt) (lit≤ tt) _ n (lit< tt) (lt-of-lt-of-le h (lit≤ tt))

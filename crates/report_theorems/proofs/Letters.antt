@@ -1,6 +1,6 @@
 -- The lines of an accepted archive's report, and their letters (docs/SPECIFICATION.md, 10.3).
 -- `line-count`: the report has two lines more than the archive has operations.
--- `opening-lines`: the first two lines, in which no operation has a letter.
+-- `header-lines`: the first two lines, in which no operation has a letter.
 -- `operation-line`: the line with k + 1 operations undone has the letter of operation k; the newest is operation 0.
 -- `letter-moves`: which letters changed when M came to be tested before R (docs/changes/05.md).
 use Prim.Native.Nat.{ℕ, zero, suc, _+_, _<_}
@@ -59,9 +59,9 @@ module _ (s : List ℕ) {x : Archive} {end : ℕ} (reads : read-archive s ≡ fo
       ∙ ap suc (counted (x .curve) 0 0x2E (x .seal) (x .operations))
       ∙ omega arith
 
-  pub opening-lines : take 2 (report-lines s) ≡ first-line (length (x .operations)) (x .drawing) ∷ line 0 0x2E (x .seal) ∷ []
+  pub header-lines : take 2 (report-lines s) ≡ first-line (length (x .operations)) (x .drawing) ∷ line 0 0x2E (x .seal) ∷ []
   unfolding report-lines lines-of walk-lines
-  opening-lines =
+  header-lines =
       ap (λ r. take 2 (lines-of r)) reads
       ∙ ap (λ (l : List (List ℕ)). first-line (length (x .operations)) (x .drawing) ∷ take 1 l) (lines-from (x .curve) 0 0x2E (x .seal) (x .operations))
 

@@ -4,23 +4,23 @@ use mathlib.Core.Path.{_≡_, refl, sym, ap, _∙_, subst}
 use mathlib.Core.List.{List, [], _∷_}
 use native.Mathlib.Omega.{arith}
 use Rattle.jacobian.specs.{Answer.Accepts, Answer.Result, Answer.neutral-class, Answer.subtract-and-halve-answer, declared.Curve.Curve, declared.Class.Class}
-use Rattle.stored_form.specs.{Reading.Reading, Reading.found, Reading.refused, Reading._then_, Reading.reading-refusal, Held.drawing-name, Held.nothing-held, Held.with-operation}
-use Rattle.stored_form.specs.{Records.read-field, Records.read-fields, Records.read-operations, Records.archive-opening, declared.Held.Held}
-use Rattle.stored_form.proofs.{Readings.found-not-refused, Readings.then-found, Readers.operation-held}
+use Rattle.stored_form.specs.{Reading.Reading, Reading.found, Reading.refused, Reading._then_, Reading.reading-refusal, Record.drawing-name, Record.empty-record, Record.with-operation}
+use Rattle.stored_form.specs.{Reader.read-field, Reader.read-fields, Reader.read-operations, Reader.header-layout, declared.Record.Record}
+use Rattle.stored_form.proofs.{Readings.found-not-refused, Readings.then-found, Readers.with-field-operation}
 use Rattle.stored_form_theorems.proofs.Operations.{newest, no-operations, operation-sound, operations-counted}
 use Rattle.history.specs.Register.{undo-seal}
 use Rattle.history.proofs.Seals.{undo-sound}
-use Rattle.archive.specs.{Archive.Archive, Archive.archive-of, Archive.read-archive, Archive.archive-refusal, Reader.reader, Reader.operations-due, Reader.step, Reader.opening, declared.Reader.Reader}
+use Rattle.archive.specs.{Archive.Archive, Archive.archive-of, Archive.read-archive, Archive.archive-refusal, Reader.reader, Reader.operations-expected, Reader.read-next, Reader.read-header, declared.Reader.Reader}
 use Rattle.archive.specs.Reader as reading
-use Rattle.archive.specs.declared.Due.the-variants as due
-use Rattle.archive.proofs.ToldApart.{archive-found}
+use Rattle.archive.specs.declared.Expected.the-variants as expected
+use Rattle.archive.proofs.Valid.{archive-found}
 use Rattle.archive_theorems.proofs.Parts.{parts-of, seal-sound}
 use Rattle.lists.specs.Walk.{walk}
 use Rattle.walk_report.specs.{Lines.line, Lines.first-line, Lines.refusal-line, Walk.seals, Walk.next-older, Walk.letter, Walk.letters, Report.seal-lines, Report.walk-lines, Report.lines-of, Report.report-lines}
-use Rattle.walk_report.specs.Steps.{report-at, with-stage, with-seal, moved, older, held-next, advanced-by, advanced, letter-before, undone, next-of, next-line, refused-report, first-report, opened-by, opened, lines-left, texts}
-use Rattle.walk_report.proofs.LinesLeft.{due-older}
+use Rattle.walk_report.specs.Steps.{report-at, with-stage, with-seal, progress, older, on-operation, advanced-by, advanced, letter-before, undone, next-of, next-line, refused-report, first-report, begin-by, begin, lines-left, texts}
+use Rattle.walk_report.proofs.LinesLeft.{expected-older}
 use Rattle.report_theorems.proofs.ArchiveWalk.{step-is}
-use Rattle.walk_report.specs.declared.{Stage.Stage, Report.Report, Moved.Moved}
+use Rattle.walk_report.specs.declared.{Stage.Stage, Report.Report, Progress.Progress}
 use Rattle.walk_report.specs.declared.Stage.the-variants.{First, Last, Undo, Over}
 
 -- ---- the report's lines after that of a seal
@@ -37,85 +37,85 @@ lines-from c k mark seal (a ∷ older) = refl
 -- ---- one step
 
 module _ (s : List ℕ) where
-  advanced-none : (stage : Stage) (h : Held) (seal b : Class) (at : ℕ) →
-      advanced (report-at stage (reader (operations-due 0) h) seal b) s at ≡ moved (report-at Over (reader (operations-due 0) h) seal b) at
-  unfolding advanced advanced-by operations-due
+  advanced-none : (stage : Stage) (h : Record) (seal b : Class) (at : ℕ) →
+      advanced (report-at stage (reader (operations-expected 0) h) seal b) s at ≡ progress (report-at Over (reader (operations-expected 0) h) seal b) at
+  unfolding advanced advanced-by operations-expected
   advanced-none stage h seal b at = refl
 
-  advanced-more : (n : ℕ) (stage : Stage) (h : Held) (seal b : Class) (at : ℕ) {more : Held} {next : ℕ} → read-field 0x44 h s at ≡ found more next →
-      advanced (report-at stage (reader (operations-due (suc n)) h) seal b) s at ≡ moved (report-at Undo (reader (operations-due n) more) seal (more .operation)) next
-  unfolding advanced advanced-by operations-due step reading.read-operation held-next _then_
+  advanced-more : (n : ℕ) (stage : Stage) (h : Record) (seal b : Class) (at : ℕ) {more : Record} {next : ℕ} → read-field 0x44 h s at ≡ found more next →
+      advanced (report-at stage (reader (operations-expected (suc n)) h) seal b) s at ≡ progress (report-at Undo (reader (operations-expected n) more) seal (more .operation)) next
+  unfolding advanced advanced-by operations-expected read-next reading.read-operation on-operation _then_
   advanced-more n stage h seal b at {more} {next} e =
-      let r : Report = report-at stage (reader (due.Operations (suc n)) h) seal b in
+      let r : Report = report-at stage (reader (expected.Operations (suc n)) h) seal b in
       let less : suc n - 1 ≡ n = omega arith in
-      ap (λ (x : Reading Held). held-next r at (x then λ more next. found (reader (operations-due (suc n - 1)) more) next)) e
-      ∙ ap (λ (k : ℕ). moved (report-at Undo (reader (operations-due k) more) seal (more .operation)) next) less
+      ap (λ (x : Reading Record). on-operation r at (x then λ more next. found (reader (operations-expected (suc n - 1)) more) next)) e
+      ∙ ap (λ (k : ℕ). progress (report-at Undo (reader (operations-expected k) more) seal (more .operation)) next) less
 
   -- another seal is kept through the step
-  held-seal : (seal : Class) (r : Report) (at : ℕ) (x : Reading Reader) →
-      held-next (with-seal seal r) at x ≡ record { report = with-seal seal (held-next r at x .report); next = held-next r at x .next }
-  unfolding held-next
-  held-seal seal r at (found reader next) = refl
-  held-seal seal r at (refused n) = refl
+  on-operation-seal : (seal : Class) (r : Report) (at : ℕ) (x : Reading Reader) →
+      on-operation (with-seal seal r) at x ≡ record { report = with-seal seal (on-operation r at x .report); next = on-operation r at x .next }
+  unfolding on-operation
+  on-operation-seal seal r at (found reader next) = refl
+  on-operation-seal seal r at (refused n) = refl
 
   advanced-seal : (seal : Class) (r : Report) (at : ℕ) →
       advanced (with-seal seal r) s at ≡ record { report = with-seal seal (advanced r s at .report); next = advanced r s at .next }
   unfolding advanced advanced-by
-  advanced-seal seal r at = go (older (r .reader .due))
+  advanced-seal seal r at = go (older (r .reader .expected))
     where
       go : (n : ℕ) → advanced-by n (with-seal seal r) s at ≡ record { report = with-seal seal (advanced-by n r s at .report); next = advanced-by n r s at .next }
       go zero = refl
-      go (suc n) = held-seal seal r at (step (r .reader) s at)
+      go (suc n) = on-operation-seal seal r at (read-next (r .reader) s at)
 
   -- the letter of an operation, by the operations that are still to be read
-  letter-is : (n : ℕ) (h : Held) (seal a b : Class) (stage : Stage) (at : ℕ) {ops : List Class} {end : ℕ} → read-operations n h s at ≡ found ops end →
-      letter-before (h .curve) a (advanced (report-at stage (reader (operations-due n) h) seal b) s at .report) ≡ letter (h .curve) a ops
+  letter-is : (n : ℕ) (h : Record) (seal a b : Class) (stage : Stage) (at : ℕ) {ops : List Class} {end : ℕ} → read-operations n h s at ≡ found ops end →
+      letter-before (h .curve) a (advanced (report-at stage (reader (operations-expected n) h) seal b) s at .report) ≡ letter (h .curve) a ops
   unfolding letter next-older
   letter-is zero h seal a b stage at e =
-      ap (λ (m : Moved). letter-before (h .curve) a (m .report)) (advanced-none stage h seal b at)
+      ap (λ (m : Progress). letter-before (h .curve) a (m .report)) (advanced-none stage h seal b at)
       ∙ ap (letter (h .curve) a) (sym (no-operations h s at e))
   letter-is (suc n) h seal a b stage at e =
       let m = newest h s at n e in
-      ap (λ (m : Moved). letter-before (h .curve) a (m .report)) (advanced-more n stage h seal b at (m .this))
+      ap (λ (m : Progress). letter-before (h .curve) a (m .report)) (advanced-more n stage h seal b at (m .this))
       ∙ ap (letter (h .curve) a) (sym (m .all))
 
   -- the line of an undo, and the lines after it
-  undo-made : (n : ℕ) (h : Held) (seal a : Class) (at k : ℕ) {before : Class} {ops : List Class} {end : ℕ} → read-operations n h s at ≡ found ops end →
+  undo-made : (n : ℕ) (h : Record) (seal a : Class) (at k : ℕ) {before : Class} {ops : List Class} {end : ℕ} → read-operations n h s at ≡ found ops end →
       h .count ≡ k + suc n → subtract-and-halve-answer (h .curve) seal a .class ≡ before →
-      let m = advanced (report-at Undo (reader (operations-due n) h) before a) s at in
-      texts (suc n) (report-at Undo (reader (operations-due n) h) seal a) s at ≡ line (k + 1) (letter (h .curve) a ops) before ∷ texts n (m .report) s (m .next .at)
+      let m = advanced (report-at Undo (reader (operations-expected n) h) before a) s at in
+      texts (suc n) (report-at Undo (reader (operations-expected n) h) seal a) s at ≡ line (k + 1) (letter (h .curve) a ops) before ∷ texts n (m .report) s (m .next .at)
   unfolding texts next-line next-of undone
   undo-made n h seal a at k {before} {ops} e counted same =
       let c : Curve = h .curve in
-      let r : Report = report-at Undo (reader (operations-due n) h) seal a in
-      let number : h .count - older (operations-due n) ≡ k + 1 = omega (arith, counted, due-older n) in
-      let rest : ℕ → Moved → List (List ℕ) = λ j m. texts j (m .report) s (m .next .at) in
-      let carried : Class → Moved = λ x. record { report = with-seal x (advanced r s at .report); next = advanced r s at .next } in
-      ap (λ (x : Class). line (h .count - older (operations-due n)) (letter-before c a (advanced r s at .report)) x ∷ rest n (carried x)) same
+      let r : Report = report-at Undo (reader (operations-expected n) h) seal a in
+      let number : h .count - older (operations-expected n) ≡ k + 1 = omega (arith, counted, expected-older n) in
+      let rest : ℕ → Progress → List (List ℕ) = λ j m. texts j (m .report) s (m .next .at) in
+      let carried : Class → Progress = λ x. record { report = with-seal x (advanced r s at .report); next = advanced r s at .next } in
+      ap (λ (x : Class). line (h .count - older (operations-expected n)) (letter-before c a (advanced r s at .report)) x ∷ rest n (carried x)) same
       ∙ ap (λ (j : ℕ). line j (letter-before c a (advanced r s at .report)) before ∷ rest n (carried before)) number
       ∙ ap (λ (j : ℕ). line (k + 1) j before ∷ rest n (carried before)) (letter-is n h seal a a Undo at e)
-      ∙ ap (λ (m : Moved). line (k + 1) (letter c a ops) before ∷ rest n m) (sym (advanced-seal before r at))
+      ∙ ap (λ (m : Progress). line (k + 1) (letter c a ops) before ∷ rest n m) (sym (advanced-seal before r at))
 
   -- all lines after that of a seal
 
-  walk-made : (n : ℕ) (stage : Stage) (h : Held) (seal b : Class) (at k : ℕ) {ops : List Class} {end : ℕ} → read-operations n h s at ≡ found ops end →
+  walk-made : (n : ℕ) (stage : Stage) (h : Record) (seal b : Class) (at k : ℕ) {ops : List Class} {end : ℕ} → read-operations n h s at ≡ found ops end →
       h .count ≡ k + n → Accepts (h .curve) seal →
-      let m = advanced (report-at stage (reader (operations-due n) h) seal b) s at in texts n (m .report) s (m .next .at) ≡ later-lines (h .curve) k seal ops
+      let m = advanced (report-at stage (reader (operations-expected n) h) seal b) s at in texts n (m .report) s (m .next .at) ≡ later-lines (h .curve) k seal ops
   unfolding texts later-lines letters
   walk-made zero stage h seal b at k e counted hs = ap (later-lines (h .curve) k seal) (sym (no-operations h s at e))
   walk-made (suc n) stage h seal b at k e counted hs =
       let c : Curve = h .curve in
       let m = newest h s at n e in
-      let a : Class = m .held .operation in
+      let a : Class = m .values .operation in
       let ops : List Class = m .older in
       let next : ℕ = m .next in
       let ha : Accepts c a = operation-sound h s at (m .this) in
       let before : Class = undo-seal c seal a in
-      let more : Held = with-operation a h in
-      let is : m .held ≡ more = operation-held h s at (m .this) in
-      let rest : read-operations n more s next ≡ found ops _ = ap (λ (x : Held). read-operations n x s next) (sym is) ∙ m .rest in
-      ap (λ (x : Moved). texts (suc n) (x .report) s (x .next .at))
-      (advanced-more n stage h seal b at (m .this) ∙ ap (λ (x : Held). moved (report-at Undo (reader (operations-due n) x) seal a) next) is)
+      let more : Record = with-operation a h in
+      let is : m .values ≡ more = with-field-operation h s at (m .this) in
+      let rest : read-operations n more s next ≡ found ops _ = ap (λ (x : Record). read-operations n x s next) (sym is) ∙ m .rest in
+      ap (λ (x : Progress). texts (suc n) (x .report) s (x .next .at))
+      (advanced-more n stage h seal b at (m .this) ∙ ap (λ (x : Record). progress (report-at Undo (reader (operations-expected n) x) seal a) next) is)
       ∙ undo-made n more seal a next k rest counted (ap (λ (x : Result). x .class) (step-is hs ha))
       ∙ ap (λ (l : List (List ℕ)). line (k + 1) (letter c a ops) before ∷ l)
       (walk-made n Undo more before a next (k + 1) rest (omega (arith, counted)) (undo-sound hs ha))
@@ -125,31 +125,31 @@ module _ (s : List ℕ) where
 -- ---- an accepted archive
 
 module _ (s : List ℕ) where
-  opened-first : {h : Held} {first : ℕ} → archive-refusal s ≡ 0 → read-fields archive-opening nothing-held s 0 ≡ found h first →
-      opened s ≡ moved (report-at First (reader (operations-due (h .count)) h) (h .class) neutral-class) first
-  unfolding opened opened-by first-report opening
-  opened-first z e = ap (λ (n : ℕ). opened-by n (opening s)) z ∙ ap first-report (then-found _ e)
+  begin-first : {h : Record} {first : ℕ} → archive-refusal s ≡ 0 → read-fields header-layout empty-record s 0 ≡ found h first →
+      begin s ≡ progress (report-at First (reader (operations-expected (h .count)) h) (h .class) neutral-class) first
+  unfolding begin begin-by first-report read-header
+  begin-first z e = ap (λ (n : ℕ). begin-by n (read-header s)) z ∙ ap first-report (then-found _ e)
 
   -- the first two lines, and the lines after them
-  first-made : (n : ℕ) (h : Held) (seal b : Class) (at : ℕ) →
-      let r = report-at First (reader (operations-due n) h) seal b in
+  first-made : (n : ℕ) (h : Record) (seal b : Class) (at : ℕ) →
+      let r = report-at First (reader (operations-expected n) h) seal b in
       let m = advanced (with-stage Last r) s at in
       texts (lines-left r) r s at ≡ first-line (h .count) (drawing-name (h .drawing)) ∷ line 0 0x2E seal ∷ texts n (m .report) s (m .next .at)
   unfolding texts lines-left next-line next-of
   first-made n h seal b at =
-      let m = advanced (report-at Last (reader (operations-due n) h) seal b) s at in
-      ap (λ (j : ℕ). first-line (h .count) (drawing-name (h .drawing)) ∷ line 0 0x2E seal ∷ texts j (m .report) s (m .next .at)) (due-older n)
+      let m = advanced (report-at Last (reader (operations-expected n) h) seal b) s at in
+      ap (λ (j : ℕ). first-line (h .count) (drawing-name (h .drawing)) ∷ line 0 0x2E seal ∷ texts j (m .report) s (m .next .at)) (expected-older n)
 
-  accepted-made : {a : Archive} {end : ℕ} → read-archive s ≡ found a end → texts (lines-left (opened s .report)) (opened s .report) s (opened s .next .at) ≡ walk-lines a
+  accepted-made : {a : Archive} {end : ℕ} → read-archive s ≡ found a end → texts (lines-left (begin s .report)) (begin s .report) s (begin s .next .at) ≡ walk-lines a
   unfolding walk-lines archive-refusal archive-of
   accepted-made {a} e =
       let p = parts-of s e in
-      let h : Held = p .held in
+      let h : Record = p .values in
       let c : Curve = h .curve in
       let ops : List Class = p .operations in
       let hs : Accepts c (h .class) = subst (λ (x : Archive). Accepts (x .curve) (x .seal)) (p .archive) (seal-sound s e) in
       let counted = operations-counted s (h .count) h (p .first) (p .operations-read) in
-      ap (λ (m : Moved). texts (lines-left (m .report)) (m .report) s (m .next .at)) (opened-first (ap reading-refusal e) (p .opening-read))
+      ap (λ (m : Progress). texts (lines-left (m .report)) (m .report) s (m .next .at)) (begin-first (ap reading-refusal e) (p .header-read))
       ∙ first-made (h .count) h (h .class) neutral-class (p .first)
       ∙ ap (λ (l : List (List ℕ)). first-line (h .count) (drawing-name (h .drawing)) ∷ line 0 0x2E (h .class) ∷ l)
       (walk-made s (h .count) Last h (h .class) neutral-class (p .first) 0 (p .operations-read) (omega arith) hs)
@@ -159,18 +159,18 @@ module _ (s : List ℕ) where
 
   -- ---- a refused one
 
-  refused-made : (n : ℕ) → read-archive s ≡ refused n → texts (lines-left (opened s .report)) (opened s .report) s (opened s .next .at) ≡ refusal-line n ∷ []
-  unfolding opened opened-by archive-refusal refused-report lines-left texts next-line next-of
+  refused-made : (n : ℕ) → read-archive s ≡ refused n → texts (lines-left (begin s .report)) (begin s .report) s (begin s .next .at) ≡ refusal-line n ∷ []
+  unfolding begin begin-by archive-refusal refused-report lines-left texts next-line next-of
   refused-made zero e = absurd (found-not-refused (sym e ∙ archive-found s (ap reading-refusal e) .2))
   refused-made (suc n) e =
-      ap (λ (k : ℕ). let m = opened-by k (opening s) in texts (lines-left (m .report)) (m .report) s (m .next .at)) (ap reading-refusal e)
+      ap (λ (k : ℕ). let m = begin-by k (read-header s) in texts (lines-left (m .report)) (m .report) s (m .next .at)) (ap reading-refusal e)
 
 -- ---- the theorem
 
-pub report-made : (s : List ℕ) → texts (lines-left (opened s .report)) (opened s .report) s (opened s .next .at) ≡ report-lines s
+pub report-made : (s : List ℕ) → texts (lines-left (begin s .report)) (begin s .report) s (begin s .next .at) ≡ report-lines s
 unfolding report-lines lines-of
 report-made s = go (read-archive s) refl
   where
-    go : (x : Reading Archive) → read-archive s ≡ x → texts (lines-left (opened s .report)) (opened s .report) s (opened s .next .at) ≡ lines-of x
+    go : (x : Reading Archive) → read-archive s ≡ x → texts (lines-left (begin s .report)) (begin s .report) s (begin s .next .at) ≡ lines-of x
     go (found a end) e = accepted-made s e
     go (refused n) e = refused-made s n e

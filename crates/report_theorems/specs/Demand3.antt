@@ -1,6 +1,6 @@
 -- Archives that keep what a list of calls leaves, for demand 3 (docs/SPECIFICATION.md, 10.1 and 11).
 -- The list runs on a register r; t is the register after it, and es are its accepted calls, newest first.
--- These are `last` and `newest` for calls by value (history/specs/Calls.antt), and `left-by` and `newest-made`
+-- These are `last` and `newest` for calls by value (history/specs/Calls.antt), and `left-by` and `newest-recorded`
 -- for calls of which some are in place (seal_register/specs/InPlace.antt).
 use Prim.Native.Nat.{ℕ}
 use mathlib.Core.Path.{_≡_}

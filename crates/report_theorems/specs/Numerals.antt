@@ -6,17 +6,17 @@ use mathlib.Core.List.{List, [], _∷_}
 use lib.Dec.{ltb}
 
 -- the value of a digit: 0 to 9, then a to f
-unfoldable pub digit-said : ℕ → ℕ
-digit-said b = cond (ltb b 0x61) (b - 0x30) (b - 0x57)
+unfoldable pub parse-digit : ℕ → ℕ
+parse-digit b = cond (ltb b 0x61) (b - 0x30) (b - 0x57)
 
 -- the number that digits give after the digits of n, highest first
-unfoldable pub said-behind : ℕ → ℕ → List ℕ → ℕ
-said-behind base n [] = n
-said-behind base n (b ∷ bs) = said-behind base (n * base + digit-said b) bs
+unfoldable pub parse-from : ℕ → ℕ → List ℕ → ℕ
+parse-from base n [] = n
+parse-from base n (b ∷ bs) = parse-from base (n * base + parse-digit b) bs
 
 -- the number that digits give
-unfoldable pub said : ℕ → List ℕ → ℕ
-said base bs = said-behind base 0 bs
+unfoldable pub parse-digits : ℕ → List ℕ → ℕ
+parse-digits base bs = parse-from base 0 bs
 
 -- the text is not empty and its first digit is not 0
 abbrev pub Begins : List ℕ → Type 0

@@ -1,5 +1,5 @@
 -- Euclid's extended rule on rows.
--- `nought-rows`: the rows where b is 0. `blank-rows`: those where a and b are 0.
+-- `zero-rows`: the rows where b is 0. `blank-rows`: those where a and b are 0.
 -- `constant-rows`: the rows where b is another constant.
 -- `step-rows`: the rows of a and b from those of b and the remainder.
 -- `remainder-less`, `quotient-le`: the remainder is shorter than b, and the quotient no longer than a.
@@ -7,8 +7,8 @@ use Prim.Native.Nat.{ℕ, max, _≤_, _<_}
 use mathlib.Core.{Path._≡_, Path.sym, Path.ap, Path.subst, List.List}
 use native.Mathlib.Omega.{arith}
 use Rattle.char2_algebra.specs.{Lead.lead, Euclid.IsBezout}
-use Rattle.char2_algebra.proofs.{Degree.len-nought, Degree.len-zero, Degree.len-con-le, Division.len-quot-le}
-use Rattle.char2_algebra.proofs.Euclid.{bezout-scaled-is, bezout-noughts-is, bezout-constant-is, bezout-step-is, len-substituted}
+use Rattle.char2_algebra.proofs.{Degree.len-of-zero, Degree.len-zero, Degree.len-con-le, Division.len-quot-le}
+use Rattle.char2_algebra.proofs.Euclid.{bezout-scaled-is, bezout-zeros-is, bezout-constant-is, bezout-step-is, len-substituted}
 use Rattle.row_theory.specs.{Field.Poly, Field.𝔸, Field.el, Field.poly, internal.Elements.Inverts, Row.Stands, Row.row-len, internal.Bezout.BezoutRows}
 use Rattle.row_theory.proofs.Rows.{Coefficients.self-stands, Coefficients.stands-eq, Coefficients.stands-len, Constants.zero-stands}
 
@@ -27,11 +27,11 @@ module _ (d : ℕ) where
   }
 
   -- where b is 0 and a is not: a made monic
-  pub nought-rows : (a : List ℕ) {c : ℕ} {g s t : List ℕ} → Inverts d c (lead (𝔸 d) (poly d a)) → Stands d g (𝔸 d .ring .mul (𝔸 d .con (el d c)) (poly d a))
+  pub zero-rows : (a : List ℕ) {c : ℕ} {g s t : List ℕ} → Inverts d c (lead (𝔸 d) (poly d a)) → Stands d g (𝔸 d .ring .mul (𝔸 d .con (el d c)) (poly d a))
       → Stands d s (𝔸 d .con (el d c)) → Stands d t (𝔸 d .con (el d 0)) → (b : List ℕ) → row-len d b ≡ 0 → BezoutRows d a b g s t
-  nought-rows a {c} C G S T b e =
+  zero-rows a {c} C G S T b e =
       let l : 𝔸 d .len (𝔸 d .con (el d c)) ≤ 1 = len-con-le (𝔸 d) _ in
-      let m : 𝔸 d .len (𝔸 d .ring .nought) ≡ 0 = len-nought (𝔸 d) in
+      let m : 𝔸 d .len (𝔸 d .ring .zero) ≡ 0 = len-of-zero (𝔸 d) in
       bezout-rows a b _ _ _ G S (zero-stands d T)
       (bezout-scaled-is (𝔸 d) (poly d a) (poly d b) (el d c) (C .unit) (len-zero (𝔸 d) (poly d b) e)) (omega arith) (omega arith)
 
@@ -40,19 +40,19 @@ module _ (d : ℕ) where
       → BezoutRows d a b z z z
   blank-rows a Z h b e =
       let Z′ = zero-stands d Z in
-      let m : 𝔸 d .len (𝔸 d .ring .nought) ≡ 0 = len-nought (𝔸 d) in
-      bezout-rows a b _ _ _ Z′ Z′ Z′ (bezout-noughts-is (𝔸 d) (poly d a) (poly d b) (len-zero (𝔸 d) (poly d a) h) (len-zero (𝔸 d) (poly d b) e)) (omega arith) (omega arith)
+      let m : 𝔸 d .len (𝔸 d .ring .zero) ≡ 0 = len-of-zero (𝔸 d) in
+      bezout-rows a b _ _ _ Z′ Z′ Z′ (bezout-zeros-is (𝔸 d) (poly d a) (poly d b) (len-zero (𝔸 d) (poly d a) h) (len-zero (𝔸 d) (poly d b) e)) (omega arith) (omega arith)
 
   -- where b is another constant: 1
   pub constant-rows : (b : List ℕ) {c : ℕ} {g s t : List ℕ} → row-len d b ≡ 1 → Inverts d c (lead (𝔸 d) (poly d b))
       → Stands d g (𝔸 d .ring .one) → Stands d s (𝔸 d .con (el d 0)) → Stands d t (𝔸 d .con (el d c)) → (a : List ℕ) → BezoutRows d a b g s t
   constant-rows b {c} e C G S T a =
       let l : 𝔸 d .len (𝔸 d .con (el d c)) ≤ 1 = len-con-le (𝔸 d) _ in
-      let m : 𝔸 d .len (𝔸 d .ring .nought) ≡ 0 = len-nought (𝔸 d) in
+      let m : 𝔸 d .len (𝔸 d .ring .zero) ≡ 0 = len-of-zero (𝔸 d) in
       bezout-rows a b _ _ _ G (zero-stands d S) T (bezout-constant-is (𝔸 d) (poly d a) (poly d b) (el d c) e (C .unit)) (omega arith) (omega arith)
 
   -- one step back, from the remainder r of a by b
-  module _ (a b : List ℕ) {q r : List ℕ} (h : ¬ (poly d b ≡ 𝔸 d .ring .nought)) (Q : Stands d q (𝔸 d .quot (poly d a) (poly d b))) (R : Stands d r (𝔸 d .rem (poly d a) (poly d b))) where
+  module _ (a b : List ℕ) {q r : List ℕ} (h : ¬ (poly d b ≡ 𝔸 d .ring .zero)) (Q : Stands d q (𝔸 d .quot (poly d a) (poly d b))) (R : Stands d r (𝔸 d .rem (poly d a) (poly d b))) where
     pub remainder-less : row-len d r < row-len d b
     remainder-less = omega (arith, stands-len d R, 𝔸 d .rem-len (poly d a) (poly d b) h)
 

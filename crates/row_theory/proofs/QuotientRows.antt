@@ -9,7 +9,7 @@ use lib.{ListN.length, ListN.getD, ListN.set, ListN.replicate, ListN.length-set,
 use Rattle.field_laws.specs.{Ring.Ring2, Field.Field2}
 use Rattle.char2_algebra.specs.{Polynomials.Polynomials, Lead.Monic, Square.tail}
 use Rattle.char2_algebra.proofs.Ring.{ring2, ⊞-𝟘, 𝟘-⊞, 𝟘-·, ·-𝟘, ·-𝟙}
-use Rattle.char2_algebra.proofs.{Degree.coeff-nought, Degree.coeff-tail, Degree.len-bound, Product.coeff-mul-zero, Product.coeff-mul-suc, Division.quot-is, Lead.monic-top}
+use Rattle.char2_algebra.proofs.{Degree.coeff-zero, Degree.coeff-tail, Degree.len-bound, Product.coeff-mul-zero, Product.coeff-mul-suc, Division.quot-is, Lead.monic-top}
 use Rattle.row_theory.specs.{Field.K, Field.F, Field.Poly, Field.𝔸, Field.el, Field.poly, internal.Elements.Is, Row.InRange, Row.Stands, Row.row-len, internal.Elements.x-power}
 use Rattle.row_theory.proofs.{Rows.Elements.el-zero, Rows.Elements.zero-is, Rows.Elements.is-eq, Rows.Coefficients.coeff-poly, Rows.Fill.range-set}
 use Rattle.row_theory.proofs.{Rows.Fill.zeros-at, Rows.Fill.zeros-range, Rows.Fill.zeros-poly, Rows.Shift.coeff-shift, Rows.Shift.coeff-shift-past}
@@ -32,8 +32,8 @@ module _ {K P : Type 0} {F : Field2 K} (A : Polynomials F P) where
 
 module _ (d : ℕ) where
   open Polynomials (𝔸 d) using (ring as R, coeff, con, len, quot)
-  open Ring2 (𝔸 d .ring) using (add as _⊞_, mul as _·_, nought as 𝟘)
-  open Ring2 (F d .ring) using (add as _⊞ₖ_, mul as _·ₖ_, nought as 𝟘ₖ)
+  open Ring2 (𝔸 d .ring) using (add as _⊞_, mul as _·_, zero as 𝟘)
+  open Ring2 (F d .ring) using (add as _⊞ₖ_, mul as _·ₖ_, zero as 𝟘ₖ)
 
   infixl 60 _⊞_
   infixl 70 _·_
@@ -50,9 +50,9 @@ module _ (d : ℕ) where
   partial-start {q} {b} {k} z =
       record {
         part = 𝟘;
-        below = λ i h. coeff-nought (𝔸 d) i ∙ sym (coeff-poly d q i ∙ ap (el d) (z i h) ∙ el-zero d);
-        above = λ i h. coeff-nought (𝔸 d) i;
-        sum-is = is-eq d (sym (ap (λ z. coeff z k) (𝟘-· R (poly d b)) ∙ coeff-nought (𝔸 d) k)) (zero-is d);
+        below = λ i h. coeff-zero (𝔸 d) i ∙ sym (coeff-poly d q i ∙ ap (el d) (z i h) ∙ el-zero d);
+        above = λ i h. coeff-zero (𝔸 d) i;
+        sum-is = is-eq d (sym (ap (λ z. coeff z k) (𝟘-· R (poly d b)) ∙ coeff-zero (𝔸 d) k)) (zero-is d);
       }
 
   pub partial-turn : {q b : List ℕ} {k j sum t s : ℕ}

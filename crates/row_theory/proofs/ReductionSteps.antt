@@ -26,7 +26,7 @@ module _ {B : Type 0} (R : Ring2 B) where
 
 module _ {K P : Type 0} {F : Field2 K} {A : Polynomials F P} (C : Curve A) where
   open Polynomials A using (ring as R, len, quot, rem)
-  open Ring2 (A .ring) using (add as _⊞_, mul as _·_, nought as 𝟘)
+  open Ring2 (A .ring) using (add as _⊞_, mul as _·_, zero as 𝟘)
   open Curve C using (f)
 
   infixl 60 _⊞_

@@ -18,15 +18,15 @@ unfoldable pub filled : List ℕ → List ℕ
 filled r = r ++ replicate (12 - length r) 0
 
 -- the length of a row, from the length of its tail and its first number
-unfoldable pub after : ℕ → ℕ → ℕ
-after (suc k) n = suc (suc k)
-after zero zero = 0
-after zero (suc n) = 1
+unfoldable pub places-cons : ℕ → ℕ → ℕ
+places-cons (suc k) n = suc (suc k)
+places-cons zero zero = 0
+places-cons zero (suc n) = 1
 
 -- the length of a row: one more than the index of its last number that is not 0, and 0 where there is none
 unfoldable pub places : List ℕ → ℕ
 places [] = 0
-places (n ∷ r) = after (places r) n
+places (n ∷ r) = places-cons (places r) n
 
 -- the length, degree plus one, of the polynomial that a row stands for
 abbrev pub row-len : ℕ → List ℕ → ℕ

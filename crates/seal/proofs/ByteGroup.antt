@@ -20,14 +20,14 @@ use Rattle.jacobian.specs.{Curves.curve-refusal, Answer.result, Answer.neutral-
 use Rattle.jacobian.specs.Group.{sum-of, opposite-of, double-of, doublings}
 use Rattle.jacobian.specs.declared.{Curve.Curve, Class.Class}
 use Rattle.jacobian.proofs.{Calls.neutral-accepts, Group.group, Group.doubling}
-use Rattle.stored_form.specs.{Number.Bytes, Reading.found, Head.class-room, Passing.ClassPasses, Classes.curve-first-fields, Classes.class-field}
-use Rattle.stored_form.specs.Records.{read-record, curve-fields, class-record, sum-record}
-use Rattle.stored_form.specs.declared.Held.{Held}
+use Rattle.stored_form.specs.{Number.Bytes, Reading.found, Head.class-room, Passing.ClassPasses, Classes.curve-fields-bytes, Classes.class-field}
+use Rattle.stored_form.specs.Reader.{read-record, curve-layout, class-layout, sum-layout}
+use Rattle.stored_form.specs.declared.Record.{Record}
 use Rattle.stored_form.proofs.Readings.{same-found}
 use Rattle.stored_form_theorems.specs.Records.{none}
 use Rattle.stored_form_theorems.proofs.{RecordRoundTrips.record-read-back, FieldValues.curve-more, Written.bytes-append, Written.class-bytes, Written.first-bytes}
 use Rattle.written_form.specs.Effect.{write}
-use Rattle.seal.specs.{Records.class-held, Records.class-record-bytes, Records.sum-held, Records.sum-record-bytes, Records.SumStored, Rebuilt.last-field, Rebuilt.class-rebuilt, Calls.answered, Calls.opposite-call, Calls.double-call, Calls.sum-call}
+use Rattle.seal.specs.{Records.class-values, Records.class-record-bytes, Records.sum-values, Records.sum-record-bytes, Records.SumStored, Rebuilt.last-field, Rebuilt.class-rebuilt, Calls.answered, Calls.opposite-call, Calls.double-call, Calls.sum-call}
 use Rattle.seal.specs.Group.{ReadWith, sum-record-of, record-sum, record-opposite, record-double, neutral-record}
 use Rattle.seal.proofs.{Written.curve-passes, Written.sum-record-back, Written.sum-record-written, Passing.class-holds, Passing.opposite-given, Passing.double-given, Passing.sum-given}
 use Rattle.seal.proofs.ClassCalls.{class-written, first-is, last-is, rebuilt-bytes, stored-read, stored-writes, stored-rebuilt, is-stored}
@@ -35,41 +35,41 @@ use Rattle.seal.proofs.ClassCalls.{class-written, first-is, last-is, re
 -- ---- a class's record and its values
 
 -- two accepted curves with the same fields are the same
-same-curve : {c d : Curve} → curve-refusal c ≡ 0 → curve-refusal d ≡ 0 → curve-first-fields c ≡ curve-first-fields d → c ≡ d
+same-curve : {c d : Curve} → curve-refusal c ≡ 0 → curve-refusal d ≡ 0 → curve-fields-bytes c ≡ curve-fields-bytes d → c ≡ d
 same-curve {c} {d} p q e =
-    ap (λ (h : Held). h .curve)
+    ap (λ (h : Record). h .curve)
     (same-found
-    (sym (record-read-back curve-fields (curve-first-fields c) (curve-more c p none))
-    ∙ ap (read-record curve-fields) e
-    ∙ record-read-back curve-fields (curve-first-fields d) (curve-more d q none)) .0)
+    (sym (record-read-back curve-layout (curve-fields-bytes c) (curve-more c p none))
+    ∙ ap (read-record curve-layout) e
+    ∙ record-read-back curve-layout (curve-fields-bytes d) (curve-more d q none)) .0)
 
 -- the record s of an accepted class, and the fields of degree and curve with which it begins
 pub record Holds (c : Curve) (a : Class) (fields s : List ℕ) : Type 0 where
   pub passes : ClassPasses c a
   pub bytes : s ≡ class-record-bytes c a
-  pub begins : fields ≡ curve-first-fields c
+  pub begins : fields ≡ curve-fields-bytes c
 
 -- a record that is read is such a record
-own : {fields s : List ℕ} (r : ReadWith fields s) → Holds (r .held .curve) (r .held .class) fields s
+own : {fields s : List ℕ} (r : ReadWith fields s) → Holds (r .values .curve) (r .values .class) fields s
 own {s = s} r =
     let w = is-stored s (r .bytes) (r .read) in
-    let stored = w .bytes ∙ sym (ap (λ (h : Held). class-record-bytes (h .curve) (h .class)) (w .held)) in
-    record { passes = class-holds s (r .read); bytes = stored; begins = sym (r .begins) ∙ first-is (r .held .curve) (r .held .class) stored }
+    let stored = w .bytes ∙ sym (ap (λ (h : Record). class-record-bytes (h .curve) (h .class)) (w .values)) in
+    record { passes = class-holds s (r .read); bytes = stored; begins = sym (r .begins) ∙ first-is (r .values .curve) (r .values .class) stored }
 
 -- records with the same first fields have the same curve
-same-curves : {fields s t : List ℕ} (x : ReadWith fields s) (y : ReadWith fields t) → y .held .curve ≡ x .held .curve
+same-curves : {fields s t : List ℕ} (x : ReadWith fields s) (y : ReadWith fields t) → y .values .curve ≡ x .values .curve
 same-curves x y = same-curve (curve-passes (own y .passes)) (curve-passes (own x .passes)) (sym (own y .begins) ∙ own x .begins)
 
-beside : {fields s t : List ℕ} (x : ReadWith fields s) (y : ReadWith fields t) → Holds (x .held .curve) (y .held .class) fields t
-beside {fields} {t = t} x y = subst (λ c. Holds c (y .held .class) fields t) (same-curves x y) (own y)
+beside : {fields s t : List ℕ} (x : ReadWith fields s) (y : ReadWith fields t) → Holds (x .values .curve) (y .values .class) fields t
+beside {fields} {t = t} x y = subst (λ c. Holds c (y .values .class) fields t) (same-curves x y) (own y)
 
 -- such a record is read
 pub read-again : {c : Curve} {a : Class} {fields s : List ℕ} → Holds c a fields s → ReadWith fields s
 unfolding class-record-bytes
 read-again {c} {a} {s = s} x = record {
-  bytes = subst Bytes (sym (x .bytes)) (bytes-append (curve-first-fields c) (class-field 0x43 a) (first-bytes c) (class-bytes 0x43 a (lit< tt)));
+  bytes = subst Bytes (sym (x .bytes)) (bytes-append (curve-fields-bytes c) (class-field 0x43 a) (first-bytes c) (class-bytes 0x43 a (lit< tt)));
   begins = first-is c a (x .bytes) ∙ sym (x .begins);
-  held = class-held c a;
+  values = class-values c a;
   end = length s;
   read = stored-read (x .bytes) (x .passes);
 }
@@ -79,8 +79,8 @@ pub sum-record-writes : {c : Curve} {a b : Class} → ClassPasses c a → ClassP
     → sum-call s out ≡ write (class-field 0x43 (sum-of c a b)) out
 unfolding answered
 sum-record-writes {c} {a} {b} p q {s} bytes out room =
-    let stored : SumStored s (sum-held c a b) = record { curve = c; first = a; second = b; held = refl; bytes = bytes; first-passes = p; second-passes = q } in
-    class-written sum-record _ s out room (sum-record-back stored) (sum-given p q) refl
+    let stored : SumStored s (sum-values c a b) = record { curve = c; first = a; second = b; values = refl; bytes = bytes; first-passes = p; second-passes = q } in
+    class-written sum-layout _ s out room (sum-record-back stored) (sum-given p q) refl
 
 pub sum-record-is : (c : Curve) (a b : Class) {s t : List ℕ} → s ≡ class-record-bytes c a → t ≡ class-record-bytes c b → sum-record-of s t ≡ sum-record-bytes c a b
 unfolding sum-record-bytes
@@ -125,16 +125,16 @@ neutral-holds {c} x = record { passes = neutral-accepts c (curve-passes (x .pass
 -- ---- no call is refused, and what it writes makes a record that is read
 module _ {fields s : List ℕ} (x : ReadWith fields s) where
   abbrev c : Curve
-  c = x .held .curve
+  c = x .values .curve
 
   abbrev a : Class
-  a = x .held .class
+  a = x .values .class
 
   pub neutral-read : ReadWith fields (neutral-record fields)
   neutral-read = read-again (neutral-holds (own x))
 
   module _ (out : List ℕ) (room : class-room ≤ length out) where
-    pub opposite-writes : opposite-call s out ≡ write (class-field 0x43 (opposite-of (x .held .curve) (x .held .class))) out
+    pub opposite-writes : opposite-call s out ≡ write (class-field 0x43 (opposite-of (x .values .curve) (x .values .class))) out
     opposite-writes = opposite-written out room (own x)
 
     pub opposite-read : ReadWith fields (record-opposite out s)
@@ -156,10 +156,10 @@ module _ {fields s : List ℕ} (x : ReadWith fields s) where
         ∙ ap (λ (b : Class). write (class-field 0x43 b) out) (group c (curve-passes (own x .passes)) .sum-opposite (own x .passes))
 
   module _ {t : List ℕ} (y : ReadWith fields t) (out : List ℕ) (room : class-room ≤ length out) where
-    pub sum-writes : sum-call (sum-record-of s t) out ≡ write (class-field 0x43 (sum-of (x .held .curve) (x .held .class) (y .held .class))) out
+    pub sum-writes : sum-call (sum-record-of s t) out ≡ write (class-field 0x43 (sum-of (x .values .curve) (x .values .class) (y .values .class))) out
     sum-writes = sum-written out room (own x) (beside x y)
 
-    pub sum-field : last-field (record-sum out s t) ≡ class-field 0x43 (sum-of (x .held .curve) (x .held .class) (y .held .class))
+    pub sum-field : last-field (record-sum out s t) ≡ class-field 0x43 (sum-of (x .values .curve) (x .values .class) (y .values .class))
     sum-field = last-is c _ (sum-holds out room (own x) (beside x y) .bytes)
 
     pub sum-read : ReadWith fields (record-sum out s t)
@@ -189,11 +189,11 @@ same-bytes {c} x y e = x .bytes ∙ ap (class-record-bytes c) e ∙ sym (y .byte
 -- records with the same bytes have the same class
 same-class : {c : Curve} {a b : Class} {fields s t : List ℕ} → Holds c a fields s → Holds c b fields t → s ≡ t → a ≡ b
 same-class x y e =
-    ap (λ (h : Held). h .class) (same-found (sym (stored-read (x .bytes) (x .passes)) ∙ ap (read-record class-record) e ∙ stored-read (y .bytes) (y .passes)) .0)
+    ap (λ (h : Record). h .class) (same-found (sym (stored-read (x .bytes) (x .passes)) ∙ ap (read-record class-layout) e ∙ stored-read (y .bytes) (y .passes)) .0)
 
 module _ {fields w : List ℕ} (some : ReadWith fields w) (out : List ℕ) (room : class-room ≤ length out) where
   abbrev d : Curve
-  d = some .held .curve
+  d = some .values .curve
 
   known : curve-refusal d ≡ 0
   known = curve-passes (own some .passes)
@@ -230,7 +230,7 @@ module _ {fields w : List ℕ} (some : ReadWith fields w) (out : List ℕ) (room
 
 -- ---- k doublings, each on the record rebuilt from the last
 module _ {fields s : List ℕ} (x : ReadWith fields s) (out : List ℕ) (room : class-room ≤ length out) where
-  doublings-hold : (k : ℕ) → Holds (x .held .curve) (doublings (x .held .curve) k (x .held .class)) fields (repeat (record-double out) k s)
+  doublings-hold : (k : ℕ) → Holds (x .values .curve) (doublings (x .values .curve) k (x .values .class)) fields (repeat (record-double out) k s)
   unfolding repeat
   doublings-hold zero = own x
   doublings-hold (suc k) = double-holds out room (doublings-hold k)
@@ -238,18 +238,18 @@ module _ {fields s : List ℕ} (x : ReadWith fields s) (out : List ℕ) (room : 
   pub doublings-read : (k : ℕ) → ReadWith fields (repeat (record-double out) k s)
   doublings-read k = read-again (doublings-hold k)
 
-  pub doublings-write : (k : ℕ) → double-call (repeat (record-double out) k s) out ≡ write (class-field 0x43 (doublings (x .held .curve) (suc k) (x .held .class))) out
+  pub doublings-write : (k : ℕ) → double-call (repeat (record-double out) k s) out ≡ write (class-field 0x43 (doublings (x .values .curve) (suc k) (x .values .class))) out
   unfolding answered repeat
   doublings-write k =
       let h = doublings-hold k in
       stored-writes (h .bytes) (h .passes) (λ d a. result (double-answer d a)) (double-given (h .passes)) out room
 
 -- ---- every record of a sum is made of two such records
-pub sum-record-parts : {r : List ℕ} → Bytes r → {h : Held} {end : ℕ} → read-record sum-record r ≡ found h end →
+pub sum-record-parts : {r : List ℕ} → Bytes r → {h : Record} {end : ℕ} → read-record sum-layout r ≡ found h end →
     (fields : List ℕ) × (s : List ℕ) × (t : List ℕ) × ReadWith fields s × ReadWith fields t × (r ≡ sum-record-of s t)
 sum-record-parts bytes read =
     let w = sum-record-written bytes read .0 in
     let c = w .curve in
-    let x : Holds c (w .first) (curve-first-fields c) (class-record-bytes c (w .first)) = record { passes = w .first-passes; bytes = refl; begins = refl } in
-    let y : Holds c (w .second) (curve-first-fields c) (class-record-bytes c (w .second)) = record { passes = w .second-passes; bytes = refl; begins = refl } in
-    (curve-first-fields c, class-record-bytes c (w .first), class-record-bytes c (w .second), read-again x, read-again y, w .bytes ∙ sym (sum-record-is c (w .first) (w .second) refl refl))
+    let x : Holds c (w .first) (curve-fields-bytes c) (class-record-bytes c (w .first)) = record { passes = w .first-passes; bytes = refl; begins = refl } in
+    let y : Holds c (w .second) (curve-fields-bytes c) (class-record-bytes c (w .second)) = record { passes = w .second-passes; bytes = refl; begins = refl } in
+    (curve-fields-bytes c, class-record-bytes c (w .first), class-record-bytes c (w .second), read-again x, read-again y, w .bytes ∙ sym (sum-record-is c (w .first) (w .second) refl refl))

@@ -10,7 +10,7 @@ use mathlib.Core.List.{List, _++_}
 use lib.ListN.{length}
 use Rattle.jacobian.specs.{Answer.Result, Answer.result, Answer.double-answer, Answer.half-answer, declared.Curve.Curve, declared.Class.Class}
 use Rattle.jacobian.proofs.Calls.{double-of-half, half-of-double}
-use Rattle.stored_form.specs.{Number.Bytes, Reading.found, Head.class-room, Classes.class-field, Records.read-record, Records.class-record, declared.Held.Held}
+use Rattle.stored_form.specs.{Number.Bytes, Reading.found, Head.class-room, Classes.class-field, Reader.read-record, Reader.class-layout, declared.Record.Record}
 use Rattle.written_form.specs.Effect.{write}
 use Rattle.stored_form_theorems.proofs.Cuts.{cut-whole}
 use Rattle.seal.specs.{Rebuilt.first-fields, Rebuilt.last-field, Rebuilt.class-rebuilt, Calls.answered, Calls.double-call, Calls.half-call}
@@ -24,7 +24,7 @@ halved c a = result (half-answer c a)
 
 -- ---- what is written
 
-module _ (s out : List ℕ) (room : class-room ≤ length out) {h : Held} {end : ℕ} (read : read-record class-record s ≡ found h end) where
+module _ (s out : List ℕ) (room : class-room ≤ length out) {h : Record} {end : ℕ} (read : read-record class-layout s ≡ found h end) where
   pub double-writes : double-call s out ≡ write (class-field 0x43 (double-answer (h .curve) (h .class) .class)) out
   unfolding answered doubled
   double-writes = call-writes s out room read doubled (double-given (class-holds s read))
@@ -34,7 +34,7 @@ module _ (s out : List ℕ) (room : class-room ≤ length out) {h : Held} {end :
   half-writes = call-writes s out room read halved (half-given (class-holds s read))
 
 -- ---- a record that is read
-module _ (s : List ℕ) (bytes : Bytes s) {h : Held} {end : ℕ} (read : read-record class-record s ≡ found h end) (out : List ℕ) (room : class-room ≤ length out) (last : List ℕ) (room' : class-room ≤ length last) where
+module _ (s : List ℕ) (bytes : Bytes s) {h : Record} {end : ℕ} (read : read-record class-layout s ≡ found h end) (out : List ℕ) (room : class-room ≤ length out) (last : List ℕ) (room' : class-room ≤ length last) where
   pub half-of-double-bytes : half-call (class-rebuilt s (double-call s out)) last ≡ write (last-field s) last
   unfolding answered doubled halved
   half-of-double-bytes =

@@ -17,41 +17,41 @@ use Rattle.history.specs.declared.{Register.Register, Step.Step, Step.the-varia
 use Rattle.history.specs.Register.{RegisterReply, step-refusal, stepped, other, step-answer, commit-answer, undo-answer}
 use Rattle.history.proofs.Registers.{Passes, step-passes, follows-accepted}
 use Rattle.history.proofs.OneStep.{taken, step-taken, stepped-curve, stepped-passes, step-taken-back}
-use Rattle.stored_form.specs.{Reading.found, Fields.count-field, Classes.class-field, Records.read-record, Records.register-record}
+use Rattle.stored_form.specs.{Reading.found, Fields.count-field, Classes.class-field, Reader.read-record, Reader.register-layout}
 use Rattle.written_form.specs.Effect.{Effect, refuse, write, put, register-room}
-use Rattle.stored_form.specs.declared.Held.{Held}
+use Rattle.stored_form.specs.declared.Record.{Record}
 use Rattle.stored_form_theorems.proofs.ClassRoundTrips.{class-short}
 use Rattle.stored_form.proofs.Lengths.{length-count}
 use Rattle.written_form.proofs.{Effects.call-found, Effects.put-accepted, Effects.put-refused}
-use Rattle.seal.specs.Records.{register-held, register-fields, register-record-bytes, RegisterStored}
+use Rattle.seal.specs.Records.{register-values, register-fields, register-record-bytes, RegisterStored}
 use Rattle.seal.specs.Rebuilt.{register-rebuilt}
-use Rattle.seal.specs.Calls.{register, register-handed, answered, commit-call, undo-call, step-call}
+use Rattle.seal.specs.Calls.{register, register-response, answered, commit-call, undo-call, step-call}
 use Rattle.seal.proofs.Written.{register-record-back}
 
 -- ---- what is written for a register call's answer
 
 module _ (out : List ℕ) (x : RegisterReply) where
-  pub unwritten : {n : ℕ} → x .outcome ≡ refused n → put (register-handed x) out ≡ refuse n out
-  unfolding register-handed
+  pub unwritten : {n : ℕ} → x .outcome ≡ refused n → put (register-response x) out ≡ refuse n out
+  unfolding register-response
   unwritten e = put-refused (x .outcome) _ out e
 
-  pub written : x .outcome ≡ accepted → length (register-fields (x .register)) ≤ length out → put (register-handed x) out ≡ write (register-fields (x .register)) out
-  unfolding register-handed
+  pub written : x .outcome ≡ accepted → length (register-fields (x .register)) ≤ length out → put (register-response x) out ≡ write (register-fields (x .register)) out
+  unfolding register-response
   written e fits = put-accepted (x .outcome) _ out e fits
 
 -- ---- a record that is read
 
-module _ (s out : List ℕ) (room : register-room ≤ length out) {h : Held} {end : ℕ} (e : read-record register-record s ≡ found h end) where
-  pub of-record : (k : Step) → step-call k s out ≡ put (register-handed (step-answer k (register h) (h .operation))) out
+module _ (s out : List ℕ) (room : register-room ≤ length out) {h : Record} {end : ℕ} (e : read-record register-layout s ≡ found h end) where
+  pub of-record : (k : Step) → step-call k s out ≡ put (register-response (step-answer k (register h) (h .operation))) out
   unfolding answered
-  of-record Commit = call-found register-room register-record _ s out room e
-  of-record Undo = call-found register-room register-record _ s out room e
+  of-record Commit = call-found register-room register-layout _ s out room e
+  of-record Undo = call-found register-room register-layout _ s out room e
 
-  pub commit-of-record : commit-call s out ≡ put (register-handed (commit-answer (register h) (h .operation))) out
+  pub commit-of-record : commit-call s out ≡ put (register-response (commit-answer (register h) (h .operation))) out
   unfolding answered
   commit-of-record = of-record Commit
 
-  pub undo-of-record : undo-call s out ≡ put (register-handed (undo-answer (register h) (h .operation))) out
+  pub undo-of-record : undo-call s out ≡ put (register-response (undo-answer (register h) (h .operation))) out
   unfolding answered
   undo-of-record = of-record Undo
 
@@ -76,21 +76,21 @@ module _ (k : Step) (g : Register) (a : Class) (e : step-answer k g a .outcome �
       subst (λ (x : RegisterReply). length (register-fields (x .register)) ≤ register-room) (sym accepted-is)
       (fields-short (stepped k g a) (stepped-passes g a k (step-passes k g a none-due)))
 
-  stored : RegisterStored (register-record-bytes g a) (register-held g a)
+  stored : RegisterStored (register-record-bytes g a) (register-values g a)
   stored =
       let p = step-passes k g a none-due in
       let ok = p .register .curve-passes in
       record {
         register = g;
         class = a;
-        held = refl;
+        values = refl;
         bytes = refl;
         count-passes = p .register .count-passes;
         seal-passes = accepts-both (g .curve) (g .seal) ok (p .register .seal-passes);
         class-passes = accepts-both (g .curve) a ok (p .class-passes);
       }
 
-  pub step-written : (out : List ℕ) → register-room ≤ length out → put (register-handed (step-answer k g a)) out ≡ write (register-fields (step-answer k g a .register)) out
+  pub step-written : (out : List ℕ) → register-room ≤ length out → put (register-response (step-answer k g a)) out ≡ write (register-fields (step-answer k g a .register)) out
   step-written out room = written out (step-answer k g a) e (let l = follows-fits in omega arith)
 
   pub step-accepts : (out : List ℕ) → register-room ≤ length out → step-call k (register-record-bytes g a) out ≡ write (register-fields (step-answer k g a .register)) out
@@ -111,8 +111,8 @@ rebuilt-write : (g k : Register) (a : Class) (out : List ℕ) → k .curve ≡ g
 unfolding register-rebuilt write register-record-bytes
 rebuilt-write g k a out same = rw (take-append-seam (register-fields k) _, same)
 
-module _ (s out last : List ℕ) (room : register-room ≤ length out) (room' : register-room ≤ length last) {h : Held} {end : ℕ}
-    (read : read-record register-record s ≡ found h end) where
+module _ (s out last : List ℕ) (room : register-room ≤ length out) (room' : register-room ≤ length last) {h : Record} {end : ℕ}
+    (read : read-record register-layout s ≡ found h end) where
   -- the other step on the record rebuilt from an accepted step's output writes the record's count and seal
   taken-back : (k : Step) → step-answer k (register h) (h .operation) .outcome ≡ accepted →
       step-call (other k) (register-rebuilt (register h) (h .operation) (step-call k s out)) last ≡ write (register-fields (register h)) last

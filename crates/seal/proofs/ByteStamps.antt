@@ -13,22 +13,22 @@ use Rattle.jacobian.specs.{Refusals.IsRefusal, Refusals.refusals, Refusals.list
 use Rattle.jacobian.proofs.Refusals.{above-100}
 use Rattle.stamps.specs.Stamps.{stamp-answer, Rootless}
 use Rattle.stamps.proofs.Theorems.{stamp-accepts, stamp-refuses, stamp-too-large, stamp-rootless, stamp-injective}
-use Rattle.stored_form.specs.{Number.bytes-of, Reading.found, Head.class-room, Head.stored, Head.head-bytes, Classes.class-said, Classes.class-field, Records.read-record, Records.curve-fields, declared.Held.Held}
-use Rattle.stored_form_theorems.proofs.ClassRoundTrips.{body-said, class-short}
-use Rattle.written_form.specs.Effect.{Effect, write, refuse, class-handed, longest-answer}
-use Rattle.written_form.proofs.{Effects.answer-written, Effects.answer-refused, ToldApart.never-both}
+use Rattle.stored_form.specs.{Number.encode-number, Reading.found, Head.class-room, Head.encode-field, Head.head-bytes, Classes.decode-class, Classes.class-field, Reader.read-record, Reader.curve-layout, declared.Record.Record}
+use Rattle.stored_form_theorems.proofs.ClassRoundTrips.{decode-body, class-short}
+use Rattle.written_form.specs.Effect.{Effect, write, refuse, class-response, longest-answer}
+use Rattle.written_form.proofs.{Effects.answer-written, Effects.answer-refused, WroteOrRefused.never-both}
 use Rattle.seal.specs.{Calls.answered, Calls.stamp-call, Rebuilt.wrote}
 use Rattle.seal.specs.declared.calls.Call.the-variants.{Stamp}
-use Rattle.seal.proofs.{Passing.curve-holds, ToldApart.length-read}
+use Rattle.seal.proofs.{Passing.curve-holds, WroteOrRefused.length-read}
 
-module _ (s out : List ℕ) (room : class-room ≤ length out) {h : Held} {end : ℕ} (read : read-record curve-fields s ≡ found h end) (n : ℕ) where
+module _ (s out : List ℕ) (room : class-room ≤ length out) {h : Record} {end : ℕ} (read : read-record curve-layout s ≡ found h end) (n : ℕ) where
   pub stamp-writes : stamp-answer (h .curve) n .outcome ≡ accepted → stamp-call n s out ≡ write (class-field 0x43 (stamp-answer (h .curve) n .class)) out
-  unfolding answered class-handed
-  stamp-writes e = answer-written class-room curve-fields _ s out room read _ _ refl e (class-short 0x43 (h .curve) _ (stamp-accepts (h .curve) n e .0 .none))
+  unfolding answered class-response
+  stamp-writes e = answer-written class-room curve-layout _ s out room read _ _ refl e (class-short 0x43 (h .curve) _ (stamp-accepts (h .curve) n e .0 .none))
 
   pub stamp-refused : {k : ℕ} → stamp-answer (h .curve) n .outcome ≡ refused k → stamp-call n s out ≡ refuse k out
-  unfolding answered class-handed
-  stamp-refused e = answer-refused class-room curve-fields _ s out room read _ _ refl e
+  unfolding answered class-response
+  stamp-refused e = answer-refused class-room curve-layout _ s out room read _ _ refl e
 
   pub too-large-bytes : 2 ^ (h .curve .degree - 3) ≤ n → stamp-call n s out ≡ refuse 115 out
   too-large-bytes l = stamp-refused (stamp-too-large (h .curve) n (curve-holds s read) l)
@@ -61,9 +61,9 @@ module _ (s out : List ℕ) (room : class-room ≤ length out) {h : Held} {end :
 -- ---- two stamps
 
 -- the field of a class that passes decodes to the class
-said : (c : Curve) (a : Class) → refusal c a ≡ 0 → class-said (drop 3 (class-field 0x43 a)) ≡ a
-unfolding class-field stored head-bytes bytes-of
-said c a e = body-said c a e
+said : (c : Curve) (a : Class) → refusal c a ≡ 0 → decode-class (drop 3 (class-field 0x43 a)) ≡ a
+unfolding class-field encode-field head-bytes encode-number
+said c a e = decode-body c a e
 
 pub stamps-apart : (s out : List ℕ) (m n : ℕ) → stamp-call m s out .answer ≤ longest-answer → stamp-call m s out ≡ stamp-call n s out → m ≡ n
 unfolding write
@@ -81,4 +81,4 @@ stamps-apart s out m n low same =
     ∙ ap wrote (sym (stamp-writes s out room read m e) ∙ same ∙ stamp-writes s out room read n f)
     ∙ take-append-seam (class-field 0x43 y) _ in
     stamp-injective c m n e f
-    (sym (said c x (stamp-accepts c m e .0 .none)) ∙ ap (λ (b : List ℕ). class-said (drop 3 b)) fields ∙ said c y (stamp-accepts c n f .0 .none))
+    (sym (said c x (stamp-accepts c m e .0 .none)) ∙ ap (λ (b : List ℕ). decode-class (drop 3 b)) fields ∙ said c y (stamp-accepts c n f .0 .none))

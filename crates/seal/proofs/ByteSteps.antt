@@ -25,12 +25,12 @@ use Rattle.history.specs.Calls.{answer}
 use Rattle.history.proofs.{Machine.Run.accepted-fit, OneStep.taken, OneStep.step-taken-back, OneCall.answer-curve, OneCall.accepted-passes}
 use Rattle.jacobian.proofs.Representation.{accepts-both}
 use Rattle.history.proofs.Machine.TakingBack as machine
-use Rattle.stored_form.specs.{Number.Bytes, Classes.curve-first-fields, Classes.class-field}
+use Rattle.stored_form.specs.{Number.Bytes, Classes.curve-fields-bytes, Classes.class-field}
 use Rattle.written_form.specs.Effect.{Effect, write, register-room, longest-answer}
-use Rattle.stored_form.specs.declared.Held.{Held}
+use Rattle.stored_form.specs.declared.Record.{Record}
 use Rattle.seal.specs.{Records.register-fields, Records.register-record-bytes, Rebuilt.wrote, Calls.register, Calls.step-call}
-use Rattle.seal.specs.Steps.{Kept, ByteStep, made, outcome, next, byte-steps, back, InStoredForm}
-use Rattle.seal.proofs.{KeptFields.before, KeptFields.Passes, KeptFields.Operation, KeptFields.operation, ByteRegister.follows-fits, ByteRegister.step-accepts, ToldApart.accepted-room, ToldApart.accepted-read}
+use Rattle.seal.specs.Steps.{Kept, ByteStep, step-effect, outcome, next, byte-steps, back, InStoredForm}
+use Rattle.seal.proofs.{KeptFields.before, KeptFields.Passes, KeptFields.Operation, KeptFields.operation, ByteRegister.follows-fits, ByteRegister.step-accepts, WroteOrRefused.accepted-room, WroteOrRefused.accepted-read}
 
 -- ---- one call
 
@@ -64,7 +64,7 @@ next-written k xs out low =
     ap (λ (b : Bool). cond b k (with-register k (wrote (write xs out)))) (le-ltb longest-answer (length xs) low) ∙ ap (with-register k) (take-append-seam xs _)
 
 -- a call that writes is accepted, and what it wrote is kept
-write-event : (k : Kept) (c : ByteStep) (xs : List ℕ) → length xs ≤ register-room → made k c ≡ write xs (c .output) →
+write-event : (k : Kept) (c : ByteStep) (xs : List ℕ) → length xs ≤ register-room → step-effect k c ≡ write xs (c .output) →
     event byte-steps k c ≡ record { before = k; call = c; outcome = accepted; left = with-register k xs }
 unfolding event write
 write-event k c xs short e =
@@ -80,7 +80,7 @@ pub record Done (k : Kept) (g : Register) (c : ByteStep) : Type 0 where
   pub taken-step : step-answer (c .step) g class .outcome ≡ accepted
   pub happens : event byte-steps k c ≡ record { before = k; call = c; outcome = accepted; left = with-register k (register-fields (step-answer (c .step) g class .register)) }
 
-module _ (k : Kept) (stored : InStoredForm k) (c : ByteStep) (bytes : Bytes (c .operation)) (ok : outcome (made k c .answer) ≡ accepted) where
+module _ (k : Kept) (stored : InStoredForm k) (c : ByteStep) (bytes : Bytes (c .operation)) (ok : outcome (step-effect k c .answer) ≡ accepted) where
   abbrev g : Register
   g = stored .register
 
@@ -90,11 +90,11 @@ module _ (k : Kept) (stored : InStoredForm k) (c : ByteStep) (bytes : Bytes (c .
   kept-is : k .curve ++ k .register ≡ before g
   kept-is = ap₂ (λ (xs ys : List ℕ). xs ++ ys) (stored .curve-bytes) (stored .register-bytes)
 
-  made-is : made k c ≡ step-call (c .step) (before g ++ c .operation) (c .output)
-  made-is = ap (λ (xs : List ℕ). step-call (c .step) (xs ++ c .operation) (c .output)) kept-is
+  step-effect-is : step-effect k c ≡ step-call (c .step) (before g ++ c .operation) (c .output)
+  step-effect-is = ap (λ (xs : List ℕ). step-call (c .step) (xs ++ c .operation) (c .output)) kept-is
 
   low : step-call (c .step) (before g ++ c .operation) (c .output) .answer ≤ longest-answer
-  low = subst (λ (e : Effect). e .answer ≤ longest-answer) made-is (accepted-low _ ok)
+  low = subst (λ (e : Effect). e .answer ≤ longest-answer) step-effect-is (accepted-low _ ok)
 
   -- its operation is the field of a class, with which the register call is accepted
   carries : Operation g (c .operation) (accepted-read (c .step) (before g ++ c .operation) (c .output) low .0)
@@ -105,7 +105,7 @@ module _ (k : Kept) (stored : InStoredForm k) (c : ByteStep) (bytes : Bytes (c .
 
   taken-step : step-answer (c .step) g a .outcome ≡ accepted
   taken-step =
-      subst (λ (h : Held). step-answer (c .step) (register h) (h .operation) .outcome ≡ accepted) (carries .held)
+      subst (λ (h : Record). step-answer (c .step) (register h) (h .operation) .outcome ≡ accepted) (carries .values)
       (accepted-read (c .step) (before g ++ c .operation) (c .output) low .3)
 
   abbrev then-register : Register
@@ -116,13 +116,13 @@ module _ (k : Kept) (stored : InStoredForm k) (c : ByteStep) (bytes : Bytes (c .
   unfolding register-record-bytes
   there =
       write-event k c (register-fields then-register) (follows-fits (c .step) g a taken-step)
-      (made-is
+      (step-effect-is
       ∙ ap (λ (xs : List ℕ). step-call (c .step) (before g ++ xs) (c .output)) (carries .field)
       ∙ step-accepts (c .step) g a taken-step (c .output) (accepted-room (c .step) (before g ++ c .operation) (c .output) low))
 
-  then-curve : k .curve ≡ curve-first-fields (then-register .curve)
+  then-curve : k .curve ≡ curve-fields-bytes (then-register .curve)
   unfolding answer
-  then-curve = stored .curve-bytes ∙ ap curve-first-fields (sym (answer-curve g (record { step = c .step; class = a })))
+  then-curve = stored .curve-bytes ∙ ap curve-fields-bytes (sym (answer-curve g (record { step = c .step; class = a })))
 
   left-stored : InStoredForm (with-register k (register-fields then-register))
   unfolding answer
@@ -152,7 +152,7 @@ module _ (k : Kept) (stored : InStoredForm k) (c : ByteStep) (bytes : Bytes (c .
     back-taken : step-answer (other (c .step)) then-register a .outcome ≡ accepted
     back-taken = ap (λ (x : RegisterReply). x .outcome) taken-back-step
 
-    back-made : made (with-register k (register-fields then-register)) (back lend c) ≡ write (register-fields g) (lend c)
+    back-made : step-effect (with-register k (register-fields then-register)) (back lend c) ≡ write (register-fields g) (lend c)
     unfolding back register-record-bytes
     back-made =
         ap₂ (λ (xs ys : List ℕ). step-call (other (c .step)) (xs ++ register-fields then-register ++ ys) (lend c)) then-curve (carries .field)
@@ -175,7 +175,7 @@ module _ (lend : ByteStep → List ℕ) (room : (c : ByteStep) → register-room
   pub reversible : Reversible byte-steps (back lend) InStoredForm (λ c. Bytes (c .operation))
   unfolding event
   reversible = record {
-    stays = λ k c n e. refused-stays k (made k c) n e;
+    stays = λ k c n e. refused-stays k (step-effect k c) n e;
     keeps = λ k c h f e. kept-stored k h c f e;
     returns = λ k c h f e. returned k h c f e lend (room c);
   }

@@ -9,27 +9,27 @@ use mathlib.Core.Path.{_≡_, refl, sym, ap, _∙_}
 use mathlib.Core.List.{List, _++_}
 use lib.{ListN.length, Seq.take-append-seam}
 use Rattle.jacobian.specs.{Answer.Result, Answer.gives, declared.Curve.Curve, declared.Class.Class}
-use Rattle.stored_form.specs.{Number.Bytes, Reading.found, Head.class-room, Classes.curve-first-fields, Classes.class-field, Passing.ClassPasses, Records.read-record, Records.class-record, declared.Held.Held}
-use Rattle.written_form.specs.Effect.{Effect, Handed, write, class-handed, byte-call}
+use Rattle.stored_form.specs.{Number.Bytes, Reading.found, Head.class-room, Classes.curve-fields-bytes, Classes.class-field, Passing.ClassPasses, Reader.read-record, Reader.class-layout, declared.Record.Record}
+use Rattle.written_form.specs.Effect.{Effect, Response, write, class-response, byte-call}
 use Rattle.stored_form_theorems.proofs.{ClassRoundTrips.class-short, Cuts.take-cut, Cuts.drop-cut, Cuts.curve-cut}
 use Rattle.written_form.proofs.Effects.{answer-written}
-use Rattle.seal.specs.{Records.class-held, Records.class-record-bytes, Records.ClassStored, Rebuilt.first-fields, Rebuilt.last-field, Rebuilt.wrote, Rebuilt.class-rebuilt}
+use Rattle.seal.specs.{Records.class-values, Records.class-record-bytes, Records.ClassStored, Rebuilt.first-fields, Rebuilt.last-field, Rebuilt.wrote, Rebuilt.class-rebuilt}
 use Rattle.seal.proofs.{Written.class-record-written, Written.class-record-back, Passing.Given}
 
-pub class-written : (tags : List ℕ) (answer : Held → Handed) (s out : List ℕ) → class-room ≤ length out → {h : Held} {end : ℕ} → read-record tags s ≡ found h end →
-    {c : Curve} {r : Result} → Given c r → answer h ≡ class-handed r → byte-call class-room tags answer s out ≡ write (class-field 0x43 (r .class)) out
-unfolding class-handed
+pub class-written : (tags : List ℕ) (answer : Record → Response) (s out : List ℕ) → class-room ≤ length out → {h : Record} {end : ℕ} → read-record tags s ≡ found h end →
+    {c : Curve} {r : Result} → Given c r → answer h ≡ class-response r → byte-call class-room tags answer s out ≡ write (class-field 0x43 (r .class)) out
+unfolding class-response
 class-written tags answer s out room read {c} {r} given is =
     answer-written class-room tags answer s out room read (r .outcome) (class-field 0x43 (r .class)) is (ap (λ (x : Result). x .outcome) (given .gives-class))
     (class-short 0x43 c (r .class) (given .passes .none))
 
 -- a call that answers for the curve and the class of its record
 abbrev pub class-call : (Curve → Class → Result) → List ℕ → List ℕ → Effect
-class-call f s out = byte-call class-room class-record (λ h. class-handed (f (h .curve) (h .class))) s out
+class-call f s out = byte-call class-room class-layout (λ h. class-response (f (h .curve) (h .class))) s out
 
-pub call-writes : (s out : List ℕ) → class-room ≤ length out → {h : Held} {end : ℕ} → read-record class-record s ≡ found h end → (f : Curve → Class → Result)
+pub call-writes : (s out : List ℕ) → class-room ≤ length out → {h : Record} {end : ℕ} → read-record class-layout s ≡ found h end → (f : Curve → Class → Result)
     → Given (h .curve) (f (h .curve) (h .class)) → class-call f s out ≡ write (class-field 0x43 (f (h .curve) (h .class) .class)) out
-call-writes s out room {h} read f given = class-written class-record _ s out room read given refl
+call-writes s out room {h} read f given = class-written class-layout _ s out room read given refl
 
 -- ---- the record rebuilt from what was written
 
@@ -42,13 +42,13 @@ unfolding class-rebuilt
 rebuilt-write s bytes out = ap (λ (l : List ℕ). first-fields s ++ l) (wrote-write bytes out)
 
 module _ {s : List ℕ} (c : Curve) (a : Class) (bytes : s ≡ class-record-bytes c a) where
-  pub first-is : first-fields s ≡ curve-first-fields c
+  pub first-is : first-fields s ≡ curve-fields-bytes c
   unfolding class-record-bytes
-  first-is = ap (λ (l : List ℕ). first-fields l) bytes ∙ take-cut 2 (curve-first-fields c) (class-field 0x43 a) (curve-cut (class-field 0x43 a) c)
+  first-is = ap (λ (l : List ℕ). first-fields l) bytes ∙ take-cut 2 (curve-fields-bytes c) (class-field 0x43 a) (curve-cut (class-field 0x43 a) c)
 
   pub last-is : last-field s ≡ class-field 0x43 a
   unfolding class-record-bytes
-  last-is = ap (λ (l : List ℕ). last-field l) bytes ∙ drop-cut 2 (curve-first-fields c) (class-field 0x43 a) (curve-cut (class-field 0x43 a) c)
+  last-is = ap (λ (l : List ℕ). last-field l) bytes ∙ drop-cut 2 (curve-fields-bytes c) (class-field 0x43 a) (curve-cut (class-field 0x43 a) c)
 
   pub rebuilt-bytes : (x : Class) (out : List ℕ) → class-rebuilt s (write (class-field 0x43 x) out) ≡ class-record-bytes c x
   unfolding class-record-bytes
@@ -56,8 +56,8 @@ module _ {s : List ℕ} (c : Curve) (a : Class) (bytes : s ≡ class-record-byte
 
 -- ---- the record of a class that no check refuses
 module _ {s : List ℕ} {c : Curve} {a : Class} (bytes : s ≡ class-record-bytes c a) (p : ClassPasses c a) where
-  pub stored-read : read-record class-record s ≡ found (class-held c a) (length s)
-  stored-read = class-record-back (record { curve = c; class = a; held = refl; bytes = bytes; passes = p })
+  pub stored-read : read-record class-layout s ≡ found (class-values c a) (length s)
+  stored-read = class-record-back (record { curve = c; class = a; values = refl; bytes = bytes; passes = p })
 
   pub stored-writes : (f : Curve → Class → Result) → Given c (f c a) → (out : List ℕ) → class-room ≤ length out → class-call f s out ≡ write (class-field 0x43 (f c a .class)) out
   stored-writes f given out room = call-writes s out room stored-read f given
@@ -66,10 +66,10 @@ module _ {s : List ℕ} {c : Curve} {a : Class} (bytes : s ≡ class-record-byte
   stored-rebuilt f given out room = ap (class-rebuilt s) (stored-writes f given out room) ∙ rebuilt-bytes c a bytes (f c a .class) out
 
 -- ---- a record that is read is such a record
-pub is-stored : (s : List ℕ) → Bytes s → {h : Held} {end : ℕ} → read-record class-record s ≡ found h end → ClassStored s h
+pub is-stored : (s : List ℕ) → Bytes s → {h : Record} {end : ℕ} → read-record class-layout s ≡ found h end → ClassStored s h
 is-stored s bytes read = class-record-written bytes read .0
 
-module _ {s : List ℕ} {h : Held} (w : ClassStored s h) (out : List ℕ) (room : class-room ≤ length out) (last : List ℕ) (room' : class-room ≤ length last) where
+module _ {s : List ℕ} {h : Record} (w : ClassStored s h) (out : List ℕ) (room : class-room ≤ length out) (last : List ℕ) (room' : class-room ≤ length last) where
   pub follow-writes : (f g : Curve → Class → Result) → let c = w .curve in let x = f c (w .class) .class in
       Given c (f c (w .class)) → Given c (g c x) → class-call g (class-rebuilt s (class-call f s out)) last ≡ write (class-field 0x43 (g c x .class)) last
   follow-writes f g given again =

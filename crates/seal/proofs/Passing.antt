@@ -12,30 +12,30 @@ use Rattle.jacobian.specs.declared.{Curve.Curve, Class.Class}
 use Rattle.jacobian.proofs.Calls.{opposite-gives, double-gives, half-gives, sum-gives, opposite-accepts, double-accepts, half-accepts, sum-accepts}
 use Rattle.jacobian.proofs.Group.{gives-own}
 use Rattle.stored_form.specs.{Reading.found, Fields.count-refusal, Passing.CountPasses, Passing.ClassPasses, Tags.rules}
-use Rattle.stored_form.specs.{Records.read-record, Records.curve-fields, Records.class-record, Records.sum-record, Records.register-record, declared.Held.Held}
+use Rattle.stored_form.specs.{Reader.read-record, Reader.curve-layout, Reader.class-layout, Reader.sum-layout, Reader.register-layout, declared.Record.Record}
 use Rattle.stored_form.proofs.{Readings.test-passed, Passing.Holds, Passing.record-holds}
 
 -- ---- the values of a record
 
-module _ (s : List ℕ) {h : Held} {end : ℕ} where
-  pub curve-holds : read-record curve-fields s ≡ found h end → curve-refusal (h .curve) ≡ 0
+module _ (s : List ℕ) {h : Record} {end : ℕ} where
+  pub curve-holds : read-record curve-layout s ≡ found h end → curve-refusal (h .curve) ≡ 0
   unfolding Holds rules
-  curve-holds = record-holds (λ m. curve-refusal (m .curve) ≡ 0) s curve-fields (λ d _ c e. e)
+  curve-holds = record-holds (λ m. curve-refusal (m .curve) ≡ 0) s curve-layout (λ d _ c e. e)
 
-  pub class-holds : read-record class-record s ≡ found h end → ClassPasses (h .curve) (h .class)
+  pub class-holds : read-record class-layout s ≡ found h end → ClassPasses (h .curve) (h .class)
   unfolding Holds rules
-  class-holds = record-holds (λ m. ClassPasses (m .curve) (m .class)) s class-record (λ d _ c _ a e. record { none = e })
+  class-holds = record-holds (λ m. ClassPasses (m .curve) (m .class)) s class-layout (λ d _ c _ a e. record { none = e })
 
-  pub sum-holds : read-record sum-record s ≡ found h end → ClassPasses (h .curve) (h .previous) × ClassPasses (h .curve) (h .class)
+  pub sum-holds : read-record sum-layout s ≡ found h end → ClassPasses (h .curve) (h .previous) × ClassPasses (h .curve) (h .class)
   unfolding Holds rules
   sum-holds =
-      record-holds (λ m. ClassPasses (m .curve) (m .previous) × ClassPasses (m .curve) (m .class)) s sum-record
+      record-holds (λ m. ClassPasses (m .curve) (m .previous) × ClassPasses (m .curve) (m .class)) s sum-layout
       (λ d _ c _ a e b f. (record { none = e }, record { none = f }))
 
-  pub register-holds : read-record register-record s ≡ found h end → CountPasses (h .count) × ClassPasses (h .curve) (h .class) × ClassPasses (h .curve) (h .operation)
+  pub register-holds : read-record register-layout s ≡ found h end → CountPasses (h .count) × ClassPasses (h .curve) (h .class) × ClassPasses (h .curve) (h .operation)
   unfolding Holds rules count-refusal
   register-holds =
-      record-holds (λ m. CountPasses (m .count) × ClassPasses (m .curve) (m .class) × ClassPasses (m .curve) (m .operation)) s register-record
+      record-holds (λ m. CountPasses (m .count) × ClassPasses (m .curve) (m .class) × ClassPasses (m .curve) (m .operation)) s register-layout
       (λ d _ c _ n k a e b f. (leb-true _ _ (test-passed _ (lit< tt) k), record { none = e }, record { none = f }))
 
 -- ---- what the calls by value give

@@ -10,10 +10,10 @@ use Rattle.class_group.specs.{Operations.sum, Operations.double, Moves.double-a
 use Rattle.class_group.proofs.Closed.{double-reduced}
 use Rattle.jacobian.specs.{Curves.curve, Classes.pair, Classes.class-of, Answer.Only, Answer.Result, Answer.result, Answer.gives, Answer.double-answer, Answer.half-answer, Answer.sum-answer, declared.Curve.Curve, declared.Class.Class}
 use Rattle.jacobian.proofs.{Calls.double-gives, Calls.sum-gives, Calls.double-accepts, Calls.double-of-half, Calls.only-half, Representation.accepts-curve, Representation.accepts-class, Representation.accepted-reduced, Representation.Form.pair-class-of}
-use Rattle.history.specs.Register.{commit-seal, undo-seal, edge, moved, stepped, step-answer, RegisterReply}
+use Rattle.history.specs.Register.{commit-seal, undo-seal, edge, with-count-and-seal, stepped, step-answer, RegisterReply}
 use Rattle.history.specs.declared.{Register.Register, Step.the-variants.Undo}
 use Rattle.history.proofs.{Seals.undo-sound, Seals.undo-of-commit, Seals.commit-of-undo, Registers.Passing, Registers.passes-step, Registers.follows-zero, OneStep.taken}
-use Rattle.stored_form.specs.{Reading.found, Fields.count-field, Classes.class-field, Passing.ClassPasses, Records.read-record, Records.register-record, declared.Held.Held}
+use Rattle.stored_form.specs.{Reading.found, Fields.count-field, Classes.class-field, Passing.ClassPasses, Reader.read-record, Reader.register-layout, declared.Record.Record}
 use Rattle.written_form.specs.Effect.{Effect, write, register-room}
 use Rattle.seal.specs.Records.{register-fields}
 use Rattle.seal.specs.Calls.{register, half-call, undo-call, Halves, Undoes}
@@ -63,13 +63,13 @@ module _ {c : Curve} {s a : Class} (p : ClassPasses c s) (q : ClassPasses c a) w
       }
 
 -- an undo of values that pass is accepted if the count is not 0
-accepted-undo : (g : Register) (a : Class) → Passing Undo g a → step-answer Undo g a ≡ taken (moved (g .count - 1) (undo-seal (g .curve) (g .seal) a) g)
+accepted-undo : (g : Register) (a : Class) → Passing Undo g a → step-answer Undo g a ≡ taken (with-count-and-seal (g .count - 1) (undo-seal (g .curve) (g .seal) a) g)
 unfolding step-answer stepped
 accepted-undo g a p = follows-zero _ g _ (passes-step Undo g a p)
 
-undo-writes : (s out : List ℕ) {h : Held} {end : ℕ} → read-record register-record s ≡ found h end → ¬ (h .count ≡ 0) → register-room ≤ length out →
+undo-writes : (s out : List ℕ) {h : Record} {end : ℕ} → read-record register-layout s ≡ found h end → ¬ (h .count ≡ 0) → register-room ≤ length out →
     undo-call s out ≡ write (count-field (h .count - 1) ++ class-field 0x43 (undo-seal (h .curve) (h .class) (h .operation))) out
-unfolding edge moved
+unfolding edge with-count-and-seal
 undo-writes s out {h} read some room =
     let g = register h in
     let a = h .operation in

@@ -9,46 +9,46 @@ use Rattle.history.specs.declared.Step.the-variants as step
 use Rattle.history.specs.Register.{RegisterReply, commit-answer, undo-answer}
 use Rattle.stamps.specs.Stamps.{stamp-answer}
 use Rattle.stored_form.specs.{Reading.found, Reading.reading-refusal, Head.class-room, Fields.count-field, Classes.class-field}
-use Rattle.stored_form.specs.Records.{read-record, curve-fields, class-record, sum-record, register-record}
-use Rattle.written_form.specs.Effect.{Effect, Handed, register-room, write, on, class-handed, byte-call}
-use Rattle.stored_form.specs.declared.Held.{Held}
+use Rattle.stored_form.specs.Reader.{read-record, curve-layout, class-layout, sum-layout, register-layout}
+use Rattle.written_form.specs.Effect.{Effect, Response, register-room, write, on-outcome, class-response, byte-call}
+use Rattle.stored_form.specs.declared.Record.{Record}
 use Rattle.seal.specs.Records.{register-fields}
 use Rattle.seal.specs.declared.calls.Call.{Call}
 use Rattle.seal.specs.declared.calls.Call.the-variants.{Opposite, Double, Half, Sum, Commit, Undo, Stamp}
 
 -- the register of a record, whose 0x43 is the seal
-abbrev pub register : Held → Register
+abbrev pub register : Record → Register
 register h = record { curve = h .curve; count = h .count; seal = h .class }
 
 -- the response with a register: 0x42, then 0x43
-unfoldable pub register-handed : RegisterReply → Handed
-register-handed r = on (r .outcome) (register-fields (r .register))
+unfoldable pub register-response : RegisterReply → Response
+register-response r = on-outcome (r .outcome) (register-fields (r .register))
 
 -- the response of a call for the values of a record, by the call by value
-unfoldable pub answered : Call → Held → Handed
-answered Opposite h = class-handed (result (opposite-answer (h .curve) (h .class)))
-answered Double h = class-handed (result (double-answer (h .curve) (h .class)))
-answered Half h = class-handed (result (half-answer (h .curve) (h .class)))
-answered Sum h = class-handed (result (sum-answer (h .curve) (h .previous) (h .class)))
-answered Commit h = register-handed (commit-answer (register h) (h .operation))
-answered Undo h = register-handed (undo-answer (register h) (h .operation))
-answered (Stamp s) h = class-handed (result (stamp-answer (h .curve) s))
+unfoldable pub answered : Call → Record → Response
+answered Opposite h = class-response (result (opposite-answer (h .curve) (h .class)))
+answered Double h = class-response (result (double-answer (h .curve) (h .class)))
+answered Half h = class-response (result (half-answer (h .curve) (h .class)))
+answered Sum h = class-response (result (sum-answer (h .curve) (h .previous) (h .class)))
+answered Commit h = register-response (commit-answer (register h) (h .operation))
+answered Undo h = register-response (undo-answer (register h) (h .operation))
+answered (Stamp s) h = class-response (result (stamp-answer (h .curve) s))
 
 -- ---- the calls
 
 -- membership: 0 if the record is accepted, else its refusal; nothing is written
 unfoldable pub membership-call : List ℕ → ℕ
-membership-call s = reading-refusal (read-record class-record s)
+membership-call s = reading-refusal (read-record class-layout s)
 
 -- the layout of the record that a call reads
 abbrev pub tags : Call → List ℕ
-tags Opposite = class-record
-tags Double = class-record
-tags Half = class-record
-tags Sum = sum-record
-tags Commit = register-record
-tags Undo = register-record
-tags (Stamp s) = curve-fields
+tags Opposite = class-layout
+tags Double = class-layout
+tags Half = class-layout
+tags Sum = sum-layout
+tags Commit = register-layout
+tags Undo = register-layout
+tags (Stamp s) = curve-layout
 
 -- the length that its output must have, which is also the most that it writes
 abbrev pub room : Call → ℕ
@@ -102,13 +102,13 @@ step-call step.Undo = undo-call
 -- if the record is accepted and the output has room, half writes the one class whose double is the record's class
 pub record Halves (s out : List ℕ) (e : Effect) : Type 0 where
   pub answer : e ≡ half-call s out
-  pub half : {h : Held} {end : ℕ} → read-record class-record s ≡ found h end → class-room ≤ length out →
+  pub half : {h : Record} {end : ℕ} → read-record class-layout s ≡ found h end → class-room ≤ length out →
       (x : Class) × (e ≡ write (class-field 0x43 x) out) × Only (h .curve) (λ b. result (double-answer (h .curve) b) ≡ gives (h .class)) x
 
 -- If the record is accepted, its count is not 0 and the output has room, undo writes the count less one and a seal:
 -- the one seal whose double plus the operation's class is the record's seal.
 pub record Undoes (s out : List ℕ) (e : Effect) : Type 0 where
   pub answer : e ≡ undo-call s out
-  pub undone : {h : Held} {end : ℕ} → read-record register-record s ≡ found h end → ¬ (h .count ≡ 0) → register-room ≤ length out →
+  pub undone : {h : Record} {end : ℕ} → read-record register-layout s ≡ found h end → ¬ (h .count ≡ 0) → register-room ≤ length out →
       (x : Class) × (e ≡ write (count-field (h .count - 1) ++ class-field 0x43 x) out)
       × Only (h .curve) (λ b. result (sum-answer (h .curve) (double-answer (h .curve) b .class) (h .operation)) ≡ gives (h .class)) x

@@ -3,16 +3,16 @@
 use Prim.Native.Nat.{ℕ}
 use mathlib.Core.{Path._≡_, List.List, List._++_}
 use Rattle.jacobian.specs.Answer.{neutral-class}
-use Rattle.stored_form.specs.{Number.Bytes, Reading.found, Classes.class-field, Records.read-record, Records.class-record, declared.Held.Held}
+use Rattle.stored_form.specs.{Number.Bytes, Reading.found, Classes.class-field, Reader.read-record, Reader.class-layout, declared.Record.Record}
 use Rattle.seal.specs.{Rebuilt.first-fields, Rebuilt.last-field, Rebuilt.class-rebuilt, Calls.opposite-call, Calls.double-call, Calls.sum-call}
 
 -- the bytes of a class's record that is accepted, with these fields of degree and curve
 pub record ReadWith (fields s : List ℕ) : Type 0 where
   pub bytes : Bytes s
   pub begins : first-fields s ≡ fields
-  pub held : Held
+  pub values : Record
   pub end : ℕ
-  pub read : read-record class-record s ≡ found held end
+  pub read : read-record class-layout s ≡ found values end
 
 -- the record of a sum: degree and curve, then the class fields of two records
 abbrev pub sum-record-of : List ℕ → List ℕ → List ℕ

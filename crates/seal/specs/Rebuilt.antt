@@ -2,7 +2,7 @@
 use Prim.Native.Nat.{ℕ}
 use mathlib.Core.List.{List, _++_}
 use lib.ListN.{take}
-use Rattle.stored_form.specs.{Cuts.take-fields, Cuts.drop-fields, Classes.curve-first-fields, Classes.class-field}
+use Rattle.stored_form.specs.{Cuts.take-fields, Cuts.drop-fields, Classes.curve-fields-bytes, Classes.class-field}
 use Rattle.written_form.specs.Effect.{Effect}
 use Rattle.history.specs.declared.Register.{Register}
 use Rattle.jacobian.specs.declared.Class.{Class}
@@ -17,7 +17,7 @@ last-field s = drop-fields 2 s
 
 -- the bytes that a call wrote
 abbrev pub wrote : Effect → List ℕ
-wrote e = take (e .answer) (e .after)
+wrote e = take (e .answer) (e .output)
 
 -- a class's record with what a call wrote in place of its class field
 unfoldable pub class-rebuilt : List ℕ → Effect → List ℕ
@@ -25,4 +25,4 @@ class-rebuilt s e = first-fields s ++ wrote e
 
 -- the record of an operation with the count and the seal that a call wrote
 unfoldable pub register-rebuilt : Register → Class → Effect → List ℕ
-register-rebuilt g a e = curve-first-fields (g .curve) ++ wrote e ++ class-field 0x44 a
+register-rebuilt g a e = curve-fields-bytes (g .curve) ++ wrote e ++ class-field 0x44 a

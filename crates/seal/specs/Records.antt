@@ -4,23 +4,23 @@ use mathlib.Core.Path.{_≡_}
 use mathlib.Core.List.{List, _++_}
 use Rattle.jacobian.specs.declared.{Curve.Curve, Class.Class}
 use Rattle.history.specs.declared.Register.{Register}
-use Rattle.stored_form.specs.{Passing.CountPasses, Passing.ClassPasses, Fields.count-field, Classes.curve-first-fields, Classes.class-field}
-use Rattle.stored_form.specs.Held.{nothing-held, with-curve, with-count, with-class, with-operation}
-use Rattle.stored_form.specs.declared.Held.{Held}
+use Rattle.stored_form.specs.{Passing.CountPasses, Passing.ClassPasses, Fields.count-field, Classes.curve-fields-bytes, Classes.class-field}
+use Rattle.stored_form.specs.Record.{empty-record, with-curve, with-count, with-class, with-operation}
+use Rattle.stored_form.specs.declared.Record.{Record}
 
 -- ---- the values of a record
 
 -- the values of a class's record
-abbrev pub class-held : Curve → Class → Held
-class-held c a = with-class a (with-curve c nothing-held)
+abbrev pub class-values : Curve → Class → Record
+class-values c a = with-class a (with-curve c empty-record)
 
 -- the values of the record of a sum
-abbrev pub sum-held : Curve → Class → Class → Held
-sum-held c a b = with-class b (with-class a (with-curve c nothing-held))
+abbrev pub sum-values : Curve → Class → Class → Record
+sum-values c a b = with-class b (with-class a (with-curve c empty-record))
 
 -- the values of a register's record with an operation
-abbrev pub register-held : Register → Class → Held
-register-held g a = with-operation a (with-class (g .seal) (with-count (g .count) (with-curve (g .curve) nothing-held)))
+abbrev pub register-values : Register → Class → Record
+register-values g a = with-operation a (with-class (g .seal) (with-count (g .count) (with-curve (g .curve) empty-record)))
 
 -- ---- the records encoded
 
@@ -30,41 +30,41 @@ register-fields g = count-field (g .count) ++ class-field 0x43 (g .seal)
 
 -- a class's record
 unfoldable pub class-record-bytes : Curve → Class → List ℕ
-class-record-bytes c a = curve-first-fields c ++ class-field 0x43 a
+class-record-bytes c a = curve-fields-bytes c ++ class-field 0x43 a
 
 -- the record of a sum
 unfoldable pub sum-record-bytes : Curve → Class → Class → List ℕ
-sum-record-bytes c a b = curve-first-fields c ++ class-field 0x43 a ++ class-field 0x43 b
+sum-record-bytes c a b = curve-fields-bytes c ++ class-field 0x43 a ++ class-field 0x43 b
 
 -- a register's record with an operation
 unfoldable pub register-record-bytes : Register → Class → List ℕ
-register-record-bytes g a = curve-first-fields (g .curve) ++ register-fields g ++ class-field 0x44 a
+register-record-bytes g a = curve-fields-bytes (g .curve) ++ register-fields g ++ class-field 0x44 a
 
 -- ---- bytes that encode values which no check refuses
 
 -- s is a class's record, h has its values, and no check refuses them
-pub record ClassStored (s : List ℕ) (h : Held) : Type 0 where
+pub record ClassStored (s : List ℕ) (h : Record) : Type 0 where
   pub curve : Curve
   pub class : Class
-  pub held : h ≡ class-held curve class
+  pub values : h ≡ class-values curve class
   pub bytes : s ≡ class-record-bytes curve class
   pub passes : ClassPasses curve class
 
 -- the same for the record of a sum
-pub record SumStored (s : List ℕ) (h : Held) : Type 0 where
+pub record SumStored (s : List ℕ) (h : Record) : Type 0 where
   pub curve : Curve
   pub first : Class
   pub second : Class
-  pub held : h ≡ sum-held curve first second
+  pub values : h ≡ sum-values curve first second
   pub bytes : s ≡ sum-record-bytes curve first second
   pub first-passes : ClassPasses curve first
   pub second-passes : ClassPasses curve second
 
 -- the same for a register's record with an operation
-pub record RegisterStored (s : List ℕ) (h : Held) : Type 0 where
+pub record RegisterStored (s : List ℕ) (h : Record) : Type 0 where
   pub register : Register
   pub class : Class
-  pub held : h ≡ register-held register class
+  pub values : h ≡ register-values register class
   pub bytes : s ≡ register-record-bytes register class
   pub count-passes : CountPasses (register .count)
   pub seal-passes : ClassPasses (register .curve) (register .seal)

@@ -7,7 +7,7 @@ use lib.ListN.{drop}
 use Rattle.lists.specs.Lists.{All, ChangedAt}
 use Rattle.jacobian.specs.Answer.{Verdict, accepted, refused}
 use Rattle.history.specs.{Machine.Machine, Machine.Event, Register.other, declared.Register.Register, declared.Step.Step, declared.Step.the-variants.Commit}
-use Rattle.stored_form.specs.{Cuts.drop-fields, Passing.CountPasses, Passing.ClassPasses, Classes.curve-first-fields}
+use Rattle.stored_form.specs.{Cuts.drop-fields, Passing.CountPasses, Passing.ClassPasses, Classes.curve-fields-bytes}
 use Rattle.written_form.specs.Effect.{Effect, longest-answer}
 use Rattle.seal.specs.{Records.register-fields, Rebuilt.wrote, Calls.step-call}
 
@@ -23,8 +23,8 @@ pub record ByteStep : Type 0 where
   pub output : List ℕ
 
 -- what a call does on the record of what is kept with its operation
-abbrev pub made : Kept → ByteStep → Effect
-made k c = step-call (c .step) (k .curve ++ k .register ++ c .operation) (c .output)
+abbrev pub step-effect : Kept → ByteStep → Effect
+step-effect k c = step-call (c .step) (k .curve ++ k .register ++ c .operation) (c .output)
 
 -- ---- the machine
 
@@ -38,7 +38,7 @@ next k e = cond (ltb longest-answer (e .answer)) k (record { curve = k .curve; r
 
 -- the machine of byte commits and undos
 abbrev pub byte-steps : Machine Kept ByteStep
-byte-steps = record { outcome = λ k c. outcome (made k c .answer); next = λ k c. next k (made k c) }
+byte-steps = record { outcome = λ k c. outcome (step-effect k c .answer); next = λ k c. next k (step-effect k c) }
 
 -- the call that takes a call back: the other step with the same operation, into any output
 unfoldable pub back : (ByteStep → List ℕ) → ByteStep → ByteStep
@@ -49,7 +49,7 @@ pub record InStoredForm (k : Kept) : Type 0 where
   pub register : Register
   pub count-passes : CountPasses (register .count)
   pub seal-passes : ClassPasses (register .curve) (register .seal)
-  pub curve-bytes : k .curve ≡ curve-first-fields (register .curve)
+  pub curve-bytes : k .curve ≡ curve-fields-bytes (register .curve)
   pub register-bytes : k .register ≡ register-fields register
 
 -- ---- one changed operation

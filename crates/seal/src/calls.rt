@@ -2,13 +2,13 @@
 // A call answers the length written, or the number of a refusal; then no lent byte has changed.
 ghost use mathlib.Core.Path.{_≡_};
 ghost use Rattle.history.specs.Register.{register-reply};
-ghost use Rattle.stored_form.specs.{Head.class-room, Records.class-record, Records.register-record};
-ghost use Rattle.written_form.specs.{Effect.register-room, Effect.effect, Effect.handed, Effect.byte-call};
-ghost use Rattle.seal.specs.Calls.{register-handed, answered, membership-call, opposite-call, double-call, sum-call, commit-call, stamp-call, Halves, Undoes};
+ghost use Rattle.stored_form.specs.{Head.class-room, Reader.class-layout, Reader.register-layout};
+ghost use Rattle.written_form.specs.{Effect.register-room, Effect.effect, Effect.response-of, Effect.byte-call};
+ghost use Rattle.seal.specs.Calls.{register-response, answered, membership-call, opposite-call, double-call, sum-call, commit-call, stamp-call, Halves, Undoes};
 use history::Register;
 use history::RegisterAnswer;
-use stored_form::Held;
-use stored_form::Place;
+use stored_form::Offset;
+use stored_form::Record;
 use written_form::effect;
 use written_form::effect::Output;
 use written_form::writing;
@@ -18,10 +18,10 @@ use written_form::writing;
 pub extern "C" fn seal_membership(input: &[u8]) -> u32
     ensures { λ r. ⌜ r ≡ membership-call (now (input .entry)) ⌝ }
 {
-    let tags = stored_form::CLASS_RECORD;
+    let tags = stored_form::CLASS_LAYOUT;
     let r = stored_form::read_record(&tags, input);
-    let place = r.place;
-    stored_form::place_refusal(place)
+    let offset = r.offset;
+    stored_form::offset_refusal(offset)
 }
 
 // The calls that write.
@@ -37,7 +37,7 @@ enum Call {
 
 // The response with the fields of count and seal, or with the refusal.
 fn register_output(a: RegisterAnswer) -> Output
-    ensures { λ r. ⌜ handed r ≡ register-handed (register-reply a) ⌝ }
+    ensures { λ r. ⌜ response-of r ≡ register-response (register-reply a) ⌝ }
 {
     let o = a.outcome;
     let register = a.register;
@@ -47,8 +47,8 @@ fn register_output(a: RegisterAnswer) -> Output
 }
 
 // The response of a call for the values of a record, by the call by value.
-fn answered(call: Call, h: Held) -> Output
-    ensures { λ r. ⌜ handed r ≡ answered call h ⌝ }
+fn answered(call: Call, h: Record) -> Output
+    ensures { λ r. ⌜ response-of r ≡ answered call h ⌝ }
 {
     let curve = h.curve;
     let previous = h.previous;
@@ -75,27 +75,27 @@ fn byte_call(call: Call, room: usize, tags: &[u8], input: &[u8], output: &mut [u
     ensures { λ r. ⌜ effect r (now (output .exit)) ≡ byte-call room (now (tags .entry)) (answered call) (now (input .entry)) (now (output .entry)) ⌝ }
 {
     let r = effect::read_call(output.len(), room, tags, input);
-    let place = r.place;
-    let held = r.held;
-    let Place::Next(_) = place else {
-        return stored_form::place_refusal(place);
+    let offset = r.offset;
+    let values = r.values;
+    let Offset::Next(_) = offset else {
+        return stored_form::offset_refusal(offset);
     };
-    effect::put(answered(call, held), output)
+    effect::put(answered(call, values), output)
 }
 
 // A call on one class that answers a class.
 fn class_call(call: Call, input: &[u8], output: &mut [u8]) -> u32
-    ensures { λ r. ⌜ effect r (now (output .exit)) ≡ byte-call class-room class-record (answered call) (now (input .entry)) (now (output .entry)) ⌝ }
+    ensures { λ r. ⌜ effect r (now (output .exit)) ≡ byte-call class-room class-layout (answered call) (now (input .entry)) (now (output .entry)) ⌝ }
 {
-    let tags = stored_form::CLASS_RECORD;
+    let tags = stored_form::CLASS_LAYOUT;
     byte_call(call, stored_form::CLASS_ROOM, &tags, input, output)
 }
 
 // A call on a register and an operation's class that answers a register.
 fn register_call(call: Call, input: &[u8], output: &mut [u8]) -> u32
-    ensures { λ r. ⌜ effect r (now (output .exit)) ≡ byte-call register-room register-record (answered call) (now (input .entry)) (now (output .entry)) ⌝ }
+    ensures { λ r. ⌜ effect r (now (output .exit)) ≡ byte-call register-room register-layout (answered call) (now (input .entry)) (now (output .entry)) ⌝ }
 {
-    let tags = stored_form::REGISTER_RECORD;
+    let tags = stored_form::REGISTER_LAYOUT;
     byte_call(call, effect::REGISTER_ROOM, &tags, input, output)
 }
 
@@ -128,7 +128,7 @@ pub extern "C" fn seal_half(input: &[u8], output: &mut [u8]) -> u32
 pub extern "C" fn seal_sum(input: &[u8], output: &mut [u8]) -> u32
     ensures { λ r. ⌜ effect r (now (output .exit)) ≡ sum-call (now (input .entry)) (now (output .entry)) ⌝ }
 {
-    let tags = stored_form::SUM_RECORD;
+    let tags = stored_form::SUM_LAYOUT;
     byte_call(Call::Sum, stored_form::CLASS_ROOM, &tags, input, output)
 }
 
@@ -153,7 +153,7 @@ pub extern "C" fn seal_undo(input: &[u8], output: &mut [u8]) -> u32
 pub extern "C" fn seal_stamp(input: &[u8], stamp: u64, output: &mut [u8]) -> u32
     ensures { λ r. ⌜ effect r (now (output .exit)) ≡ stamp-call stamp (now (input .entry)) (now (output .entry)) ⌝ }
 {
-    let tags = stored_form::CURVE_RECORD;
+    let tags = stored_form::CURVE_LAYOUT;
     byte_call(
         Call::Stamp(stamp),
         stored_form::CLASS_ROOM,

@@ -19,8 +19,8 @@
 -- `halvings-refused-first`: the refusal of curve and class comes first, whatever k is.
 -- `multiple-too-large`: n of 2^61 or more is refused with 118.
 -- `halvings-too-many`: k above 64 is refused with 119.
--- `multiple-told`: every answer of n times is a class or a listed refusal.
--- `halvings-told`: every answer of k halvings is a class or a listed refusal.
+-- `multiple-valid`: every answer of n times is a class or a listed refusal.
+-- `halvings-valid`: every answer of k halvings is a class or a listed refusal.
 -- `result-never-117`: such an answer is never the refusal 117.
 use Prim.Native.Nat.{ℕ, zero, suc, _+_, _*_, _^_, _≤_, _<_}
 use mathlib.Core.{Path._≡_, Path.refl, Path.sym, Path._∙_, Path.ap, Path.ap₂, Path.subst, Logic.inl, Logic.inr}
@@ -30,16 +30,16 @@ use borrow.Author.Tests.{lt-ltb, le-ltb, le-leb, lt-leb}
 use Rattle.class_group.specs.{Mumford.neutral, Operations.sum, Operations.double, Half.half, Multiples.multiple, Multiples.repeat}
 use Rattle.class_group.proofs.{Closed.sum-reduced, Closed.double-reduced, Group.classes, Group.class-doubling, Halving.class-halving}
 use Rattle.class_group.proofs.{Multiples.multiple-one, Multiples.multiple-add, Multiples.multiple-mul, Doublings.doublings-multiple, Doublings.halvings-doublings, Doublings.doublings-halvings}
-use Rattle.jacobian.specs.{Checks.unless, Checks._or-else_, Refusals.refusals, Refusals.listed, Refusals.IsRefusal, Refusals.Told, Curves.curve, Classes.pair, Told.VerdictTold}
+use Rattle.jacobian.specs.{Checks.unless, Checks._or-else_, Refusals.refusals, Refusals.listed, Refusals.IsRefusal, Refusals.ValidRefusal, Curves.curve, Classes.pair, Valid.ValidVerdict}
 use Rattle.jacobian.specs.Answer.{Result, result, gives, refused, refusal, Accepts, neutral-class, half-answer, sum-answer}
 use Rattle.jacobian.specs.Group.{doublings}
 use Rattle.jacobian.specs.declared.{Curve.Curve, Class.Class}
-use Rattle.jacobian.specs.Told as verdict-told
+use Rattle.jacobian.specs.Valid as verdict-valid
 use Rattle.jacobian.proofs.{Calls.reduced, Calls.class-pair, Calls.sum-gives, Calls.sum-accepts, Calls.double-gives, Calls.half-gives, Group.class-is, Group.gives-own, Group.doublings-accept}
-use Rattle.jacobian.proofs.{Representation.pair-injective, Refusals.told-unless, Refusals.told-or-else, Refusals.verdict-never-117, Told.refusal-told}
+use Rattle.jacobian.proofs.{Representation.pair-injective, Refusals.valid-unless, Refusals.valid-or-else, Refusals.verdict-never-117, Valid.refusal-valid}
 use Rattle.seal_licence.specs.Multiples.{multiple-limit, halvings-limit, refuses, given, multiple-class, halved-class, multiple-refusal, halvings-refusal, multiple-answer, halvings-answer, halves}
-use Rattle.seal_licence.specs.Told.{ResultTold}
-use Rattle.seal_licence.specs.Told as told
+use Rattle.seal_licence.specs.Valid.{ValidResult}
+use Rattle.seal_licence.specs.Valid as valid
 use Rattle.seal_licence.proofs.Values.{multiple-accepts, multiple-pair, multiple-none, halved-accepts, halved-pair, halved-none, halved-next}
 
 -- ---- an accepted class
@@ -176,28 +176,28 @@ module _ (c : Curve) (a : Class) (n : ℕ) where
   halvings-too-many h l = rw (h .none, lt-leb n halvings-limit l) refl
 
   -- ---- every refusal is valid
-  multiple-refusal-told : Told (multiple-refusal c a n)
+  multiple-refusal-valid : ValidRefusal (multiple-refusal c a n)
   unfolding multiple-refusal IsRefusal refusals listed
-  multiple-refusal-told = told-or-else _ _ (refusal-told c a) (told-unless _ 118 refl)
+  multiple-refusal-valid = valid-or-else _ _ (refusal-valid c a) (valid-unless _ 118 refl)
 
-  halvings-refusal-told : Told (halvings-refusal c a n)
+  halvings-refusal-valid : ValidRefusal (halvings-refusal c a n)
   unfolding halvings-refusal IsRefusal refusals listed
-  halvings-refusal-told = told-or-else _ _ (refusal-told c a) (told-unless _ 119 refl)
+  halvings-refusal-valid = valid-or-else _ _ (refusal-valid c a) (valid-unless _ 119 refl)
 
-given-told : (m : ℕ) (x : Class) → Told m → ResultTold (given m x)
-unfolding given Told
-given-told zero x t = told.ResultTold.acceptance x
-given-told (suc m) x (inl e) = absurd (omega arith)
-given-told (suc m) x (inr r) = told.ResultTold.refusal (suc m) r
+given-valid : (m : ℕ) (x : Class) → ValidRefusal m → ValidResult (given m x)
+unfolding given ValidRefusal
+given-valid zero x t = valid.ValidResult.acceptance x
+given-valid (suc m) x (inl e) = absurd (omega arith)
+given-valid (suc m) x (inr r) = valid.ValidResult.refusal (suc m) r
 
-pub multiple-told : (c : Curve) (a : Class) (n : ℕ) → ResultTold (multiple-answer c a n)
+pub multiple-valid : (c : Curve) (a : Class) (n : ℕ) → ValidResult (multiple-answer c a n)
 unfolding multiple-answer
-multiple-told c a n = given-told _ _ (multiple-refusal-told c a n)
+multiple-valid c a n = given-valid _ _ (multiple-refusal-valid c a n)
 
-pub halvings-told : (c : Curve) (a : Class) (k : ℕ) → ResultTold (halvings-answer c a k)
+pub halvings-valid : (c : Curve) (a : Class) (k : ℕ) → ValidResult (halvings-answer c a k)
 unfolding halvings-answer
-halvings-told c a k = given-told _ _ (halvings-refusal-told c a k)
+halvings-valid c a k = given-valid _ _ (halvings-refusal-valid c a k)
 
-pub result-never-117 : {r : Result} → ResultTold r → ¬ (r .outcome ≡ refused 117)
-result-never-117 (told.ResultTold.acceptance a) = verdict-never-117 verdict-told.VerdictTold.acceptance
-result-never-117 (told.ResultTold.refusal n i) = verdict-never-117 (verdict-told.VerdictTold.refusal n i)
+pub result-never-117 : {r : Result} → ValidResult r → ¬ (r .outcome ≡ refused 117)
+result-never-117 (valid.ValidResult.acceptance a) = verdict-never-117 verdict-valid.ValidVerdict.acceptance
+result-never-117 (valid.ValidResult.refusal n i) = verdict-never-117 (verdict-valid.ValidVerdict.refusal n i)

@@ -1,20 +1,20 @@
 -- What each byte call answers and leaves in the lent output (docs/SPECIFICATION.md, 5, 6 and 7).
 use Prim.Native.Nat.{ℕ}
 use mathlib.Core.List.{List}
-use Rattle.stored_form.specs.{Head.class-room, Records.class-record, declared.Held.Held}
-use Rattle.written_form.specs.Effect.{Effect, Handed, class-handed, byte-call}
+use Rattle.stored_form.specs.{Head.class-room, Reader.class-layout, declared.Record.Record}
+use Rattle.written_form.specs.Effect.{Effect, Response, class-response, byte-call}
 use Rattle.seal_licence.specs.Multiples.{multiple-answer, halvings-answer}
 use Rattle.seal_licence.specs.declared.calls.Call.{Call}
 use Rattle.seal_licence.specs.declared.calls.Call.the-variants.{Multiple, Halvings}
 
 -- the response to a call, from a record of one class
-unfoldable pub answered : Call → Held → Handed
-answered (Multiple n) h = class-handed (multiple-answer (h .curve) (h .class) n)
-answered (Halvings k) h = class-handed (halvings-answer (h .curve) (h .class) k)
+unfoldable pub answered : Call → Record → Response
+answered (Multiple n) h = class-response (multiple-answer (h .curve) (h .class) n)
+answered (Halvings k) h = class-response (halvings-answer (h .curve) (h .class) k)
 
 -- a byte call: it decodes a record of one class and writes the response into an output with room for a class field
 abbrev pub called : Call → List ℕ → List ℕ → Effect
-called call s out = byte-call class-room class-record (answered call) s out
+called call s out = byte-call class-room class-layout (answered call) s out
 
 -- n times the record's class; n is an argument of the call
 abbrev pub multiple-call : ℕ → List ℕ → List ℕ → Effect

@@ -1,4 +1,4 @@
 -- n times a class and a class halved k times, by value and by bytes.
 pub mod Multiples
-pub mod Told
+pub mod Valid
 pub mod Calls

@@ -1,14 +1,14 @@
 // The calls for C: a record of one class and a number in, the field of a class at the start of the lent output.
 // Each answers the length written, or the number of a refusal, and then no lent byte has changed.
 ghost use mathlib.Core.Path.{_≡_};
-ghost use Rattle.written_form.specs.{Effect.effect, Effect.handed, Effect.class-handed};
+ghost use Rattle.written_form.specs.{Effect.effect, Effect.response-of, Effect.class-response};
 ghost use Rattle.seal_licence.specs.Multiples.{class-result};
 ghost use Rattle.seal_licence.specs.Calls.{answered, called, multiple-call, halvings-call};
 use crate::multiples;
 use crate::multiples::ClassResult;
 use jacobian::ClassAnswer;
-use stored_form::Held;
-use stored_form::Place;
+use stored_form::Offset;
+use stored_form::Record;
 use written_form::effect;
 use written_form::effect::Output;
 use written_form::writing;
@@ -21,7 +21,7 @@ enum Call {
 
 // The encoded class field, or the refusal.
 fn class_output(r: ClassResult) -> Output
-    ensures { λ o. ⌜ handed o ≡ class-handed (class-result r) ⌝ }
+    ensures { λ o. ⌜ response-of o ≡ class-response (class-result r) ⌝ }
 {
     let outcome = r.outcome;
     let class = r.class;
@@ -33,8 +33,8 @@ fn class_output(r: ClassResult) -> Output
 }
 
 // The response to a call, from a record of one class.
-fn answered(call: Call, h: Held) -> Output
-    ensures { λ r. ⌜ handed r ≡ answered call h ⌝ }
+fn answered(call: Call, h: Record) -> Output
+    ensures { λ r. ⌜ response-of r ≡ answered call h ⌝ }
 {
     let curve = h.curve;
     let class = h.class;
@@ -48,14 +48,14 @@ fn answered(call: Call, h: Held) -> Output
 fn class_call(call: Call, input: &[u8], output: &mut [u8]) -> u32
     ensures { λ r. ⌜ effect r (now (output .exit)) ≡ called call (now (input .entry)) (now (output .entry)) ⌝ }
 {
-    let tags = stored_form::CLASS_RECORD;
+    let tags = stored_form::CLASS_LAYOUT;
     let r = effect::read_call(output.len(), stored_form::CLASS_ROOM, &tags, input);
-    let place = r.place;
-    let held = r.held;
-    let Place::Next(_) = place else {
-        return stored_form::place_refusal(place);
+    let offset = r.offset;
+    let values = r.values;
+    let Offset::Next(_) = offset else {
+        return stored_form::offset_refusal(offset);
     };
-    effect::put(answered(call, held), output)
+    effect::put(answered(call, values), output)
 }
 
 // n times the class.

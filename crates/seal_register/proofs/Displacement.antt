@@ -18,18 +18,18 @@ use Rattle.jacobian.proofs.{ByValue.Checks.then-zero, Representation.accepts-bo
 use Rattle.history.specs.{Calls.newest, Calls.walk-back, Calls.Variants, Calls.displaced, declared.Register.Register}
 use Rattle.history.proofs.Answers.{sealed-outcome}
 use Rattle.history.proofs.Displacement as history
-use Rattle.seal_register.specs.{InPlace.Made, InPlace.calls, InPlace.Session, InPlace.left-by, InPlace.newest-made, RowWalk.classes-refusal, RowWalk.row-refusal, RowWalk.reached, RowWalk.row-walk-answer, declared.walk.RowWalk.RowWalk}
+use Rattle.seal_register.specs.{InPlace.RecordedCall, InPlace.calls, InPlace.Session, InPlace.left-by, InPlace.newest-recorded, RowWalk.classes-refusal, RowWalk.row-refusal, RowWalk.reached, RowWalk.row-walk-answer, declared.walk.RowWalk.RowWalk}
 use Rattle.seal_register.proofs.{Answer.verdict-number, InPlace.newest-is, InPlace.left-by-last, RowSteps.accepted-is}
 
 -- ---- lists of calls, each by value or in place
-module _ (r t : Register) (ms ns : List Made) (here : Session r ms) (there : Session t ns) {k : ℕ} {d e : Class} (v : Variants k d e r t (newest-made r ms) (newest-made t ns)) where
+module _ (r t : Register) (ms ns : List RecordedCall) (here : Session r ms) (there : Session t ns) {k : ℕ} {d e : Class} (v : Variants k d e r t (newest-recorded r ms) (newest-recorded t ns)) where
   by-value : Variants k d e r t (newest r (calls ms)) (newest t (calls ns))
   by-value = rw (newest-is r ms here, newest-is t ns there) at v
 
   pub both-accept : Accepts (r .curve) d × Accepts (r .curve) e
   both-accept = history.both-accept r t (calls ms) (calls ns) by-value
 
-  pub displacement : displaced (r .curve) (length (newest-made r ms) - k) d e (left-by r ms .seal) ≡ gives (left-by t ns .seal)
+  pub displacement : displaced (r .curve) (length (newest-recorded r ms) - k) d e (left-by r ms .seal) ≡ gives (left-by t ns .seal)
   displacement = rw (newest-is r ms here, left-by-last r ms here, left-by-last t ns there) (history.displacement r t (calls ms) (calls ns) by-value)
 
   pub moves : ¬ (d ≡ e) → ¬ (left-by r ms .seal ≡ left-by t ns .seal)

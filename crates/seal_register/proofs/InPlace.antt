@@ -30,7 +30,7 @@ use Rattle.history.proofs.{OneCall.refused-stays, Failing.failing-run, Failing.
 use Rattle.lists.proofs.Lists.{all-map}
 use Rattle.history.proofs.TakingBack as history
 use Rattle.history.proofs.WalkingBack as walking
-use Rattle.seal_register.specs.InPlace.{in-place, Made, call, said, calls, made, Session, happened, left-by, newest-made, seals-made}
+use Rattle.seal_register.specs.InPlace.{in-place, RecordedCall, call, recorded-reply, calls, replay, Session, happened, left-by, newest-recorded, seals-recorded}
 
 pub refusal-leaves : (r : Register) (c : Call) (n : ℕ) (left : Register) → in-place (suc n) left ≡ answer r c → left ≡ r
 unfolding in-place verdict-of
@@ -38,32 +38,32 @@ refusal-leaves r c n left e = ap (λ (x : RegisterReply). x .register) e ∙ ref
 
 -- ---- a list of calls
 -- each call is answered as the machine of registers answers it
-agreeing : (r : Register) (ms : List Made) → Session r ms → All (machine.Agrees (λ t. t) call registers) (machine.run made r ms)
+agreeing : (r : Register) (ms : List RecordedCall) → Session r ms → All (machine.Agrees (λ t. t) call registers) (machine.run replay r ms)
 unfolding machine.run machine.event machine.Agrees machine.carried
 agreeing r [] none = none
 agreeing r (m ∷ ms) (more e s) =
-    more (ap (λ (x : RegisterReply). record { before = r; call = call m; outcome = x .outcome; left = x .register }) (sym e)) (agreeing (said m .register) ms s)
+    more (ap (λ (x : RegisterReply). record { before = r; call = call m; outcome = x .outcome; left = x .register }) (sym e)) (agreeing (recorded-reply m .register) ms s)
 
-module _ (r : Register) (ms : List Made) (s : Session r ms) where
+module _ (r : Register) (ms : List RecordedCall) (s : Session r ms) where
   pub happened-run : happened r ms ≡ run r (calls ms)
   unfolding happened calls
-  happened-run = run-carried (λ t. t) call made registers r ms (agreeing r ms s)
+  happened-run = run-carried (λ t. t) call replay registers r ms (agreeing r ms s)
 
   pub left-by-last : left-by r ms ≡ last r (calls ms)
   unfolding calls
-  left-by-last = last-carried (λ t. t) call made registers r ms (agreeing r ms s)
+  left-by-last = last-carried (λ t. t) call replay registers r ms (agreeing r ms s)
 
-  pub newest-is : newest-made r ms ≡ newest r (calls ms)
-  unfolding newest-made calls
-  newest-is = newest-carried (λ t. t) call made registers r ms (agreeing r ms s)
+  pub newest-is : newest-recorded r ms ≡ newest r (calls ms)
+  unfolding newest-recorded calls
+  newest-is = newest-carried (λ t. t) call replay registers r ms (agreeing r ms s)
 
-  pub as-by-value : (P : List Event → Register → Type 0) → P (newest r (calls ms)) (last r (calls ms)) → P (newest-made r ms) (left-by r ms)
+  pub as-by-value : (P : List Event → Register → Type 0) → P (newest r (calls ms)) (last r (calls ms)) → P (newest-recorded r ms) (left-by r ms)
   as-by-value P h = rw (newest-is, left-by-last) h
 
   pub curve-kept : All (λ e. e .left .curve ≡ r .curve) (happened r ms)
   curve-kept = rw happened-run (history.curve-kept r (calls ms))
 
-module _ (r : Register) (fails : ¬ (register-refusal r ≡ 0)) (ms : List Made) (s : Session r ms) where
+module _ (r : Register) (fails : ¬ (register-refusal r ≡ 0)) (ms : List RecordedCall) (s : Session r ms) where
   pub failing : happened r ms ≡ map (λ m. record { before = r; call = call m; outcome = refused (register-refusal r); left = r }) ms
   unfolding calls
   failing = happened-run r ms s ∙ failing-run r fails (calls ms) ∙ map-map (λ c. record { before = r; call = c; outcome = refused (register-refusal r); left = r }) call ms
@@ -71,10 +71,10 @@ module _ (r : Register) (fails : ¬ (register-refusal r ≡ 0)) (ms : List Made)
   pub failing-stays : left-by r ms ≡ r
   failing-stays = left-by-last r ms s ∙ failing-last r fails (calls ms)
 
-module _ (r : Register) (ms : List Made) (s : Session r ms) where
+module _ (r : Register) (ms : List RecordedCall) (s : Session r ms) where
   -- the list bs of calls takes the accepted calls back, newest first, each by value or in place
-  module _ (bs : List Made) (back : Session (left-by r ms) bs) (takes : calls bs ≡ backs (newest-made r ms)) where
-    pub taken-back-turned : happened (left-by r ms) bs ≡ map turned (newest-made r ms)
+  module _ (bs : List RecordedCall) (back : Session (left-by r ms) bs) (takes : calls bs ≡ backs (newest-recorded r ms)) where
+    pub taken-back-turned : happened (left-by r ms) bs ≡ map turned (newest-recorded r ms)
     unfolding machine.taken-back
     taken-back-turned =
         happened-run (left-by r ms) bs back ∙ ap (run (left-by r ms)) takes
@@ -82,11 +82,11 @@ module _ (r : Register) (ms : List Made) (s : Session r ms) where
 
     pub taken-back-accepted : All (λ e. e .outcome ≡ accepted) (happened (left-by r ms) bs)
     unfolding machine.turned
-    taken-back-accepted = rw taken-back-turned (all-map turned (λ e. refl) (newest-made r ms))
+    taken-back-accepted = rw taken-back-turned (all-map turned (λ e. refl) (newest-recorded r ms))
 
-    pub taken-back-registers : map (λ e. e .left) (happened (left-by r ms) bs) ≡ map (λ e. e .before) (newest-made r ms)
+    pub taken-back-registers : map (λ e. e .left) (happened (left-by r ms) bs) ≡ map (λ e. e .before) (newest-recorded r ms)
     unfolding machine.turned
-    taken-back-registers = ap (map (λ e. e .left)) taken-back-turned ∙ map-map (λ e. e .left) turned (newest-made r ms)
+    taken-back-registers = ap (map (λ e. e .left)) taken-back-turned ∙ map-map (λ e. e .left) turned (newest-recorded r ms)
 
     pub taken-back-all : left-by (left-by r ms) bs ≡ r
     taken-back-all =
@@ -94,25 +94,25 @@ module _ (r : Register) (ms : List Made) (s : Session r ms) where
         ∙ as-by-value r ms s (λ es t. last t (backs es) ≡ r) (history.taken-back-all r (calls ms))
 
   -- ---- the walk back, where all accepted calls are commits
-  module _ (only : OnlyCommits (newest-made r ms)) where
+  module _ (only : OnlyCommits (newest-recorded r ms)) where
     only-by-value : OnlyCommits (newest r (calls ms))
     only-by-value = rw (newest-is r ms s) at only
 
-    pub walk-steps : steps-back (r .curve) (left-by r ms .seal) (classes (newest-made r ms)) ≡ map met (newest-made r ms)
+    pub walk-steps : steps-back (r .curve) (left-by r ms .seal) (classes (newest-recorded r ms)) ≡ map met (newest-recorded r ms)
     walk-steps = as-by-value r ms s (λ es t. steps-back (r .curve) (t .seal) (classes es) ≡ map met es) (walking.walk-steps r (calls ms) only-by-value)
 
-    pub walk-meets : walk (undo-seal (r .curve)) (left-by r ms .seal) (classes (newest-made r ms)) ≡ seals-made r ms
-    unfolding seals-back seals-made
+    pub walk-meets : walk (undo-seal (r .curve)) (left-by r ms .seal) (classes (newest-recorded r ms)) ≡ seals-recorded r ms
+    unfolding seals-back seals-recorded
     walk-meets =
         as-by-value r ms s (λ es t. walk (undo-seal (r .curve)) (t .seal) (classes es) ≡ t .seal ∷ map (λ e. e .before .seal) es) (walking.walk-meets r (calls ms) only-by-value)
 
-    pub walk-ends : (k : ℕ) → k ≤ length (newest-made r ms)
-        → walk-back (r .curve) (left-by r ms .seal) (take k (classes (newest-made r ms))) ≡ getD (seals-made r ms) k (left-by r ms .seal)
-    unfolding seals-back seals-made
+    pub walk-ends : (k : ℕ) → k ≤ length (newest-recorded r ms)
+        → walk-back (r .curve) (left-by r ms .seal) (take k (classes (newest-recorded r ms))) ≡ getD (seals-recorded r ms) k (left-by r ms .seal)
+    unfolding seals-back seals-recorded
     walk-ends =
         as-by-value r ms s (λ es t. (k : ℕ) → k ≤ length es → walk-back (r .curve) (t .seal) (take k (classes es)) ≡ getD (t .seal ∷ map (λ e. e .before .seal) es) k (t .seal))
         (walking.walk-ends r (calls ms) only-by-value)
 
-    pub walk-part : (k : ℕ) → steps-back (r .curve) (left-by r ms .seal) (take k (classes (newest-made r ms))) ≡ take k (map met (newest-made r ms))
+    pub walk-part : (k : ℕ) → steps-back (r .curve) (left-by r ms .seal) (take k (classes (newest-recorded r ms))) ≡ take k (map met (newest-recorded r ms))
     walk-part =
         as-by-value r ms s (λ es t. (k : ℕ) → steps-back (r .curve) (t .seal) (take k (classes es)) ≡ take k (map met es)) (walking.walk-part r (calls ms) only-by-value)

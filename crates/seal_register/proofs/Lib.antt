@@ -5,4 +5,4 @@ pub mod InPlace
 pub mod RowSteps
 pub mod RowWalk
 pub mod Displacement
-pub mod ToldApart
+pub mod Valid

@@ -1,8 +1,8 @@
 -- The steps of a walk over a lent row.
 -- `refused-is`, `accepted-is`: a refusal with the neutral class, and an acceptance with a seal, as `sealed` has them.
--- `opening-empty`, `opening-above`, `opening-within`: the refusal before the first step, by the number of classes.
+-- `start-empty`, `start-above`, `start-within`: the refusal before the first step, by the number of classes.
 -- `turns-none`, `turns-all`, `turns-few`: no step after a refusal, else one for each class; never more than classes.
--- `after-next`: one step more goes over the next element.
+-- `foldl-next`: one step more goes over the next element.
 -- `refused-stays`: a step leaves a refused walk as it is.
 -- `stepped`: the number and the class of the code's step are what one step answers.
 -- `row-walked`: the steps after the first checks answer the walk over the whole row.
@@ -12,14 +12,14 @@ use native.Mathlib.Numerals.{add-one}
 use native.Mathlib.Omega.{arith}
 use lib.{Dec.eqb, ListN.length, ListN.take, ListN.getD, Seq.take-nil, Seq.take-length, Seq.take-suc}
 use borrow.Author.Tests.{eqb-true, eqb-false, eq-eqb, ne-eqb}
-use Rattle.lists.specs.Walk.{after}
+use Rattle.lists.specs.Walk.{foldl}
 use Rattle.jacobian.specs.{Checks.unless, Checks._or-else_, Curves.curve-refusal, Classes.class-refusal, Answer.Verdict, Answer.accepted, Answer.refused, Answer.verdict-of, Answer.outcome-refusal, Answer.neutral-class, Answer.Accepts, Answer.refusal, Answer.refusal-of-two, Answer.Result, Answer.reply, Answer.result, Answer.subtract-and-halve-answer, declared.Curve.Curve, declared.Class.Class, declared.ClassAnswer.ClassAnswer}
 use Rattle.jacobian.proofs.{ByValue.Checks.then-zero, Representation.accepts-class, Representation.accepts-both}
 use Rattle.count_limit.specs.Limit.{count-refusal}
 use Rattle.count_limit.proofs.Limit.{within-limit}
 use Rattle.history.specs.{Register.undo-seal, Register.sealed, Calls.walk-back}
 use Rattle.history.proofs.{Seals.undo-sound, Answers.sealed-outcome, Answers.answer-refusal, Answers.subtract-and-halve-sealed, Numbers.then-positive, Numbers.then-none}
-use Rattle.seal_register.specs.{RowWalk.classes-refusal, RowWalk.row-refusal, RowWalk.row-walk-answer, internal.RowSteps.opening-refusal, internal.RowSteps.turns-due, internal.RowSteps.onward}
+use Rattle.seal_register.specs.{RowWalk.classes-refusal, RowWalk.row-refusal, RowWalk.row-walk-answer, internal.RowSteps.start-refusal, internal.RowSteps.remaining-steps, internal.RowSteps.onward}
 
 -- ---- what is answered
 -- a refusal is the same whatever the seal
@@ -44,32 +44,32 @@ number-says x n s e =
 
 -- ---- before the first step
 module _ (c : Curve) (s : Class) where
-  pub opening-empty : (n : ℕ) → n ≡ 0 → refusal c s ≡ opening-refusal c s n
-  unfolding opening-refusal
-  opening-empty n e = rw e
+  pub start-empty : (n : ℕ) → n ≡ 0 → refusal c s ≡ start-refusal c s n
+  unfolding start-refusal
+  start-empty n e = rw e
 
-  pub opening-above : (n : ℕ) → ¬ (count-refusal n ≡ 0) → curve-refusal c or-else count-refusal n ≡ opening-refusal c s n
-  unfolding opening-refusal unless
-  opening-above zero h = absurd (h (within-limit 0 (omega arith)))
-  opening-above (suc n) h = rw (ne-eqb (count-refusal (suc n)) 0 h)
+  pub start-above : (n : ℕ) → ¬ (count-refusal n ≡ 0) → curve-refusal c or-else count-refusal n ≡ start-refusal c s n
+  unfolding start-refusal unless
+  start-above zero h = absurd (h (within-limit 0 (omega arith)))
+  start-above (suc n) h = rw (ne-eqb (count-refusal (suc n)) 0 h)
 
-  pub opening-within : (n : ℕ) → ¬ (n ≡ 0) → count-refusal n ≡ 0 → 0 ≡ opening-refusal c s n
-  unfolding opening-refusal unless
-  opening-within zero h k = absurd (h refl)
-  opening-within (suc n) h k = rw (eq-eqb (count-refusal (suc n)) 0 k)
+  pub start-within : (n : ℕ) → ¬ (n ≡ 0) → count-refusal n ≡ 0 → 0 ≡ start-refusal c s n
+  unfolding start-refusal unless
+  start-within zero h k = absurd (h refl)
+  start-within (suc n) h k = rw (eq-eqb (count-refusal (suc n)) 0 k)
 
 -- ---- how many steps
-pub turns-none : (n m : ℕ) → ¬ (n ≡ 0) → 0 ≡ turns-due (verdict-of n) m
-unfolding turns-due verdict-of
+pub turns-none : (n m : ℕ) → ¬ (n ≡ 0) → 0 ≡ remaining-steps (verdict-of n) m
+unfolding remaining-steps verdict-of
 turns-none zero m h = absurd (h refl)
 turns-none (suc n) m h = refl
 
-pub turns-all : (n m : ℕ) → n ≡ 0 → m ≡ turns-due (verdict-of n) m
-unfolding turns-due verdict-of
+pub turns-all : (n m : ℕ) → n ≡ 0 → m ≡ remaining-steps (verdict-of n) m
+unfolding remaining-steps verdict-of
 turns-all n m e = rw e
 
-pub turns-few : (v : Verdict) (m : ℕ) → turns-due v m ≤ m
-unfolding turns-due
+pub turns-few : (v : Verdict) (m : ℕ) → remaining-steps v m ≤ m
+unfolding remaining-steps
 turns-few accepted m = omega arith
 turns-few (refused k) m = omega arith
 
@@ -87,13 +87,13 @@ then-above (suc a) n s h = refl
 
 -- ---- rows
 module _ {X Y : Type 0} (rule : X → Y → X) where
-  after-last : (x : X) (l : List Y) (a : Y) → after rule x (l ++ a ∷ []) ≡ rule (after rule x l) a
-  unfolding after
-  after-last x [] a = refl
-  after-last x (b ∷ l) a = after-last (rule x b) l a
+  foldl-last : (x : X) (l : List Y) (a : Y) → foldl rule x (l ++ a ∷ []) ≡ rule (foldl rule x l) a
+  unfolding foldl
+  foldl-last x [] a = refl
+  foldl-last x (b ∷ l) a = foldl-last (rule x b) l a
 
-  pub after-next : (x : X) (l : List Y) (i : ℕ) (d : Y) → i < length l → after rule x (take (i + 1) l) ≡ rule (after rule x (take i l)) (getD l i d)
-  after-next x l i d h = ap (λ k. after rule x (take k l)) (add-one i) ∙ ap (after rule x) (take-suc l i d h) ∙ after-last x (take i l) (getD l i d)
+  pub foldl-next : (x : X) (l : List Y) (i : ℕ) (d : Y) → i < length l → foldl rule x (take (i + 1) l) ≡ rule (foldl rule x (take i l)) (getD l i d)
+  foldl-next x l i d h = ap (λ k. foldl rule x (take k l)) (add-one i) ∙ ap (foldl rule x) (take-suc l i d h) ∙ foldl-last x (take i l) (getD l i d)
 
 -- ---- one step
 module _ (c : Curve) where
@@ -114,8 +114,8 @@ module _ (c : Curve) where
   step-sealed s a = subtract-and-halve-sealed c s a
 
   -- a refused walk stays as it is
-  refused-stands : (n : ℕ) (s : Class) (ops : List Class) → after (onward c) (sealed (suc n) s) ops ≡ sealed (suc n) s
-  unfolding after onward sealed
+  refused-stands : (n : ℕ) (s : Class) (ops : List Class) → foldl (onward c) (sealed (suc n) s) ops ≡ sealed (suc n) s
+  unfolding foldl onward sealed
   refused-stands n s [] = refl
   refused-stands n s (a ∷ ops) = refused-stands n s ops
 
@@ -125,17 +125,17 @@ module _ (c : Curve) where
     unfolding refusal-of-two refusal _or-else_
     next-refusal s a h = rw (ok, accepts-class h)
 
-    going : (n : ℕ) (t : Class) (ops : List Class) → (n ≡ 0 → after (onward c) (sealed 0 t) ops ≡ sealed (classes-refusal c ops) (walk-back c t ops))
-        → after (onward c) (sealed n t) ops ≡ sealed (n or-else classes-refusal c ops) (walk-back c t ops)
+    going : (n : ℕ) (t : Class) (ops : List Class) → (n ≡ 0 → foldl (onward c) (sealed 0 t) ops ≡ sealed (classes-refusal c ops) (walk-back c t ops))
+        → foldl (onward c) (sealed n t) ops ≡ sealed (n or-else classes-refusal c ops) (walk-back c t ops)
     unfolding _or-else_ sealed
     going zero t ops h = h refl
     going (suc n) t ops h = refused-stands n t ops
 
-    sound-walk : (s : Class) (ops : List Class) → Accepts c s → after (onward c) (sealed 0 s) ops ≡ sealed (classes-refusal c ops) (walk-back c s ops)
-    unfolding after walk-back classes-refusal
+    sound-walk : (s : Class) (ops : List Class) → Accepts c s → foldl (onward c) (sealed 0 s) ops ≡ sealed (classes-refusal c ops) (walk-back c s ops)
+    unfolding foldl walk-back classes-refusal
     sound-walk s [] h = refl
     sound-walk s (a ∷ ops) h =
-        ap (λ x. after (onward c) x ops) (step-sealed s a ∙ ap (λ n. sealed n (undo-seal c s a)) (next-refusal s a h))
+        ap (λ x. foldl (onward c) x ops) (step-sealed s a ∙ ap (λ n. sealed n (undo-seal c s a)) (next-refusal s a h))
         ∙ going (class-refusal c a) (undo-seal c s a) ops (λ e. sound-walk (undo-seal c s a) ops (undo-sound h (accepts-both c a ok e)))
 
   -- ---- all steps
@@ -145,11 +145,11 @@ module _ (c : Curve) where
 
   -- the first step checks the curve and the last seal
   opens-sound : (n : ℕ) (s a : Class) (ops : List Class) → refusal c s ≡ n
-      → after (onward c) (sealed 0 s) (a ∷ ops) ≡ sealed (n or-else classes-refusal c (a ∷ ops)) (walk-back c s (a ∷ ops))
-  unfolding refusal _or-else_ after
+      → foldl (onward c) (sealed 0 s) (a ∷ ops) ≡ sealed (n or-else classes-refusal c (a ∷ ops)) (walk-back c s (a ∷ ops))
+  unfolding refusal _or-else_ foldl
   opens-sound zero s a ops e = sound-walk (then-zero _ _ e .0) s (a ∷ ops) (record { none = e })
   opens-sound (suc n) s a ops e =
-      ap (λ x. after (onward c) x ops) (step-sealed s a ∙ ap (λ k. sealed k (undo-seal c s a)) (first-refusal n s a e))
+      ap (λ x. foldl (onward c) x ops) (step-sealed s a ∙ ap (λ k. sealed k (undo-seal c s a)) (first-refusal n s a e))
       ∙ refused-stands n (undo-seal c s a) ops
       ∙ sealed-refused (suc n) _ _ (λ z. omega arith)
 
@@ -166,28 +166,28 @@ module _ (c : Curve) where
 
   module _ (s : Class) where
     by-length : (a : Class) (ops : List Class) (x : Result) (n : ℕ) (b : Bool) → eqb (count-refusal (length (a ∷ ops))) 0 ≡ b
-        → x ≡ sealed (opening-refusal c s (length (a ∷ ops))) s → n ≡ turns-due (x .outcome) (length (a ∷ ops))
-        → after (onward c) x (take n (a ∷ ops)) ≡ row-walk-answer c s (a ∷ ops)
-    unfolding turns-due sealed after
+        → x ≡ sealed (start-refusal c s (length (a ∷ ops))) s → n ≡ remaining-steps (x .outcome) (length (a ∷ ops))
+        → foldl (onward c) x (take n (a ∷ ops)) ≡ row-walk-answer c s (a ∷ ops)
+    unfolding remaining-steps sealed foldl
     by-length a ops x n true l e m =
         let within = eqb-true _ 0 l in
-        let start : x ≡ sealed 0 s = e ∙ ap (λ k. sealed k s) (sym (opening-within c s (length (a ∷ ops)) (λ z. omega arith) within)) in
-        let all : n ≡ length (a ∷ ops) = m ∙ ap (λ (y : Result). turns-due (y .outcome) (length (a ∷ ops))) start in
-        ap₂ (after (onward c)) start (ap (λ k. take k (a ∷ ops)) all ∙ take-length (a ∷ ops))
+        let start : x ≡ sealed 0 s = e ∙ ap (λ k. sealed k s) (sym (start-within c s (length (a ∷ ops)) (λ z. omega arith) within)) in
+        let all : n ≡ length (a ∷ ops) = m ∙ ap (λ (y : Result). remaining-steps (y .outcome) (length (a ∷ ops))) start in
+        ap₂ (foldl (onward c)) start (ap (λ k. take k (a ∷ ops)) all ∙ take-length (a ∷ ops))
         ∙ opens-sound (refusal c s) s a ops refl
         ∙ row-within s (a ∷ ops) within
     by-length a ops x n false l e m =
         let above = eqb-false _ 0 l in
         let k = curve-refusal c or-else count-refusal (length (a ∷ ops)) in
-        let start : x ≡ sealed k s = e ∙ ap (λ k. sealed k s) (sym (opening-above c s (length (a ∷ ops)) above)) in
+        let start : x ≡ sealed k s = e ∙ ap (λ k. sealed k s) (sym (start-above c s (length (a ∷ ops)) above)) in
         let still : n ≡ 0 =
-        m ∙ ap (λ (y : Result). turns-due (y .outcome) (length (a ∷ ops))) start
-        ∙ ap (λ v. turns-due v (length (a ∷ ops))) (sealed-outcome k s)
+        m ∙ ap (λ (y : Result). remaining-steps (y .outcome) (length (a ∷ ops))) start
+        ∙ ap (λ v. remaining-steps v (length (a ∷ ops))) (sealed-outcome k s)
         ∙ sym (turns-none k (length (a ∷ ops)) (then-positive (curve-refusal c) (count-refusal (length (a ∷ ops))) above)) in
-        ap₂ (λ (y : Result) (j : ℕ). after (onward c) y (take j (a ∷ ops))) start still ∙ row-above s (a ∷ ops) above
+        ap₂ (λ (y : Result) (j : ℕ). foldl (onward c) y (take j (a ∷ ops))) start still ∙ row-above s (a ∷ ops) above
 
-    pub row-walked : (ops : List Class) (x : Result) (n : ℕ) → x ≡ sealed (opening-refusal c s (length ops)) s → n ≡ turns-due (x .outcome) (length ops)
-        → after (onward c) x (take n ops) ≡ row-walk-answer c s ops
-    unfolding after opening-refusal classes-refusal walk-back
-    row-walked [] x n e m = ap (after (onward c) x) (take-nil n) ∙ e ∙ ap (λ k. sealed k s) (sym (then-none (refusal c s))) ∙ row-within s [] (within-limit 0 (omega arith))
+    pub row-walked : (ops : List Class) (x : Result) (n : ℕ) → x ≡ sealed (start-refusal c s (length ops)) s → n ≡ remaining-steps (x .outcome) (length ops)
+        → foldl (onward c) x (take n ops) ≡ row-walk-answer c s ops
+    unfolding foldl start-refusal classes-refusal walk-back
+    row-walked [] x n e m = ap (foldl (onward c) x) (take-nil n) ∙ e ∙ ap (λ k. sealed k s) (sym (then-none (refusal c s))) ∙ row-within s [] (within-limit 0 (omega arith))
     row-walked (a ∷ ops) x n e m = by-length a ops x n (eqb (count-refusal (length (a ∷ ops))) 0) refl e m

@@ -9,14 +9,14 @@ use Prim.Native.Nat.{ℕ, zero, suc, _≤_}
 use mathlib.Core.{Path._≡_, Path.refl, Path.sym, Path._∙_, Path.ap, Path.ap₂, Path.subst, List.List, List.[], List._∷_, List.map, List.map-map}
 use native.Mathlib.Omega.{arith}
 use lib.{ListN.length, ListN.take, ListN.getD, ListN.length-map, Seq.length-take-le, Seq.take-length}
-use Rattle.lists.specs.{Lists.All, Lists.none, Lists.more, Walk.after}
+use Rattle.lists.specs.{Lists.All, Lists.none, Lists.more, Walk.foldl}
 use Rattle.jacobian.specs.{Checks._or-else_, Curves.curve-refusal, Classes.class-refusal, Answer.accepted, Answer.verdict-of, Answer.Result, declared.Curve.Curve, declared.Class.Class}
 use Rattle.history.specs.Machine as machine
 use Rattle.count_limit.specs.Limit.{count-limit}
 use Rattle.count_limit.proofs.Limit.{within-limit}
 use Rattle.history.specs.{Register.register-refusal, Register.sealed, Calls.Call, Calls.Event, Calls.registers, Calls.last, Calls.newest, Calls.backs, Calls.turned, Calls.classes, Calls.OnlyCommits, Calls.seals-back, Calls.walk-back, declared.Register.Register}
 use Rattle.history.proofs.{Registers.Passes, Registers.register-passes, TakingBack.last-curve, TakingBack.taken-back-turned, TakingBack.taken-back-all, Preserved.last-passes, Preserved.accepted-classes, WalkingBack.walk-ends, WalkingBack.accepted-few}
-use Rattle.seal_register.specs.{InPlace.Made, InPlace.calls, InPlace.Session, InPlace.left-by, InPlace.newest-made, InPlace.seals-made, RowWalk.classes-refusal, RowWalk.row-refusal, RowWalk.reached, RowWalk.row-walk-answer, declared.walk.RowWalk.RowWalk}
+use Rattle.seal_register.specs.{InPlace.RecordedCall, InPlace.calls, InPlace.Session, InPlace.left-by, InPlace.newest-recorded, InPlace.seals-recorded, RowWalk.classes-refusal, RowWalk.row-refusal, RowWalk.reached, RowWalk.row-walk-answer, declared.walk.RowWalk.RowWalk}
 use Rattle.seal_register.proofs.{Answer.verdict-number, InPlace.as-by-value, InPlace.newest-is}
 
 -- ---- the walk's answer where no check fails
@@ -37,7 +37,7 @@ row-answered c s ops hc hs hl ho = rw (hc, within-limit (length ops) hl, hs, ho)
 -- the state that the last call of a run leaves is the state after the list
 run-ends : {State Call X : Type 0} (M : machine.Machine State Call) (f : State → X) (s : State) (cs : List Call) (x : X)
     → getD (f s ∷ map (λ e. f (e .left)) (machine.run M s cs)) (length (machine.run M s cs)) x ≡ f (machine.last M s cs)
-unfolding machine.run machine.last machine.event after
+unfolding machine.run machine.last machine.event foldl
 run-ends M f s [] x = refl
 run-ends M f s (c ∷ cs) x = run-ends M f (M .next s c) cs x
 
@@ -86,23 +86,23 @@ found : (w : RowWalk) (s : Class) → reached w ≡ record { outcome = accepted;
 unfolding verdict-of
 found w s e = (verdict-number (w .refusal) 0 (ap (λ (x : Result). x .outcome) e), ap (λ (x : Result). x .class) e)
 
-module _ (r : Register) (ms : List Made) (s : Session r ms) (only : OnlyCommits (newest-made r ms)) (ok : register-refusal r ≡ 0) where
-  pub row-walk-meets : (k : ℕ) → k ≤ length (newest-made r ms)
-      → row-walk-answer (r .curve) (left-by r ms .seal) (take k (classes (newest-made r ms))) ≡ record { outcome = accepted; class = getD (seals-made r ms) k (left-by r ms .seal) }
-  unfolding seals-back seals-made
+module _ (r : Register) (ms : List RecordedCall) (s : Session r ms) (only : OnlyCommits (newest-recorded r ms)) (ok : register-refusal r ≡ 0) where
+  pub row-walk-meets : (k : ℕ) → k ≤ length (newest-recorded r ms)
+      → row-walk-answer (r .curve) (left-by r ms .seal) (take k (classes (newest-recorded r ms))) ≡ record { outcome = accepted; class = getD (seals-recorded r ms) k (left-by r ms .seal) }
+  unfolding seals-back seals-recorded
   row-walk-meets =
       as-by-value r ms s
       (λ es t. (k : ℕ) → k ≤ length es → row-walk-answer (r .curve) (t .seal) (take k (classes es)) ≡ record { outcome = accepted; class = getD (t .seal ∷ map (λ e. e .before .seal) es) k (t .seal) })
       (by-value r (calls ms) (rw (newest-is r ms s) at only) ok)
 
-  pub row-walk-first : row-walk-answer (r .curve) (left-by r ms .seal) (classes (newest-made r ms)) ≡ record { outcome = accepted; class = r .seal }
+  pub row-walk-first : row-walk-answer (r .curve) (left-by r ms .seal) (classes (newest-recorded r ms)) ≡ record { outcome = accepted; class = r .seal }
   row-walk-first =
       as-by-value r ms s (λ es t. row-walk-answer (r .curve) (t .seal) (classes es) ≡ record { outcome = accepted; class = r .seal })
       (by-value-first r (calls ms) (rw (newest-is r ms s) at only) ok)
 
-  pub row-walk-answers : (k : ℕ) → k ≤ length (newest-made r ms) → (w : RowWalk) → reached w ≡ row-walk-answer (r .curve) (left-by r ms .seal) (take k (classes (newest-made r ms)))
-      → (w .refusal ≡ 0) × (w .seal ≡ getD (seals-made r ms) k (left-by r ms .seal))
+  pub row-walk-answers : (k : ℕ) → k ≤ length (newest-recorded r ms) → (w : RowWalk) → reached w ≡ row-walk-answer (r .curve) (left-by r ms .seal) (take k (classes (newest-recorded r ms)))
+      → (w .refusal ≡ 0) × (w .seal ≡ getD (seals-recorded r ms) k (left-by r ms .seal))
   row-walk-answers k h w e = found w _ (e ∙ row-walk-meets k h)
 
-  pub row-walk-first-answers : (w : RowWalk) → reached w ≡ row-walk-answer (r .curve) (left-by r ms .seal) (classes (newest-made r ms)) → (w .refusal ≡ 0) × (w .seal ≡ r .seal)
+  pub row-walk-first-answers : (w : RowWalk) → reached w ≡ row-walk-answer (r .curve) (left-by r ms .seal) (classes (newest-recorded r ms)) → (w .refusal ≡ 0) × (w .seal ≡ r .seal)
   row-walk-first-answers w e = found w _ (e ∙ row-walk-first)

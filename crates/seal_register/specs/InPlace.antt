@@ -15,44 +15,44 @@ in-place n left = record { outcome = verdict-of n; register = left }
 
 -- ---- lists of calls
 -- a call that was made: by value with its answer, or in place with its number and the register that it left
-pub data Made : Type 0 where
-  by-value : Call → RegisterAnswer → Made
-  lent : Call → ℕ → Register → Made
+pub data RecordedCall : Type 0 where
+  by-value : Call → RegisterAnswer → RecordedCall
+  lent : Call → ℕ → Register → RecordedCall
 
 -- the call of such an entry
-unfoldable pub call : Made → Call
+unfoldable pub call : RecordedCall → Call
 call (by-value c x) = c
 call (lent c n left) = c
 
 -- its answer: the outcome and the register
-unfoldable pub said : Made → RegisterReply
-said (by-value c x) = register-reply x
-said (lent c n left) = in-place n left
+unfoldable pub recorded-reply : RecordedCall → RegisterReply
+recorded-reply (by-value c x) = register-reply x
+recorded-reply (lent c n left) = in-place n left
 
 -- the calls of a list
-unfoldable pub calls : List Made → List Call
+unfoldable pub calls : List RecordedCall → List Call
 calls ms = map call ms
 
 -- the machine that replays recorded answers: each call starts from the register that the call before it left
-abbrev pub made : Machine Register Made
-made = record { outcome = λ r m. said m .outcome; next = λ r m. said m .register }
+abbrev pub replay : Machine Register RecordedCall
+replay = record { outcome = λ r m. recorded-reply m .outcome; next = λ r m. recorded-reply m .register }
 
 -- every recorded answer is what the call answers on the register before it
-abbrev pub Session : Register → List Made → Type 0
-Session r ms = All (λ e. said (e .call) ≡ answer (e .before) (call (e .call))) (run made r ms)
+abbrev pub Session : Register → List RecordedCall → Type 0
+Session r ms = All (λ e. recorded-reply (e .call) ≡ answer (e .before) (call (e .call))) (run replay r ms)
 
 -- the recorded calls as calls on a register
-unfoldable pub happened : Register → List Made → List Event
-happened r ms = map (carried (λ t. t) call) (run made r ms)
+unfoldable pub happened : Register → List RecordedCall → List Event
+happened r ms = map (carried (λ t. t) call) (run replay r ms)
 
 -- the register after the list
-abbrev pub left-by : Register → List Made → Register
-left-by = last made
+abbrev pub left-by : Register → List RecordedCall → Register
+left-by = last replay
 
 -- the accepted calls of the list, newest first
-unfoldable pub newest-made : Register → List Made → List Event
-newest-made r ms = map (carried (λ t. t) call) (newest made r ms)
+unfoldable pub newest-recorded : Register → List RecordedCall → List Event
+newest-recorded r ms = map (carried (λ t. t) call) (newest replay r ms)
 
 -- the seals that a walk back meets: the last seal, then those just before the accepted calls, newest first
-unfoldable pub seals-made : Register → List Made → List Class
-seals-made r ms = left-by r ms .seal ∷ map (λ e. e .before .seal) (newest-made r ms)
+unfoldable pub seals-recorded : Register → List RecordedCall → List Class
+seals-recorded r ms = left-by r ms .seal ∷ map (λ e. e .before .seal) (newest-recorded r ms)

@@ -5,7 +5,7 @@ ghost use mathlib.Core.Path.{_≡_};
 ghost use Rattle.jacobian.specs.Answer.{verdict-of};
 ghost use Rattle.history.specs.Register.{sealed};
 ghost use Rattle.seal_register.specs.RowWalk.{reached, row-walk-answer};
-ghost use Rattle.seal_register.specs.internal.RowSteps.{opening-refusal, turns-due, onward};
+ghost use Rattle.seal_register.specs.internal.RowSteps.{start-refusal, remaining-steps, onward};
 use jacobian::Class;
 use jacobian::Curve;
 
@@ -17,8 +17,8 @@ pub struct RowWalk {
 }
 
 // The refusal before the first step over n classes; where n is not 0, that step checks the curve and the last seal.
-fn opening_refusal(curve: Curve, last: Class, classes: usize) -> u32
-    ensures { λ r. ⌜ r ≡ opening-refusal curve last classes ⌝ }
+fn start_refusal(curve: Curve, last: Class, classes: usize) -> u32
+    ensures { λ r. ⌜ r ≡ start-refusal curve last classes ⌝ }
 {
     if classes == 0 {
         return jacobian::class_refusal(curve, last);
@@ -48,16 +48,16 @@ fn standing(n: u32, seal: Class) -> RowWalk
 }
 
 // A walk over this many classes, before its first step.
-fn opened(curve: Curve, last: Class, classes: usize) -> RowWalk
-    ensures { λ r. ⌜ reached r ≡ sealed (opening-refusal curve last classes) last ⌝ }
+fn started(curve: Curve, last: Class, classes: usize) -> RowWalk
+    ensures { λ r. ⌜ reached r ≡ sealed (start-refusal curve last classes) last ⌝ }
 {
-    let due = opening_refusal(curve, last, classes);
+    let due = start_refusal(curve, last, classes);
     standing(due, last)
 }
 
 // Number of steps; 0 after a refusal.
-fn turns(w: RowWalk, classes: usize) -> usize
-    ensures { λ r. ⌜ r ≡ turns-due (verdict-of (w .refusal)) classes ⌝ }
+fn steps_left(w: RowWalk, classes: usize) -> usize
+    ensures { λ r. ⌜ r ≡ remaining-steps (verdict-of (w .refusal)) classes ⌝ }
 {
     if w.refusal == 0 {
         return classes;
@@ -88,8 +88,8 @@ fn walked_on(curve: Curve, w: RowWalk, a: Class) -> RowWalk
 pub extern "C" fn seal_walk_row(curve: Curve, last: Class, row: &[Class]) -> RowWalk
     ensures { λ r. ⌜ reached r ≡ row-walk-answer curve last (now (row .entry)) ⌝ }
 {
-    let mut w = opened(curve, last, row.len());
-    let n = turns(w, row.len());
+    let mut w = started(curve, last, row.len());
+    let n = steps_left(w, row.len());
     let mut i: usize = 0;
     while i < n {
         let t = walked_on(curve, w, row[i]);

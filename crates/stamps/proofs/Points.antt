@@ -8,7 +8,7 @@ use native.Mathlib.Omega.{arith}
 use lib.ListN.{getD}
 use Rattle.field_laws.specs.{Ring.Ring2, Field.Field2}
 use Rattle.char2_algebra.specs.{Polynomials.Polynomials, Divides.Divides}
-use Rattle.char2_algebra.proofs.{Ring.ring2, Ring.⊞-𝟘, Degree.coeff-nought, Degree.con-nought, Degree.con-one, Degree.con-mul, Degree.coeff-con-add-x-mul, Degree.coeff-con-add-x-mul-suc}
+use Rattle.char2_algebra.proofs.{Ring.ring2, Ring.⊞-𝟘, Degree.coeff-zero, Degree.con-of-zero, Degree.con-one, Degree.con-mul, Degree.coeff-con-add-x-mul, Degree.coeff-con-add-x-mul-suc}
 use Rattle.binary_field_theory.specs.{Carryless._⊕_, Element.Accepted, Element.square, Element.product, Quadratic.quadratic, Quadratic.Root}
 use Rattle.binary_field_theory.proofs.Elements.{element-path}
 use Rattle.binary_field.proofs.Field.{add-number, mul-number}
@@ -22,8 +22,8 @@ use Rattle.stamps.specs.Stamps.{value-at, point-class}
 -- ---- over any polynomials
 module _ {K P : Type 0} {F : Field2 K} (A : Polynomials F P) where
   open Polynomials A using (ring as R, coeff, con, x)
-  open Ring2 (A .ring) using (add as _⊞_, mul as _·_, nought as 𝟘, one as 𝟙)
-  open Ring2 (F .ring) using (add as _⊞ₖ_, mul as _·ₖ_, nought as 𝟘ₖ, one as 𝟙ₖ)
+  open Ring2 (A .ring) using (add as _⊞_, mul as _·_, zero as 𝟘, one as 𝟙)
+  open Ring2 (F .ring) using (add as _⊞ₖ_, mul as _·ₖ_, zero as 𝟘ₖ, one as 𝟙ₖ)
 
   infixl 60 _⊞_
   infixl 70 _·_
@@ -60,12 +60,12 @@ module _ {K P : Type 0} {F : Field2 K} (A : Polynomials F P) where
 -- ---- rows of numbers
 module _ (d : ℕ) where
   open Polynomials (𝔸 d) using (ring as R, coeff, con, x)
-  open Ring2 (𝔸 d .ring) using (add as _⊞_, mul as _·_, nought as 𝟘, one as 𝟙)
+  open Ring2 (𝔸 d .ring) using (add as _⊞_, mul as _·_, zero as 𝟘, one as 𝟙)
 
   infixl 60 _⊞_
   infixl 70 _·_
   poly-nil : poly d [] ≡ 𝟘
-  poly-nil = poly-is d [] 𝟘 (λ i. el-zero d ∙ sym (coeff-nought (𝔸 d) i))
+  poly-nil = poly-is d [] 𝟘 (λ i. el-zero d ∙ sym (coeff-zero (𝔸 d) i))
 
   poly-cons : (n : ℕ) (r : List ℕ) → poly d (n ∷ r) ≡ con (el d n) ⊞ x · poly d r
   poly-cons n r = poly-is d (n ∷ r) (con (el d n) ⊞ x · poly d r) go
@@ -98,7 +98,7 @@ module _ (d : ℕ) where
 
   pub value-left : (a : K d) (r : List ℕ) → (q : Poly d) × (poly d r ≡ q · (con a ⊞ x) ⊞ con (evaluate (F d .ring) (map (el d) r) a))
   unfolding evaluate
-  value-left a [] = (𝟘, poly-nil ∙ nothing-left (con a ⊞ x) ∙ ap (λ z. 𝟘 · (con a ⊞ x) ⊞ z) (sym (con-nought (𝔸 d))))
+  value-left a [] = (𝟘, poly-nil ∙ nothing-left (con a ⊞ x) ∙ ap (λ z. 𝟘 · (con a ⊞ x) ⊞ z) (sym (con-of-zero (𝔸 d))))
   value-left a (n ∷ r) =
       let k = evaluate (F d .ring) (map (el d) r) a in
       let h = value-left a r in

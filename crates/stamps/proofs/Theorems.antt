@@ -1,5 +1,5 @@
 -- The answers of the call on a stamp (docs/SPECIFICATION.md, 2 and 6).
--- `stamp-told`: every answer is a class, or a refusal with a listed number, the neutral class and no step.
+-- `stamp-valid`: every answer is a class, or a refusal with a listed number, the neutral class and no step.
 -- `stamp-refuses`: a refused stamp is refused with a listed number.
 -- `stamp-gives`: an accepted stamp's class is that of its first candidate with a root.
 -- `stamp-accepts`: it is accepted on the curve and has degree 1.
@@ -14,9 +14,9 @@ use lib.ListN.{getD}
 use borrow.Author.Tests.{lt-ltb, le-ltb}
 use Rattle.binary_field_theory.specs.{Element.Accepted, Search.first, Quadratic.Root, Quadratic.even-root}
 use Rattle.binary_field_theory.proofs.{Search.first-found, Search.none-before, Search.all-none, Theorems.even-root-found, Theorems.even-root-none}
-use Rattle.jacobian.specs.{Checks.unless, Checks._or-else_, Refusals.IsRefusal, Refusals.refusals, Refusals.listed, Refusals.Told, Told.ReplyTold, Curves.f-row, Curves.degree-refusal, Curves.coefficient-refusal, Curves.curve-refusal, Answer.Reply, Answer.Verdict, Answer.accepted, Answer.refused, Answer.Accepts, declared.Curve.Curve, declared.Class.Class}
-use Rattle.jacobian.specs.Told as told
-use Rattle.jacobian.proofs.{Refusals.told-unless, Refusals.told-or-else, Told.curve-refusal-told, ByValue.Checks.curve-passes, ByValue.Checks.next-due}
+use Rattle.jacobian.specs.{Checks.unless, Checks._or-else_, Refusals.IsRefusal, Refusals.refusals, Refusals.listed, Refusals.ValidRefusal, Valid.ValidReply, Curves.f-row, Curves.degree-refusal, Curves.coefficient-refusal, Curves.curve-refusal, Answer.Reply, Answer.Verdict, Answer.accepted, Answer.refused, Answer.Accepts, declared.Curve.Curve, declared.Class.Class}
+use Rattle.jacobian.specs.Valid as valid
+use Rattle.jacobian.proofs.{Refusals.valid-unless, Refusals.valid-or-else, Valid.curve-refusal-valid, ByValue.Checks.curve-passes, ByValue.Checks.next-due}
 use Rattle.stamps.specs.Stamps.{value-at, point-class, class-at, first-class, stamp-refusal, stamped, stamp-answer, Rootless, FirstClass}
 use Rattle.stamps.proofs.{Search.candidate-lt, Search.passed, Points.point-accepts}
 
@@ -29,28 +29,28 @@ verdict-number : Verdict → ℕ
 verdict-number accepted = 0
 verdict-number (refused n) = n
 
-refusal-told : (c : Curve) (s : ℕ) → Told (stamp-refusal c s)
+refusal-valid : (c : Curve) (s : ℕ) → ValidRefusal (stamp-refusal c s)
 unfolding stamp-refusal IsRefusal refusals listed
-refusal-told c s = told-or-else _ _ (curve-refusal-told c) (told-unless _ 115 refl)
+refusal-valid c s = valid-or-else _ _ (curve-refusal-valid c) (valid-unless _ 115 refl)
 
-stamped-told : (n : ℕ) (o : Option Class) → Told n → ReplyTold (stamped n o)
-unfolding stamped Told IsRefusal refusals listed
-stamped-told zero (some a) t = told.ReplyTold.acceptance a 0
-stamped-told zero none t = told.ReplyTold.refusal 116 refl
-stamped-told (suc n) o (inl e) = absurd (omega arith)
-stamped-told (suc n) o (inr r) = told.ReplyTold.refusal (suc n) r
+stamped-valid : (n : ℕ) (o : Option Class) → ValidRefusal n → ValidReply (stamped n o)
+unfolding stamped ValidRefusal IsRefusal refusals listed
+stamped-valid zero (some a) t = valid.ValidReply.acceptance a 0
+stamped-valid zero none t = valid.ValidReply.refusal 116 refl
+stamped-valid (suc n) o (inl e) = absurd (omega arith)
+stamped-valid (suc n) o (inr r) = valid.ValidReply.refusal (suc n) r
 
-pub stamp-told : (c : Curve) (s : ℕ) → ReplyTold (stamp-answer c s)
+pub stamp-valid : (c : Curve) (s : ℕ) → ValidReply (stamp-answer c s)
 unfolding stamp-answer
-stamp-told c s = stamped-told (stamp-refusal c s) _ (refusal-told c s)
+stamp-valid c s = stamped-valid (stamp-refusal c s) _ (refusal-valid c s)
 
-reply-refuses : {r : Reply} {k : ℕ} → ReplyTold r → r .outcome ≡ refused k → IsRefusal k
+reply-refuses : {r : Reply} {k : ℕ} → ValidReply r → r .outcome ≡ refused k → IsRefusal k
 unfolding verdict-number
-reply-refuses (told.ReplyTold.acceptance a n) e = absurd (accepted-not-refused (sym e))
-reply-refuses (told.ReplyTold.refusal n i) e = subst IsRefusal (ap verdict-number e) i
+reply-refuses (valid.ValidReply.acceptance a n) e = absurd (accepted-not-refused (sym e))
+reply-refuses (valid.ValidReply.refusal n i) e = subst IsRefusal (ap verdict-number e) i
 
 pub stamp-refuses : (c : Curve) (s k : ℕ) → stamp-answer c s .outcome ≡ refused k → IsRefusal k
-stamp-refuses c s k e = reply-refuses (stamp-told c s) e
+stamp-refuses c s k e = reply-refuses (stamp-valid c s) e
 
 -- ---- an accepted stamp
 

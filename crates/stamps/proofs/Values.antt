@@ -9,7 +9,7 @@ use Rattle.char2_algebra.proofs.Ring.{𝟘-⊞, ·-𝟘}
 use Rattle.binary_field_theory.specs.{Carryless._⊕_, Element.Accepted, Element.product}
 use Rattle.binary_field_theory.proofs.{Sums.sum-zero, Products.product-zero}
 use Rattle.binary_field.specs.{Answer.reply, Answer.product-reply, declared.Answer.Answer, declared.Answer.the-variants.Element, declared.Answer.the-variants.Refused}
-use Rattle.binary_field.proofs.{Field.add-number, Field.mul-number, Field.nought-number, Replies.element-is, Replies.no-refusal, Replies.product-replies}
+use Rattle.binary_field.proofs.{Field.add-number, Field.mul-number, Field.zero-number, Replies.element-is, Replies.no-refusal, Replies.product-replies}
 use Rattle.class_group.specs.NonSingular.{evaluate}
 use Rattle.row_theory.specs.{Field.degree-of, Field.accepted, Field.K, Field.F, Field.el, Row.InRange, Row.filled}
 use Rattle.row_theory.proofs.Rows.Elements.{degree-is, el-number, el-zero}
@@ -18,7 +18,7 @@ use Rattle.stamps.specs.Stamps.{value-at}
 module _ (d : ℕ) where
   pub value-none : (x : ℕ) → 0 ≡ value-at d [] x
   unfolding value-at evaluate F
-  value-none x = sym (nought-number (degree-of d) (accepted d))
+  value-none x = sym (zero-number (degree-of d) (accepted d))
 
   -- the number of a sum with a product
   number-of : (a x e : K d) → (F d .ring .add a (F d .ring .mul x e)) .0 ≡ a .0 ⊕ product (degree-of d) (x .0) (e .0)
@@ -39,7 +39,7 @@ module _ (d : ℕ) where
   value-lt ok f x = subst (λ (n : ℕ). value-at d f x < 2 ^ n) (degree-is d ok) ((evaluate (F d .ring) (map (el d) f) (el d x)) .1)
 
   -- zeros at the end change nothing
-  zeros : (n : ℕ) (t : K d) → evaluate (F d .ring) (map (el d) (replicate n 0)) t ≡ F d .ring .nought
+  zeros : (n : ℕ) (t : K d) → evaluate (F d .ring) (map (el d) (replicate n 0)) t ≡ F d .ring .zero
   unfolding evaluate
   zeros zero t = refl
   zeros (suc n) t = ap₂ (λ a b. F d .ring .add a (F d .ring .mul t b)) (el-zero d) (zeros n t) ∙ 𝟘-⊞ (F d .ring) _ ∙ ·-𝟘 (F d .ring) t
@@ -85,8 +85,8 @@ module _ (d : ℕ) (f : List ℕ) (x : ℕ) where
   all-places {i} h e = let z : i ≡ 0 = omega arith in e ∙ ap (λ j. value-at d (drop j f) x) z
 
 -- the product in a step of Horner's rule, as the call answers it
-pub nought-times : (d x a : ℕ) {r : ℕ} → r ≡ 0 → a ≡ a ⊕ product d x r
-nought-times d x a e = sym (ap (λ z. a ⊕ product d x z) e ∙ ap (λ z. a ⊕ z) (product-zero d x) ∙ sum-zero a)
+pub zero-times : (d x a : ℕ) {r : ℕ} → r ≡ 0 → a ≡ a ⊕ product d x r
+zero-times d x a e = sym (ap (λ z. a ⊕ product d x z) e ∙ ap (λ z. a ⊕ z) (product-zero d x) ∙ sum-zero a)
 
 pub times-answered : (d x a : ℕ) {r p : ℕ} → Accepted d → x < 2 ^ d → r < 2 ^ d → {y : Answer} → y ≡ Element p → reply y ≡ product-reply d x r
     → bitXor a p ≡ a ⊕ product d x r

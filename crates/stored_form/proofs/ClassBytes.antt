@@ -8,14 +8,14 @@ use native.Mathlib.Decide.{decLe}
 use native.Mathlib.Omega.{arith}
 use lib.ListN.{length, take, length-take, length-reverse}
 use lib.Seq.{take-all}
-use Rattle.stored_form.specs.{Classes.row-written}
+use Rattle.stored_form.specs.{Classes.encode-row}
 
-pub length-row : (n : ℕ) (r : List ℕ) → length r ≡ 3 → n ≤ 3 → length (row-written n r) ≡ n
-unfolding row-written
+pub length-row : (n : ℕ) (r : List ℕ) → length r ≡ 3 → n ≤ 3 → length (encode-row n r) ≡ n
+unfolding encode-row
 length-row n r h le = length-reverse (take n r) ∙ length-take n r ∙ omega arith
 
-pub below-three : (r : List ℕ) (n : ℕ) → length r ≡ 3 → row-written (min n 3) r ≡ row-written n r
-unfolding row-written
+pub below-three : (r : List ℕ) (n : ℕ) → length r ≡ 3 → encode-row (min n 3) r ≡ encode-row n r
+unfolding encode-row
 below-three r n h = ap reverse (firsts (decLe n 3))
   where
     firsts : Dec (n ≤ 3) → take (min n 3) r ≡ take n r

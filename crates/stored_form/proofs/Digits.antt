@@ -15,17 +15,17 @@ use lib.Dec.{lit<}
 use lib.Arith.{digits-lt}
 use lib.ListN.{length, getD, take, drop, length-append, length-take, length-drop}
 use lib.Seq.{take-suc, getD-drop}
-use Rattle.stored_form.specs.Number.{number-of, bytes-of, Bytes, part}
+use Rattle.stored_form.specs.Number.{decode-number, encode-number, Bytes, part}
 
 -- ---- the number that bytes decode to
 
-pub number-lt : (bs : List ℕ) → Bytes bs → number-of bs < 256 ^ length bs
-unfolding number-of
+pub number-lt : (bs : List ℕ) → Bytes bs → decode-number bs < 256 ^ length bs
+unfolding decode-number
 number-lt [] h = lit< tt
 number-lt (b ∷ bs) h = rw pow-succ' (digits-lt (h 0) (number-lt bs (λ i. h (suc i))))
 
-pub number-snoc : (bs : List ℕ) (b : ℕ) → number-of (bs ++ b ∷ []) ≡ number-of bs * 256 + b
-unfolding number-of
+pub number-snoc : (bs : List ℕ) (b : ℕ) → decode-number (bs ++ b ∷ []) ≡ decode-number bs * 256 + b
+unfolding decode-number
 number-snoc [] b = omega arith
 number-snoc (a ∷ bs) b =
     let e : a * (256 ^ length bs * 256) ≡ (a * 256 ^ length bs) * 256 = sym (mul-assoc a (256 ^ length bs) 256) in
@@ -34,8 +34,8 @@ number-snoc (a ∷ bs) b =
 
 -- ---- the k lowest bytes of a number
 
-pub length-bytes : (k n : ℕ) → length (bytes-of k n) ≡ k
-unfolding bytes-of
+pub length-bytes : (k n : ℕ) → length (encode-number k n) ≡ k
+unfolding encode-number
 length-bytes zero n = refl
 length-bytes (suc k) n = ap suc (length-bytes k n)
 
@@ -51,26 +51,26 @@ pub part-bytes : (s : List ℕ) → Bytes s → (at k : ℕ) → Bytes (part s a
 part-bytes s h at k = take-bytes k (drop at s) (λ i. rw getD-drop (h (at + i)))
 
 pub number-more : (s : List ℕ) (at i : ℕ) → at + i < length s →
-    number-of (part s at (i + 1)) ≡ number-of (part s at i) * 256 + getD s (at + i) 0
+    decode-number (part s at (i + 1)) ≡ decode-number (part s at i) * 256 + getD s (at + i) 0
 number-more s at i h =
     rw (add-one, take-suc (drop at s) i 0 (rw length-drop (omega arith)), getD-drop) (number-snoc (part s at i) _)
 
-pub number-fits : (s : List ℕ) → Bytes s → (at k : ℕ) → k ≤ 8 → number-of (part s at k) < 2 ^ 64
+pub number-fits : (s : List ℕ) → Bytes s → (at k : ℕ) → k ≤ 8 → decode-number (part s at k) < 2 ^ 64
 number-fits s h at k le =
     lt-of-lt-of-le (number-lt (part s at k) (part-bytes s h at k))
     (pow-le-pow-right {n = 256} (lit< tt) {j = 8} (rw length-take (omega arith)))
 
-pub byte-fits : (s : List ℕ) → Bytes s → (at : ℕ) {n x : ℕ} → n ≡ 1 → x ≡ number-of (part s at n) → x < 2 ^ 8
+pub byte-fits : (s : List ℕ) → Bytes s → (at : ℕ) {n x : ℕ} → n ≡ 1 → x ≡ decode-number (part s at n) → x < 2 ^ 8
 byte-fits s h at {n} e f =
     let low : length (part s at n) ≤ 1 = rw length-take (omega arith) in
     let most : 256 ^ length (part s at n) ≤ 256 ^ 1 = pow-le-pow-right {n = 256} (lit< tt) {j = 1} low in
     rw f (lt-of-lt-of-le (number-lt (part s at n) (part-bytes s h at n)) most)
 
-pub turn-fits : (s : List ℕ) → Bytes s → (at k i n : ℕ) → k ≤ 8 → at + k ≤ length s → i < k → n ≡ number-of (part s at i) →
+pub turn-fits : (s : List ℕ) → Bytes s → (at k i n : ℕ) → k ≤ 8 → at + k ≤ length s → i < k → n ≡ decode-number (part s at i) →
     n * 256 + getD s (at + i) 0 < 2 ^ 64
 turn-fits s h at k i n le fits lt e =
     rw (e, ← number-more s at i (omega arith)) (number-fits s h at (i + 1) (omega arith))
 
-pub turn : (s : List ℕ) (at k i n b : ℕ) → at + k ≤ length s → i < k → n ≡ number-of (part s at i) → b ≡ getD s (at + i) 0 →
-    n * 256 + b ≡ number-of (part s at (i + 1))
+pub turn : (s : List ℕ) (at k i n b : ℕ) → at + k ≤ length s → i < k → n ≡ decode-number (part s at i) → b ≡ getD s (at + i) 0 →
+    n * 256 + b ≡ decode-number (part s at (i + 1))
 turn s at k i n b fits lt e f = rw (e, f) (sym (number-more s at i (omega arith)))

@@ -1,5 +1,5 @@
 -- The bytes of a drawing number, as the code copies them and as it tests them.
--- `name-said`: the name of a decoded drawing number is the bytes that it was decoded from.
+-- `name-decoded`: the name of a decoded drawing number is the bytes that it was decoded from.
 -- `too-low`, `too-high`, `one-more`, `none-left`: a turn of the loop that tests whether the bytes are printable.
 -- `copy-more`, `drawing-copied`: a turn of the loop that copies the bytes, and its end.
 use Prim.Native.Nat.{ℕ, suc, _+_, _-_, _≤_, _<_}
@@ -10,13 +10,13 @@ use native.Mathlib.Omega.{arith}
 use lib.ListN.{length, getD, take, drop, set, replicate}
 use lib.Seq.{sets, drop-cons, take-append-seam}
 use borrow.Author.Tests.{lt-leb, le-leb}
-use Rattle.stored_form.specs.{Number.part, Head.drawing-limit, Fields.printable, Held.drawing-said, Held.drawing-name}
+use Rattle.stored_form.specs.{Number.part, Head.drawing-limit, Fields.printable, Record.decode-drawing, Record.drawing-name}
 use Rattle.stored_form.specs.declared.Drawing.{Drawing}
 use Rattle.stored_form.proofs.{Parts.length-part, Parts.part-more, Stores.store-next, Stores.filled}
 
-pub name-said : (xs : List ℕ) → drawing-name (drawing-said xs) ≡ xs
-unfolding drawing-name drawing-said
-name-said xs = take-append-seam xs _
+pub name-decoded : (xs : List ℕ) → drawing-name (decode-drawing xs) ≡ xs
+unfolding drawing-name decode-drawing
+name-decoded xs = take-append-seam xs _
 
 -- whether the bytes from index i on are printable, by byte i
 module _ (bs : List ℕ) (k i : ℕ) (within : k ≤ length bs) (lt : i < k) where
@@ -51,8 +51,8 @@ copy-more s at k i b d {r} within lt e f =
     ∙ ap (sets d 0) (ap (λ (x : ℕ). part s at i ++ x ∷ []) f ∙ sym (part-more s at i (omega arith)))
 
 pub drawing-copied : (s : List ℕ) (at k i : ℕ) {r : List ℕ} → k ≤ drawing-limit → at + k ≤ length s → k ≤ i → i ≤ k → r ≡ sets (replicate drawing-limit 0) 0 (part s at i) →
-    _≡_ {A = Drawing} (record { len = k; bytes = r }) (drawing-said (part s at k))
-unfolding drawing-said
+    _≡_ {A = Drawing} (record { len = k; bytes = r }) (decode-drawing (part s at k))
+unfolding decode-drawing
 drawing-copied s at k i {r} short within h₁ h₂ e =
     let z : i ≡ k = omega arith in
     let len : length (part s at k) ≡ k = length-part s at k within in

@@ -10,42 +10,42 @@ use lib.Dec.{eqb, ltb}
 use lib.ListN.{length, getD}
 use borrow.Author.Tests.{lt-ltb, le-ltb, eq-eqb, ne-eqb, ltb-false, eqb-true, not-false}
 use Rattle.stored_form.specs.Reading.{Reading, found, refused, refuse}
-use Rattle.stored_form.specs.{Head.body-length, Tags.rules, Records.head-at, declared.Held.Held}
+use Rattle.stored_form.specs.{Head.body-length, Tags.rules, Reader.read-head, declared.Record.Record}
 use Rattle.stored_form.proofs.Readings.{refuse-found, same-found}
 
-module _ (tag : ℕ) (h : Held) (s : List ℕ) (at : ℕ) where
-  pub head-102 : length s < at + 3 → head-at tag h s at ≡ refused 102
-  unfolding head-at
+module _ (tag : ℕ) (h : Record) (s : List ℕ) (at : ℕ) where
+  pub head-102 : length s < at + 3 → read-head tag h s at ≡ refused 102
+  unfolding read-head
   head-102 short = rw (lt-ltb (length s) (at + 3) short)
 
-  pub head-103 : at + 3 ≤ length s → (getD s at 0 ≡ tag → ⊥) → head-at tag h s at ≡ refused 103
-  unfolding head-at
+  pub head-103 : at + 3 ≤ length s → (getD s at 0 ≡ tag → ⊥) → read-head tag h s at ≡ refused 103
+  unfolding read-head
   head-103 fits other = rw (le-ltb (length s) (at + 3) fits, ne-eqb (getD s at 0) tag other)
 
   -- the checks of the length n that the head gives
   module _ {n : ℕ} (read : n ≡ body-length s at) (fits : at + 3 ≤ length s) (due : getD s at 0 ≡ tag) where
-    pub head-104 : rules tag .allows h n ≡ false → head-at tag h s at ≡ refused 104
-    unfolding head-at
+    pub head-104 : rules tag .allows h n ≡ false → read-head tag h s at ≡ refused 104
+    unfolding read-head
     head-104 a = rw (le-ltb (length s) (at + 3) fits, eq-eqb (getD s at 0) tag due, ← read, a)
 
-    pub head-105 : rules tag .allows h n ≡ true → length s < at + 3 + n → head-at tag h s at ≡ refused 105
-    unfolding head-at
+    pub head-105 : rules tag .allows h n ≡ true → length s < at + 3 + n → read-head tag h s at ≡ refused 105
+    unfolding read-head
     head-105 a b = rw (le-ltb (length s) (at + 3) fits, eq-eqb (getD s at 0) tag due, ← read, a, lt-ltb (length s) (at + 3 + n) b)
 
-    pub head-whole : rules tag .allows h n ≡ true → at + 3 + n ≤ length s → head-at tag h s at ≡ found n (at + 3 + n)
-    unfolding head-at
+    pub head-whole : rules tag .allows h n ≡ true → at + 3 + n ≤ length s → read-head tag h s at ≡ found n (at + 3 + n)
+    unfolding read-head
     head-whole a b = rw (le-ltb (length s) (at + 3) fits, eq-eqb (getD s at 0) tag due, ← read, a, le-ltb (length s) (at + 3 + n) b)
 
 -- what holds of a head that was found
-pub record Whole (tag : ℕ) (h : Held) (s : List ℕ) (at n next : ℕ) : Type 0 where
+pub record Whole (tag : ℕ) (h : Record) (s : List ℕ) (at n next : ℕ) : Type 0 where
   pub due : getD s at 0 ≡ tag
   pub said : n ≡ body-length s at
   pub allows : rules tag .allows h n ≡ true
   pub ends : next ≡ at + 3 + n
   pub fits : next ≤ length s
 
-pub head-found : (tag : ℕ) (h : Held) (s : List ℕ) (at : ℕ) {n next : ℕ} → head-at tag h s at ≡ found n next → Whole tag h s at n next
-unfolding head-at
+pub head-found : (tag : ℕ) (h : Record) (s : List ℕ) (at : ℕ) {n next : ℕ} → read-head tag h s at ≡ found n next → Whole tag h s at n next
+unfolding read-head
 head-found tag h s at {n} {next} e₀ =
     let len = body-length s at in
     let whole : Reading ℕ = found len (at + 3 + len) in

@@ -12,8 +12,8 @@ use native.Mathlib.Omega.{arith}
 use lib.Dec.{eqb, lit≤}
 use lib.ListN.{length}
 use borrow.Author.Tests.{ne-eqb, eqb-true, leb-true}
-use Rattle.stored_form.specs.{Number.bytes-of, Fields.count-field, Tags.rules, Tags.longest-body, declared.Held.Held}
-use Rattle.stored_form.specs.Head.{degree-length, curve-length, count-length, drawing-limit, class-length, class-limit, head-bytes, stored}
+use Rattle.stored_form.specs.{Number.encode-number, Fields.count-field, Tags.rules, Tags.longest-body, declared.Record.Record}
+use Rattle.stored_form.specs.Head.{degree-length, curve-length, count-length, drawing-limit, class-length, class-limit, head-bytes, encode-field}
 
 pub class-length-last : (n : ℕ) → (n ≡ 0 → ⊥) → (n ≡ 16 → ⊥) → (n ≡ 32 → ⊥) → class-length n ≡ eqb n 48
 unfolding class-length
@@ -21,7 +21,7 @@ class-length-last n h₀ h₁ h₂ = rw (ne-eqb n 0 h₀, ne-eqb n 16 h₁, ne-e
 
 -- ---- the lengths that are allowed
 
-module _ (h : Held) where
+module _ (h : Record) where
   pub allows-none : (t n : ℕ) → (t ≡ 0x40 → ⊥) → (t ≡ 0x41 → ⊥) → (t ≡ 0x46 → ⊥) → (t ≡ 0x42 → ⊥) → (t ≡ 0x43 → ⊥) → (t ≡ 0x44 → ⊥) →
       rules t .allows h n ≡ false
   unfolding rules
@@ -70,7 +70,7 @@ class-length-le = by-class-length (λ n. n ≤ class-limit) (lit≤ tt) (lit≤ 
 pub class-length-even : (n : ℕ) → class-length n ≡ true → 16 * (n / 16) ≡ n
 class-length-even = by-class-length (λ n. 16 * (n / 16) ≡ n) refl refl refl refl
 
-module _ (h : Held) where
+module _ (h : Record) where
   pub by-tag : (P : ℕ → Type 0) → P 0x40 → P 0x41 → P 0x46 → P 0x42 → P 0x43 → P 0x44 → (t n : ℕ) → rules t .allows h n ≡ true → P t
   by-tag P p₀ p₁ p₆ p₂ p₃ p₄ t n e =
       by-case P t 0x40 p₀ (λ a₀. by-case P t 0x41 p₁ (λ a₁. by-case P t 0x46 p₆ (λ a₆. by-case P t 0x42 p₂ (λ a₂. by-case P t 0x43 p₃ (λ a₃. by-case P t 0x44 p₄
@@ -97,10 +97,10 @@ module _ (h : Held) where
 
 -- ---- the length of a field
 
-pub length-stored : (tag : ℕ) (body : List ℕ) → length (stored tag body) ≡ 3 + length body
-unfolding stored head-bytes bytes-of
+pub length-stored : (tag : ℕ) (body : List ℕ) → length (encode-field tag body) ≡ 3 + length body
+unfolding encode-field head-bytes encode-number
 length-stored tag body = omega arith
 
 pub length-count : (n : ℕ) → length (count-field n) ≡ 3 + count-length
-unfolding count-field stored head-bytes bytes-of
+unfolding count-field encode-field head-bytes encode-number
 length-count n = refl

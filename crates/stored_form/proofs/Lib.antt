@@ -11,4 +11,4 @@ pub mod Passing
 pub mod Items
 pub mod ElementBytes
 pub mod ClassBytes
-pub mod ToldApart
+pub mod Valid

@@ -2,18 +2,18 @@
 use Prim.Native.Nat.{ℕ, zero, suc}
 use mathlib.Core.List.{List, [], _∷_, _++_}
 use lib.ListN.{take, drop}
-use Rattle.stored_form.specs.Number.{number-of, bytes-of}
+use Rattle.stored_form.specs.Number.{decode-number, encode-number}
 
 -- the number of bytes of an element
 abbrev pub element-length : ℕ
 element-length = 8
 
 -- the k elements that bytes decode to
-unfoldable pub elements : ℕ → List ℕ → List ℕ
-elements zero s = []
-elements (suc k) s = number-of (take element-length s) ∷ elements k (drop element-length s)
+unfoldable pub decode-elements : ℕ → List ℕ → List ℕ
+decode-elements zero s = []
+decode-elements (suc k) s = decode-number (take element-length s) ∷ decode-elements k (drop element-length s)
 
 -- elements encoded, one after the other
-unfoldable pub element-bytes : List ℕ → List ℕ
-element-bytes [] = []
-element-bytes (x ∷ xs) = bytes-of element-length x ++ element-bytes xs
+unfoldable pub encode-elements : List ℕ → List ℕ
+encode-elements [] = []
+encode-elements (x ∷ xs) = encode-number element-length x ++ encode-elements xs

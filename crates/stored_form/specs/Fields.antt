@@ -6,20 +6,20 @@ use lib.ListN.{length}
 use lib.Dec.{leb, ltb}
 use Rattle.jacobian.specs.Checks.{unless}
 unfoldable pub use Rattle.count_limit.specs.Limit.{count-limit, count-refusal}
-use Rattle.stored_form.specs.{Number.bytes-of, Reading.Reading, Reading.found, Reading.checked}
-use Rattle.stored_form.specs.Head.{degree-length, count-length, stored}
+use Rattle.stored_form.specs.{Number.encode-number, Reading.Reading, Reading.found, Reading.checked}
+use Rattle.stored_form.specs.Head.{degree-length, count-length, encode-field}
 
 -- ---- the degree
 
 -- the field of a degree, 0x40
 unfoldable pub degree-field : ℕ → List ℕ
-degree-field d = stored 0x40 (bytes-of degree-length d)
+degree-field d = encode-field 0x40 (encode-number degree-length d)
 
 -- ---- the count of operations
 
 -- the field of a count, 0x42
 unfoldable pub count-field : ℕ → List ℕ
-count-field n = stored 0x42 (bytes-of count-length n)
+count-field n = encode-field 0x42 (encode-number count-length n)
 
 -- ---- the drawing number
 
@@ -34,7 +34,7 @@ drawing-refusal bytes = unless (printable bytes) 108
 
 -- the field of a drawing number, 0x46
 unfoldable pub drawing-field : List ℕ → List ℕ
-drawing-field bytes = stored 0x46 bytes
+drawing-field bytes = encode-field 0x46 bytes
 
 -- ---- the end
 

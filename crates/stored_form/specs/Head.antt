@@ -6,7 +6,7 @@ use mathlib.Core.List.{List, _∷_, _++_}
 use lib.ListN.{length}
 use lib.Dec.{eqb}
 use Rattle.jacobian.specs.Curves.{coefficient-count}
-use Rattle.stored_form.specs.{Number.number-of, Number.bytes-of, Number.part, Elements.element-length}
+use Rattle.stored_form.specs.{Number.decode-number, Number.encode-number, Number.part, Elements.element-length}
 
 -- ---- lengths
 
@@ -42,16 +42,16 @@ class-room = 3 + class-limit
 
 -- the body's length that the head at an offset gives
 unfoldable pub body-length : List ℕ → ℕ → ℕ
-body-length s at = number-of (part s (at + 1) 2)
+body-length s at = decode-number (part s (at + 1) 2)
 
 -- a head encoded: the tag, and the body's length in two bytes
 unfoldable pub head-bytes : ℕ → ℕ → List ℕ
-head-bytes tag n = tag ∷ bytes-of 2 n
+head-bytes tag n = tag ∷ encode-number 2 n
 
 -- a field encoded: its head and its body
-unfoldable pub stored : ℕ → List ℕ → List ℕ
-stored tag body = head-bytes tag (length body) ++ body
+unfoldable pub encode-field : ℕ → List ℕ → List ℕ
+encode-field tag body = head-bytes tag (length body) ++ body
 
 -- the bytes xs stand in s at an offset
-abbrev pub StandsAt : List ℕ → ℕ → List ℕ → Type 0
-StandsAt s at xs = part s at (length xs) ≡ xs
+abbrev pub BytesAt : List ℕ → ℕ → List ℕ → Type 0
+BytesAt s at xs = part s at (length xs) ≡ xs

@@ -6,7 +6,7 @@ pub mod Cuts
 pub mod Fields
 pub mod Elements
 pub mod Classes
-pub mod Held
+pub mod Record
 pub mod Tags
-pub mod Records
+pub mod Reader
 pub mod Passing

@@ -4,14 +4,14 @@ use mathlib.Core.List.{List, [], _∷_}
 use lib.ListN.{length, getD, take, drop}
 
 -- the number that bytes decode to
-unfoldable pub number-of : List ℕ → ℕ
-number-of [] = 0
-number-of (b ∷ bs) = b * 256 ^ length bs + number-of bs
+unfoldable pub decode-number : List ℕ → ℕ
+decode-number [] = 0
+decode-number (b ∷ bs) = b * 256 ^ length bs + decode-number bs
 
 -- the k lowest bytes of a number, high byte first
-unfoldable pub bytes-of : ℕ → ℕ → List ℕ
-bytes-of zero n = []
-bytes-of (suc k) n = n / 256 ^ k % 256 ∷ bytes-of k n
+unfoldable pub encode-number : ℕ → ℕ → List ℕ
+encode-number zero n = []
+encode-number (suc k) n = n / 256 ^ k % 256 ∷ encode-number k n
 
 -- every number of the list is below 256
 abbrev pub Bytes : List ℕ → Type 0

@@ -5,29 +5,29 @@ use mathlib.Core.List.{List, []}
 use lib.Dec.{eqb, leb}
 use Rattle.jacobian.specs.{Curves.coefficients, Curves.degree-refusal, Curves.curve-refusal, Answer.refusal}
 use Rattle.jacobian.specs.declared.Class.{Class}
-use Rattle.stored_form.specs.{Number.number-of, Number.bytes-of, Elements.element-bytes, Fields.count-refusal, Fields.drawing-refusal}
-use Rattle.stored_form.specs.Head.{degree-length, curve-length, count-length, drawing-limit, class-length, class-limit, stored}
-use Rattle.stored_form.specs.Classes.{curve-said, class-said, class-body}
-use Rattle.stored_form.specs.Held.{drawing-said, drawing-name, curve-of-degree, with-curve, with-drawing, with-count, with-class, with-operation}
-use Rattle.stored_form.specs.declared.Held.{Held}
+use Rattle.stored_form.specs.{Number.decode-number, Number.encode-number, Elements.encode-elements, Fields.count-refusal, Fields.drawing-refusal}
+use Rattle.stored_form.specs.Head.{degree-length, curve-length, count-length, drawing-limit, class-length, class-limit, encode-field}
+use Rattle.stored_form.specs.Classes.{decode-curve, decode-class, encode-class}
+use Rattle.stored_form.specs.Record.{decode-drawing, drawing-name, curve-of-degree, with-curve, with-drawing, with-count, with-class, with-operation}
+use Rattle.stored_form.specs.declared.Record.{Record}
 
 -- the rules of a tag
 pub record Rules : Type 0 where
   -- whether its body may have this length, after the record that was read
-  pub allows : Held → ℕ → Bool
+  pub allows : Record → ℕ → Bool
   -- the record with the value that the body decodes to
-  pub hold : List ℕ → Held → Held
+  pub with-field : List ℕ → Record → Record
   -- the body that encodes this tag's value of the record
-  pub body : Held → List ℕ
+  pub body : Record → List ℕ
   -- the refusal of the record once a body of this length was read, and 0 if there is none
-  pub check : ℕ → Held → ℕ
+  pub check : ℕ → Record → ℕ
 
 -- the degree, 5 or 61; the curve has all coefficients 0 until 0x41 is read
 abbrev pub degree-rules : Rules
 degree-rules = record {
   allows = λ h n. eqb n degree-length;
-  hold = λ body h. with-curve (curve-of-degree (number-of body)) h;
-  body = λ h. bytes-of degree-length (h .curve .degree);
+  with-field = λ body h. with-curve (curve-of-degree (decode-number body)) h;
+  body = λ h. encode-number degree-length (h .curve .degree);
   check = λ n h. degree-refusal (h .curve .degree);
 }
 
@@ -35,8 +35,8 @@ degree-rules = record {
 abbrev pub curve-rules : Rules
 curve-rules = record {
   allows = λ h n. eqb n curve-length;
-  hold = λ body h. with-curve (curve-said (h .curve .degree) body) h;
-  body = λ h. element-bytes (coefficients (h .curve));
+  with-field = λ body h. with-curve (decode-curve (h .curve .degree) body) h;
+  body = λ h. encode-elements (coefficients (h .curve));
   check = λ n h. curve-refusal (h .curve);
 }
 
@@ -44,7 +44,7 @@ curve-rules = record {
 abbrev pub drawing-rules : Rules
 drawing-rules = record {
   allows = λ h n. leb n drawing-limit;
-  hold = λ body h. with-drawing (drawing-said body) h;
+  with-field = λ body h. with-drawing (decode-drawing body) h;
   body = λ h. drawing-name (h .drawing);
   check = λ n h. drawing-refusal (drawing-name (h .drawing));
 }
@@ -53,23 +53,23 @@ drawing-rules = record {
 abbrev pub count-rules : Rules
 count-rules = record {
   allows = λ h n. eqb n count-length;
-  hold = λ body h. with-count (number-of body) h;
-  body = λ h. bytes-of count-length (h .count);
+  with-field = λ body h. with-count (decode-number body) h;
+  body = λ h. encode-number count-length (h .count);
   check = λ n h. count-refusal (h .count);
 }
 
 -- a class on the curve that was read, stored and found in the record by `with` and `value`
-abbrev pub class-rules : (Class → Held → Held) → (Held → Class) → Rules
+abbrev pub class-rules : (Class → Record → Record) → (Record → Class) → Rules
 class-rules with value = record {
   allows = λ h n. class-length n;
-  hold = λ body h. with (class-said body) h;
-  body = λ h. class-body (value h);
+  with-field = λ body h. with (decode-class body) h;
+  body = λ h. encode-class (value h);
   check = λ n h. refusal (h .curve) (value h);
 }
 
 -- a byte that is no tag: no length is allowed
 abbrev pub no-rules : Rules
-no-rules = record { allows = λ h n. false; hold = λ body h. h; body = λ h. []; check = λ n h. 0 }
+no-rules = record { allows = λ h n. false; with-field = λ body h. h; body = λ h. []; check = λ n h. 0 }
 
 -- the rules of a tag
 unfoldable pub rules : ℕ → Rules
@@ -87,5 +87,5 @@ abbrev pub longest-body : ℕ
 longest-body = max drawing-limit class-limit
 
 -- the field with this tag that encodes its value of the record
-unfoldable pub field-bytes : ℕ → Held → List ℕ
-field-bytes tag h = stored tag (rules tag .body h)
+unfoldable pub field-bytes : ℕ → Record → List ℕ
+field-bytes tag h = encode-field tag (rules tag .body h)

@@ -5,14 +5,14 @@ ghost use lib.ListN.{length, take};
 ghost use Rattle.stored_form.specs.Number.{part};
 ghost use Rattle.stored_form.specs.Head.{drawing-limit};
 ghost use Rattle.stored_form.specs.Fields.{printable, drawing-refusal};
-ghost use Rattle.stored_form.specs.Held.{drawing-said, drawing-name};
+ghost use Rattle.stored_form.specs.Record.{decode-drawing, drawing-name};
 use crate::DRAWING_LIMIT;
 use crate::Drawing;
 
 // The drawing number decoded from len bytes at an offset.
-pub(crate) fn drawing_of(s: &[u8], at: usize, len: usize) -> Drawing
+pub(crate) fn decode_drawing(s: &[u8], at: usize, len: usize) -> Drawing
     requires { ⌜ (len ≤ drawing-limit) × (at + len ≤ length (now s)) ⌝ }
-    ensures { λ r. ⌜ r ≡ drawing-said (part (now (s .entry)) at len) ⌝ }
+    ensures { λ r. ⌜ r ≡ decode-drawing (part (now (s .entry)) at len) ⌝ }
 {
     let mut bytes = [0u8; DRAWING_LIMIT];
     let mut i = 0;

@@ -3,8 +3,8 @@ ghost use mathlib.Core.Path.{_≡_};
 ghost use mathlib.Core.Bool.{true};
 ghost use Prim.Native.Nat.{_+_, _≤_};
 ghost use lib.ListN.{length};
-ghost use Rattle.stored_form.specs.{Number.part, Head.drawing-limit, Held.curve-of-degree, Tags.rules};
-use crate::Held;
+ghost use Rattle.stored_form.specs.{Number.part, Head.drawing-limit, Record.curve-of-degree, Tags.rules};
+use crate::Record;
 use crate::classes;
 use crate::drawings;
 use crate::numbers;
@@ -19,33 +19,33 @@ fn curve_of_degree(d: u8) -> Curve
 }
 
 // The record h with the value of this tag decoded from len bytes at an offset.
-pub(crate) fn hold(tag: u8, h: Held, s: &[u8], at: usize, len: usize) -> Held
+pub(crate) fn with_field(tag: u8, h: Record, s: &[u8], at: usize, len: usize) -> Record
     requires { ⌜ (rules tag .allows h len ≡ true) × (at + len ≤ length (now s)) ⌝ }
-    ensures { λ r. ⌜ r ≡ rules tag .hold (part (now (s .entry)) at len) h ⌝ }
+    ensures { λ r. ⌜ r ≡ rules tag .with-field (part (now (s .entry)) at len) h ⌝ }
 {
     let mut more = h;
     if tag == crate::DEGREE {
-        let curve = curve_of_degree(numbers::number_at(s, at, len) as u8);
+        let curve = curve_of_degree(numbers::decode_number(s, at, len) as u8);
         more.curve = curve;
         return more;
     }
     if tag == crate::CURVE {
         let before = h.curve;
-        let curve = classes::curve_of(s, at, before.degree);
+        let curve = classes::decode_curve(s, at, before.degree);
         more.curve = curve;
         return more;
     }
     if tag == crate::DRAWING {
-        let drawing = drawings::drawing_of(s, at, len);
+        let drawing = drawings::decode_drawing(s, at, len);
         more.drawing = drawing;
         return more;
     }
     if tag == crate::COUNT {
-        let count = numbers::number_at(s, at, len);
+        let count = numbers::decode_number(s, at, len);
         more.count = count;
         return more;
     }
-    let class = classes::class_of(s, at, len);
+    let class = classes::decode_class(s, at, len);
     if tag == crate::CLASS {
         let previous = h.class;
         more.previous = previous;
@@ -57,7 +57,7 @@ pub(crate) fn hold(tag: u8, h: Held, s: &[u8], at: usize, len: usize) -> Held
 }
 
 // The refusal of the record once a body of len bytes was read, and 0 if there is none.
-pub(crate) fn field_refusal(tag: u8, len: usize, h: Held) -> u32
+pub(crate) fn field_refusal(tag: u8, len: usize, h: Record) -> u32
     requires { ⌜ (tag ≡ 0x46 → h .drawing .len ≤ drawing-limit) ⌝ }
     ensures { λ r. ⌜ r ≡ rules tag .check len h ⌝ }
 {

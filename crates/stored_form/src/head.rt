@@ -3,9 +3,9 @@ ghost use mathlib.Core.Path.{_≡_};
 ghost use Prim.Native.Nat.{_-_};
 ghost use lib.ListN.{length};
 ghost use Rattle.stored_form.specs.Reading.{reading-refusal};
-ghost use Rattle.stored_form.specs.{Head.class-length, Tags.rules, Records.head-at, Records.head-read};
+ghost use Rattle.stored_form.specs.{Head.class-length, Tags.rules, Reader.read-head, Reader.head-reading};
 use crate::Cursor;
-use crate::Held;
+use crate::Record;
 use crate::numbers;
 
 // The head of a field: the body's length and the offset after the body.
@@ -31,7 +31,7 @@ fn class_allows(len: usize) -> bool
 }
 
 // Whether a tag allows this length after the record h.
-fn allows(tag: u8, h: Held, len: usize) -> bool
+fn allows(tag: u8, h: Record, len: usize) -> bool
     ensures { λ r. ⌜ r ≡ rules tag .allows h len ⌝ }
 {
     if tag == crate::DEGREE {
@@ -66,8 +66,8 @@ fn left(s: &[u8], at: usize) -> usize
 }
 
 // The head of the field at an offset, where this tag is expected after the record h.
-pub(crate) fn head_at(tag: u8, h: Held, s: &[u8], at: Cursor) -> Head
-    ensures { λ r. ⌜ head-read r ≡ head-at tag h (now (s .entry)) (at .at) ⌝ }
+pub(crate) fn read_head(tag: u8, h: Record, s: &[u8], at: Cursor) -> Head
+    ensures { λ r. ⌜ head-reading r ≡ read-head tag h (now (s .entry)) (at .at) ⌝ }
 {
     let i = at.at;
     let n = left(s, i);
@@ -77,7 +77,7 @@ pub(crate) fn head_at(tag: u8, h: Held, s: &[u8], at: Cursor) -> Head
     if s[i] != tag {
         return Head::Refused(103);
     }
-    let len = numbers::number_at(s, i + 1, 2) as usize;
+    let len = numbers::decode_number(s, i + 1, 2) as usize;
     if !allows(tag, h, len) {
         return Head::Refused(104);
     }
@@ -92,7 +92,7 @@ pub(crate) fn head_at(tag: u8, h: Held, s: &[u8], at: Cursor) -> Head
 
 // The number of a head's refusal, and 0 if there is none.
 pub(crate) fn head_refusal(h: Head) -> u32
-    ensures { λ r. ⌜ r ≡ reading-refusal (head-read h) ⌝ }
+    ensures { λ r. ⌜ r ≡ reading-refusal (head-reading h) ⌝ }
 {
     match h {
         Head::Body { len: _, next: _ } => 0,

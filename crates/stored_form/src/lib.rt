@@ -3,8 +3,8 @@
 // A reader answers the record with the offset of the next field, or the number of a refusal with the empty record.
 ghost use mathlib.Core.Path.{_≡_};
 ghost use Rattle.stored_form.specs.Reading.{found, refused, checked};
-ghost use Rattle.stored_form.specs.{Fields.end-refusal, Held.nothing-held};
-ghost use Rattle.stored_form.specs.Records.{read-field, read-fields, read-record, read-of, place-refusal};
+ghost use Rattle.stored_form.specs.{Fields.end-refusal, Record.empty-record};
+ghost use Rattle.stored_form.specs.Reader.{read-field, read-fields, read-record, read-of, offset-refusal};
 
 pub mod classes;
 mod drawings;
@@ -31,18 +31,18 @@ pub const OPERATION: u8 = 0x44;
 pub const DRAWING: u8 = 0x46;
 
 // The layouts of records: the tags that are expected, in order.
-pub const CURVE_RECORD: [u8; 2] = [DEGREE, CURVE];
+pub const CURVE_LAYOUT: [u8; 2] = [DEGREE, CURVE];
 
-pub const CLASS_RECORD: [u8; 3] = [DEGREE, CURVE, CLASS];
+pub const CLASS_LAYOUT: [u8; 3] = [DEGREE, CURVE, CLASS];
 
-pub const SUM_RECORD: [u8; 4] = [DEGREE, CURVE, CLASS, CLASS];
+pub const SUM_LAYOUT: [u8; 4] = [DEGREE, CURVE, CLASS, CLASS];
 
-pub const REGISTER_RECORD: [u8; 5] = [DEGREE, CURVE, COUNT, CLASS, OPERATION];
+pub const REGISTER_LAYOUT: [u8; 5] = [DEGREE, CURVE, COUNT, CLASS, OPERATION];
 
 // The number of fields of an archive's header, and its layout: the fields before the operations.
-pub const OPENING_FIELDS: usize = 5;
+pub const HEADER_FIELDS: usize = 5;
 
-pub const ARCHIVE_OPENING: [u8; OPENING_FIELDS] = [DEGREE, CURVE, DRAWING, COUNT, CLASS];
+pub const HEADER_LAYOUT: [u8; HEADER_FIELDS] = [DEGREE, CURVE, DRAWING, COUNT, CLASS];
 
 // The number of bytes of an element.
 pub const ELEMENT_LENGTH: usize = 8;
@@ -68,7 +68,7 @@ pub struct Cursor {
 }
 
 // The offset of the next field, or the number of the refusal.
-pub enum Place {
+pub enum Offset {
     Next(Cursor),
     Refused(u32),
 }
@@ -80,7 +80,7 @@ pub struct Drawing {
 }
 
 // A record: what the fields read so far say. Of two classes the first is the previous one.
-pub struct Held {
+pub struct Record {
     pub curve: Curve,
     pub drawing: Drawing,
     pub count: u64,
@@ -91,17 +91,17 @@ pub struct Held {
 
 // A record with the offset of the next field; the empty record on a refusal.
 pub struct Read {
-    pub place: Place,
-    pub held: Held,
+    pub offset: Offset,
+    pub values: Record,
 }
 
 // The number of a refusal, and 0 if there is none.
-pub fn place_refusal(p: Place) -> u32
-    ensures { λ r. ⌜ r ≡ place-refusal p ⌝ }
+pub fn offset_refusal(p: Offset) -> u32
+    ensures { λ r. ⌜ r ≡ offset-refusal p ⌝ }
 {
     match p {
-        Place::Next(_) => 0,
-        Place::Refused(n) => n,
+        Offset::Next(_) => 0,
+        Offset::Refused(n) => n,
     }
 }
 
@@ -116,13 +116,13 @@ pub fn end_refusal(s: &[u8], at: Cursor) -> u32
 }
 
 // The record before the first field, which is also the one of a refused reading.
-pub fn nothing_held() -> Held
-    ensures { λ r. ⌜ r ≡ nothing-held ⌝ }
+pub fn empty_record() -> Record
+    ensures { λ r. ⌜ r ≡ empty-record ⌝ }
 {
     let curve = jacobian::curves::blank_curve();
     let neutral = jacobian::neutral();
     let bytes = [0u8; DRAWING_LIMIT];
-    Held {
+    Record {
         curve,
         drawing: Drawing { len: 0, bytes },
         count: 0,
@@ -136,60 +136,60 @@ pub fn nothing_held() -> Held
 pub fn refused(n: u32) -> Read
     ensures { λ r. ⌜ r ≡ read-of (refused n) ⌝ }
 {
-    let held = nothing_held();
+    let values = empty_record();
     Read {
-        place: Place::Refused(n),
-        held,
+        offset: Offset::Refused(n),
+        values,
     }
 }
 
 // The record and the next offset if n is 0, else refusal n.
-pub fn settled(n: u32, held: Held, next: Cursor) -> Read
-    ensures { λ r. ⌜ r ≡ read-of (checked n (found held (next .at))) ⌝ }
+pub fn checked(n: u32, values: Record, next: Cursor) -> Read
+    ensures { λ r. ⌜ r ≡ read-of (checked n (found values (next .at))) ⌝ }
 {
     if n != 0 {
         return refused(n);
     }
     Read {
-        place: Place::Next(next),
-        held,
+        offset: Offset::Next(next),
+        values,
     }
 }
 
 // Reads the field at an offset, where this tag is expected, into the record h.
-pub fn read_field(tag: u8, h: Held, s: &[u8], at: Cursor) -> Read
+pub fn read_field(tag: u8, h: Record, s: &[u8], at: Cursor) -> Read
     ensures { λ r. ⌜ r ≡ read-of (read-field tag h (now (s .entry)) (at .at)) ⌝ }
 {
     let i = at.at;
-    let f = head::head_at(tag, h, s, at);
+    let f = head::read_head(tag, h, s, at);
     let Head::Body { len, next } = f else {
         return refused(head::head_refusal(f));
     };
-    let more = fields::hold(tag, h, s, i + 3, len);
-    settled(fields::field_refusal(tag, len, more), more, next)
+    let more = fields::with_field(tag, h, s, i + 3, len);
+    checked(fields::field_refusal(tag, len, more), more, next)
 }
 
 // Reads the fields with these tags, one after the other from an offset on, into the record h.
-pub fn read_fields(tags: &[u8], h: Held, s: &[u8], start: Cursor) -> Read
+pub fn read_fields(tags: &[u8], h: Record, s: &[u8], start: Cursor) -> Read
     ensures { λ r. ⌜ r ≡ read-of (read-fields (now (tags .entry)) h (now (s .entry)) (start .at)) ⌝ }
 {
-    let mut held = h;
+    let mut values = h;
     let mut at = start.at;
     let mut i = 0;
     while i < tags.len() {
-        let r = read_field(tags[i], held, s, Cursor { at });
-        let place = r.place;
-        let Place::Next(next) = place else {
+        let r = read_field(tags[i], values, s, Cursor { at });
+        let offset = r.offset;
+        let Offset::Next(next) = offset else {
             return r;
         };
-        let more = r.held;
-        held = more;
+        let more = r.values;
+        values = more;
         at = next.at;
         i += 1;
     }
     Read {
-        place: Place::Next(Cursor { at }),
-        held,
+        offset: Offset::Next(Cursor { at }),
+        values,
     }
 }
 
@@ -197,11 +197,11 @@ pub fn read_fields(tags: &[u8], h: Held, s: &[u8], start: Cursor) -> Read
 pub fn read_record(tags: &[u8], s: &[u8]) -> Read
     ensures { λ r. ⌜ r ≡ read-of (read-record (now (tags .entry)) (now (s .entry))) ⌝ }
 {
-    let r = read_fields(tags, nothing_held(), s, Cursor { at: 0 });
-    let place = r.place;
-    let Place::Next(end) = place else {
+    let r = read_fields(tags, empty_record(), s, Cursor { at: 0 });
+    let offset = r.offset;
+    let Offset::Next(end) = offset else {
         return r;
     };
-    let held = r.held;
-    settled(end_refusal(s, end), held, end)
+    let values = r.values;
+    checked(end_refusal(s, end), values, end)
 }

@@ -2,12 +2,12 @@
 ghost use mathlib.Core.Path.{_≡_};
 ghost use Prim.Native.Nat.{_+_, _≤_};
 ghost use lib.ListN.{length};
-ghost use Rattle.stored_form.specs.Number.{number-of, bytes-of, part};
+ghost use Rattle.stored_form.specs.Number.{decode-number, encode-number, part};
 
 // The number decoded from k bytes at an offset.
-pub(crate) fn number_at(s: &[u8], at: usize, k: usize) -> u64
+pub(crate) fn decode_number(s: &[u8], at: usize, k: usize) -> u64
     requires { ⌜ (k ≤ 8) × (at + k ≤ length (now s)) ⌝ }
-    ensures { λ r. ⌜ r ≡ number-of (part (now (s .entry)) at k) ⌝ }
+    ensures { λ r. ⌜ r ≡ decode-number (part (now (s .entry)) at k) ⌝ }
 {
     let mut n: u64 = 0;
     let mut i = 0;

@@ -1,6 +1,6 @@
 -- The body of a class and the class determine each other.
--- `class-body-said`: the class that a body decodes to is encoded by that body.
--- `body-said`: the body of a class that no check refuses decodes to the class.
+-- `encode-decode-class`: the class that a body decodes to is encoded by that body.
+-- `decode-body`: the body of a class that no check refuses decodes to the class.
 -- `body-allowed`: the length of that body is allowed.
 -- `class-short`: the field of such a class is no longer than `class-room`.
 use Prim.Native.Nat.{ℕ, zero, suc, _+_, _*_, _/_, _^_, _≤_}
@@ -14,29 +14,29 @@ use lib.Seq.{take-at, drop-at}
 use Rattle.lists.proofs.Lists.{all-of, all-reverse, all-append, all-take}
 use Rattle.jacobian.specs.{Answer.refusal, declared.Curve.Curve, declared.Class.Class}
 use Rattle.jacobian.proofs.{ByValue.Degrees.by-degree, ByValue.Threes.by-three, ByValue.Answers.passes}
-use Rattle.stored_form.specs.{Number.Bytes, Head.class-room, Head.class-limit, Head.class-length, Head.stored, Elements.elements, Elements.element-bytes}
-use Rattle.stored_form.specs.Classes.{row-said, class-said, row-written, class-body, class-field}
-use Rattle.stored_form.proofs.{Lengths.class-length-le, Lengths.class-length-even, Lengths.length-stored, Items.length-elements, ElementBytes.length-element-bytes, ElementBytes.element-bytes-append}
+use Rattle.stored_form.specs.{Number.Bytes, Head.class-room, Head.class-limit, Head.class-length, Head.encode-field, Elements.decode-elements, Elements.encode-elements}
+use Rattle.stored_form.specs.Classes.{decode-row, decode-class, encode-row, encode-class, class-field}
+use Rattle.stored_form.proofs.{Lengths.class-length-le, Lengths.class-length-even, Lengths.length-stored, Items.length-elements, ElementBytes.length-encode-elements, ElementBytes.encode-elements-append}
 use Rattle.stored_form.proofs.ClassBytes.{length-row}
 use Rattle.stored_form_theorems.proofs.Elements.{Small, elements-bytes, bytes-elements, fits}
 
 -- ---- rows, and the order in which they are stored
 
 -- up to three coefficients, highest power first, as a row and back
-row-back : (xs : List ℕ) → length xs ≤ 3 → row-written (length xs) (row-said xs) ≡ xs
-unfolding row-written row-said
+row-back : (xs : List ℕ) → length xs ≤ 3 → encode-row (length xs) (decode-row xs) ≡ xs
+unfolding encode-row decode-row
 row-back [] h = refl
 row-back (x ∷ []) h = refl
 row-back (x ∷ y ∷ []) h = refl
 row-back (x ∷ y ∷ z ∷ []) h = refl
 row-back (x ∷ y ∷ z ∷ w ∷ xs) h = absurd (omega arith)
 
-row-ahead : (n : ℕ) (r : List ℕ) → length r ≡ 3 → n ≤ 3 → ((i : ℕ) → n ≤ i → getD r i 0 ≡ 0) → row-said (row-written n r) ≡ r
-unfolding row-written row-said
+row-ahead : (n : ℕ) (r : List ℕ) → length r ≡ 3 → n ≤ 3 → ((i : ℕ) → n ≤ i → getD r i 0 ≡ 0) → decode-row (encode-row n r) ≡ r
+unfolding encode-row decode-row
 row-ahead n r long le =
-    by-three (λ r. ((i : ℕ) → n ≤ i → getD r i 0 ≡ 0) → row-said (row-written n r) ≡ r) (λ x y z. go n le x y z) r long
+    by-three (λ r. ((i : ℕ) → n ≤ i → getD r i 0 ≡ 0) → decode-row (encode-row n r) ≡ r) (λ x y z. go n le x y z) r long
   where
-    go : (n : ℕ) → n ≤ 3 → (x y z : ℕ) → ((i : ℕ) → n ≤ i → getD (x ∷ y ∷ z ∷ []) i 0 ≡ 0) → row-said (row-written n (x ∷ y ∷ z ∷ [])) ≡ x ∷ y ∷ z ∷ []
+    go : (n : ℕ) → n ≤ 3 → (x y z : ℕ) → ((i : ℕ) → n ≤ i → getD (x ∷ y ∷ z ∷ []) i 0 ≡ 0) → decode-row (encode-row n (x ∷ y ∷ z ∷ [])) ≡ x ∷ y ∷ z ∷ []
     go zero le x y z h = rw (h 0 (lit≤ tt), h 1 (lit≤ tt), h 2 (lit≤ tt))
     go (suc zero) le x y z h = rw (h 1 (lit≤ tt), h 2 (lit≤ tt))
     go (suc (suc zero)) le x y z h = rw (h 2 (lit≤ tt))
@@ -45,23 +45,23 @@ row-ahead n r long le =
 
 -- ---- a class
 
-pub class-body-said : (body : List ℕ) → class-length (length body) ≡ true → Bytes body → class-body (class-said body) ≡ body
-unfolding class-said
-class-body-said body ok b =
+pub encode-decode-class : (body : List ℕ) → class-length (length body) ≡ true → Bytes body → encode-class (decode-class body) ≡ body
+unfolding decode-class
+encode-decode-class body ok b =
     let n = length body / 16 in
-    let es = elements (n + n) body in
+    let es = decode-elements (n + n) body in
     let low : length body ≤ class-limit = class-length-le (length body) ok in
     let even : 16 * n ≡ length body = class-length-even (length body) ok in
     let all : length es ≡ n + n = length-elements (n + n) body in
     let first : length (take n es) ≡ n = length-take n es ∙ omega arith in
     let second : length (drop n es) ≡ n = length-drop n es ∙ omega arith in
-    let u : row-written n (row-said (take n es)) ≡ take n es =
-    ap (λ (k : ℕ). row-written k (row-said (take n es))) (sym first) ∙ row-back (take n es) (omega arith) in
-    let v : row-written n (row-said (drop n es)) ≡ drop n es =
-    ap (λ (k : ℕ). row-written k (row-said (drop n es))) (sym second) ∙ row-back (drop n es) (omega arith) in
-    ap₂ (λ (xs ys : List ℕ). element-bytes xs ++ element-bytes ys) u v
-    ∙ sym (element-bytes-append (take n es) (drop n es))
-    ∙ ap element-bytes (take-append-drop n es)
+    let u : encode-row n (decode-row (take n es)) ≡ take n es =
+    ap (λ (k : ℕ). encode-row k (decode-row (take n es))) (sym first) ∙ row-back (take n es) (omega arith) in
+    let v : encode-row n (decode-row (drop n es)) ≡ drop n es =
+    ap (λ (k : ℕ). encode-row k (decode-row (drop n es))) (sym second) ∙ row-back (drop n es) (omega arith) in
+    ap₂ (λ (xs ys : List ℕ). encode-elements xs ++ encode-elements ys) u v
+    ∙ sym (encode-elements-append (take n es) (drop n es))
+    ∙ ap encode-elements (take-append-drop n es)
     ∙ bytes-elements (n + n) body (omega arith) b
 
 -- a class whose rows have three coefficients that fit eight bytes, 0 from its degree on
@@ -88,40 +88,40 @@ shaped c a ok =
       v-fits = all-of (a .v) 0 (λ i. fits (c .degree) small (p .1 .range .v-below i));
     }
 
-length-body : (a : Class) → Shaped a → length (class-body a) ≡ 16 * a .degree
+length-body : (a : Class) → Shaped a → length (encode-class a) ≡ 16 * a .degree
 length-body a h =
     let n = a .degree in
-    let x : length (element-bytes (row-written n (a .u))) ≡ 8 * n =
-    length-element-bytes (row-written n (a .u)) ∙ ap (λ (k : ℕ). 8 * k) (length-row n (a .u) (h .u-three) (h .low)) in
-    let y : length (element-bytes (row-written n (a .v))) ≡ 8 * n =
-    length-element-bytes (row-written n (a .v)) ∙ ap (λ (k : ℕ). 8 * k) (length-row n (a .v) (h .v-three) (h .low)) in
-    length-append (element-bytes (row-written n (a .u))) (element-bytes (row-written n (a .v))) ∙ omega arith
+    let x : length (encode-elements (encode-row n (a .u))) ≡ 8 * n =
+    length-encode-elements (encode-row n (a .u)) ∙ ap (λ (k : ℕ). 8 * k) (length-row n (a .u) (h .u-three) (h .low)) in
+    let y : length (encode-elements (encode-row n (a .v))) ≡ 8 * n =
+    length-encode-elements (encode-row n (a .v)) ∙ ap (λ (k : ℕ). 8 * k) (length-row n (a .v) (h .v-three) (h .low)) in
+    length-append (encode-elements (encode-row n (a .u))) (encode-elements (encode-row n (a .v))) ∙ omega arith
 
-row-small : (n : ℕ) (r : List ℕ) → Small r → Small (row-written n r)
-unfolding row-written
+row-small : (n : ℕ) (r : List ℕ) → Small r → Small (encode-row n r)
+unfolding encode-row
 row-small n r h = all-reverse (all-take n h)
 
 -- the elements of its body
 body-elements : (a : Class) → Shaped a →
-    elements (a .degree + a .degree) (class-body a) ≡ row-written (a .degree) (a .u) ++ row-written (a .degree) (a .v)
+    decode-elements (a .degree + a .degree) (encode-class a) ≡ encode-row (a .degree) (a .u) ++ encode-row (a .degree) (a .v)
 body-elements a h =
     let n = a .degree in
-    let us = row-written n (a .u) in
-    let vs = row-written n (a .v) in
+    let us = encode-row n (a .u) in
+    let vs = encode-row n (a .v) in
     let u : length us ≡ n = length-row n (a .u) (h .u-three) (h .low) in
     let v : length vs ≡ n = length-row n (a .v) (h .v-three) (h .low) in
     let both : length (us ++ vs) ≡ n + n = length-append us vs ∙ omega arith in
-    ap₂ (λ (k : ℕ) (bs : List ℕ). elements k bs) (sym both) (sym (element-bytes-append us vs))
+    ap₂ (λ (k : ℕ) (bs : List ℕ). decode-elements k bs) (sym both) (sym (encode-elements-append us vs))
     ∙ elements-bytes (us ++ vs) (all-append (row-small n (a .u) (h .u-fits)) (row-small n (a .v) (h .v-fits)))
 
-class-said-field : (a : Class) → Shaped a → class-said (class-body a) ≡ a
-unfolding class-said
-class-said-field a h =
+decode-encode-class : (a : Class) → Shaped a → decode-class (encode-class a) ≡ a
+unfolding decode-class
+decode-encode-class a h =
     let n = a .degree in
-    let us = row-written n (a .u) in
-    let vs = row-written n (a .v) in
+    let us = encode-row n (a .u) in
+    let vs = encode-row n (a .v) in
     let u : length us ≡ n = length-row n (a .u) (h .u-three) (h .low) in
-    let count : length (class-body a) / 16 ≡ n = omega (arith, length-body a h) in
+    let count : length (encode-class a) / 16 ≡ n = omega (arith, length-body a h) in
     rw (
       count,
       body-elements a h,
@@ -140,10 +140,10 @@ class-length-of (suc (suc (suc zero))) h = refl
 class-length-of (suc (suc (suc (suc n)))) h = absurd (omega arith)
 
 module _ (c : Curve) (a : Class) (ok : refusal c a ≡ 0) where
-  pub body-said : class-said (class-body a) ≡ a
-  body-said = class-said-field a (shaped c a ok)
+  pub decode-body : decode-class (encode-class a) ≡ a
+  decode-body = decode-encode-class a (shaped c a ok)
 
-  pub body-allowed : class-length (length (class-body a)) ≡ true
+  pub body-allowed : class-length (length (encode-class a)) ≡ true
   body-allowed = let k = shaped c a ok in ap class-length (length-body a k) ∙ class-length-of (a .degree) (k .low)
 
 pub class-short : (tag : ℕ) (c : Curve) (a : Class) → refusal c a ≡ 0 → length (class-field tag a) ≤ class-room
@@ -151,6 +151,6 @@ unfolding class-field
 class-short tag c a ok =
     let k = shaped c a ok in
     let low : a .degree ≤ 3 = k .low in
-    let body : length (class-body a) ≡ 16 * a .degree = length-body a k in
-    let all : length (stored tag (class-body a)) ≡ 3 + length (class-body a) = length-stored tag (class-body a) in
+    let body : length (encode-class a) ≡ 16 * a .degree = length-body a k in
+    let all : length (encode-field tag (encode-class a)) ≡ 3 + length (encode-class a) = length-stored tag (encode-class a) in
     omega arith

@@ -8,16 +8,16 @@ use mathlib.Core.List.{List, _++_}
 use native.Mathlib.{Nat.zero-add, Omega.arith}
 use lib.{ListN.length, ListN.take-append-drop, Seq.take-at, Seq.drop-at}
 use Rattle.jacobian.specs.{Curves.coefficients, declared.Curve.Curve}
-use Rattle.stored_form.specs.{Number.bytes-of, Head.degree-length, Head.count-length, Head.body-length, Head.stored, Elements.element-bytes, Fields.degree-field, Fields.count-field}
-use Rattle.stored_form.specs.{Classes.curve-field, Classes.curve-first-fields, Cuts.fields-end, Cuts.take-fields, Cuts.drop-fields}
-use Rattle.stored_form.proofs.{Digits.length-bytes, ElementBytes.length-element-bytes, Lengths.length-stored}
+use Rattle.stored_form.specs.{Number.encode-number, Head.degree-length, Head.count-length, Head.body-length, Head.encode-field, Elements.encode-elements, Fields.degree-field, Fields.count-field}
+use Rattle.stored_form.specs.{Classes.curve-field, Classes.curve-fields-bytes, Cuts.fields-end, Cuts.take-fields, Cuts.drop-fields}
+use Rattle.stored_form.proofs.{Digits.length-bytes, ElementBytes.length-encode-elements, Lengths.length-stored}
 use Rattle.stored_form_theorems.specs.Fields.{Field}
 use Rattle.stored_form_theorems.proofs.{Bodies.stored-length, Places.apart, Places.whole}
 
 -- k encoded fields, from an offset to the next
 pub data FieldsAt (s : List ℕ) : ℕ → ℕ → ℕ → Type 0 where
   none : {at : ℕ} → FieldsAt s 0 at at
-  field : {k at middle next : ℕ} (tag : ℕ) (body : List ℕ) → length body < 256 ^ 2 → Field s at (stored tag body) middle → FieldsAt s k middle next → FieldsAt s (suc k) at next
+  field : {k at middle next : ℕ} (tag : ℕ) (body : List ℕ) → length body < 256 ^ 2 → Field s at (encode-field tag body) middle → FieldsAt s k middle next → FieldsAt s (suc k) at next
 
 pub fields-at-end : {s : List ℕ} {k at next : ℕ} → FieldsAt s k at next → fields-end k s at ≡ next
 unfolding fields-end
@@ -46,11 +46,11 @@ module _ (rest : List ℕ) where
 
   pub count-cut : (n : ℕ) → FieldsAt (count-field n ++ rest) 1 0 (length (count-field n))
   unfolding count-field
-  count-cut n = field 0x42 (bytes-of count-length n) (omega (arith, length-bytes count-length n)) (front (count-field n)) none
+  count-cut n = field 0x42 (encode-number count-length n) (omega (arith, length-bytes count-length n)) (front (count-field n)) none
 
-  pub curve-cut : (c : Curve) → FieldsAt (curve-first-fields c ++ rest) 2 0 (length (curve-first-fields c))
-  unfolding curve-first-fields degree-field curve-field coefficients
+  pub curve-cut : (c : Curve) → FieldsAt (curve-fields-bytes c ++ rest) 2 0 (length (curve-fields-bytes c))
+  unfolding curve-fields-bytes degree-field curve-field coefficients
   curve-cut c =
-      let f = apart (degree-field (c .degree)) (curve-field c) (front (curve-first-fields c)) in
-      field 0x40 (bytes-of degree-length (c .degree)) (omega (arith, length-bytes degree-length (c .degree))) (f .1)
-      (field 0x41 (element-bytes (coefficients c)) (omega (arith, length-element-bytes (coefficients c))) (f .2) none)
+      let f = apart (degree-field (c .degree)) (curve-field c) (front (curve-fields-bytes c)) in
+      field 0x40 (encode-number degree-length (c .degree)) (omega (arith, length-bytes degree-length (c .degree))) (f .1)
+      (field 0x41 (encode-elements (coefficients c)) (omega (arith, length-encode-elements (coefficients c))) (f .2) none)

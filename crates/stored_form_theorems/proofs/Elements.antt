@@ -10,7 +10,7 @@ use lib.Dec.{lit≤}
 use lib.ListN.{length, take, drop, length-take, length-drop, take-append-drop}
 use lib.Seq.{getD-drop}
 use Rattle.lists.specs.Lists.{All, more}
-use Rattle.stored_form.specs.{Number.number-of, Number.bytes-of, Number.Bytes, Elements.elements, Elements.element-bytes}
+use Rattle.stored_form.specs.{Number.decode-number, Number.encode-number, Number.Bytes, Elements.decode-elements, Elements.encode-elements}
 use Rattle.stored_form.proofs.Digits.{part-bytes}
 use Rattle.stored_form_theorems.proofs.Numbers.{bytes-number, number-bytes-small}
 
@@ -18,20 +18,20 @@ use Rattle.stored_form_theorems.proofs.Numbers.{bytes-number, number-by
 abbrev pub Small : List ℕ → Type 0
 Small = All (λ x. x < 2 ^ 64)
 
-pub elements-bytes : (xs : List ℕ) → Small xs → elements (length xs) (element-bytes xs) ≡ xs
-unfolding elements element-bytes bytes-of
+pub elements-bytes : (xs : List ℕ) → Small xs → decode-elements (length xs) (encode-elements xs) ≡ xs
+unfolding decode-elements encode-elements encode-number
 elements-bytes [] h = refl
 elements-bytes (x ∷ xs) (more h r) = ap₂ (λ (y : ℕ) (ys : List ℕ). y ∷ ys) (number-bytes-small 8 x h) (elements-bytes xs r)
 
-pub bytes-elements : (k : ℕ) (s : List ℕ) → length s ≡ 8 * k → Bytes s → element-bytes (elements k s) ≡ s
-unfolding elements element-bytes
+pub bytes-elements : (k : ℕ) (s : List ℕ) → length s ≡ 8 * k → Bytes s → encode-elements (decode-elements k s) ≡ s
+unfolding decode-elements encode-elements
 bytes-elements zero [] h b = refl
 bytes-elements zero (x ∷ s) h b = absurd (omega arith)
 bytes-elements (suc k) s h b =
     let first : length (take 8 s) ≡ 8 = length-take 8 s ∙ omega arith in
     let rest : length (drop 8 s) ≡ 8 * k = length-drop 8 s ∙ omega arith in
     ap₂ (λ (xs ys : List ℕ). xs ++ ys)
-    (ap (λ (j : ℕ). bytes-of j (number-of (take 8 s))) (sym first) ∙ bytes-number (take 8 s) (part-bytes s b 0 8))
+    (ap (λ (j : ℕ). encode-number j (decode-number (take 8 s))) (sym first) ∙ bytes-number (take 8 s) (part-bytes s b 0 8))
     (bytes-elements k (drop 8 s) rest (λ i. rw getD-drop (b (8 + i))))
     ∙ take-append-drop 8 s
 

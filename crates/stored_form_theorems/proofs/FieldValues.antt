@@ -12,14 +12,14 @@ use borrow.Author.Tests.{eqb-true, leb-true, le-leb}
 use Rattle.lists.proofs.Lists.{all-of}
 use Rattle.jacobian.specs.{Checks.unless, Curves.coefficients, Curves.curve-with, Curves.degree-refusal, Curves.curve-refusal, declared.Curve.Curve}
 use Rattle.jacobian.proofs.ByValue.{Degrees.by-degree, Checks.curve-passes, Checks.then-zero}
-use Rattle.stored_form.specs.{Number.number-of, Number.bytes-of, Head.degree-length, Head.count-length, Head.drawing-limit, Elements.element-bytes, Passing.DegreePasses, Passing.CurvePasses, Passing.CountPasses, Passing.DrawingPasses, Passing.ClassPasses}
+use Rattle.stored_form.specs.{Number.decode-number, Number.encode-number, Head.degree-length, Head.count-length, Head.drawing-limit, Elements.encode-elements, Passing.DegreePasses, Passing.CurvePasses, Passing.CountPasses, Passing.DrawingPasses, Passing.ClassPasses}
 use Rattle.stored_form.specs.Fields.{degree-field, count-field, count-limit, count-refusal, drawing-field, drawing-refusal}
-use Rattle.stored_form.specs.Classes.{curve-said, curve-field, curve-first-fields, class-said, class-body, class-field}
-use Rattle.stored_form.specs.Held.{drawing-said, drawing-name, nothing-held, curve-of-degree, with-curve, with-drawing, with-count, with-class, with-operation}
-use Rattle.stored_form.specs.{Tags.rules, declared.Held.Held}
-use Rattle.stored_form.proofs.{Digits.length-bytes, ElementBytes.length-element-bytes, Readings.test-passed, DrawingBytes.name-said, Lengths.class-lengths, Lengths.operation-lengths, Lengths.is-drawing-length}
-use Rattle.stored_form_theorems.specs.{Fields.FieldLaw, Records.Leads}
-use Rattle.stored_form_theorems.proofs.{Numbers.number-bytes-small, Elements.Small, Elements.elements-bytes, Elements.fits, ClassRoundTrips.body-said, ClassRoundTrips.body-allowed}
+use Rattle.stored_form.specs.Classes.{decode-curve, curve-field, curve-fields-bytes, decode-class, encode-class, class-field}
+use Rattle.stored_form.specs.Record.{decode-drawing, drawing-name, empty-record, curve-of-degree, with-curve, with-drawing, with-count, with-class, with-operation}
+use Rattle.stored_form.specs.{Tags.rules, declared.Record.Record}
+use Rattle.stored_form.proofs.{Digits.length-bytes, ElementBytes.length-encode-elements, Readings.test-passed, DrawingBytes.name-decoded, Lengths.class-lengths, Lengths.operation-lengths, Lengths.is-drawing-length}
+use Rattle.stored_form_theorems.specs.{Fields.FieldLaw, Records.RecordEncodes}
+use Rattle.stored_form_theorems.proofs.{Numbers.number-bytes-small, Elements.Small, Elements.elements-bytes, Elements.fits, ClassRoundTrips.decode-body, ClassRoundTrips.body-allowed}
 use Rattle.stored_form_theorems.proofs.FieldLaws.{field-law, more, first-value}
 
 -- ---- values that pass fit their bytes
@@ -42,9 +42,9 @@ curve-fits c ok =
     let small = by-degree (λ d. 2 ^ d ≤ 2 ^ 61) (lit≤ tt) (lit≤ tt) (c .degree) (p .accepted) in
     all-of (coefficients c) 0 (λ i. fits (c .degree) small (p .coefficients-below i))
 
-curve-said-field : (c : Curve) → CurvePasses c → curve-said (c .degree) (element-bytes (coefficients c)) ≡ c
-unfolding curve-said coefficients curve-with
-curve-said-field c ok = rw (elements-bytes (coefficients c) (curve-fits c ok))
+decode-encode-curve : (c : Curve) → CurvePasses c → decode-curve (c .degree) (encode-elements (coefficients c)) ≡ c
+unfolding decode-curve coefficients curve-with
+decode-encode-curve c ok = rw (elements-bytes (coefficients c) (curve-fits c ok))
 
 degree-passes : (c : Curve) → CurvePasses c → DegreePasses (c .degree)
 unfolding curve-refusal degree-refusal
@@ -52,37 +52,37 @@ degree-passes c ok = test-passed _ (lit< tt) (then-zero _ _ ok .0)
 
 -- ---- the laws
 
-module _ (h : Held) where
+module _ (h : Record) where
   pub degree-law : FieldLaw 0x40 h DegreePasses degree-field (λ d. with-curve (curve-of-degree d) h) (λ m. m .curve .degree)
   unfolding rules curve-of-degree curve-with degree-refusal degree-field unless
   degree-law =
-      field-law 0x40 h DegreePasses (bytes-of degree-length) number-of (λ d. with-curve (curve-of-degree d) h) (λ m. m .curve .degree)
+      field-law 0x40 h DegreePasses (encode-number degree-length) decode-number (λ d. with-curve (curve-of-degree d) h) (λ m. m .curve .degree)
       (λ m. refl) (λ d. refl) (λ b. refl)
       (λ d ok. (number-bytes-small degree-length d (degree-small d ok), rw ok, rw (length-bytes degree-length d) refl))
       (λ b none fits. test-passed _ (lit< tt) none)
 
   pub curve-law : FieldLaw 0x41 h (λ c. (c .degree ≡ h .curve .degree) × CurvePasses c) curve-field (λ c. with-curve c h) (λ m. m .curve)
-  unfolding rules curve-field curve-said curve-with coefficients
+  unfolding rules curve-field decode-curve curve-with coefficients
   curve-law =
-      field-law 0x41 h _ (λ c. element-bytes (coefficients c)) (curve-said (h .curve .degree)) (λ c. with-curve c h) (λ m. m .curve)
+      field-law 0x41 h _ (λ c. encode-elements (coefficients c)) (decode-curve (h .curve .degree)) (λ c. with-curve c h) (λ m. m .curve)
       (λ m. refl) (λ c. refl) (λ b. refl)
       (λ c ok.
-      let said = ap (λ (d : ℕ). curve-said d (element-bytes (coefficients c))) (sym (ok .0)) ∙ curve-said-field c (ok .1) in
-      (said, ok .1, rw (length-element-bytes (coefficients c)) refl))
+      let said = ap (λ (d : ℕ). decode-curve d (encode-elements (coefficients c))) (sym (ok .0)) ∙ decode-encode-curve c (ok .1) in
+      (said, ok .1, rw (length-encode-elements (coefficients c)) refl))
       (λ b none fits. (refl, none))
 
-  pub drawing-law : FieldLaw 0x46 h DrawingPasses drawing-field (λ xs. with-drawing (drawing-said xs) h) (λ m. drawing-name (m .drawing))
+  pub drawing-law : FieldLaw 0x46 h DrawingPasses drawing-field (λ xs. with-drawing (decode-drawing xs) h) (λ m. drawing-name (m .drawing))
   unfolding rules drawing-field drawing-refusal unless
   drawing-law =
-      field-law 0x46 h DrawingPasses (λ xs. xs) (λ b. b) (λ xs. with-drawing (drawing-said xs) h) (λ m. drawing-name (m .drawing))
-      (λ m. refl) name-said (λ b. refl)
-      (λ xs ok. (refl, rw (name-said xs, ok .0), le-leb (length xs) drawing-limit (ok .1)))
-      (λ b none fits. (test-passed _ (lit< tt) (ap drawing-refusal (sym (name-said b)) ∙ none), is-drawing-length h {n = length b} fits))
+      field-law 0x46 h DrawingPasses (λ xs. xs) (λ b. b) (λ xs. with-drawing (decode-drawing xs) h) (λ m. drawing-name (m .drawing))
+      (λ m. refl) name-decoded (λ b. refl)
+      (λ xs ok. (refl, rw (name-decoded xs, ok .0), le-leb (length xs) drawing-limit (ok .1)))
+      (λ b none fits. (test-passed _ (lit< tt) (ap drawing-refusal (sym (name-decoded b)) ∙ none), is-drawing-length h {n = length b} fits))
 
   pub count-law : FieldLaw 0x42 h CountPasses count-field (λ n. with-count n h) (λ m. m .count)
   unfolding rules count-field count-refusal unless
   count-law =
-      field-law 0x42 h CountPasses (bytes-of count-length) number-of (λ n. with-count n h) (λ m. m .count)
+      field-law 0x42 h CountPasses (encode-number count-length) decode-number (λ n. with-count n h) (λ m. m .count)
       (λ m. refl) (λ n. refl) (λ b. refl)
       (λ n ok. (number-bytes-small count-length n (count-small n ok), rw (le-leb n count-limit ok), rw (length-bytes count-length n) refl))
       (λ b none fits. leb-true _ _ (test-passed _ (lit< tt) none))
@@ -90,30 +90,30 @@ module _ (h : Held) where
   pub class-law : FieldLaw 0x43 h (ClassPasses (h .curve)) (class-field 0x43) (λ a. with-class a h) (λ m. m .class)
   unfolding rules class-field
   class-law =
-      field-law 0x43 h (ClassPasses (h .curve)) class-body class-said (λ a. with-class a h) (λ m. m .class) (λ m. refl) (λ a. refl) (λ b. refl)
-      (λ a ok. (body-said (h .curve) a (ok .none), ok .none, class-lengths h (length (class-body a)) ∙ body-allowed (h .curve) a (ok .none)))
+      field-law 0x43 h (ClassPasses (h .curve)) encode-class decode-class (λ a. with-class a h) (λ m. m .class) (λ m. refl) (λ a. refl) (λ b. refl)
+      (λ a ok. (decode-body (h .curve) a (ok .none), ok .none, class-lengths h (length (encode-class a)) ∙ body-allowed (h .curve) a (ok .none)))
       (λ b none fits. record { none = none })
 
   pub operation-law : FieldLaw 0x44 h (ClassPasses (h .curve)) (class-field 0x44) (λ a. with-operation a h) (λ m. m .operation)
   unfolding rules class-field
   operation-law =
-      field-law 0x44 h (ClassPasses (h .curve)) class-body class-said (λ a. with-operation a h) (λ m. m .operation) (λ m. refl) (λ a. refl) (λ b. refl)
-      (λ a ok. (body-said (h .curve) a (ok .none), ok .none, operation-lengths h (length (class-body a)) ∙ body-allowed (h .curve) a (ok .none)))
+      field-law 0x44 h (ClassPasses (h .curve)) encode-class decode-class (λ a. with-operation a h) (λ m. m .operation) (λ m. refl) (λ a. refl) (λ b. refl)
+      (λ a ok. (decode-body (h .curve) a (ok .none), ok .none, operation-lengths h (length (encode-class a)) ∙ body-allowed (h .curve) a (ok .none)))
       (λ b none fits. record { none = none })
 
 -- ---- degree and curve, with which every record begins
 
-module _ {tags s : List ℕ} {last : Held} where
-  pub curve-more : (c : Curve) → CurvePasses c → Leads tags (with-curve c nothing-held) (curve-first-fields c) last s → Leads (0x40 ∷ 0x41 ∷ tags) nothing-held [] last s
-  unfolding curve-first-fields curve-of-degree curve-with
+module _ {tags s : List ℕ} {last : Record} where
+  pub curve-more : (c : Curve) → CurvePasses c → RecordEncodes tags (with-curve c empty-record) (curve-fields-bytes c) last s → RecordEncodes (0x40 ∷ 0x41 ∷ tags) empty-record [] last s
+  unfolding curve-fields-bytes curve-of-degree curve-with
   curve-more c ok rest =
-      more (degree-law nothing-held) (c .degree) (degree-passes c ok) (more (curve-law (with-curve (curve-of-degree (c .degree)) nothing-held)) c (refl, ok) rest)
+      more (degree-law empty-record) (c .degree) (degree-passes c ok) (more (curve-law (with-curve (curve-of-degree (c .degree)) empty-record)) c (refl, ok) rest)
 
-  pub first-curve : Leads (0x40 ∷ 0x41 ∷ tags) nothing-held [] last s →
-      (c : Curve) × CurvePasses c × Leads tags (with-curve c nothing-held) (curve-first-fields c) last s
-  unfolding curve-first-fields curve-of-degree curve-with
+  pub first-curve : RecordEncodes (0x40 ∷ 0x41 ∷ tags) empty-record [] last s →
+      (c : Curve) × CurvePasses c × RecordEncodes tags (with-curve c empty-record) (curve-fields-bytes c) last s
+  unfolding curve-fields-bytes curve-of-degree curve-with
   first-curve l =
-      let d = first-value (degree-law nothing-held) l in
-      let c = first-value (curve-law (with-curve (curve-of-degree (d .0)) nothing-held)) (d .2) in
-      let rest = subst (λ (n : ℕ). Leads tags (with-curve (c .0) nothing-held) (degree-field n ++ curve-field (c .0)) last s) (sym (c .1 .0)) (c .2) in
+      let d = first-value (degree-law empty-record) l in
+      let c = first-value (curve-law (with-curve (curve-of-degree (d .0)) empty-record)) (d .2) in
+      let rest = subst (λ (n : ℕ). RecordEncodes tags (with-curve (c .0) empty-record) (degree-field n ++ curve-field (c .0)) last s) (sym (c .1 .0)) (c .2) in
       (c .0, c .1 .1, rest)

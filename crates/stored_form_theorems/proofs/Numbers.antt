@@ -9,27 +9,27 @@ use native.Mathlib.Omega.{arith}
 use lib.Dec.{lit<}
 use lib.Arith.{digits-div, mod-mul}
 use lib.ListN.{length}
-use Rattle.stored_form.specs.Number.{number-of, bytes-of, Bytes}
+use Rattle.stored_form.specs.Number.{decode-number, encode-number, Bytes}
 use Rattle.stored_form.proofs.Digits.{number-lt, length-bytes}
 
 pow-pos : (k : ℕ) → 0 < 256 ^ k
 pow-pos zero = lit< tt
 pow-pos (suc k) = rw pow-suc (omega (arith, pow-pos k))
 
-pub number-bytes : (k n : ℕ) → number-of (bytes-of k n) ≡ n % 256 ^ k
-unfolding number-of bytes-of
+pub number-bytes : (k n : ℕ) → decode-number (encode-number k n) ≡ n % 256 ^ k
+unfolding decode-number encode-number
 number-bytes zero n = omega arith
 number-bytes (suc k) n =
-    let low : number-of (bytes-of k n) ≡ n % 256 ^ k = number-bytes k n in
+    let low : decode-number (encode-number k n) ≡ n % 256 ^ k = number-bytes k n in
     ap₂ (λ (l r : ℕ). (n / 256 ^ k % 256) * 256 ^ l + r) (length-bytes k n) low
     ∙ sym (ap (λ (m : ℕ). n % m) (pow-succ' 256 k) ∙ mod-mul n (lit< tt) (pow-pos k))
 
-pub number-bytes-small : (k n : ℕ) → n < 256 ^ k → number-of (bytes-of k n) ≡ n
+pub number-bytes-small : (k n : ℕ) → n < 256 ^ k → decode-number (encode-number k n) ≡ n
 number-bytes-small k n h = number-bytes k n ∙ mod-eq-of-lt h
 
 -- a number's k lowest bytes do not depend on what is above them
-bytes-above : (k q r : ℕ) → bytes-of k (q * 256 ^ k + r) ≡ bytes-of k r
-unfolding bytes-of
+bytes-above : (k q r : ℕ) → encode-number k (q * 256 ^ k + r) ≡ encode-number k r
+unfolding encode-number
 bytes-above zero q r = refl
 bytes-above (suc k) q r =
     let e : q * 256 ^ suc k + r ≡ (q * 256) * 256 ^ k + r = rw (pow-succ', mul-assoc) refl in
@@ -37,11 +37,11 @@ bytes-above (suc k) q r =
     (ap (λ (x : ℕ). x % 256) (mul-add-div-right (pow-pos k) (q * 256) r) ∙ mul-add-mod-self-right q 256 (r / 256 ^ k))
     (bytes-above k (q * 256) r))
 
-pub bytes-number : (bs : List ℕ) → Bytes bs → bytes-of (length bs) (number-of bs) ≡ bs
-unfolding number-of bytes-of
+pub bytes-number : (bs : List ℕ) → Bytes bs → encode-number (length bs) (decode-number bs) ≡ bs
+unfolding decode-number encode-number
 bytes-number [] h = refl
 bytes-number (b ∷ bs) h =
-    let small : number-of bs < 256 ^ length bs = number-lt bs (λ i. h (suc i)) in
+    let small : decode-number bs < 256 ^ length bs = number-lt bs (λ i. h (suc i)) in
     ap₂ (λ (x : ℕ) (xs : List ℕ). x ∷ xs)
     (ap (λ (x : ℕ). x % 256) (digits-div b small) ∙ mod-eq-of-lt (h 0))
-    (bytes-above (length bs) b (number-of bs) ∙ bytes-number bs (λ i. h (suc i)))
+    (bytes-above (length bs) b (decode-number bs) ∙ bytes-number bs (λ i. h (suc i)))

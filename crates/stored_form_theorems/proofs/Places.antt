@@ -12,7 +12,7 @@ use lib.Dec.{ltb}
 use lib.ListN.{length, getD, take, drop, length-append, length-take, length-drop}
 use lib.Seq.{take-take, take-length, take-all, take-append-seam, drop-append-seam, drop-drop, take-add, drop-cons, getD-take, getD-drop}
 use borrow.Author.Tests.{ltb-false, le-ltb}
-use Rattle.stored_form.specs.{Number.part, Reading.Reading, Reading.found, Head.StandsAt, Fields.end-refusal, Fields.ended}
+use Rattle.stored_form.specs.{Number.part, Reading.Reading, Reading.found, Head.BytesAt, Fields.end-refusal, Fields.ended}
 use Rattle.stored_form.proofs.{Parts.drop-take, Readings.checked-found, Readings.checked-none, Readings.same-found}
 use Rattle.stored_form_theorems.specs.Fields.{Field}
 
@@ -31,7 +31,7 @@ pub getD-part : (s : List ℕ) (at k i : ℕ) → i < k → getD (part s at k) i
 getD-part s at k i h = rw (getD-take, getD-drop)
 
 -- bytes that stand at an offset end within the list
-pub stands-within : (s : List ℕ) (at : ℕ) (x : ℕ) (xs : List ℕ) → StandsAt s at (x ∷ xs) → at + length (x ∷ xs) ≤ length s
+pub stands-within : (s : List ℕ) (at : ℕ) (x : ℕ) (xs : List ℕ) → BytesAt s at (x ∷ xs) → at + length (x ∷ xs) ≤ length s
 stands-within s at x xs h =
     let e : length (part s at (length (x ∷ xs))) ≡ length (x ∷ xs) = ap length h in
     let f = simp (length-take, length-drop) at e in
@@ -70,7 +70,7 @@ module _ {s : List ℕ} {at : ℕ} where
       )
 
   -- what is read at a field's offset ends where the field ends
-  pub up-to : {A : Type 0} {x : Reading A} {a : A} {bytes : List ℕ} {next : ℕ} → Field s at bytes next → (StandsAt s at bytes → x ≡ found a (at + length bytes)) →
+  pub up-to : {A : Type 0} {x : Reading A} {a : A} {bytes : List ℕ} {next : ℕ} → Field s at bytes next → (BytesAt s at bytes → x ≡ found a (at + length bytes)) →
       x ≡ found a next
   up-to {a = a} h read = read (h .stands) ∙ ap (found a) (sym (h .ends))
 

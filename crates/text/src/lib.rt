@@ -171,7 +171,7 @@ fn within(len: usize) -> usize
 }
 
 // Writes the first len bytes of a row to standard output and answers how many these are, at most all.
-fn write_row(len: usize, bytes: [u8; LINE]) -> usize
+fn write_bytes(len: usize, bytes: [u8; LINE]) -> usize
     ensures { λ r. ⌜ r ≡ min len line-room ⌝ }
 {
     let n = within(len);
@@ -184,5 +184,5 @@ pub fn write_line(line: Line) -> usize
     ensures { λ r. ⌜ r ≡ min (line .len) line-room ⌝ }
 {
     let bytes = line.bytes;
-    write_row(line.len, bytes)
+    write_bytes(line.len, bytes)
 }

@@ -5,21 +5,21 @@ ghost use mathlib.Core.Path.{_≡_};
 ghost use Prim.Native.Nat.{ℕ, _-_, min};
 ghost use mathlib.Core.List.{List};
 ghost use lib.ListN.{take};
-ghost use Rattle.stored_form.specs.{Head.drawing-limit, Held.drawing-name};
+ghost use Rattle.stored_form.specs.{Head.drawing-limit, Record.drawing-name};
 ghost use Rattle.text.specs.Line.{in-line};
 ghost use Rattle.walk_report.specs.Lines.{line, first-line};
-ghost use Rattle.walk_report.specs.Steps.{with-stage, moved, older, advanced, undoing, letter-before, made, undone, next-line, refused-report, opened, pending};
+ghost use Rattle.walk_report.specs.Steps.{with-stage, progress, older, advanced, undoing, letter-before, line-answer, undone, next-line, refused-report, begin, pending};
 
 mod letters;
 mod lines;
 
-use archive::Due;
+use archive::Expected;
 use archive::Reader;
 use jacobian::Class;
 use jacobian::Curve;
 use stored_form::Cursor;
 use stored_form::DRAWING_LIMIT;
-use stored_form::Place;
+use stored_form::Offset;
 use text::Line;
 
 // The line that is expected next.
@@ -45,27 +45,27 @@ pub struct Report {
 }
 
 // The report's state, and the offset of the next field.
-pub struct Moved {
+pub struct Progress {
     pub report: Report,
     pub next: Cursor,
 }
 
 // A line, the report's state after it, and the offset of the next field.
-pub struct Made {
+pub struct LineAnswer {
     pub line: Line,
     pub report: Report,
     pub next: Cursor,
 }
 
 // The number of operations still to be read.
-fn older(due: Due) -> u64
-    ensures { λ r. ⌜ r ≡ older due ⌝ }
+fn older(expected: Expected) -> u64
+    ensures { λ r. ⌜ r ≡ older expected ⌝ }
 {
-    match due {
-        Due::Opening(_) => 0,
-        Due::Operations(n) => n,
-        Due::End => 0,
-        Due::Nothing => 0,
+    match expected {
+        Expected::Header(_) => 0,
+        Expected::Operations(n) => n,
+        Expected::End => 0,
+        Expected::Nothing => 0,
     }
 }
 
@@ -85,31 +85,31 @@ fn with_stage(stage: Stage, r: Report) -> Report
 }
 
 // Reads the next operation, which is to be undone next; if none is left, the report is over.
-fn advanced(r: Report, s: &[u8], at: Cursor) -> Moved
+fn advanced(r: Report, s: &[u8], at: Cursor) -> Progress
     ensures { λ m. ⌜ m ≡ advanced r (now (s .entry)) (at .at) ⌝ }
 {
     let reader = r.reader;
-    let due = reader.due;
-    let n = older(due);
+    let expected = reader.expected;
+    let n = older(expected);
     if n == 0 {
-        return Moved {
+        return Progress {
             report: with_stage(Stage::Over, r),
             next: at,
         };
     }
-    let t = archive::step(reader, s, at);
-    let p = t.place;
+    let t = archive::read_next(reader, s, at);
+    let p = t.offset;
     let more = t.reader;
-    let Place::Next(next) = p else {
-        return Moved {
+    let Offset::Next(next) = p else {
+        return Progress {
             report: with_stage(Stage::Over, r),
             next: at,
         };
     };
-    let held = more.held;
+    let values = more.values;
     let seal = r.seal;
-    let operation = held.operation;
-    Moved {
+    let operation = values.operation;
+    Progress {
         report: Report {
             stage: Stage::Undo,
             reader: more,
@@ -153,13 +153,13 @@ fn undone_of(count: u64, older: u64) -> u64
 }
 
 // Undoes the next operation and makes the line of the seal before it.
-fn undone(r: Report, s: &[u8], at: Cursor) -> Made
-    ensures { λ m. ⌜ m ≡ made (undone r (now (s .entry)) (at .at)) ⌝ }
+fn undone(r: Report, s: &[u8], at: Cursor) -> LineAnswer
+    ensures { λ m. ⌜ m ≡ line-answer (undone r (now (s .entry)) (at .at)) ⌝ }
 {
     let reader = r.reader;
-    let held = reader.held;
-    let due = reader.due;
-    let curve = held.curve;
+    let values = reader.values;
+    let expected = reader.expected;
+    let curve = values.curve;
     let seal = r.seal;
     let a = r.operation;
     let step = jacobian::subtract_and_halve(curve, seal, a);
@@ -168,11 +168,11 @@ fn undone(r: Report, s: &[u8], at: Cursor) -> Made
     let after = m.report;
     let next = m.next;
     let mark = letter_before(curve, a, after);
-    let line = lines::seal_line(undone_of(held.count, older(due)), mark, before);
+    let line = lines::seal_line(undone_of(values.count, older(expected)), mark, before);
     let stage = after.stage;
     let more = after.reader;
     let operation = after.operation;
-    Made {
+    LineAnswer {
         line,
         report: Report {
             stage,
@@ -203,57 +203,57 @@ fn first_line(count: u64, len: usize, bytes: [u8; DRAWING_LIMIT]) -> Line
 }
 
 // The answer with this line and the state with another line expected.
-fn line_made(line: Line, stage: Stage, r: Report, next: Cursor) -> Made
-    ensures { λ m. ⌜ ((text : List ℕ) → line ≡ in-line text → m ≡ made (record { text = text; after = moved (with-stage stage r) (next .at) })) ⌝ }
+fn answer_line(line: Line, stage: Stage, r: Report, next: Cursor) -> LineAnswer
+    ensures { λ m. ⌜ ((text : List ℕ) → line ≡ in-line text → m ≡ line-answer (record { text = text; progress = progress (with-stage stage r) (next .at) })) ⌝ }
 {
     let report = with_stage(stage, r);
-    Made { line, report, next }
+    LineAnswer { line, report, next }
 }
 
 // The line of the last seal; the newest operation is to be undone next.
-fn last_line(r: Report, s: &[u8], at: Cursor) -> Made
-    ensures { λ m. ⌜ m ≡ made (record { text = line 0 0x2E (r .seal); after = advanced r (now (s .entry)) (at .at) }) ⌝ }
+fn last_line(r: Report, s: &[u8], at: Cursor) -> LineAnswer
+    ensures { λ m. ⌜ m ≡ line-answer (record { text = line 0 0x2E (r .seal); progress = advanced r (now (s .entry)) (at .at) }) ⌝ }
 {
     let seal = r.seal;
     let line = lines::seal_line(0, b'.', seal);
     let m = advanced(r, s, at);
     let report = m.report;
     let next = m.next;
-    Made { line, report, next }
+    LineAnswer { line, report, next }
 }
 
 // The first line of the report, from its state.
-fn opening_line(r: Report) -> Line
-    ensures { λ l. ⌜ l ≡ in-line (first-line (r .reader .held .count) (drawing-name (r .reader .held .drawing))) ⌝ }
+fn header_line(r: Report) -> Line
+    ensures { λ l. ⌜ l ≡ in-line (first-line (r .reader .values .count) (drawing-name (r .reader .values .drawing))) ⌝ }
 {
     let reader = r.reader;
-    let held = reader.held;
-    let drawing = held.drawing;
+    let values = reader.values;
+    let drawing = values.drawing;
     let bytes = drawing.bytes;
-    first_line(held.count, drawing.len, bytes)
+    first_line(values.count, drawing.len, bytes)
 }
 
 // Makes the line that is expected, from the input at an offset; it is empty if the report is over.
-pub fn next_line(r: Report, s: &[u8], at: Cursor) -> Made
-    ensures { λ m. ⌜ m ≡ made (next-line r (now (s .entry)) (at .at)) ⌝ }
+pub fn next_line(r: Report, s: &[u8], at: Cursor) -> LineAnswer
+    ensures { λ m. ⌜ m ≡ line-answer (next-line r (now (s .entry)) (at .at)) ⌝ }
 {
     let stage = r.stage;
     match stage {
-        Stage::Refusal(n) => line_made(lines::refusal_line(n), Stage::Over, r, at),
-        Stage::First => line_made(opening_line(r), Stage::Last, r, at),
+        Stage::Refusal(n) => answer_line(lines::refusal_line(n), Stage::Over, r, at),
+        Stage::First => answer_line(header_line(r), Stage::Last, r, at),
         Stage::Last => last_line(r, s, at),
         Stage::Undo => undone(r, s, at),
-        Stage::Over => line_made(text::empty(), Stage::Over, r, at),
+        Stage::Over => answer_line(text::empty(), Stage::Over, r, at),
     }
 }
 
 // The state of a report that is a refusal alone.
-fn refused(n: u32) -> Moved
+fn refused(n: u32) -> Progress
     ensures { λ m. ⌜ m ≡ refused-report n ⌝ }
 {
     let reader = archive::start();
     let seal = jacobian::neutral();
-    Moved {
+    Progress {
         report: Report {
             stage: Stage::Refusal(n),
             reader,
@@ -266,23 +266,23 @@ fn refused(n: u32) -> Moved
 
 // The state before the first line of an archive's report, and the offset of its first operation.
 // All checks are made first; then the header is read again.
-pub fn opened(s: &[u8]) -> Moved
-    ensures { λ m. ⌜ m ≡ opened (now (s .entry)) ⌝ }
+pub fn begin(s: &[u8]) -> Progress
+    ensures { λ m. ⌜ m ≡ begin (now (s .entry)) ⌝ }
 {
     let n = archive::archive_refusal(s);
     if n != 0 {
         return refused(n);
     }
-    let t = archive::opening(s);
-    let p = t.place;
-    let Place::Next(next) = p else {
-        return refused(stored_form::place_refusal(p));
+    let t = archive::read_header(s);
+    let p = t.offset;
+    let Offset::Next(next) = p else {
+        return refused(stored_form::offset_refusal(p));
     };
     let reader = t.reader;
-    let held = reader.held;
-    let seal = held.class;
+    let values = reader.values;
+    let seal = values.class;
     let operation = jacobian::neutral();
-    Moved {
+    Progress {
         report: Report {
             stage: Stage::First,
             reader,

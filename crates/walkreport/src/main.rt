@@ -7,7 +7,7 @@ use stored_form::Cursor;
 fn main() {
     let mut archive = io::large_buffer();
     let read = io::read_full(STDIN_FILENO, &mut archive);
-    let first = walk_report::opened(&archive[..read]);
+    let first = walk_report::begin(&archive[..read]);
     let mut report = first.report;
     let next = first.next;
     let mut at = next.at;
@@ -16,8 +16,8 @@ fn main() {
         let line = made.line;
         text::write_line(line);
         let more = made.report;
-        let place = made.next;
+        let offset = made.next;
         report = more;
-        at = place.at;
+        at = offset.at;
     }
 }

@@ -11,17 +11,17 @@ use native.Mathlib.Omega.{arith}
 use lib.{ListN.length, ListN.take, ListN.drop, ListN.length-take, Seq.take-take, Seq.take-length}
 use borrow.Author.Tests.{lt-ltb, le-ltb, le-leb, lt-leb}
 use Rattle.jacobian.specs.{Checks.unless, Answer.Verdict, Answer.accepted, Answer.refused as said-no}
-use Rattle.stored_form.specs.{Reading.Reading, Reading.found, Reading.refused, Reading.checked, Records.read-record, Records.read-of, Records.place-refusal}
-use Rattle.stored_form.specs.declared.{Held.Held, Read.Read, Cursor.Cursor, Place.the-variants.Next, Place.the-variants.Refused}
-use Rattle.written_form.specs.Effect.{Effect, Handed, effect, refuse, write, hand, refusal, written, on, for, put, read-call, room-refusal, byte-call, room}
-use Rattle.stored_form.proofs.Readers.{place-found, place-refused-as}
+use Rattle.stored_form.specs.{Reading.Reading, Reading.found, Reading.refused, Reading.checked, Reader.read-record, Reader.read-of, Reader.offset-refusal}
+use Rattle.stored_form.specs.declared.{Record.Record, Read.Read, Cursor.Cursor, Offset.the-variants.Next, Offset.the-variants.Refused}
+use Rattle.written_form.specs.Effect.{Effect, Response, effect, refuse, write, response, refusal-response, bytes-response, on-outcome, on-reading, put, read-call, room-refusal, byte-call, room}
+use Rattle.stored_form.proofs.Readers.{offset-found, offset-refused-as}
 use Rattle.written_form.specs.Ranges.{append}
 use Rattle.written_form.proofs.Appending.{front-fits}
 
 -- ---- a response written
 
 -- if the output is too short for it, and if it is not
-module _ (o : Handed) (out : List ℕ) where
+module _ (o : Response) (out : List ℕ) where
   put-over : length out < length (o .bytes) → effect 101 out ≡ put o out
   unfolding put refuse
   put-over h = simp (lt-ltb _ _ h)
@@ -30,42 +30,42 @@ module _ (o : Handed) (out : List ℕ) where
   unfolding put
   put-in h = simp (le-ltb _ _ h)
 
-pub put-written : (bytes out : List ℕ) → length bytes ≤ length out → put (written bytes) out ≡ write bytes out
+pub put-written : (bytes out : List ℕ) → length bytes ≤ length out → put (bytes-response bytes) out ≡ write bytes out
 unfolding write
-put-written bytes out h = put-in (written bytes) out h
+put-written bytes out h = put-in (bytes-response bytes) out h
 
-pub put-refusal : (n : ℕ) (out : List ℕ) → put (refusal n) out ≡ refuse n out
+pub put-refusal : (n : ℕ) (out : List ℕ) → put (refusal-response n) out ≡ refuse n out
 unfolding refuse
-put-refusal n out = put-in (refusal n) out (omega arith)
+put-refusal n out = put-in (refusal-response n) out (omega arith)
 
 module _ (v : Verdict) (xs out : List ℕ) where
-  pub put-accepted : v ≡ accepted → length xs ≤ length out → put (on v xs) out ≡ write xs out
-  unfolding on
-  put-accepted e h = ap (λ (w : Verdict). put (on w xs) out) e ∙ put-written xs out h
+  pub put-accepted : v ≡ accepted → length xs ≤ length out → put (on-outcome v xs) out ≡ write xs out
+  unfolding on-outcome
+  put-accepted e h = ap (λ (w : Verdict). put (on-outcome w xs) out) e ∙ put-written xs out h
 
-  pub put-refused : {n : ℕ} → v ≡ said-no n → put (on v xs) out ≡ refuse n out
-  unfolding on
-  put-refused {n} e = ap (λ (w : Verdict). put (on w xs) out) e ∙ put-refusal n out
+  pub put-refused : {n : ℕ} → v ≡ said-no n → put (on-outcome v xs) out ≡ refuse n out
+  unfolding on-outcome
+  put-refused {n} e = ap (λ (w : Verdict). put (on-outcome w xs) out) e ∙ put-refusal n out
 
 -- ---- the copy that the code makes
 
 -- the first bytes of a row, appended at the start of the output
-module _ (answer len : ℕ) (row out : List ℕ) (long : length row ≡ room) {n : ℕ} (e : n ≡ min len room) where
+module _ (answer len : ℕ) (buffer out : List ℕ) (long : length buffer ≡ room) {n : ℕ} (e : n ≡ min len room) where
   abbrev xs : List ℕ
-  xs = take len row
+  xs = take len buffer
 
   first-length : length xs ≡ n
-  first-length = length-take len row ∙ ap (min len) long ∙ sym e
+  first-length = length-take len buffer ∙ ap (min len) long ∙ sym e
 
-  pub put-short : length out < n → effect 101 out ≡ put (hand answer xs) out
+  pub put-short : length out < n → effect 101 out ≡ put (response answer xs) out
   put-short h = put-over _ out (let l = first-length in omega arith)
 
-  pub put-all : n ≤ length out → {r : ℕ} {after : List ℕ} → effect r after ≡ append row 0 n (effect 0 out) → effect answer after ≡ put (hand answer xs) out
+  pub put-all : n ≤ length out → {r : ℕ} {output : List ℕ} → effect r output ≡ append buffer 0 n (effect 0 out) → effect answer output ≡ put (response answer xs) out
   put-all h f =
       let l = first-length in
-      let all : take n row ≡ xs = sym (take-take n len row (omega arith)) ∙ ap (λ (k : ℕ). take k xs) (sym l) ∙ take-length xs in
-      ap (λ (x : Effect). effect answer (x .after))
-      (f ∙ front-fits row n out (omega arith) h ∙ ap₂ (λ (ys : List ℕ) (k : ℕ). effect n (ys ++ drop k out)) all (sym l))
+      let all : take n buffer ≡ xs = sym (take-take n len buffer (omega arith)) ∙ ap (λ (k : ℕ). take k xs) (sym l) ∙ take-length xs in
+      ap (λ (x : Effect). effect answer (x .output))
+      (f ∙ front-fits buffer n out (omega arith) h ∙ ap₂ (λ (ys : List ℕ) (k : ℕ). effect n (ys ++ drop k out)) all (sym l))
       ∙ sym (put-in _ out (omega arith))
 
 -- ---- a call
@@ -81,17 +81,17 @@ module _ (has least : ℕ) (tags s : List ℕ) where
   room-read h = rw (le-leb least has h)
 
 -- what it does, by what is read
-module _ (least : ℕ) (tags : List ℕ) (answer : Held → Handed) (s out : List ℕ) where
-  does : {x : Reading Held} → read-call (length out) least tags s ≡ x → byte-call least tags answer s out ≡ put (for x answer) out
+module _ (least : ℕ) (tags : List ℕ) (answer : Record → Response) (s out : List ℕ) where
+  does : {x : Reading Record} → read-call (length out) least tags s ≡ x → byte-call least tags answer s out ≡ put (on-reading x answer) out
   unfolding byte-call
-  does e = ap (λ (r : Reading Held). put (for r answer) out) e
+  does e = ap (λ (r : Reading Record). put (on-reading r answer) out) e
 
   refuses-call : {n : ℕ} → read-call (length out) least tags s ≡ refused n → byte-call least tags answer s out ≡ refuse n out
-  unfolding for
+  unfolding on-reading
   refuses-call {n} e = does e ∙ put-refusal n out
 
-  answers-call : {h : Held} {end : ℕ} → read-call (length out) least tags s ≡ found h end → byte-call least tags answer s out ≡ put (answer h) out
-  unfolding for
+  answers-call : {h : Record} {end : ℕ} → read-call (length out) least tags s ≡ found h end → byte-call least tags answer s out ≡ put (answer h) out
+  unfolding on-reading
   answers-call e = does e
 
   pub call-short : length out < least → byte-call least tags answer s out ≡ refuse 101 out
@@ -100,13 +100,13 @@ module _ (least : ℕ) (tags : List ℕ) (answer : Held → Handed) (s out : Lis
   pub call-refused : least ≤ length out → {n : ℕ} → read-record tags s ≡ refused n → byte-call least tags answer s out ≡ refuse n out
   call-refused fits e = refuses-call (room-read _ _ _ _ fits ∙ e)
 
-  pub call-found : least ≤ length out → {h : Held} {end : ℕ} → read-record tags s ≡ found h end → byte-call least tags answer s out ≡ put (answer h) out
+  pub call-found : least ≤ length out → {h : Record} {end : ℕ} → read-record tags s ≡ found h end → byte-call least tags answer s out ≡ put (answer h) out
   call-found fits e = answers-call (room-read _ _ _ _ fits ∙ e)
 
   -- a record that is read and answered by a verdict and bytes
-  module _ (fits : least ≤ length out) {h : Held} {end : ℕ} (read : read-record tags s ≡ found h end) (v : Verdict) (xs : List ℕ) (is : answer h ≡ on v xs) where
-    handed-over : byte-call least tags answer s out ≡ put (on v xs) out
-    handed-over = call-found fits read ∙ ap (λ (o : Handed). put o out) is
+  module _ (fits : least ≤ length out) {h : Record} {end : ℕ} (read : read-record tags s ≡ found h end) (v : Verdict) (xs : List ℕ) (is : answer h ≡ on-outcome v xs) where
+    handed-over : byte-call least tags answer s out ≡ put (on-outcome v xs) out
+    handed-over = call-found fits read ∙ ap (λ (o : Response). put o out) is
 
     pub answer-written : v ≡ accepted → length xs ≤ least → byte-call least tags answer s out ≡ write xs out
     answer-written e short = handed-over ∙ put-accepted v xs out e (omega arith)
@@ -116,9 +116,9 @@ module _ (least : ℕ) (tags : List ℕ) (answer : Held → Handed) (s out : Lis
 
   -- as the code tests it: the reader's answer, then the refusal or the response
   module _ (r : Read) (e : r ≡ read-of (read-call (length out) least tags s)) where
-    pub call-unread : {n k : ℕ} → r .place ≡ Refused n → k ≡ place-refusal (r .place) → effect k out ≡ byte-call least tags answer s out
+    pub call-unread : {n k : ℕ} → r .offset ≡ Refused n → k ≡ offset-refusal (r .offset) → effect k out ≡ byte-call least tags answer s out
     unfolding refuse
-    call-unread f h = sym (refuses-call (place-refused-as r e f h))
+    call-unread f h = sym (refuses-call (offset-refused-as r e f h))
 
-    pub call-read : {next : Cursor} {x : Handed} {y : Effect} → r .place ≡ Next next → x ≡ answer (r .held) → y ≡ put x out → y ≡ byte-call least tags answer s out
-    call-read f g h = h ∙ ap (λ (z : Handed). put z out) g ∙ sym (answers-call (place-found r e f))
+    pub call-read : {next : Cursor} {x : Response} {y : Effect} → r .offset ≡ Next next → x ≡ answer (r .values) → y ≡ put x out → y ≡ byte-call least tags answer s out
+    call-read f g h = h ∙ ap (λ (z : Response). put z out) g ∙ sym (answers-call (offset-found r e f))

@@ -2,4 +2,4 @@
 pub mod Appending
 pub mod Effects
 pub mod Rows
-pub mod ToldApart
+pub mod WroteOrRefused

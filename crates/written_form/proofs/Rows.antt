@@ -6,9 +6,9 @@ use native.Mathlib.{Nat.zero-add, Nat.pow-suc, Omega.arith}
 use lib.{Pow.pow-add, Seq.sets, Seq.sets-eq, Seq.take-all, Seq.take-append-seam, Seq.drop-cons, Seq.getD-take}
 use lib.ListN.{length, getD, take, drop, set, replicate, length-append, length-replicate, length-take, length-drop, length-reverse, drop-of-length-le}
 use Rattle.jacobian.specs.{Answer.verdict, declared.Class.Class, declared.Outcome.Outcome, declared.Outcome.the-variants.Accepted, declared.Outcome.the-variants.Refused}
-use Rattle.stored_form.specs.{Number.bytes-of, Head.class-room, Head.head-bytes, Head.stored, Elements.element-bytes, Classes.row-written, Classes.class-field}
-use Rattle.written_form.specs.{Effect.Handed, Effect.hand, Effect.written, Effect.refusal, Effect.on, Effect.handed, Effect.room, internal.Rows.filled, declared.effect.Output.Output}
-use Rattle.stored_form.proofs.{Digits.length-bytes, ElementBytes.length-element-bytes, ElementBytes.element-bytes-append, Stores.sets-append, Stores.store-more, Lengths.length-stored, ClassBytes.length-row, ClassBytes.below-three}
+use Rattle.stored_form.specs.{Number.encode-number, Head.class-room, Head.head-bytes, Head.encode-field, Elements.encode-elements, Classes.encode-row, Classes.class-field}
+use Rattle.written_form.specs.{Effect.Response, Effect.response, Effect.bytes-response, Effect.refusal-response, Effect.on-outcome, Effect.response-of, Effect.room, internal.Buffers.filled, declared.effect.Output.Output}
+use Rattle.stored_form.proofs.{Digits.length-bytes, ElementBytes.length-encode-elements, ElementBytes.encode-elements-append, Stores.sets-append, Stores.store-more, Lengths.length-stored, ClassBytes.length-row, ClassBytes.below-three}
 
 -- ---- the bytes of a number
 
@@ -22,31 +22,31 @@ pub shifted : (x i : ℕ) → x / 2 ^ (8 * i) % 256 ≡ x / 256 ^ i % 256
 shifted x i = ap (λ (p : ℕ). x / p % 256) (pow-256 i)
 
 -- byte i of the k lowest, high byte first
-byte-at : (k x i : ℕ) → i < k → x / 256 ^ (k - 1 - i) % 256 ≡ getD (bytes-of k x) i 0
-unfolding bytes-of
+byte-at : (k x i : ℕ) → i < k → x / 256 ^ (k - 1 - i) % 256 ≡ getD (encode-number k x) i 0
+unfolding encode-number
 byte-at zero x i h = absurd (omega arith)
 byte-at (suc k) x zero h = let e : suc k - 1 - 0 ≡ k = omega arith in rw e
 byte-at (suc k) x (suc i) h = let e : suc k - 1 - suc i ≡ k - 1 - i = omega arith in rw e (byte-at k x i (omega arith))
 
 -- a turn of the loop that stores them, and its end
-module _ (d : List ℕ) (at k x i : ℕ) {r : List ℕ} (e : r ≡ sets d at (take i (bytes-of k x))) where
-  pub byte-more : {b : ℕ} → i < k → b ≡ x / 256 ^ (k - 1 - i) % 256 → set r (at + i) b ≡ sets d at (take (i + 1) (bytes-of k x))
-  byte-more h f = store-more d at (bytes-of k x) i (omega (arith, length-bytes k x)) (f ∙ byte-at k x i h) e
+module _ (d : List ℕ) (at k x i : ℕ) {r : List ℕ} (e : r ≡ sets d at (take i (encode-number k x))) where
+  pub byte-more : {b : ℕ} → i < k → b ≡ x / 256 ^ (k - 1 - i) % 256 → set r (at + i) b ≡ sets d at (take (i + 1) (encode-number k x))
+  byte-more h f = store-more d at (encode-number k x) i (omega (arith, length-bytes k x)) (f ∙ byte-at k x i h) e
 
-  pub bytes-all : k ≤ i → r ≡ sets d at (bytes-of k x)
-  bytes-all h = e ∙ ap (sets d at) (take-all i (bytes-of k x) (omega (arith, length-bytes k x)))
+  pub bytes-all : k ≤ i → r ≡ sets d at (encode-number k x)
+  bytes-all h = e ∙ ap (sets d at) (take-all i (encode-number k x) (omega (arith, length-bytes k x)))
 
 -- ---- a field
 
 -- the tag, and the two bytes of the body's length
-pub head-filled : (d : List ℕ) (at tag n : ℕ) → sets (set d at tag) (at + 1) (bytes-of 2 n) ≡ sets d at (head-bytes tag n)
+pub head-filled : (d : List ℕ) (at tag n : ℕ) → sets (set d at tag) (at + 1) (encode-number 2 n) ≡ sets d at (head-bytes tag n)
 unfolding head-bytes
 head-filled d at tag n = let e : at + 1 ≡ suc at = omega arith in rw e
 
 -- the head, and the body after it
 pub field-filled : (d : List ℕ) (at tag : ℕ) (body : List ℕ) {n : ℕ} {headed r : List ℕ} → n ≡ length body → headed ≡ sets d at (head-bytes tag n) → r ≡ sets headed (at + 3) body →
-    r ≡ sets d at (stored tag body)
-unfolding stored head-bytes bytes-of
+    r ≡ sets d at (encode-field tag body)
+unfolding encode-field head-bytes encode-number
 field-filled d at tag body l e f =
     f
     ∙ ap (λ (h : List ℕ). sets h (at + 3) body) (e ∙ ap (λ (n : ℕ). sets d at (head-bytes tag n)) l)
@@ -61,13 +61,13 @@ module _ (d : List ℕ) (at n : ℕ) (r : List ℕ) (long : length r ≡ 3) (le 
   length-first : length (take n r) ≡ n
   length-first = length-take n r ∙ omega arith
 
-  pub none-stored : d ≡ sets d at (element-bytes (from n))
-  unfolding element-bytes
+  pub none-stored : d ≡ sets d at (encode-elements (from n))
+  unfolding encode-elements
   none-stored = let l = length-first in let e : drop n (take n r) ≡ [] = drop-of-length-le (take n r) {i = n} (omega arith) in rw e
 
-  pub one-stored : {i : ℕ} {t u : List ℕ} → 0 < i → i ≤ n → t ≡ sets d at (element-bytes (from i)) → u ≡ sets t (at + 8 * (n - i)) (bytes-of 8 (getD r (i - 1) 0)) →
-      u ≡ sets d at (element-bytes (from (i - 1)))
-  unfolding element-bytes
+  pub one-stored : {i : ℕ} {t u : List ℕ} → 0 < i → i ≤ n → t ≡ sets d at (encode-elements (from i)) → u ≡ sets t (at + 8 * (n - i)) (encode-number 8 (getD r (i - 1) 0)) →
+      u ≡ sets d at (encode-elements (from (i - 1)))
+  unfolding encode-elements
   one-stored {i} some h e f =
       let xs = from i in
       let x = getD r (i - 1) 0 in
@@ -76,53 +76,53 @@ module _ (d : List ℕ) (at n : ℕ) (r : List ℕ) (long : length r ≡ 3) (le 
       let next : from (i - 1) ≡ xs ++ x ∷ [] =
       ap reverse (drop-cons (take n r) (i - 1) 0 (omega arith) ∙ ap₂ (λ (y j : ℕ). y ∷ drop j (take n r)) (getD-take n r (i - 1) 0 (omega arith)) s) ∙ reverse-cons x (drop i (take n r)) in
       let many : length xs ≡ n - i = length-reverse (drop i (take n r)) ∙ length-drop i (take n r) ∙ ap (λ (k : ℕ). k - i) l in
-      let place : at + 8 * (n - i) ≡ at + length (element-bytes xs) = omega (arith, length-element-bytes xs) in
+      let offset : at + 8 * (n - i) ≡ at + length (encode-elements xs) = omega (arith, length-encode-elements xs) in
       f
-      ∙ ap₂ (λ (l : List ℕ) (k : ℕ). sets l k (bytes-of 8 x)) e place
-      ∙ sets-append d at (element-bytes xs) (bytes-of 8 x)
-      ∙ ap (sets d at) (sym (ap element-bytes next ∙ element-bytes-append xs (x ∷ []) ∙ ap (λ (l : List ℕ). element-bytes xs ++ l) (append-nil (bytes-of 8 x))))
+      ∙ ap₂ (λ (l : List ℕ) (k : ℕ). sets l k (encode-number 8 x)) e offset
+      ∙ sets-append d at (encode-elements xs) (encode-number 8 x)
+      ∙ ap (sets d at) (sym (ap encode-elements next ∙ encode-elements-append xs (x ∷ []) ∙ ap (λ (l : List ℕ). encode-elements xs ++ l) (append-nil (encode-number 8 x))))
 
-  pub all-stored : {i : ℕ} {t : List ℕ} → i ≤ 0 → t ≡ sets d at (element-bytes (from i)) → t ≡ sets d at (element-bytes (row-written n r))
-  unfolding row-written
-  all-stored {i} h e = let z : i ≡ 0 = omega arith in e ∙ ap (λ (j : ℕ). sets d at (element-bytes (from j))) z
+  pub all-stored : {i : ℕ} {t : List ℕ} → i ≤ 0 → t ≡ sets d at (encode-elements (from i)) → t ≡ sets d at (encode-elements (encode-row n r))
+  unfolding encode-row
+  all-stored {i} h e = let z : i ≡ 0 = omega arith in e ∙ ap (λ (j : ℕ). sets d at (encode-elements (from j))) z
 
 -- ---- the field of a class
 
-module _ (row : List ℕ) (at : ℕ) (a : Class) (n : ℕ) (low : n ≡ min (a .degree) 3) {headed first both : List ℕ}
-    (e : headed ≡ sets row at (head-bytes 0x43 (8 * n + 8 * n)))
-    (f : (first ≡ sets headed (at + 3) (element-bytes (row-written n (a .u)))) × (length (a .u) ≡ 3))
-    (g : (both ≡ sets first (at + 3 + 8 * n) (element-bytes (row-written n (a .v)))) × (length (a .v) ≡ 3)) where
+module _ (buffer : List ℕ) (at : ℕ) (a : Class) (n : ℕ) (low : n ≡ min (a .degree) 3) {headed first both : List ℕ}
+    (e : headed ≡ sets buffer at (head-bytes 0x43 (8 * n + 8 * n)))
+    (f : (first ≡ sets headed (at + 3) (encode-elements (encode-row n (a .u)))) × (length (a .u) ≡ 3))
+    (g : (both ≡ sets first (at + 3 + 8 * n) (encode-elements (encode-row n (a .v)))) × (length (a .v) ≡ 3)) where
   abbrev X : List ℕ
-  X = element-bytes (row-written n (a .u))
+  X = encode-elements (encode-row n (a .u))
 
   abbrev Y : List ℕ
-  Y = element-bytes (row-written n (a .v))
+  Y = encode-elements (encode-row n (a .v))
 
-  length-half : (r : List ℕ) → length r ≡ 3 → length (element-bytes (row-written n r)) ≡ 8 * n
-  length-half r l = length-element-bytes (row-written n r) ∙ ap (λ (k : ℕ). 8 * k) (length-row n r l (omega arith))
+  length-half : (r : List ℕ) → length r ≡ 3 → length (encode-elements (encode-row n r)) ≡ 8 * n
+  length-half r l = length-encode-elements (encode-row n r) ∙ ap (λ (k : ℕ). 8 * k) (length-row n r l (omega arith))
 
   length-body : length (X ++ Y) ≡ 8 * n + 8 * n
   length-body = length-append X Y ∙ ap₂ (λ (i j : ℕ). i + j) (length-half (a .u) (f .1)) (length-half (a .v) (g .1))
 
-  said : stored 0x43 (X ++ Y) ≡ class-field 0x43 a
+  said : encode-field 0x43 (X ++ Y) ≡ class-field 0x43 a
   unfolding class-field
   said =
-      ap₂ (λ (l r : List ℕ). stored 0x43 (element-bytes l ++ element-bytes r))
-      (ap (λ (k : ℕ). row-written k (a .u)) low ∙ below-three (a .u) (a .degree) (f .1))
-      (ap (λ (k : ℕ). row-written k (a .v)) low ∙ below-three (a .v) (a .degree) (g .1))
+      ap₂ (λ (l r : List ℕ). encode-field 0x43 (encode-elements l ++ encode-elements r))
+      (ap (λ (k : ℕ). encode-row k (a .u)) low ∙ below-three (a .u) (a .degree) (f .1))
+      (ap (λ (k : ℕ). encode-row k (a .v)) low ∙ below-three (a .v) (a .degree) (g .1))
 
   length-class : length (class-field 0x43 a) ≡ 3 + (8 * n + 8 * n)
   length-class = ap length (sym said) ∙ length-stored 0x43 (X ++ Y) ∙ ap (λ (k : ℕ). 3 + k) length-body
 
-  stores : both ≡ sets row at (class-field 0x43 a)
+  stores : both ≡ sets buffer at (class-field 0x43 a)
   stores =
       let body : both ≡ sets headed (at + 3) (X ++ Y) =
       g .0
       ∙ ap₂ (λ (l : List ℕ) (k : ℕ). sets l (at + 3 + k) Y) (f .0) (sym (length-half (a .u) (f .1)))
       ∙ sets-append headed (at + 3) X Y in
-      field-filled row at 0x43 (X ++ Y) (sym length-body) e body ∙ ap (sets row at) said
+      field-filled buffer at 0x43 (X ++ Y) (sym length-body) e body ∙ ap (sets buffer at) said
 
-  pub class-filled : (_≡_ {A = Output} (record { answer = at + 3 + 8 * n + 8 * n; len = at + 3 + 8 * n + 8 * n; bytes = both }) (filled row at (class-field 0x43 a))) × (length (class-field 0x43 a) ≤ class-room)
+  pub class-filled : (_≡_ {A = Output} (record { answer = at + 3 + 8 * n + 8 * n; len = at + 3 + 8 * n + 8 * n; bytes = both }) (filled buffer at (class-field 0x43 a))) × (length (class-field 0x43 a) ≤ class-room)
   class-filled =
       let l = length-class in
       let s : at + 3 + 8 * n + 8 * n ≡ at + length (class-field 0x43 a) = omega arith in
@@ -131,8 +131,8 @@ module _ (row : List ℕ) (at : ℕ) (a : Class) (n : ℕ) (low : n ≡ min (a .
 -- ---- the response of a filled row
 
 module _ (xs ys : List ℕ) (fits : length xs + length ys ≤ room) {k : ℕ} (e : k ≡ length xs) where
-  pub filled-hands : {row : List ℕ} {o : Output} → row ≡ sets (replicate room 0) 0 xs → o ≡ filled row k ys → handed o ≡ written (xs ++ ys)
-  filled-hands f g =
+  pub filled-response : {buffer : List ℕ} {o : Output} → buffer ≡ sets (replicate room 0) 0 xs → o ≡ filled buffer k ys → response-of o ≡ bytes-response (xs ++ ys)
+  filled-response f g =
       let zeros : List ℕ = replicate room 0 in
       let both : length (xs ++ ys) ≡ length xs + length ys = length-append xs ys in
       let long : k + length ys ≡ length (xs ++ ys) = omega arith in
@@ -141,15 +141,15 @@ module _ (xs ys : List ℕ) (fits : length xs + length ys ≤ room) {k : ℕ} (e
       ∙ sets-append zeros 0 xs ys
       ∙ sets-eq (xs ++ ys) zeros 0 (omega (arith, length-replicate {A = ℕ} room 0))
       ∙ ap (λ (i : ℕ). (xs ++ ys) ++ drop i zeros) (zero-add (length (xs ++ ys))) in
-      ap handed (g ∙ ap (λ (l : List ℕ). filled l k ys) f) ∙ ap₂ hand long (ap₂ take long front ∙ take-append-seam (xs ++ ys) _)
+      ap response-of (g ∙ ap (λ (l : List ℕ). filled l k ys) f) ∙ ap₂ response long (ap₂ take long front ∙ take-append-seam (xs ++ ys) _)
 
 -- ---- the response after a call by value
 
-module _ (bytes : List ℕ) {o : Outcome} {x : Handed} where
-  pub refuses : {n : ℕ} → o ≡ Refused n → x ≡ refusal n → x ≡ on (verdict o) bytes
-  unfolding on
-  refuses e f = f ∙ sym (ap (λ (p : Outcome). on (verdict p) bytes) e)
+module _ (bytes : List ℕ) {o : Outcome} {x : Response} where
+  pub refuses : {n : ℕ} → o ≡ Refused n → x ≡ refusal-response n → x ≡ on-outcome (verdict o) bytes
+  unfolding on-outcome
+  refuses e f = f ∙ sym (ap (λ (p : Outcome). on-outcome (verdict p) bytes) e)
 
-  pub writes : o ≡ Accepted → x ≡ written bytes → x ≡ on (verdict o) bytes
-  unfolding on
-  writes e f = f ∙ sym (ap (λ (p : Outcome). on (verdict p) bytes) e)
+  pub writes : o ≡ Accepted → x ≡ bytes-response bytes → x ≡ on-outcome (verdict o) bytes
+  unfolding on-outcome
+  writes e f = f ∙ sym (ap (λ (p : Outcome). on-outcome (verdict p) bytes) e)

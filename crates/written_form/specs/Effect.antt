@@ -9,8 +9,8 @@ use Rattle.jacobian.specs.{Checks.unless, Refusals.IsRefusal, Answer.Verdict, A
 use Rattle.stored_form.specs.Reading.{Reading, found, refused, checked}
 use Rattle.stored_form.specs.Head.{count-length, class-room}
 use Rattle.stored_form.specs.Classes.{class-field}
-use Rattle.stored_form.specs.Records.{read-record}
-use Rattle.stored_form.specs.declared.Held.{Held}
+use Rattle.stored_form.specs.Reader.{read-record}
+use Rattle.stored_form.specs.declared.Record.{Record}
 use Rattle.written_form.specs.declared.effect.Output.{Output}
 
 -- ---- the answer and the output
@@ -18,11 +18,11 @@ use Rattle.written_form.specs.declared.effect.Output.{Output}
 -- what a call does: its answer, and the bytes of the lent output after it
 pub record Effect : Type 0 where
   pub answer : ℕ
-  pub after : List ℕ
+  pub output : List ℕ
 
 -- an effect with this answer and this output
 abbrev pub effect : ℕ → List ℕ → Effect
-effect n out = record { answer = n; after = out }
+effect n out = record { answer = n; output = out }
 
 -- the effect of a refusal: its number is the answer, and no lent byte changes
 unfoldable pub refuse : ℕ → List ℕ → Effect
@@ -35,39 +35,39 @@ write bytes out = effect (length bytes) (bytes ++ drop (length bytes) out)
 -- ---- the response of a call
 
 -- a response: a call's answer, and the bytes that it writes at the start of the lent output
-pub record Handed : Type 0 where
+pub record Response : Type 0 where
   pub answer : ℕ
   pub bytes : List ℕ
 
 -- a response with this answer and these bytes
-abbrev pub hand : ℕ → List ℕ → Handed
-hand n bytes = record { answer = n; bytes = bytes }
+abbrev pub response : ℕ → List ℕ → Response
+response n bytes = record { answer = n; bytes = bytes }
 
 -- the response of a refusal: its number, and no bytes
-abbrev pub refusal : ℕ → Handed
-refusal n = hand n []
+abbrev pub refusal-response : ℕ → Response
+refusal-response n = response n []
 
 -- the response that writes these bytes: their length is the answer
-abbrev pub written : List ℕ → Handed
-written bytes = hand (length bytes) bytes
+abbrev pub bytes-response : List ℕ → Response
+bytes-response bytes = response (length bytes) bytes
 
 -- the bytes if accepted, else the refusal
-unfoldable pub on : Verdict → List ℕ → Handed
-on accepted bytes = written bytes
-on (said-no n) bytes = refusal n
+unfoldable pub on-outcome : Verdict → List ℕ → Response
+on-outcome accepted bytes = bytes-response bytes
+on-outcome (said-no n) bytes = refusal-response n
 
 -- the response with a class, as one 0x43 field
-unfoldable pub class-handed : Result → Handed
-class-handed r = on (r .outcome) (class-field 0x43 (r .class))
+unfoldable pub class-response : Result → Response
+class-response r = on-outcome (r .outcome) (class-field 0x43 (r .class))
 
 -- the refusal of a reading, else the answer for the value that was found
-unfoldable pub for : {A : Type 0} → Reading A → (A → Handed) → Handed
-for (found a end) answer = answer a
-for (refused n) answer = refusal n
+unfoldable pub on-reading : {A : Type 0} → Reading A → (A → Response) → Response
+on-reading (found a end) answer = answer a
+on-reading (refused n) answer = refusal-response n
 
 -- A response written into the output, whose bytes after it are unchanged.
 -- An output that is too short for it stays as it is, and the answer is 101.
-unfoldable pub put : Handed → List ℕ → Effect
+unfoldable pub put : Response → List ℕ → Effect
 put o out =
     let n = length (o .bytes) in
     cond (ltb (length out) n) (refuse 101 out) (effect (o .answer) (o .bytes ++ drop n out))
@@ -77,12 +77,12 @@ unfoldable pub room-refusal : ℕ → ℕ → ℕ
 room-refusal has least = unless (leb least has) 101
 
 -- the record of a call, which is read only if the output has the room that is required
-unfoldable pub read-call : ℕ → ℕ → List ℕ → List ℕ → Reading Held
+unfoldable pub read-call : ℕ → ℕ → List ℕ → List ℕ → Reading Record
 read-call has least tags s = checked (room-refusal has least) (read-record tags s)
 
 -- a call: it reads a record with these tags and answers into an output of at least `least` bytes
-unfoldable pub byte-call : ℕ → List ℕ → (Held → Handed) → List ℕ → List ℕ → Effect
-byte-call least tags answer s out = put (for (read-call (length out) least tags s) answer) out
+unfoldable pub byte-call : ℕ → List ℕ → (Record → Response) → List ℕ → List ℕ → Effect
+byte-call least tags answer s out = put (on-reading (read-call (length out) least tags s) answer) out
 
 -- ---- the room
 
@@ -101,26 +101,26 @@ room = register-room
 -- ---- the code's output
 
 -- the response that the code's output stands for
-abbrev pub handed : Output → Handed
-handed o = hand (o .answer) (take (o .len) (o .bytes))
+abbrev pub response-of : Output → Response
+response-of o = response (o .answer) (take (o .len) (o .bytes))
 
 -- ---- a call wrote or refused
 
 -- a response is at most `most` bytes with their length as the answer, or the number of a refusal alone
-pub data HandedApart (most : ℕ) (o : Handed) : Type 0 where
-  bytes : (xs : List ℕ) → length xs ≤ most → o ≡ written xs → HandedApart most o
-  number : (n : ℕ) → IsRefusal n → o ≡ refusal n → HandedApart most o
+pub data ValidResponse (most : ℕ) (o : Response) : Type 0 where
+  bytes : (xs : List ℕ) → length xs ≤ most → o ≡ bytes-response xs → ValidResponse most o
+  number : (n : ℕ) → IsRefusal n → o ≡ refusal-response n → ValidResponse most o
 
 -- a call wrote at most `most` bytes, for which the lent output has room, or it refused and changed no byte
-pub data ToldApart (most : ℕ) (out : List ℕ) (e : Effect) : Type 0 where
-  wrote : (xs : List ℕ) → length xs ≤ most → most ≤ length out → e ≡ write xs out → ToldApart most out e
-  kept : (n : ℕ) → IsRefusal n → e ≡ refuse n out → ToldApart most out e
+pub data WroteOrRefused (most : ℕ) (out : List ℕ) (e : Effect) : Type 0 where
+  wrote : (xs : List ℕ) → length xs ≤ most → most ≤ length out → e ≡ write xs out → WroteOrRefused most out e
+  kept : (n : ℕ) → IsRefusal n → e ≡ refuse n out → WroteOrRefused most out e
 
 -- the greatest answer that is a length; every refusal's number is above it
 abbrev pub longest-answer : ℕ
 longest-answer = 100
 
 -- the answer alone decides whether the call wrote or refused
-pub record AnswerTells (most : ℕ) (out : List ℕ) (e : Effect) : Type 0 where
+pub record AnswerDecides (most : ℕ) (out : List ℕ) (e : Effect) : Type 0 where
   pub wrote : e .answer ≤ longest-answer → (xs : List ℕ) × (length xs ≤ most) × (most ≤ length out) × (e ≡ write xs out)
-  pub kept : longest-answer < e .answer → IsRefusal (e .answer) × (e .after ≡ out)
+  pub kept : longest-answer < e .answer → IsRefusal (e .answer) × (e .output ≡ out)

@@ -16,7 +16,7 @@ fits source start end output at = leb start end && leb end source && leb (at + (
 unfoldable pub append : List ℕ → ℕ → ℕ → Effect → Effect
 append s start end e =
     let at = e .answer in
-    let out = e .after in
+    let out = e .output in
     let n = end - start in
     cond (fits (length s) start end (length out) at)
     (effect (at + n) (take at out ++ (part s start n ++ drop (at + n) out)))

@@ -1,7 +1,7 @@
 // The response of a call on byte areas, and the one function that writes it.
 ghost use mathlib.Core.Path.{_≡_};
-ghost use Rattle.written_form.specs.Effect.{room, read-call, effect, hand, refusal, handed, put};
-ghost use Rattle.stored_form.specs.Records.{read-of};
+ghost use Rattle.written_form.specs.Effect.{room, read-call, effect, response, refusal-response, response-of, put};
+ghost use Rattle.stored_form.specs.Reader.{read-of};
 ghost use Prim.Native.Nat.{min};
 ghost use lib.ListN.{take};
 use crate::ranges;
@@ -33,8 +33,8 @@ pub fn read_call(has: usize, least: usize, tags: &[u8], input: &[u8]) -> Read
 }
 
 // The response of a refusal: its number, and no bytes.
-pub fn refusal(n: u32) -> Output
-    ensures { λ r. ⌜ handed r ≡ refusal n ⌝ }
+pub fn refusal_output(n: u32) -> Output
+    ensures { λ r. ⌜ response-of r ≡ refusal-response n ⌝ }
 {
     Output {
         answer: n,
@@ -54,22 +54,22 @@ fn within(len: usize) -> usize
 }
 
 // Writes the first len bytes of a row at the start of the output and answers `answer`; 101 if they do not fit.
-fn put_row(answer: u32, len: usize, row: [u8; ROOM], output: &mut [u8]) -> u32
-    ensures { λ r. ⌜ effect r (now (output .exit)) ≡ put (hand answer (take len row)) (now (output .entry)) ⌝ }
+fn put_bytes(answer: u32, len: usize, buffer: [u8; ROOM], output: &mut [u8]) -> u32
+    ensures { λ r. ⌜ effect r (now (output .exit)) ≡ put (response answer (take len buffer)) (now (output .entry)) ⌝ }
 {
     let n = within(len);
     if output.len() < n {
         return 101;
     }
-    ranges::append(&row, 0, n, output, 0);
+    ranges::append(&buffer, 0, n, output, 0);
     answer
 }
 
 // Writes a response's bytes at the start of the output and answers its answer.
 // If the output is too short for them, nothing is written and the answer is 101.
 pub fn put(o: Output, output: &mut [u8]) -> u32
-    ensures { λ r. ⌜ effect r (now (output .exit)) ≡ put (handed o) (now (output .entry)) ⌝ }
+    ensures { λ r. ⌜ effect r (now (output .exit)) ≡ put (response-of o) (now (output .entry)) ⌝ }
 {
     let bytes = o.bytes;
-    put_row(o.answer, o.len, bytes, output)
+    put_bytes(o.answer, o.len, bytes, output)
 }

@@ -5,17 +5,17 @@ ghost use Prim.Native.Nat.{_+_, _*_, _/_, _%_, _^_, _≤_, _<_, min};
 ghost use lib.ListN.{length};
 ghost use lib.Seq.{sets};
 ghost use Rattle.jacobian.specs.Answer.{verdict, reply, result};
-ghost use Rattle.stored_form.specs.Number.{bytes-of};
-ghost use Rattle.stored_form.specs.Head.{class-room, count-length, head-bytes, stored};
-ghost use Rattle.stored_form.specs.Elements.{element-length, element-bytes};
+ghost use Rattle.stored_form.specs.Number.{encode-number};
+ghost use Rattle.stored_form.specs.Head.{class-room, count-length, head-bytes, encode-field};
+ghost use Rattle.stored_form.specs.Elements.{element-length, encode-elements};
 ghost use Rattle.stored_form.specs.Fields.{count-field};
-ghost use Rattle.stored_form.specs.Classes.{row-written, class-field};
-ghost use Rattle.written_form.specs.Effect.{room, count-room, on, class-handed, handed};
-ghost use Rattle.written_form.specs.internal.Rows.{filled};
+ghost use Rattle.stored_form.specs.Classes.{encode-row, class-field};
+ghost use Rattle.written_form.specs.Effect.{room, count-room, on-outcome, class-response, response-of};
+ghost use Rattle.written_form.specs.internal.Buffers.{filled};
 use crate::effect::COUNT_ROOM;
 use crate::effect::Output;
 use crate::effect::ROOM;
-use crate::effect::refusal;
+use crate::effect::refusal_output;
 use jacobian::Class;
 use jacobian::ClassAnswer;
 use jacobian::Outcome;
@@ -31,11 +31,11 @@ fn byte_of(x: u64, i: usize) -> u8
 }
 
 // The row with the k lowest bytes of a number stored at an offset, high byte first.
-fn with_number(row: [u8; ROOM], at: usize, k: usize, x: u64) -> [u8; ROOM]
+fn with_number(buffer: [u8; ROOM], at: usize, k: usize, x: u64) -> [u8; ROOM]
     requires { ⌜ (k ≤ element-length) × (at + k ≤ room) ⌝ }
-    ensures { λ r. ⌜ r ≡ sets row at (bytes-of k x) ⌝ }
+    ensures { λ r. ⌜ r ≡ sets buffer at (encode-number k x) ⌝ }
 {
-    let mut r = row;
+    let mut r = buffer;
     let mut i = 0;
     while i < k {
         r[at + i] = byte_of(x, k - 1 - i);
@@ -45,21 +45,21 @@ fn with_number(row: [u8; ROOM], at: usize, k: usize, x: u64) -> [u8; ROOM]
 }
 
 // The row with the head of a field stored at an offset.
-fn with_head(row: [u8; ROOM], at: usize, tag: u8, len: usize) -> [u8; ROOM]
+fn with_head(buffer: [u8; ROOM], at: usize, tag: u8, len: usize) -> [u8; ROOM]
     requires { ⌜ at + 3 ≤ room ⌝ }
-    ensures { λ r. ⌜ r ≡ sets row at (head-bytes tag len) ⌝ }
+    ensures { λ r. ⌜ r ≡ sets buffer at (head-bytes tag len) ⌝ }
 {
-    let mut r = row;
+    let mut r = buffer;
     r[at] = tag;
     with_number(r, at + 1, 2, len as u64)
 }
 
 // The row with the coefficients below degree n stored at an offset, highest power first.
-fn with_coefficients(row: [u8; ROOM], at: usize, n: usize, r: [u64; 3]) -> [u8; ROOM]
+fn with_coefficients(buffer: [u8; ROOM], at: usize, n: usize, r: [u64; 3]) -> [u8; ROOM]
     requires { ⌜ (n ≤ 3) × (at + element-length * n ≤ room) ⌝ }
-    ensures { λ t. ⌜ (t ≡ sets row at (element-bytes (row-written n r))) × (length r ≡ 3) ⌝ }
+    ensures { λ t. ⌜ (t ≡ sets buffer at (encode-elements (encode-row n r))) × (length r ≡ 3) ⌝ }
 {
-    let mut t = row;
+    let mut t = buffer;
     let mut i = n;
     while 0 < i {
         let more = with_number(t, at + ELEMENT_LENGTH * (n - i), ELEMENT_LENGTH, r[i - 1]);
@@ -80,13 +80,13 @@ fn places_of(degree: u64) -> usize
 }
 
 // The output of a row with the field of a class at an offset, and of all bytes before it.
-fn with_class(row: [u8; ROOM], at: usize, a: Class) -> Output
+fn with_class(buffer: [u8; ROOM], at: usize, a: Class) -> Output
     requires { ⌜ at + class-room ≤ room ⌝ }
-    ensures { λ r. ⌜ (r ≡ filled row at (class-field 0x43 a)) × (length (class-field 0x43 a) ≤ class-room) ⌝ }
+    ensures { λ r. ⌜ (r ≡ filled buffer at (class-field 0x43 a)) × (length (class-field 0x43 a) ≤ class-room) ⌝ }
 {
     let n = places_of(a.degree);
     let each = ELEMENT_LENGTH * n;
-    let headed = with_head(row, at, stored_form::CLASS, each + each);
+    let headed = with_head(buffer, at, stored_form::CLASS, each + each);
     let u = a.u;
     let v = a.v;
     let first = with_coefficients(headed, at + 3, n, u);
@@ -100,32 +100,32 @@ fn with_class(row: [u8; ROOM], at: usize, a: Class) -> Output
 }
 
 // The row with the field of a count stored at an offset.
-fn with_count(row: [u8; ROOM], at: usize, tag: u8, n: u64) -> [u8; ROOM]
+fn with_count(buffer: [u8; ROOM], at: usize, tag: u8, n: u64) -> [u8; ROOM]
     requires { ⌜ at + count-room ≤ room ⌝ }
-    ensures { λ r. ⌜ r ≡ sets row at (stored tag (bytes-of count-length n)) ⌝ }
+    ensures { λ r. ⌜ r ≡ sets buffer at (encode-field tag (encode-number count-length n)) ⌝ }
 {
-    let headed = with_head(row, at, tag, COUNT_LENGTH);
+    let headed = with_head(buffer, at, tag, COUNT_LENGTH);
     with_number(headed, at + 3, COUNT_LENGTH, n)
 }
 
 // The response with the field of a class, or with the refusal.
 pub fn class_output(a: ClassAnswer) -> Output
-    ensures { λ r. ⌜ handed r ≡ class-handed (result (reply a)) ⌝ }
+    ensures { λ r. ⌜ response-of r ≡ class-response (result (reply a)) ⌝ }
 {
     let o = a.outcome;
     let class = a.class;
     match o {
-        Outcome::Refused(n) => refusal(n),
+        Outcome::Refused(n) => refusal_output(n),
         Outcome::Accepted => with_class([0u8; ROOM], 0, class),
     }
 }
 
 // The response with the fields of a count and a seal, or with the refusal.
 pub fn register_output(o: Outcome, count: u64, seal: Class) -> Output
-    ensures { λ r. ⌜ handed r ≡ on (verdict o) (count-field count ++ class-field 0x43 seal) ⌝ }
+    ensures { λ r. ⌜ response-of r ≡ on-outcome (verdict o) (count-field count ++ class-field 0x43 seal) ⌝ }
 {
     match o {
-        Outcome::Refused(n) => refusal(n),
+        Outcome::Refused(n) => refusal_output(n),
         Outcome::Accepted => {
             let counted = with_count([0u8; ROOM], 0, stored_form::COUNT, count);
             with_class(counted, COUNT_ROOM, seal)

@@ -18,7 +18,7 @@ returns c =
 
 returns-2 : tie.Need-returns-2
 unfolding read-end read-tail ended
-returns-2 c = c .moved .ensures ∙ ap advance-of (sym (then-found _ (checked-none _ _ (sym (c .before .before .end-refusal .ensures) ∙ c .before .if1 .left))))
+returns-2 c = c .advance-to .ensures ∙ ap advance-of (sym (then-found _ (checked-none _ _ (sym (c .before .before .end-refusal .ensures) ∙ c .before .if1 .left))))
 
 pub read-end-spec : {M : Type 1} → statement M
 read-end-spec =

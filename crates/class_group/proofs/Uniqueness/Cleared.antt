@@ -9,7 +9,7 @@ use Rattle.class_group.proofs.PairIdeal.{pair-ideal}
 use Rattle.class_group.proofs.Uniqueness.Identities.{member-norm-eq}
 
 module _ {P : Type 0} (R : Ring2 P) (f : P) where
-  open Ring2 R using (add as _⊞_, mul as _·_, nought as 𝟘, one as 𝟙)
+  open Ring2 R using (add as _⊞_, mul as _·_, zero as 𝟘, one as 𝟙)
 
   infixl 60 _⊞_
   infixl 70 _·_

@@ -18,7 +18,7 @@ use Rattle.class_group.proofs.Uniqueness.Cleared.{S, member-norm, coord
 
 module _ {K P : Type 0} {F : Field2 K} (A : Polynomials F P) (f : P) (f-len : A .len f ≡ 8) where
   open Polynomials A using (ring as R, len)
-  open Ring2 (A .ring) using (add as _⊞_, mul as _·_, nought as 𝟘, one as 𝟙)
+  open Ring2 (A .ring) using (add as _⊞_, mul as _·_, zero as 𝟘, one as 𝟙)
 
   infixl 60 _⊞_
   infixl 70 _·_

@@ -26,7 +26,7 @@ module _ (d : ℕ) {f : List ℕ} {a : RowPair} where
       → n ≡ row-len d (a .u)
       → n ≤ 1
       → Stands d (r .u) (𝔸 d .ring .one)
-      → Stands d (r .v) (𝔸 d .ring .nought)
+      → Stands d (r .v) (𝔸 d .ring .zero)
       → (C : Theory.Curve (𝔸 d))
       → OnCurve d f C
       → StandsPair d r (half C (rows-pair d a))

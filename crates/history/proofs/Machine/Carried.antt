@@ -4,7 +4,7 @@
 -- `newest-carried`: the accepted calls on the other machine are the mapped ones.
 use mathlib.Core.Path.{_≡_, refl, sym, _∙_, ap, ap₂}
 use mathlib.Core.List.{List, [], _∷_, map, reverse, reverseAux}
-use Rattle.lists.specs.{Lists.All, Lists.none, Lists.more, Walk.after}
+use Rattle.lists.specs.{Lists.All, Lists.none, Lists.more, Walk.foldl}
 use Rattle.jacobian.specs.Answer.{Verdict, accepted, refused}
 use Rattle.history.specs.Machine.{Machine, Event, accepted-of, event, run, last, newest, carried, Agrees}
 
@@ -30,7 +30,7 @@ module _ {State Call State' Call' : Type 0} (state : State → State') (call : C
   run-carried s (c ∷ cs) (more h hs) = ap₂ _∷_ (sym h) (run-carried (M .next s c) cs hs ∙ ap (λ (e : Event State' Call'). run N (e .left) (map call cs)) (sym h))
 
   pub last-carried : (s : State) (cs : List Call) → All (Agrees state call N) (run M s cs) → state (last M s cs) ≡ last N (state s) (map call cs)
-  unfolding run event carried Agrees last after
+  unfolding run event carried Agrees last foldl
   last-carried s [] none = refl
   last-carried s (c ∷ cs) (more h hs) = last-carried (M .next s c) cs hs ∙ ap (λ (e : Event State' Call'). last N (e .left) (map call cs)) (sym h)
 

@@ -7,8 +7,8 @@
 -- `accepted-fit`: what holds of all calls of a list holds of the accepted ones.
 use mathlib.Core.Path.{_≡_, refl, ap}
 use mathlib.Core.List.{List, [], _∷_, _++_}
-use Rattle.lists.specs.{Lists.All, Lists.none, Lists.more, Walk.after}
-use Rattle.lists.proofs.Walk.{after-append}
+use Rattle.lists.specs.{Lists.All, Lists.none, Lists.more, Walk.foldl}
+use Rattle.lists.proofs.Walk.{foldl-append}
 use Rattle.jacobian.specs.Answer.{Verdict, accepted, refused}
 use Rattle.history.specs.Machine.{Machine, Event, accepted-of, event, run, last}
 
@@ -23,17 +23,17 @@ all-accepted {P = P} (more {a = e} {l = es} p h) = go (e .outcome) refl (all-acc
 
 module _ {State Call : Type 0} (M : Machine State Call) where
   pub run-append : (s : State) (cs ds : List Call) → run M s (cs ++ ds) ≡ run M s cs ++ run M (last M s cs) ds
-  unfolding run last after
+  unfolding run last foldl
   run-append s [] ds = refl
   run-append s (c ∷ cs) ds = ap (λ es. event M s c ∷ es) (run-append (M .next s c) cs ds)
 
   pub last-append : (s : State) (cs ds : List Call) → last M s (cs ++ ds) ≡ last M (last M s cs) ds
   unfolding last
-  last-append s cs ds = after-append (M .next) s cs ds
+  last-append s cs ds = foldl-append (M .next) s cs ds
 
   module _ (Holds : State → Type 0) (keeps : (s : State) (c : Call) → Holds s → Holds (M .next s c)) where
     pub last-holds : {s : State} (cs : List Call) → Holds s → Holds (last M s cs)
-    unfolding last after
+    unfolding last foldl
     last-holds [] h = h
     last-holds {s} (c ∷ cs) h = last-holds cs (keeps s c h)
 

@@ -7,7 +7,7 @@
 -- Where a first part of a list cannot be taken back, this holds of the calls after it (`last-append`, `last-holds`).
 use mathlib.Core.Path.{_≡_, refl, sym, _∙_, ap, ap₂, subst}
 use mathlib.Core.List.{List, [], _∷_, _++_, map, map-map, reverse, reverse-cons, map-append}
-use Rattle.lists.specs.{Lists.All, Lists.none, Lists.more, Walk.after}
+use Rattle.lists.specs.{Lists.All, Lists.none, Lists.more, Walk.foldl}
 use Rattle.jacobian.specs.Answer.{Verdict, accepted, refused}
 use Rattle.history.specs.Machine.{Machine, Event, accepted-of, event, run, last, newest, backs, turned, taken-back, Reversible}
 use Rattle.lists.proofs.Lists.{all-map}
@@ -24,7 +24,7 @@ module _ {State Call : Type 0} (M : Machine State Call) (back : Call → Call) w
   backs-cons e es = ap (backs back) (reverse-cons e es) ∙ map-append (λ x. back (x .call)) (reverse es) (e ∷ [])
 
   chain-last : {s t : State} {es : List (Event State Call)} → Chain s es t → last M t (backs back (reverse es)) ≡ s
-  unfolding turned last after backs event
+  unfolding turned last foldl backs event
   chain-last still = refl
   chain-last (turns {e = e} {es = es} {t = t} k h) =
       ap (last M t) (backs-cons e es)
@@ -44,7 +44,7 @@ module _ {State Call : Type 0} (M : Machine State Call) (back : Call → Call) w
 
   module _ {Holds : State → Type 0} {Fits : Call → Type 0} (law : Reversible M back Holds Fits) where
     run-chain : (s : State) (cs : List Call) → Holds s → All (λ e. Fits (e .call)) (accepted-of (run M s cs)) → Chain s (accepted-of (run M s cs)) (last M s cs)
-    unfolding run last after accepted-of event
+    unfolding run last foldl accepted-of event
     run-chain s [] h none = still
     run-chain s (c ∷ cs) h fits = go (M .outcome s c) refl fits (run-chain (M .next s c) cs)
       where

@@ -4,7 +4,7 @@ use Prim.Native.Nat.{ℕ}
 use mathlib.Core.Path.{_≡_, _∙_, ap, ap₂}
 use mathlib.Core.List.{List}
 use lib.Dec.{eqb}
-use Rattle.char2_algebra.proofs.{Degree.len-nought, Division.rem-of-divides, Lead.monic-nonzero}
+use Rattle.char2_algebra.proofs.{Degree.len-of-zero, Division.rem-of-divides, Lead.monic-nonzero}
 use Rattle.class_group.specs.{Mumford.value, Mumford.Reduced, Coefficients.monic-7, Coefficients.curve-of}
 use Rattle.row_theory.specs.{Field.𝔸, Field.Poly, Field.poly, Row.InRange, Row.filled}
 use Rattle.class_rows.specs.{Pair.rows-pair, Core.OnCurve, Core.ReducedRows, Checked.Decides, Checked.Divisor, declared.row.RowPair.RowPair}
@@ -70,4 +70,4 @@ divides-decides c a h shape range {f} e {r} rows =
     (λ z. record { degree = h .accepted; reduced = rows-reduced c a h (record { shape = shape; range = range; divides = z }) e rows })
     (λ k.
     let reduced : Reduced (curve c) D = rw (rows-pair-is d rows) at (reduced-on d (k .reduced) (on-curve c h e)) in
-    ap (𝔸 d .len) (rem-of-divides (𝔸 d) (D .u) nonzero (value (curve c) (D .v)) (reduced .divides)) ∙ len-nought (𝔸 d))
+    ap (𝔸 d .len) (rem-of-divides (𝔸 d) (D .u) nonzero (value (curve c) (D .v)) (reduced .divides)) ∙ len-of-zero (𝔸 d))

@@ -73,7 +73,7 @@ module _ (d : ℕ) (a : Class) (h : Formed d a) where
   unfolding pair
   coeff-u-top = coeff-poly d (u-row a) (a .degree) ∙ ap (el d) (u-row-top a long) ∙ el-one d
 
-  coeff-u-past : (i : ℕ) → a .degree < i → 𝔸 d .coeff (pair d a .u) i ≡ F d .ring .nought
+  coeff-u-past : (i : ℕ) → a .degree < i → 𝔸 d .coeff (pair d a .u) i ≡ F d .ring .zero
   unfolding pair
   coeff-u-past i k = coeff-poly d (u-row a) i ∙ ap (el d) (u-row-past a long i k) ∙ el-zero d
 

@@ -27,7 +27,7 @@ returns-2 c =
     let rows = after .before .to-rows .ensures in
     let gives = after .unary-rows .ensures in
     at-refusal d (unary (s .args .op) C (pair d (s .args .a))) (one-due (s .args .curve) (s .args .a) (z .1) (z .0) f rows (gives .decides))
-    (c .settled .ensures d _ (λ held. rw (rows-pair-is d rows) at (gives .stands held C (on-curve (s .args .curve) (curve-passes _ (z .0)) f))))
+    (c .answered .ensures d _ (λ held. rw (rows-pair-is d rows) at (gives .stands held C (on-curve (s .args .curve) (curve-passes _ (z .0)) f))))
 
 pub on-one-spec : {M : Type 1} → statement M
 on-one-spec = tie.close (tie.spec (λ c κs. search needs) (λ c κs. search needs) returns (λ c κs. search needs) to-rows-requires (λ c κs. search needs) (λ c κs. search needs) returns-2)

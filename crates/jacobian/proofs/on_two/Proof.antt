@@ -34,7 +34,7 @@ returns-2 c =
     let gives = after .binary-rows .ensures in
     at-refusal d (binary (s .args .op) C (pair d (s .args .a)) (pair d (s .args .b)))
     (two-due (s .args .curve) (s .args .a) (s .args .b) (z .0) (z .1) (z .2) f first second (gives .decides))
-    (c .settled .ensures d _
+    (c .answered .ensures d _
     (λ held. rw (rows-pair-is d first, rows-pair-is d second) at (gives .stands held C (on-curve (s .args .curve) (curve-passes _ (z .0)) f))))
 
 pub on-two-spec : {M : Type 1} → statement M

@@ -14,7 +14,7 @@ use Rattle.row_theory.proofs.{Rows.Coefficients.coeff-poly, HalfRows.De
 use Rattle.row_theory.proofs.HalfRows.Degrees12.{m-1}
 
 module _ (d : ℕ) (u v w : List ℕ) where
-  open Ring2 (𝔸 d .ring) using (add as _⊞_, mul as _·_, nought as 𝟘, one as 𝟙)
+  open Ring2 (𝔸 d .ring) using (add as _⊞_, mul as _·_, zero as 𝟘, one as 𝟙)
 
   infixl 60 _⊞_
   infixl 70 _·_

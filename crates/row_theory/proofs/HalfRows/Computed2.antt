@@ -14,7 +14,7 @@ use Rattle.row_theory.proofs.{Rows.Elements.el-zero, Rows.Elements.el-o
 use Rattle.row_theory.proofs.HalfRows.Degrees12.{pair-2-square, nonzero-2-square, pair-2, nonzero-2, k-2, m-2}
 
 module _ (d : ℕ) (u v w : List ℕ) where
-  open Ring2 (𝔸 d .ring) using (add as _⊞_, mul as _·_, nought as 𝟘, one as 𝟙)
+  open Ring2 (𝔸 d .ring) using (add as _⊞_, mul as _·_, zero as 𝟘, one as 𝟙)
 
   infixl 60 _⊞_
   infixl 70 _·_
@@ -44,7 +44,7 @@ module _ (d : ℕ) (u v w : List ℕ) where
 
   -- the case u1 = 0
   module _ (z : getD u 1 0 ≡ 0) where
-    u1-zero : 𝔸 d .coeff (poly d u) 1 ≡ F d .ring .nought
+    u1-zero : 𝔸 d .coeff (poly d u) 1 ≡ F d .ring .zero
     u1-zero = coeff-poly d u 1 ∙ ap (el d) z ∙ el-zero d
 
     pub root-nonzero-2-square : HalvingRows d 3 u v w → ¬ (sqrt (𝔸 d) (poly d u) ≡ 𝟘)
@@ -56,7 +56,7 @@ module _ (d : ℕ) (u v w : List ℕ) where
 
   -- the case u1 ≠ 0
   module _ {i k2 y k1 s z k0 : ℕ} {k m cw ck p q : List ℕ} (c : Computed2 i k2 y k1 s z k0 k m cw ck p q) (h : HalvingRows d 3 u v w) (n : ¬ (getD u 1 0 ≡ 0)) where
-    u1≢ : ¬ (𝔸 d .coeff (poly d u) 1 ≡ F d .ring .nought)
+    u1≢ : ¬ (𝔸 d .coeff (poly d u) 1 ≡ F d .ring .zero)
     u1≢ e = el-nonzero d (getD u 1 0) (h .u-range 1) n (u-at 1 ∙ e)
 
     abbrev I : K d

@@ -14,7 +14,7 @@ use Rattle.row_theory.proofs.{Rows.Elements.el-zero, Rows.Coefficients.
 use Rattle.row_theory.proofs.HalfRows.Degree3.{nonzero-3-square}
 
 module _ (d : ℕ) (u v w : List ℕ) where
-  open Ring2 (𝔸 d .ring) using (add as _⊞_, mul as _·_, nought as 𝟘, one as 𝟙)
+  open Ring2 (𝔸 d .ring) using (add as _⊞_, mul as _·_, zero as 𝟘, one as 𝟙)
 
   infixl 60 _⊞_
   infixl 70 _·_
@@ -47,7 +47,7 @@ module _ (d : ℕ) (u v w : List ℕ) where
 
     -- the case t = 0, in which the first lift is a square
     module _ (z : t ≡ 0) where
-      t-zero : F d .root (𝔸 d .coeff L 1) ≡ F d .ring .nought
+      t-zero : F d .root (𝔸 d .coeff L 1) ≡ F d .ring .zero
       t-zero = sym t-path ∙ ap (el d) z ∙ el-zero d
 
       pub root-nonzero-3-square : ¬ (sqrt (𝔸 d) (poly d s) ≡ 𝟘)

@@ -11,14 +11,14 @@ use Rattle.field_laws.specs.{Ring.Ring2, Field.Field2, Division.inverse-of}
 use Rattle.char2_algebra.specs.{Polynomials.Polynomials, Lead.Monic, Square.sqrt}
 use Rattle.char2_algebra.proofs.{Ring.ring2, Ring.by, Ring.both, Ring.combine, Ring.⊞-𝟘, Ring.·-𝟘, Ring.·-𝟙, Degree.len-add, Degree.len-bound}
 use Rattle.char2_algebra.proofs.{Degree.len-con-le, Product.len-mul-le, Division.rem-is, Lead.monic-top, Lead.monic-nonzero}
-use Rattle.class_group.specs.{Mumford.Pair, Half.Triple, Half.lift, Half.step, Half.halved, Half.quadratic, Half.half-of-degree-3, Half.first-lift}
-use Rattle.class_group.specs.{Half.stepped-of-degree-3, Half.lifted-half-of-degree-3}
+use Rattle.class_group.specs.{Mumford.Pair, Half.Triple, Half.lift, Half.exchange, Half.halved, Half.quadratic, Half.half-of-degree-3, Half.first-lift}
+use Rattle.class_group.specs.{Half.exchanged-of-degree-3, Half.lifted-half-of-degree-3}
 use Rattle.class_group.proofs.{Rows.row-3, Rows.row-3-square, Rows.squares-one, Rows.second-lift, EvenRoot.MonicRoot, EvenRoot.even-root}
 use Rattle.row_theory.specs.internal.Halving.{even-quartic, root-pair, second-square, second-remainder}
 use Rattle.row_theory.proofs.HalfRows.Squares.{quartic-is, quadratic-is, square-of, square-of-one, one-times, one-square, constant, halved-pair, root-nonzero}
 
 module _ {B : Type 0} (R : Ring2 B) where
-  open Ring2 R using (add as _⊞_, mul as _·_, nought as 𝟘, one as 𝟙)
+  open Ring2 R using (add as _⊞_, mul as _·_, zero as 𝟘, one as 𝟙)
 
   infixl 60 _⊞_
   infixl 70 _·_
@@ -44,8 +44,8 @@ module _ {B : Type 0} (R : Ring2 B) where
 
 module _ {K P : Type 0} {F : Field2 K} (A : Polynomials F P) where
   open Polynomials A using (ring, coeff, con, x, len, rem, quot)
-  open Ring2 ring using (add as _⊞_, mul as _·_, nought as 𝟘, one as 𝟙)
-  open Ring2 (F .ring) using (add as _⊞ₖ_, mul as _·ₖ_, nought as 𝟘ₖ, one as 𝟙ₖ)
+  open Ring2 ring using (add as _⊞_, mul as _·_, zero as 𝟘, one as 𝟙)
+  open Ring2 (F .ring) using (add as _⊞ₖ_, mul as _·ₖ_, zero as 𝟘ₖ, one as 𝟙ₖ)
   open Field2 F using (root)
 
   infixl 60 _⊞_
@@ -95,11 +95,11 @@ module _ {K P : Type 0} {F : Field2 K} (A : Polynomials F P) where
 
     -- where the first lift is a square
     pub pair-3-square : t ≡ 𝟘ₖ → half-of-degree-3 A T ≡ root-pair A L (T .v ⊞ quadratic A 𝟘ₖ 𝟘ₖ r · T .u ⊞ 𝟙)
-    unfolding half-of-degree-3 stepped-of-degree-3 lift step first-lift
+    unfolding half-of-degree-3 exchanged-of-degree-3 lift exchange first-lift
     pair-3-square z = go (F .discrete t 𝟘ₖ)
       where
-        go : (d : Dec (t ≡ 𝟘ₖ)) → elim d as (λ _. Pair P) [ yes _ ↦ halved A 𝟙ₖ (stepped-of-degree-3 A T) | no shown ↦ lifted-half-of-degree-3 A T shown ] ≡ root-pair A L (T .v ⊞ quadratic A 𝟘ₖ 𝟘ₖ r · T .u ⊞ 𝟙)
-        go (yes _) = halved-pair A 𝟙ₖ (stepped-of-degree-3 A T) _ _ (one-times A L) refl
+        go : (d : Dec (t ≡ 𝟘ₖ)) → elim d as (λ _. Pair P) [ yes _ ↦ halved A 𝟙ₖ (exchanged-of-degree-3 A T) | no shown ↦ lifted-half-of-degree-3 A T shown ] ≡ root-pair A L (T .v ⊞ quadratic A 𝟘ₖ 𝟘ₖ r · T .u ⊞ 𝟙)
+        go (yes _) = halved-pair A 𝟙ₖ (exchanged-of-degree-3 A T) _ _ (one-times A L) refl
         go (no n) = absurd (n z)
 
     pub nonzero-3-square : len (T .u) ≡ 4 → Monic A (T .u) → len (T .w) ≡ 5 → Monic A (T .w) → t ≡ 𝟘ₖ → ¬ (sqrt A L ≡ 𝟘)
@@ -108,11 +108,11 @@ module _ {K P : Type 0} {F : Field2 K} (A : Polynomials F P) where
         (row-3-square A (T .u) (T .w) u-len (monic-top A (T .u) 3 u-monic u-len) w-len (monic-top A (T .w) 4 w-monic w-len) z)
         (one-times A L)
 
-    half-3-lifted : (n : ¬ (root (coeff (stepped-of-degree-3 A T .u) 1) ≡ 𝟘ₖ)) → half-of-degree-3 A T ≡ lifted-half-of-degree-3 A T n
-    unfolding half-of-degree-3 lifted-half-of-degree-3 stepped-of-degree-3 lift step first-lift
+    half-3-lifted : (n : ¬ (root (coeff (exchanged-of-degree-3 A T .u) 1) ≡ 𝟘ₖ)) → half-of-degree-3 A T ≡ lifted-half-of-degree-3 A T n
+    unfolding half-of-degree-3 lifted-half-of-degree-3 exchanged-of-degree-3 lift exchange first-lift
     half-3-lifted n = go (F .discrete t 𝟘ₖ)
       where
-        go : (d : Dec (t ≡ 𝟘ₖ)) → elim d as (λ _. Pair P) [ yes _ ↦ halved A 𝟙ₖ (stepped-of-degree-3 A T) | no shown ↦ lifted-half-of-degree-3 A T shown ] ≡ lifted-half-of-degree-3 A T n
+        go : (d : Dec (t ≡ 𝟘ₖ)) → elim d as (λ _. Pair P) [ yes _ ↦ halved A 𝟙ₖ (exchanged-of-degree-3 A T) | no shown ↦ lifted-half-of-degree-3 A T shown ] ≡ lifted-half-of-degree-3 A T n
         go (yes z) = absurd (n z)
         go (no _) = refl
 
@@ -198,8 +198,8 @@ module _ {K P : Type 0} {F : Field2 K} (A : Polynomials F P) where
                 omega (arith, a-len)
 
         pub pair-3 : half-of-degree-3 A T ≡ record { u = a; v = v-3 }
-        unfolding lifted-half-of-degree-3 stepped-of-degree-3 lift step first-lift root-pair
+        unfolding lifted-half-of-degree-3 exchanged-of-degree-3 lift exchange first-lift root-pair
         pair-3 =
             half-3-lifted n
-            ∙ halved-pair A (t ·ₖ t) (step A (lift A k (stepped-of-degree-3 A T))) _ _ square-is refl
+            ∙ halved-pair A (t ·ₖ t) (exchange A (lift A k (exchanged-of-degree-3 A T))) _ _ square-is refl
             ∙ ap {B = Pair P} (λ z. record { u = a; v = z }) v-is

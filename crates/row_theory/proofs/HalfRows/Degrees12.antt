@@ -7,7 +7,7 @@ use mathlib.Core.Path.{_≡_, refl, _∙_, ap}
 use Rattle.field_laws.specs.{Ring.Ring2, Field.Field2, Division.inverse-of}
 use Rattle.char2_algebra.specs.{Polynomials.Polynomials, Lead.Monic, Square.sqrt}
 use Rattle.char2_algebra.proofs.{Ring.ring2, Ring.by, Ring.both, Ring.combine, Lead.monic-top}
-use Rattle.class_group.specs.{Mumford.Pair, Half.Triple, Half.lift, Half.step, Half.halved, Half.quadratic, Half.half-of-degree-1}
+use Rattle.class_group.specs.{Mumford.Pair, Half.Triple, Half.lift, Half.exchange, Half.halved, Half.quadratic, Half.half-of-degree-1}
 use Rattle.class_group.specs.{Half.half-of-degree-2, Half.lifted-half-of-degree-2}
 use Rattle.class_group.proofs.Rows.{row-1, row-2, row-2-square}
 use Rattle.row_theory.specs.internal.Halving.{even-quartic, root-pair}
@@ -23,8 +23,8 @@ module _ {B : Type 0} (R : Ring2 B) where
 
 module _ {K P : Type 0} {F : Field2 K} (A : Polynomials F P) where
   open Polynomials A using (ring, coeff, con, len)
-  open Ring2 ring using (add as _⊞_, mul as _·_, nought as 𝟘, one as 𝟙)
-  open Ring2 (F .ring) using (add as _⊞ₖ_, mul as _·ₖ_, nought as 𝟘ₖ, one as 𝟙ₖ)
+  open Ring2 ring using (add as _⊞_, mul as _·_, zero as 𝟘, one as 𝟙)
+  open Ring2 (F .ring) using (add as _⊞ₖ_, mul as _·ₖ_, zero as 𝟘ₖ, one as 𝟙ₖ)
   open Field2 F using (root)
 
   infixl 60 _⊞_
@@ -45,8 +45,8 @@ module _ {K P : Type 0} {F : Field2 K} (A : Polynomials F P) where
         (quartic-is A 𝟙ₖ _ _ _ _ _ _ (one-square A _ _ (F .root-square _)) (one-square A _ _ (F .root-square _)) (one-square A _ _ (F .root-square _)))
 
     pub pair-1 : half-of-degree-1 A T ≡ root-pair A (T .w ⊞ k-1 ⊞ m-1 · T .u) (T .v ⊞ k-1 · T .u ⊞ 𝟙)
-    unfolding half-of-degree-1 step lift
-    pair-1 = halved-pair A 𝟙ₖ (step A (lift A k-1 T)) _ _ square-1 refl
+    unfolding half-of-degree-1 exchange lift
+    pair-1 = halved-pair A 𝟙ₖ (exchange A (lift A k-1 T)) _ _ square-1 refl
 
     pub nonzero-1 :
         len (T .u) ≡ 2
@@ -104,8 +104,8 @@ module _ {K P : Type 0} {F : Field2 K} (A : Polynomials F P) where
         (undivided (F .ring) _ i _ _ (F .mul-inverse _ n) (F .root-square _)))
 
     pub pair-2 : half-of-degree-2 A T ≡ root-pair A (con u1 · T .w ⊞ con u1 · k-2 ⊞ m-2 · T .u) (T .v ⊞ k-2 · T .u ⊞ 𝟙)
-    unfolding lifted-half-of-degree-2 step lift
-    pair-2 = half-2-lifted T n ∙ halved-pair A u1 (step A (lift A k-2 T)) _ _ square-2 refl
+    unfolding lifted-half-of-degree-2 exchange lift
+    pair-2 = half-2-lifted T n ∙ halved-pair A u1 (exchange A (lift A k-2 T)) _ _ square-2 refl
 
     pub nonzero-2 :
         len (T .u) ≡ 3

@@ -35,7 +35,7 @@ module _ (d : ℕ) (u v w : List ℕ) where
     t-is : el d t ≡ t-el
     t-is = t-path d u v w (c .first)
 
-    t≢ : ¬ (t-el ≡ F d .ring .nought)
+    t≢ : ¬ (t-el ≡ F d .ring .zero)
     t≢ e = el-nonzero d t (c .first .t-is .in-range) (c .t-nonzero) (t-is ∙ e)
 
     abbrev i-el : K d

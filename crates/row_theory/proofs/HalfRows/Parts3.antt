@@ -15,7 +15,7 @@ use Rattle.row_theory.proofs.{Rows.Elements.el-zero, Rows.Elements.el-o
 use Rattle.row_theory.proofs.HalfRows.Degree3.{first-lift-is}
 
 module _ (d : ℕ) where
-  open Ring2 (𝔸 d .ring) using (add as _⊞_, mul as _·_, nought as 𝟘, one as 𝟙)
+  open Ring2 (𝔸 d .ring) using (add as _⊞_, mul as _·_, zero as 𝟘, one as 𝟙)
 
   infixl 60 _⊞_
   infixl 70 _·_

@@ -3,7 +3,7 @@ use Prim.Native.Nat.{ℕ, zero, suc, _+_, _≤_, _<_, _^_}
 use mathlib.Core.{Path._≡_, Path.sym, Path._∙_, Path.ap, Path.ap₂, Path.subst, List.List, List.[], List._∷_, List.map}
 use native.Mathlib.Omega.{arith}
 use Rattle.field_laws.specs.Ring.{Ring2}
-use Rattle.char2_algebra.proofs.{Ring.⊞-𝟘, Ring.·-𝟘, Degree.con-nought}
+use Rattle.char2_algebra.proofs.{Ring.⊞-𝟘, Ring.·-𝟘, Degree.con-of-zero}
 use Rattle.polynomial_lists.proofs.OfList.{of-nil, of-cons}
 use Rattle.class_group.specs.{Half.quadratic}
 use Rattle.row_theory.specs.{Field.degree-of, Field.K, Field.F, Field.Poly, Field.𝔸, Field.el, Field.poly, Row.InRange, Row.Stands, Row.row-len}
@@ -12,7 +12,7 @@ use Rattle.row_theory.proofs.{Rows.Elements.el-zero, Rows.Elements.zero
 use Rattle.row_theory.proofs.HalfRows.Squares.{quadratic-len, quartic-len}
 
 module _ (d : ℕ) where
-  open Ring2 (𝔸 d .ring) using (add as _⊞_, mul as _·_, nought as 𝟘)
+  open Ring2 (𝔸 d .ring) using (add as _⊞_, mul as _·_, zero as 𝟘)
 
   infixl 60 _⊞_
   infixl 70 _·_
@@ -40,7 +40,7 @@ module _ (d : ℕ) where
   nil-stands = record { in-range = range-nil; stands = of-nil (F d) }
 
   con-zero : 𝔸 d .con (el d 0) ≡ 𝟘
-  con-zero = ap (𝔸 d .con) (el-zero d) ∙ con-nought (𝔸 d)
+  con-zero = ap (𝔸 d .con) (el-zero d) ∙ con-of-zero (𝔸 d)
 
   -- a 0 before a row: x times its polynomial
   zero-stands : {r : List ℕ} {p : Poly d} → Stands d r p → Stands d (0 ∷ r) (𝔸 d .x · p)
@@ -66,13 +66,13 @@ module _ (d : ℕ) where
     quartic-stands = cons-stands hc (zero-stands (cons-stands hb (zero-stands (last-stands ha seven-zeros))))
 
   -- p + 1
-  pub stepped-stands :
+  pub exchanged-stands :
       (p : Poly d) {s one o : List ℕ}
       → Stands d s p
       → Stands d one (𝔸 d .ring .one)
       → Stands d o (poly d s ⊞ poly d one)
       → Stands d o (p ⊞ 𝔸 d .ring .one)
-  stepped-stands p hs h1 = stands-eq d (ap₂ _⊞_ (hs .stands) (h1 .stands))
+  exchanged-stands p hs h1 = stands-eq d (ap₂ _⊞_ (hs .stands) (h1 .stands))
 
   -- a product with a short row fits
   row-short : {r : List ℕ} (p : Poly d) (n : ℕ) → 𝔸 d .len p ≤ n → Stands d r p → row-len d r ≤ n

@@ -5,7 +5,7 @@ use mathlib.Core.Path.{_≡_, sym, _∙_, ap, ap₂}
 use native.Mathlib.Omega.{arith}
 use Rattle.field_laws.specs.{Ring.Ring2, Field.Field2}
 use Rattle.char2_algebra.specs.{Polynomials.Polynomials, Square.sqrt}
-use Rattle.char2_algebra.proofs.{Ring.ring2, Ring.by, Ring.combine, Ring.⊞-𝟘, Ring.·-𝟘, Ring.𝟙-·, Degree.con-mul, Degree.con-one, Degree.con-nought}
+use Rattle.char2_algebra.proofs.{Ring.ring2, Ring.by, Ring.combine, Ring.⊞-𝟘, Ring.·-𝟘, Ring.𝟙-·, Degree.con-mul, Degree.con-one, Degree.con-of-zero}
 use Rattle.char2_algebra.proofs.{Degree.len-add, Degree.len-con-le, Degree.len-x-mul-le, Lead.monic-nonzero}
 use Rattle.class_group.proofs.{Rows.Even, EvenRoot.even-root}
 use Rattle.class_group.specs.Half.{Triple, halved, quadratic}
@@ -31,8 +31,8 @@ module _ {B : Type 0} (R : Ring2 B) where
 
 module _ {K P : Type 0} {F : Field2 K} (A : Polynomials F P) where
   open Polynomials A using (ring, coeff, con, x, len)
-  open Ring2 ring using (add as _⊞_, mul as _·_, nought as 𝟘, one as 𝟙)
-  open Ring2 (F .ring) using (add as _⊞ₖ_, mul as _·ₖ_, nought as 𝟘ₖ, one as 𝟙ₖ)
+  open Ring2 ring using (add as _⊞_, mul as _·_, zero as 𝟘, one as 𝟙)
+  open Ring2 (F .ring) using (add as _⊞ₖ_, mul as _·ₖ_, zero as 𝟘ₖ, one as 𝟙ₖ)
   open Field2 F using (root, inverse)
 
   infixl 60 _⊞_
@@ -45,7 +45,7 @@ module _ {K P : Type 0} {F : Field2 K} (A : Polynomials F P) where
   pub constant : (c : K) → quadratic A 𝟘ₖ 𝟘ₖ c ≡ con c
   unfolding quadratic
   constant c =
-      ap₂ (λ y z. con c ⊞ x · (y ⊞ x · z)) (con-nought A) (con-nought A)
+      ap₂ (λ y z. con c ⊞ x · (y ⊞ x · z)) (con-of-zero A) (con-of-zero A)
       ∙ ap (λ z. con c ⊞ x · (𝟘 ⊞ z)) (·-𝟘 ring x)
       ∙ ap (λ z. con c ⊞ x · z) (⊞-𝟘 ring 𝟘)
       ∙ ap (λ z. con c ⊞ z) (·-𝟘 ring x)

@@ -34,7 +34,7 @@ module _ (d : ℕ) where
     unfolding F el
     root-answers = ap (λ k. root-reply k a) (sym (degree-is d hd)) ∙ root-in-field (degree-of d) (accepted d) a ha
 
-    pub inverse-answers : (ne : ¬ (el d a ≡ F d .ring .nought)) → inverse-reply d a ≡ element ((inverse-of (F d) (el d a) ne) .0)
+    pub inverse-answers : (ne : ¬ (el d a ≡ F d .ring .zero)) → inverse-reply d a ≡ element ((inverse-of (F d) (el d a) ne) .0)
     unfolding F el
     inverse-answers ne = ap (λ k. inverse-reply k a) (sym (degree-is d hd)) ∙ inverse-in-field (degree-of d) (accepted d) a ha ne
 
@@ -56,7 +56,7 @@ module _ (d : ℕ) where
   inverse-one a e = record { in-range = one-lt d; unit = ap₂ (F d .ring .mul) (ap (el d) e ∙ el-one d) (el-one d) ∙ ·-𝟙 (F d .ring) (F d .ring .one) }
 
   -- the number of an inverse inverts
-  pub inverse-inverts : {n : ℕ} (e : K d) (ne : ¬ (e ≡ F d .ring .nought)) → n ≡ (inverse-of (F d) e ne) .0 → Inverts d n e
+  pub inverse-inverts : {n : ℕ} (e : K d) (ne : ¬ (e ≡ F d .ring .zero)) → n ≡ (inverse-of (F d) e ne) .0 → Inverts d n e
   inverse-inverts e ne h =
       let is = number-is (inverse-of (F d) e ne) h in
       record { in-range = is .in-range; unit = ap (F d .ring .mul e) (is .stands) ∙ F d .mul-inverse e ne }
@@ -65,5 +65,5 @@ module _ (d : ℕ) where
   inverts-eq {n} e s = record { in-range = s .in-range; unit = ap (λ z. F d .ring .mul z (el d n)) (sym e) ∙ s .unit }
 
   -- a number that inverts an element stands for its inverse
-  pub inverts-is : {n : ℕ} {e : K d} (ne : ¬ (e ≡ F d .ring .nought)) → Inverts d n e → el d n ≡ inverse-of (F d) e ne
+  pub inverts-is : {n : ℕ} {e : K d} (ne : ¬ (e ≡ F d .ring .zero)) → Inverts d n e → el d n ≡ inverse-of (F d) e ne
   inverts-is {n} {e} ne s = inverse-only (F d) e (el d n) ne (s .unit)

@@ -7,7 +7,7 @@ use lib.ListN.{length, getD, List·getD-map, List·getD-eq-default}
 use Rattle.char2_algebra.proofs.Degree.{len-bound, len-is}
 use Rattle.polynomial_lists.proofs.OfList.{coeff-of}
 use Rattle.row_theory.specs.{Field.F, Field.Poly, Field.𝔸, Field.el, Field.poly, Row.InRange, Row.Stands, Row.row-len}
-use Rattle.row_theory.proofs.Rows.Elements.{el-zero, zero-of-nought, el-nonzero}
+use Rattle.row_theory.proofs.Rows.Elements.{el-zero, zero-of-zero, el-nonzero}
 
 module _ (d : ℕ) where
   pub coeff-poly : (r : List ℕ) (i : ℕ) → 𝔸 d .coeff (poly d r) i ≡ el d (getD r i 0)
@@ -43,7 +43,7 @@ module _ (d : ℕ) where
 
   -- the numbers from the length on are 0
   pub zero-past : (r : List ℕ) (i : ℕ) → InRange d r → row-len d r ≤ i → getD r i 0 ≡ 0
-  zero-past r i h k = zero-of-nought d (getD r i 0) (h i) (sym (coeff-poly r i) ∙ 𝔸 d .len-past (poly d r) i k)
+  zero-past r i h k = zero-of-zero d (getD r i 0) (h i) (sym (coeff-poly r i) ∙ 𝔸 d .len-past (poly d r) i k)
 
   -- the last number below the length is not 0
   pub top-nonzero : (r : List ℕ) (n : ℕ) → row-len d r ≡ suc n → ¬ (getD r n 0 ≡ 0)

@@ -2,7 +2,7 @@
 use Prim.Native.Nat.{ℕ, zero, suc, _<_, _^_}
 use mathlib.Core.{Path._≡_, Path.sym, Path._∙_, Path.ap, List.List, List._∷_}
 use lib.ListN.{getD, replicate}
-use Rattle.char2_algebra.proofs.Degree.{con-nought, con-one}
+use Rattle.char2_algebra.proofs.Degree.{con-of-zero, con-one}
 use Rattle.row_theory.specs.{Field.degree-of, Field.𝔸, Field.el, Row.Stands}
 use Rattle.row_theory.proofs.Rows.{Elements.el-zero, Elements.el-one, Elements.one-lt, Coefficients.stands-by, Coefficients.stands-eq, Fill.zeros-at, Fill.zeros-range}
 
@@ -19,8 +19,8 @@ module _ (d : ℕ) where
       coefficient zero = sym (𝔸 d .coeff-con (el d c))
       coefficient (suc i) = ap (el d) (zeros-at 11 i) ∙ el-zero d ∙ sym (𝔸 d .coeff-con-suc (el d c) i)
 
-  pub zero-stands : {r : List ℕ} → Stands d r (𝔸 d .con (el d 0)) → Stands d r (𝔸 d .ring .nought)
-  zero-stands s = stands-eq d (ap (𝔸 d .con) (el-zero d) ∙ con-nought (𝔸 d)) s
+  pub zero-stands : {r : List ℕ} → Stands d r (𝔸 d .con (el d 0)) → Stands d r (𝔸 d .ring .zero)
+  zero-stands s = stands-eq d (ap (𝔸 d .con) (el-zero d) ∙ con-of-zero (𝔸 d)) s
 
 -- the row of the polynomial 1
 abbrev pub one-row : List ℕ

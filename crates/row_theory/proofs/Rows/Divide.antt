@@ -11,7 +11,7 @@ use Rattle.char2_algebra.specs.Lead.{lead}
 use Rattle.char2_algebra.proofs.{Ring.ring2, Ring.𝟘-⊞, Ring.𝟘-·, Ring.⊞-𝟘, Ring.·-𝟘, Ring.·-𝟙, Ring.·-assoc, Ring.·-comm, Degree.con-mul}
 use Rattle.char2_algebra.proofs.Division.{rem-is, quot-is}
 use Rattle.row_theory.specs.{Field.K, Field.F, Field.Poly, Field.𝔸, Field.el, Field.poly, internal.Elements.Is, internal.Elements.Inverts, Row.InRange, Row.Stands, Row.row-len, internal.Elements.x-power}
-use Rattle.row_theory.proofs.{Rows.Elements.zero-lt, Rows.Elements.el-zero, Rows.Elements.zero-of-nought, Rows.Answers.inverts-eq, Rows.Coefficients.coeff-poly}
+use Rattle.row_theory.proofs.{Rows.Elements.zero-lt, Rows.Elements.el-zero, Rows.Elements.zero-of-zero, Rows.Answers.inverts-eq, Rows.Coefficients.coeff-poly}
 use Rattle.row_theory.proofs.Rows.Coefficients.{row-len-le, zero-past, self-stands, stands-eq}
 use Rattle.row_theory.proofs.{Rows.Length.Blank, Rows.Fill.range-set, Rows.Fill.zeros-at, Rows.Fill.zeros-range, Rows.Fill.zeros-poly, Rows.Shift.x-power-add}
 use Rattle.row_theory.proofs.{Rows.Shift.poly-set-zero, Rows.Shift.poly-strike, Rows.Shift.coeff-shift-past, Rows.Lead.Leads, Rows.Lead.lead-row, Rows.Lead.row-split}
@@ -86,13 +86,13 @@ module _ {d : ℕ} {low : List ℕ} {top inverse : ℕ} where
           ∙ ap (F d .ring .mul (el d (getD r (k - 1) 0))) (·-comm (F d .ring) (el d inverse) l ∙ e)
           ∙ ·-𝟙 (F d .ring) (el d (getD r (k - 1) 0))
 
-      blank : (i : ℕ) → k - 1 ≤ i → el d (getD t i 0) ≡ F d .ring .nought
+      blank : (i : ℕ) → k - 1 ≤ i → el d (getD t i 0) ≡ F d .ring .zero
       blank i m =
           sym (coeff-poly d t i)
           ∙ ap (λ y. 𝔸 d .coeff y i) (u .stands)
           ∙ 𝔸 d .coeff-add _ _ i
           ∙ ap₂ (F d .ring .add) (coeff-poly d (set r (k - 1) 0) i ∙ ap (el d) (struck i m (ℕ-discrete i (k - 1))) ∙ el-zero d) (𝔸 d .coeff-con-mul (el d c) _ i ∙ ap (F d .ring .mul (el d c)) (coeff-shift-past d (k - 1 - top) top i (poly d low) low-len (omega arith)) ∙ ·-𝟘 (F d .ring) (el d c))
-          ∙ ⊞-𝟘 (F d .ring) (F d .ring .nought)
+          ∙ ⊞-𝟘 (F d .ring) (F d .ring .zero)
 
       balance : (g : Poly d) → IsDivisor d low top inverse g → p ≡ 𝔸 d .ring .add (𝔸 d .ring .mul (poly d (set q (k - 1 - top) c)) g) (poly d t)
       balance g w =
@@ -118,7 +118,7 @@ module _ {d : ℕ} {low : List ℕ} {top inverse : ℕ} where
             r-size = z;
             q-range = range-set d q (k - 1 - top) c (let y : length q ≡ 12 = v .q-size in omega arith) (v .q-range) (c-is .in-range);
             r-range = u .in-range;
-            r-blank = record { zeros = λ i m. zero-of-nought d (getD t i 0) (u .in-range i) (blank i m) };
+            r-blank = record { zeros = λ i m. zero-of-zero d (getD t i 0) (u .in-range i) (blank i m) };
             q-blank = λ i m. getD-set-other q (k - 1 - top) i c 0 (λ e. absurd (omega arith)) ∙ v .q-blank i (omega arith);
             equation = balance;
           }

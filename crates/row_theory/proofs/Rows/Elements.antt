@@ -6,7 +6,7 @@ use lib.Dec.{T, eqb, lit<}
 use borrow.Author.Tests.{eqb-true}
 use Rattle.binary_field_theory.specs.Element.{Accepted}
 use Rattle.binary_field_theory.proofs.Elements.{element-path}
-use Rattle.binary_field.proofs.Field.{element-small, element-number, nought-number, one-number}
+use Rattle.binary_field.proofs.Field.{element-small, element-number, zero-number, one-number}
 use Rattle.row_theory.specs.{Field.degree-of, Field.accepted, Field.K, Field.F, Field.el, internal.Elements.Is}
 
 -- the degree of an accepted call is the degree itself
@@ -45,9 +45,9 @@ module _ (d : ℕ) where
   unfolding el
   el-of a = element-number (degree-of d) (accepted d) a
 
-  pub el-zero : el d 0 ≡ F d .ring .nought
+  pub el-zero : el d 0 ≡ F d .ring .zero
   unfolding F
-  el-zero = element-path (degree-of d) (el-number 0 zero-lt ∙ sym (nought-number (degree-of d) (accepted d)))
+  el-zero = element-path (degree-of d) (el-number 0 zero-lt ∙ sym (zero-number (degree-of d) (accepted d)))
 
   pub el-one : el d 1 ≡ F d .ring .one
   unfolding F
@@ -57,17 +57,17 @@ module _ (d : ℕ) where
   pub el-injective : (m n : ℕ) → m < 2 ^ degree-of d → n < 2 ^ degree-of d → el d m ≡ el d n → m ≡ n
   el-injective m n h k e = sym (el-number m h) ∙ ap (λ a. a .0) e ∙ el-number n k
 
-  pub zero-of-nought : (n : ℕ) → n < 2 ^ degree-of d → el d n ≡ F d .ring .nought → n ≡ 0
-  zero-of-nought n h e = el-injective n 0 h zero-lt (e ∙ sym el-zero)
+  pub zero-of-zero : (n : ℕ) → n < 2 ^ degree-of d → el d n ≡ F d .ring .zero → n ≡ 0
+  zero-of-zero n h e = el-injective n 0 h zero-lt (e ∙ sym el-zero)
 
-  pub el-nonzero : (n : ℕ) → n < 2 ^ degree-of d → ¬ (n ≡ 0) → ¬ (el d n ≡ F d .ring .nought)
-  el-nonzero n h k e = k (zero-of-nought n h e)
+  pub el-nonzero : (n : ℕ) → n < 2 ^ degree-of d → ¬ (n ≡ 0) → ¬ (el d n ≡ F d .ring .zero)
+  el-nonzero n h k e = k (zero-of-zero n h e)
 
   pub one-of-one : (n : ℕ) → n < 2 ^ degree-of d → el d n ≡ F d .ring .one → n ≡ 1
   one-of-one n h e = el-injective n 1 h one-lt (e ∙ sym el-one)
 
   -- numbers that stand for elements
-  pub zero-is : Is d 0 (F d .ring .nought)
+  pub zero-is : Is d 0 (F d .ring .zero)
   zero-is = record { in-range = zero-lt; stands = el-zero }
 
   pub self-is : (n : ℕ) → n < 2 ^ degree-of d → Is d n (el d n)

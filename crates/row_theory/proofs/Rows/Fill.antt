@@ -6,7 +6,7 @@ use Prim.Native.Nat.{ℕ, zero, suc, _+_, _≤_, _<_, _^_}
 use mathlib.Core.{Path._≡_, Path.refl, Path.sym, Path._∙_, Path.ap, Path.subst, List.List}
 use native.Mathlib.{Omega.arith, Decide.decLe, Decide.ℕ-discrete}
 use lib.{ListN.length, ListN.getD, ListN.set, ListN.replicate, ListN.length-set, Seq.getD-set-same, Seq.getD-set-other}
-use Rattle.char2_algebra.proofs.Degree.{coeff-nought}
+use Rattle.char2_algebra.proofs.Degree.{coeff-zero}
 use Rattle.row_theory.specs.{Field.degree-of, Field.F, Field.Poly, Field.𝔸, Field.el, Field.poly, internal.Elements.Is, Row.InRange, Row.Stands}
 use Rattle.row_theory.proofs.{Rows.Elements.zero-lt, Rows.Elements.el-zero, Rows.Coefficients.coeff-poly, Rows.Coefficients.stands-by}
 
@@ -27,11 +27,11 @@ zeros-at (suc n) (suc i) = zeros-at n i
 pub zeros-range : (d n : ℕ) → InRange d (replicate n 0)
 zeros-range d n i = rw (zeros-at n i) (zero-lt d)
 
-pub coeff-zeros : (d n i : ℕ) → 𝔸 d .coeff (poly d (replicate n 0)) i ≡ F d .ring .nought
+pub coeff-zeros : (d n i : ℕ) → 𝔸 d .coeff (poly d (replicate n 0)) i ≡ F d .ring .zero
 coeff-zeros d n i = coeff-poly d (replicate n 0) i ∙ ap (el d) (zeros-at n i) ∙ el-zero d
 
-pub zeros-poly : (d n : ℕ) → poly d (replicate n 0) ≡ 𝔸 d .ring .nought
-zeros-poly d n = 𝔸 d .ext _ _ (λ i. coeff-zeros d n i ∙ sym (coeff-nought (𝔸 d) i))
+pub zeros-poly : (d n : ℕ) → poly d (replicate n 0) ≡ 𝔸 d .ring .zero
+zeros-poly d n = 𝔸 d .ext _ _ (λ i. coeff-zeros d n i ∙ sym (coeff-zero (𝔸 d) i))
 
 pub record Filled (d : ℕ) (r : List ℕ) (k : ℕ) (p q : Poly d) : Type 0 where
   pub size : length r ≡ 12

@@ -18,7 +18,7 @@ pub record Leads (d : ℕ) (r : List ℕ) (top : ℕ) : Type 0 where
   pub len : row-len d r ≡ suc top
   pub nonzero : ¬ (getD r top 0 ≡ 0)
 
-pub length-pos : (d : ℕ) (r : List ℕ) {n : ℕ} → n ≡ row-len d r → ¬ (poly d r ≡ 𝔸 d .ring .nought) → 1 ≤ n
+pub length-pos : (d : ℕ) (r : List ℕ) {n : ℕ} → n ≡ row-len d r → ¬ (poly d r ≡ 𝔸 d .ring .zero) → 1 ≤ n
 length-pos d r e h = let k : 0 < row-len d r = len-nonzero (𝔸 d) (poly d r) h in omega arith
 
 pub leads-at : (d : ℕ) (r : List ℕ) {top : ℕ} → length r ≡ 12 → InRange d r → row-len d r ≡ suc top → Leads d r top
@@ -26,7 +26,7 @@ leads-at d r {top} s g e =
     let l : row-len d r ≤ 12 = row-len-length d r 12 s in
     record { size = s; range = g; top-lt = omega arith; len = e; nonzero = top-nonzero d r top e }
 
-pub leads : (d : ℕ) (r : List ℕ) {n : ℕ} → length r ≡ 12 → InRange d r → n ≡ row-len d r → ¬ (poly d r ≡ 𝔸 d .ring .nought) → Leads d r (n - 1)
+pub leads : (d : ℕ) (r : List ℕ) {n : ℕ} → length r ≡ 12 → InRange d r → n ≡ row-len d r → ¬ (poly d r ≡ 𝔸 d .ring .zero) → Leads d r (n - 1)
 leads d r {n} s g e h =
     let k : 0 < row-len d r = len-nonzero (𝔸 d) (poly d r) h in
     leads-at d r s g (omega arith)

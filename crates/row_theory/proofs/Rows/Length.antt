@@ -3,7 +3,7 @@ use Prim.Native.Nat.{ℕ, zero, suc, _-_, _≤_, _<_}
 use mathlib.Core.{Path._≡_, Path.refl, Path.sym, Path._∙_, Path.ap, List.List, List.[], List._∷_}
 use native.Mathlib.{Omega.arith, Decide.decLe}
 use lib.ListN.{length, getD, List·getD-eq-default}
-use Rattle.row_theory.specs.Row.{InRange, after, places, row-len}
+use Rattle.row_theory.specs.Row.{InRange, places-cons, places, row-len}
 use Rattle.row_theory.proofs.Rows.Coefficients.{row-len-le, row-len-is, row-len-length}
 
 -- the numbers from n on are 0
@@ -18,46 +18,46 @@ blank-less {r} {n} b e =
     record { zeros = λ i h. elim (decLe n i) [ yes k ↦ b .zeros i k | no k ↦ ap (λ j. getD r j 0) (omega arith) ∙ e ] }
 
 -- `places` is the only index from which on all numbers are 0 and before which one is not
-past-after :
+past-places :
     (r : List ℕ)
     → ((i : ℕ) → places r ≤ i → getD r i 0 ≡ 0)
     → (k : ℕ)
     → places r ≡ k
     → (n i : ℕ)
-    → after k n ≤ i
+    → places-cons k n ≤ i
     → getD (n ∷ r) i 0 ≡ 0
-unfolding after
-past-after r ih (suc k) e n zero h = let z : suc (suc k) ≤ 0 = h in absurd (omega arith)
-past-after r ih (suc k) e n (suc i) h = let z : suc (suc k) ≤ suc i = h in ih i (omega arith)
-past-after r ih zero e zero zero h = refl
-past-after r ih zero e zero (suc i) h = ih i (omega arith)
-past-after r ih zero e (suc n) zero h = let z : 1 ≤ 0 = h in absurd (omega arith)
-past-after r ih zero e (suc n) (suc i) h = ih i (omega arith)
+unfolding places-cons
+past-places r ih (suc k) e n zero h = let z : suc (suc k) ≤ 0 = h in absurd (omega arith)
+past-places r ih (suc k) e n (suc i) h = let z : suc (suc k) ≤ suc i = h in ih i (omega arith)
+past-places r ih zero e zero zero h = refl
+past-places r ih zero e zero (suc i) h = ih i (omega arith)
+past-places r ih zero e (suc n) zero h = let z : 1 ≤ 0 = h in absurd (omega arith)
+past-places r ih zero e (suc n) (suc i) h = ih i (omega arith)
 
 pub places-past : (r : List ℕ) (i : ℕ) → places r ≤ i → getD r i 0 ≡ 0
 unfolding places
 places-past [] i h = refl
-places-past (n ∷ r) i h = past-after r (places-past r) (places r) refl n i h
+places-past (n ∷ r) i h = past-places r (places-past r) (places r) refl n i h
 
-top-after :
+top-places :
     (r : List ℕ)
     → ((m : ℕ) → places r ≡ suc m → ¬ (getD r m 0 ≡ 0))
     → (k : ℕ)
     → places r ≡ k
     → (n m : ℕ)
-    → after k n ≡ suc m
+    → places-cons k n ≡ suc m
     → ¬ (getD (n ∷ r) m 0 ≡ 0)
-unfolding after
-top-after r ih (suc k) z n zero e = let w : suc (suc k) ≡ 1 = e in absurd (omega arith)
-top-after r ih (suc k) z n (suc m) e = let w : suc (suc k) ≡ suc (suc m) = e in ih m (omega arith)
-top-after r ih zero z zero m e = let w : 0 ≡ suc m = e in absurd (omega arith)
-top-after r ih zero z (suc n) zero e = λ w. let v : suc n ≡ 0 = w in absurd (omega arith)
-top-after r ih zero z (suc n) (suc m) e = let w : 1 ≡ suc (suc m) = e in absurd (omega arith)
+unfolding places-cons
+top-places r ih (suc k) z n zero e = let w : suc (suc k) ≡ 1 = e in absurd (omega arith)
+top-places r ih (suc k) z n (suc m) e = let w : suc (suc k) ≡ suc (suc m) = e in ih m (omega arith)
+top-places r ih zero z zero m e = let w : 0 ≡ suc m = e in absurd (omega arith)
+top-places r ih zero z (suc n) zero e = λ w. let v : suc n ≡ 0 = w in absurd (omega arith)
+top-places r ih zero z (suc n) (suc m) e = let w : 1 ≡ suc (suc m) = e in absurd (omega arith)
 
 pub places-top : (r : List ℕ) (m : ℕ) → places r ≡ suc m → ¬ (getD r m 0 ≡ 0)
 unfolding places
 places-top [] m e = let w : 0 ≡ suc m = e in absurd (omega arith)
-places-top (n ∷ r) m e = top-after r (places-top r) (places r) refl n m e
+places-top (n ∷ r) m e = top-places r (places-top r) (places r) refl n m e
 
 pub places-is : {r : List ℕ} {n : ℕ} → Blank r n → (0 < n → ¬ (getD r (n - 1) 0 ≡ 0)) → n ≡ places r
 places-is {r} {n} b t =

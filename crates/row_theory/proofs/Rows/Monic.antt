@@ -34,7 +34,7 @@ module _ {d : ℕ} {r : List ℕ} {top : ℕ} (s : Leads d r top) where
       let h : top < length t = (let k : top < 12 = s .top-lt in omega arith) in
       let one-is : F d .ring .mul (el d i) (el d (getD r top 0)) ≡ F d .ring .one =
       ·-comm (F d .ring) _ _ ∙ inverts-eq d (lead-row s) e .unit in
-      let t-top : el d (getD t top 0) ≡ F d .ring .nought =
+      let t-top : el d (getD t top 0) ≡ F d .ring .zero =
       sym (coeff-poly d t top) ∙ ap (λ y. 𝔸 d .coeff y top) (u .stands) ∙ 𝔸 d .coeff-con-mul (el d i) (poly d (set r top 0)) top ∙ ap (F d .ring .mul (el d i)) (coeff-poly d (set r top 0) top ∙ ap (el d) (low-top s) ∙ el-zero d) ∙ ·-𝟘 (F d .ring) (el d i) in
       record {
         in-range = range-set d t top 1 h (u .in-range) (one-lt d);

@@ -7,7 +7,7 @@ use mathlib.Core.{Path._≡_, Path.sym, Path._∙_, Path.ap, Path.ap₂, List.Li
 use native.Mathlib.{Omega.arith, Decide.ℕ-discrete, Decide.decLe}
 use lib.ListN.{getD, replicate}
 use Rattle.field_laws.specs.Ring.{Ring2}
-use Rattle.char2_algebra.proofs.{Ring.ring2, Ring.⊞-𝟘, Ring.𝟘-⊞, Ring.𝟘-·, Degree.coeff-nought}
+use Rattle.char2_algebra.proofs.{Ring.ring2, Ring.⊞-𝟘, Ring.𝟘-⊞, Ring.𝟘-·, Degree.coeff-zero}
 use Rattle.row_theory.specs.{Field.F, Field.Poly, Field.𝔸, Field.el, Field.poly, Row.InRange, Row.Stands, internal.Elements.x-power, Row.row-len}
 use Rattle.row_theory.proofs.{Rows.Coefficients.coeff-poly, Rows.Fill.zeros-range, Rows.Fill.zeros-poly, Rows.Shift.monomial-at, Rows.Shift.monomial-off}
 
@@ -18,7 +18,7 @@ pub record Partial (d : ℕ) (a b r : List ℕ) (i : ℕ) : Type 0 where
   pub range : InRange d r
   pub front : Poly d
   pub below : (j : ℕ) → j < i → 𝔸 d .coeff front j ≡ el d (getD a j 0)
-  pub above : (j : ℕ) → i ≤ j → 𝔸 d .coeff front j ≡ F d .ring .nought
+  pub above : (j : ℕ) → i ≤ j → 𝔸 d .coeff front j ≡ F d .ring .zero
   pub product : poly d r ≡ 𝔸 d .ring .mul front (poly d b)
 
 module _ {d : ℕ} {a b : List ℕ} where
@@ -26,9 +26,9 @@ module _ {d : ℕ} {a b : List ℕ} where
   partial-start =
       record {
         range = zeros-range d 12;
-        front = 𝔸 d .ring .nought;
+        front = 𝔸 d .ring .zero;
         below = λ j h. absurd (omega arith);
-        above = λ j h. coeff-nought (𝔸 d) j;
+        above = λ j h. coeff-zero (𝔸 d) j;
         product = zeros-poly d 12 ∙ sym (𝟘-· (𝔸 d .ring) (poly d b));
       }
 

@@ -15,7 +15,7 @@ module _ (d : ℕ) where
   coeff-shift (suc n) i p =
       ap₂ (𝔸 d .coeff) (·-assoc (𝔸 d .ring) (𝔸 d .x) (x-power d n) p) (omega arith) ∙ 𝔸 d .coeff-x-mul-suc (𝔸 d .ring .mul (x-power d n) p) (n + i) ∙ coeff-shift n i p
 
-  pub coeff-shift-below : (n i : ℕ) (p : Poly d) → i < n → 𝔸 d .coeff (𝔸 d .ring .mul (x-power d n) p) i ≡ F d .ring .nought
+  pub coeff-shift-below : (n i : ℕ) (p : Poly d) → i < n → 𝔸 d .coeff (𝔸 d .ring .mul (x-power d n) p) i ≡ F d .ring .zero
   unfolding x-power
   coeff-shift-below zero i p h = absurd (omega arith)
   coeff-shift-below (suc n) zero p h = ap (λ z. 𝔸 d .coeff z 0) (·-assoc (𝔸 d .ring) (𝔸 d .x) (x-power d n) p) ∙ 𝔸 d .coeff-x-mul (𝔸 d .ring .mul (x-power d n) p)
@@ -23,7 +23,7 @@ module _ (d : ℕ) where
       ap (λ z. 𝔸 d .coeff z (suc i)) (·-assoc (𝔸 d .ring) (𝔸 d .x) (x-power d n) p) ∙ 𝔸 d .coeff-x-mul-suc (𝔸 d .ring .mul (x-power d n) p) i ∙ coeff-shift-below n i p (omega arith)
 
   -- at and past n + m, where p has no coefficient at and past m
-  pub coeff-shift-past : (n m i : ℕ) (p : Poly d) → 𝔸 d .len p ≤ m → n + m ≤ i → 𝔸 d .coeff (𝔸 d .ring .mul (x-power d n) p) i ≡ F d .ring .nought
+  pub coeff-shift-past : (n m i : ℕ) (p : Poly d) → 𝔸 d .len p ≤ m → n + m ≤ i → 𝔸 d .coeff (𝔸 d .ring .mul (x-power d n) p) i ≡ F d .ring .zero
   unfolding x-power
   coeff-shift-past zero m i p h k = ap (λ z. 𝔸 d .coeff z i) (𝟙-· (𝔸 d .ring) p) ∙ 𝔸 d .len-past p i (omega arith)
   coeff-shift-past (suc n) m zero p h k = absurd (omega arith)
@@ -36,7 +36,7 @@ module _ (d : ℕ) where
   x-power-at zero = coeff-one (𝔸 d)
   x-power-at (suc n) = 𝔸 d .coeff-x-mul-suc (x-power d n) n ∙ x-power-at n
 
-  pub x-power-off : (n i : ℕ) → ¬ (i ≡ n) → 𝔸 d .coeff (x-power d n) i ≡ F d .ring .nought
+  pub x-power-off : (n i : ℕ) → ¬ (i ≡ n) → 𝔸 d .coeff (x-power d n) i ≡ F d .ring .zero
   unfolding x-power
   x-power-off zero zero h = absurd (h refl)
   x-power-off zero (suc i) h = coeff-one-suc (𝔸 d) i
@@ -54,7 +54,7 @@ module _ (d : ℕ) where
   pub monomial-at : (a : K d) (n : ℕ) → 𝔸 d .coeff (𝔸 d .ring .mul (𝔸 d .con a) (x-power d n)) n ≡ a
   monomial-at a n = 𝔸 d .coeff-con-mul a (x-power d n) n ∙ ap (F d .ring .mul a) (x-power-at n) ∙ ·-𝟙 (F d .ring) a
 
-  pub monomial-off : (a : K d) (n i : ℕ) → ¬ (i ≡ n) → 𝔸 d .coeff (𝔸 d .ring .mul (𝔸 d .con a) (x-power d n)) i ≡ F d .ring .nought
+  pub monomial-off : (a : K d) (n i : ℕ) → ¬ (i ≡ n) → 𝔸 d .coeff (𝔸 d .ring .mul (𝔸 d .con a) (x-power d n)) i ≡ F d .ring .zero
   monomial-off a n i h = 𝔸 d .coeff-con-mul a (x-power d n) i ∙ ap (F d .ring .mul a) (x-power-off n i h) ∙ ·-𝟘 (F d .ring) a
 
   -- a store adds a multiple of a power of x

@@ -4,7 +4,7 @@ use mathlib.Core.{Path._≡_, Path.sym, Path._∙_, Path.ap, Path.ap₂, List.Li
 use lib.ListN.{getD, replicate}
 use Rattle.field_laws.specs.Ring.{Ring2}
 use Rattle.char2_algebra.specs.Polynomials.{Polynomials}
-use Rattle.char2_algebra.proofs.{Ring.⊞-𝟘, Ring.𝟘-⊞, Ring.·-𝟘, Ring.𝟘-·, Ring.𝟙-·, Degree.con-nought, Degree.con-one}
+use Rattle.char2_algebra.proofs.{Ring.⊞-𝟘, Ring.𝟘-⊞, Ring.·-𝟘, Ring.𝟘-·, Ring.𝟙-·, Degree.con-of-zero, Degree.con-one}
 use Rattle.row_theory.specs.{Field.K, Field.F, Field.Poly, Field.𝔸, Field.el, Field.poly, internal.Elements.Is, internal.Elements.x-power}
 use Rattle.row_theory.proofs.{Rows.Elements.el-zero, Rows.Elements.el-one, Rows.Elements.is-eq, Rows.Coefficients.coeff-poly, Rows.Fill.zeros-poly, Rows.Shift.coeff-shift}
 use Rattle.row_theory.proofs.Rows.Shift.{coeff-shift-below, coeff-shift-past}
@@ -12,7 +12,7 @@ use Rattle.row_theory.proofs.Rows.Shift.{coeff-shift-below, coeff-shift
 module _ (d : ℕ) where
   open Polynomials (𝔸 d) using (ring, coeff, con, len)
   open Ring2 (𝔸 d .ring) using (add as _⊞_, mul as _·_)
-  open Ring2 (F d .ring) using (add as _⊞ₖ_, mul as _·ₖ_, nought as 𝟘ₖ)
+  open Ring2 (F d .ring) using (add as _⊞ₖ_, mul as _·ₖ_, zero as 𝟘ₖ)
 
   infixl 60 _⊞_
   infixl 70 _·_
@@ -22,22 +22,22 @@ module _ (d : ℕ) where
   coeff-added : (p q : Poly d) (c : K d) (i : ℕ) → coeff (p ⊞ con c · q) i ≡ coeff p i ⊞ₖ c ·ₖ coeff q i
   coeff-added p q c i = 𝔸 d .coeff-add _ _ i ∙ ap (λ z. coeff p i ⊞ₖ z) (𝔸 d .coeff-con-mul c q i)
 
-  same-where-nought : (p q : Poly d) (c : K d) (i : ℕ) → coeff q i ≡ 𝟘ₖ → coeff p i ≡ coeff (p ⊞ con c · q) i
-  same-where-nought p q c i e =
+  same-where-zero : (p q : Poly d) (c : K d) (i : ℕ) → coeff q i ≡ 𝟘ₖ → coeff p i ≡ coeff (p ⊞ con c · q) i
+  same-where-zero p q c i e =
       sym (coeff-added p q c i ∙ ap (λ z. coeff p i ⊞ₖ c ·ₖ z) e ∙ ap (λ z. coeff p i ⊞ₖ z) (·-𝟘 (F d .ring) c) ∙ ⊞-𝟘 (F d .ring) (coeff p i))
 
   pub added-below : (p q : Poly d) (c : K d) (s i : ℕ) → i < s → coeff p i ≡ coeff (p ⊞ con c · (x-power d s · q)) i
-  added-below p q c s i h = same-where-nought p (x-power d s · q) c i (coeff-shift-below d s i q h)
+  added-below p q c s i h = same-where-zero p (x-power d s · q) c i (coeff-shift-below d s i q h)
 
   pub added-past : (p q : Poly d) (c : K d) (s n i : ℕ) → len q ≤ n → s + n ≤ i → coeff p i ≡ coeff (p ⊞ con c · (x-power d s · q)) i
-  added-past p q c s n i h k = same-where-nought p (x-power d s · q) c i (coeff-shift-past d s n i q h k)
+  added-past p q c s n i h k = same-where-zero p (x-power d s · q) c i (coeff-shift-past d s n i q h k)
 
   pub added-at : (p q : Poly d) (c : K d) (s i : ℕ) → coeff (p ⊞ con c · (x-power d s · q)) (s + i) ≡ coeff p (s + i) ⊞ₖ c ·ₖ coeff q i
   added-at p q c s i = coeff-added p (x-power d s · q) c (s + i) ∙ ap (λ z. coeff p (s + i) ⊞ₖ c ·ₖ z) (coeff-shift d s i q)
 
-  pub multiple-nought : (p q : Poly d) {c : ℕ} → c ≡ 0 → p ≡ p ⊞ con (el d c) · q
-  multiple-nought p q e =
-      sym (ap (λ z. p ⊞ z) (ap (λ z. con z · q) (ap (el d) e ∙ el-zero d) ∙ ap (λ z. z · q) (con-nought (𝔸 d)) ∙ 𝟘-· ring q) ∙ ⊞-𝟘 ring p)
+  pub multiple-zero : (p q : Poly d) {c : ℕ} → c ≡ 0 → p ≡ p ⊞ con (el d c) · q
+  multiple-zero p q e =
+      sym (ap (λ z. p ⊞ z) (ap (λ z. con z · q) (ap (el d) e ∙ el-zero d) ∙ ap (λ z. z · q) (con-of-zero (𝔸 d)) ∙ 𝟘-· ring q) ∙ ⊞-𝟘 ring p)
 
   pub multiple-one : (p q : Poly d) → p ⊞ con (el d 1) · (x-power d 0 · q) ≡ p ⊞ q
   unfolding x-power

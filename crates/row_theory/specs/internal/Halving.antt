@@ -24,12 +24,12 @@ module _ {K P : Type 0} {F : Field2 K} (A : Polynomials F P) where
   -- in degree 3, the square after the second lift: t² u + t x + t q + (x² + g) s, where t² is the coefficient of x in s
   unfoldable pub second-square : P → P → K → K → K → P
   second-square u s t q g =
-      con (coeff s 1) · u ⊞ quadratic A (F .ring .nought) t (F .ring .mul t q) ⊞ even-quartic (F .ring .nought) (F .ring .one) g · s
+      con (coeff s 1) · u ⊞ quadratic A (F .ring .zero) t (F .ring .mul t q) ⊞ even-quartic (F .ring .zero) (F .ring .one) g · s
 
   -- in degree 3, the second polynomial of the half: v + r (u + a) + i z, where z is (x + q) s modulo a
   unfoldable pub second-remainder : P → P → P → P → K → K → K → P
   second-remainder u v s a r i q =
-      v ⊞ con r · (u ⊞ a) ⊞ con i · rem (quadratic A (F .ring .nought) (F .ring .one) q · rem s a) a
+      v ⊞ con r · (u ⊞ a) ⊞ con i · rem (quadratic A (F .ring .zero) (F .ring .one) q · rem s a) a
 
 -- the triple that three rows stand for
 unfoldable pub rows-triple : (d : ℕ) → List ℕ → List ℕ → List ℕ → Triple (Poly d)

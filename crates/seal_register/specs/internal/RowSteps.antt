@@ -7,14 +7,14 @@ use Rattle.jacobian.specs.declared.{Curve.Curve, Class.Class}
 use Rattle.count_limit.specs.Limit.{count-refusal}
 
 -- the refusal before the first step over n classes; where n is not 0, that step checks the curve and the last seal
-unfoldable pub opening-refusal : Curve → Class → ℕ → ℕ
-opening-refusal c last zero = refusal c last
-opening-refusal c last (suc n) = unless (eqb (count-refusal (suc n)) 0) (curve-refusal c or-else count-refusal (suc n))
+unfoldable pub start-refusal : Curve → Class → ℕ → ℕ
+start-refusal c last zero = refusal c last
+start-refusal c last (suc n) = unless (eqb (count-refusal (suc n)) 0) (curve-refusal c or-else count-refusal (suc n))
 
 -- the number of steps; 0 after a refusal
-unfoldable pub turns-due : Verdict → ℕ → ℕ
-turns-due accepted n = n
-turns-due (refused k) n = 0
+unfoldable pub remaining-steps : Verdict → ℕ → ℕ
+remaining-steps accepted n = n
+remaining-steps (refused k) n = 0
 
 -- one step back; a refused walk stays as it is
 unfoldable pub onward : Curve → Result → Class → Result

@@ -1,6 +1,6 @@
 -- `times_plus` meets its contract: the product is answered.
 use borrow.Author.Needs.{needs}
-use Rattle.stamps.proofs.Values.{nought-times, times-answered, never-refused}
+use Rattle.stamps.proofs.Values.{zero-times, times-answered, never-refused}
 use Rattle.stamps.proofs.times_plus.Statement.{statement}
 use Rattle.stamps.proofs.times_plus.Tie as tie
 
@@ -21,7 +21,7 @@ pub times-plus-spec : {M : Type 1} → statement M
 times-plus-spec =
     tie.close
     (tie.spec
-    (λ c. nought-times _ _ _ (c .if1 .taken))
+    (λ c. zero-times _ _ _ (c .if1 .taken))
     (λ c κs. search needs)
     (λ c. search needs)
     (λ c. search needs)

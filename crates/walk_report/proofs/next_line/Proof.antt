@@ -7,11 +7,11 @@ use Rattle.walk_report.proofs.next_line.Tie as tie
 
 returns : tie.Need-returns
 unfolding next-of
-returns c = line-staged _ _ _ (c .before .before .before .stage .given .1) (c .line-made .ensures _ (c .before .refusal-line .ensures))
+returns c = line-staged _ _ _ (c .before .before .before .stage .given .1) (c .answer-line .ensures _ (c .before .refusal-line .ensures))
 
 returns-2 : tie.Need-returns-2
 unfolding next-of
-returns-2 c = line-staged _ _ _ (c .before .before .enum-told .given .1) (c .line-made2 .ensures _ (c .before .opening-line .ensures))
+returns-2 c = line-staged _ _ _ (c .before .before .enum-told .given .1) (c .answer-line2 .ensures _ (c .before .header-line .ensures))
 
 returns-3 : tie.Need-returns-3
 unfolding next-of
@@ -23,7 +23,7 @@ returns-4 c = line-staged _ _ _ (c .before .enum-told3 .given .1) (c .undone .en
 
 returns-5 : tie.Need-returns-5
 unfolding next-of
-returns-5 c = line-staged _ _ _ (c .before .before .enum-told4 .given .1) (c .line-made3 .ensures _ (c .before .empty .ensures))
+returns-5 c = line-staged _ _ _ (c .before .before .enum-told4 .given .1) (c .answer-line3 .ensures _ (c .before .empty .ensures))
 
 pub next-line-spec : {M : Type 1} → statement M
 next-line-spec =

@@ -10,12 +10,12 @@ returns : tie.Need-returns
 returns c =
     let line = c .before .before in
     let count = line .before in
-    let due = count .before in
-    let mark = due .before in
+    let expected = count .before in
+    let mark = expected .before in
     let m = mark .before .before .before in
     let step = m .before .before in
     undone-made _ _ _ (ap (λ (x : Reply). x .class) (step .subtract-and-halve .ensures .answer)) (m .advanced .ensures) (mark .letter-before .ensures)
-    (due .older .ensures) (count .undone-of .ensures) (line .seal-line .ensures)
+    (expected .older .ensures) (count .undone-of .ensures) (line .seal-line .ensures)
 
 pub undone-spec : {M : Type 1} → statement M
 undone-spec =

@@ -12,27 +12,27 @@ start e = e .before .before .before .before .before .before .before .before .bef
 
 -- what holds after the second use of Euclid's rule
 common : (e : tie.After-bezout)
-    → Common (start e .args .d) (start e .args .f) (start e .args .a) (start e .args .b) (start e .args .first .g) (start e .args .first .s) (start e .args .first .t) (e .before .before .before .add-rows .result) (e .before .before .one .result) (e .before .add-rows2 .result) (e .bezout .result .g) (e .bezout .result .s) (e .bezout .result .t)
+    → Common (start e .args .d) (start e .args .f) (start e .args .a) (start e .args .b) (start e .args .first .g) (start e .args .first .s) (start e .args .first .t) (e .before .before .before .sum-rows .result) (e .before .before .one .result) (e .before .sum-rows2 .result) (e .bezout .result .g) (e .bezout .result .s) (e .bezout .result .t)
 unfolding start
 common e = record {
   reduced₁ = start e .pre .1;
   reduced₂ = start e .pre .2;
   first-is = start e .pre .3;
-  sum-is = e .before .before .before .add-rows .ensures;
+  sum-is = e .before .before .before .sum-rows .ensures;
   one-is = e .before .before .one .ensures _;
-  third-is = e .before .add-rows2 .ensures;
+  third-is = e .before .sum-rows2 .ensures;
   second-is = e .bezout .ensures;
 }
 
-add-rows-requires-2 : tie.Need-add-rows-requires-2
-add-rows-requires-2 c κs = let s = c .before .before .before .before .before .before .before in (s .pre .0, c .before .add-rows .ensures .in-range, c .one .ensures _ .in-range)
+sum-rows-requires-2 : tie.Need-sum-rows-requires-2
+sum-rows-requires-2 c κs = let s = c .before .before .before .before .before .before .before in (s .pre .0, c .before .sum-rows .ensures .in-range, c .one .ensures _ .in-range)
 
 bezout-requires : tie.Need-bezout-requires
 bezout-requires c κs =
     let s = c .before .before .before .before .before .before .before .before in
     let d = s .args .d in
-    let T = c .add-rows2 .ensures in
-    let l = third-len d (c .before .before .add-rows .result) (c .before .one .ensures _) T (sum-len d (s .pre .1) (s .pre .2) (s .pre .3) (c .before .before .add-rows .ensures)) in
+    let T = c .sum-rows2 .ensures in
+    let l = third-len d (c .before .before .sum-rows .result) (c .before .one .ensures _) T (sum-len d (s .pre .1) (s .pre .2) (s .pre .3) (c .before .before .sum-rows .ensures)) in
     (s .pre .0, s .pre .3 .g-range, T .in-range, divisor-len d (s .pre .1) (s .pre .3), omega (arith, l))
 
 cofactor-requires : tie.Need-cofactor-requires
@@ -92,7 +92,7 @@ compose-common-spec =
     (tie.spec
     (λ c κs. search needs)
     (λ c κs. tt)
-    add-rows-requires-2
+    sum-rows-requires-2
     bezout-requires
     cofactor-requires
     multiple-row-requires

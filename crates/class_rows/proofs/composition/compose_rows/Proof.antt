@@ -14,15 +14,15 @@ bezout-requires c κs =
     let B = s .pre .2 in
     (s .pre .0, A .u-range, B .u-range, reduced-len (s .args .d) A .0, reduced-len (s .args .d) B .0)
 
-multiply-requires : tie.Need-multiply-requires
-multiply-requires c κs =
+product-rows-requires : tie.Need-product-rows-requires
+product-rows-requires c κs =
     let e = c .before .before .before .before .before in
     let s = e .before .before .before .before .before in
     let d = s .args .d in
     let A = s .pre .1 in
     let B = s .pre .2 in
     let I = e .bezout .ensures in
-    let S = c .add-rows .ensures in
+    let S = c .sum-rows .ensures in
     (s .pre .0, I .s-range, S .in-range, omega (arith, sum-len d A B I S, first-len d A B I S))
 
 joined-rows-requires : tie.Need-joined-rows-requires
@@ -35,7 +35,7 @@ joined-rows-requires c κs =
       u-short d A,
       u-short d B,
       A .v-range,
-      c .multiply .ensures .in-range,
+      c .product-rows .ensures .in-range,
       u-nonzero d A,
       u-nonzero d B,
     )
@@ -47,9 +47,9 @@ returns-2 c =
     let d = s .args .d in
     let I = e .bezout .ensures in
     let n = places-len _ (c .before .before .before .before .before .length .ensures) d (I .g-range) in
-    coprime-stands d (s .pre .1) (s .pre .2) I (c .before .before .add-rows .ensures) (omega (arith, n, c .before .before .before .before .if1 .left)) (c .before .multiply .ensures) (c .joined-rows .ensures)
+    coprime-stands d (s .pre .1) (s .pre .2) I (c .before .before .sum-rows .ensures) (omega (arith, n, c .before .before .before .before .if1 .left)) (c .before .product-rows .ensures) (c .joined-rows .ensures)
 
 pub compose-rows-spec : {M : Type 1} → statement M
 compose-rows-spec =
     tie.close
-    (tie.spec bezout-requires (λ c κs. search needs) (λ c κs. search needs) (λ c. search needs) (λ c κs. search needs) multiply-requires joined-rows-requires returns-2)
+    (tie.spec bezout-requires (λ c κs. search needs) (λ c κs. search needs) (λ c. search needs) (λ c κs. search needs) product-rows-requires joined-rows-requires returns-2)

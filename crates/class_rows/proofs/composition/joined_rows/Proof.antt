@@ -5,21 +5,21 @@ use Rattle.class_rows.proofs.ComposeRows.{joined-nonzero, joined-less, 
 use Rattle.class_rows.proofs.composition.joined_rows.Statement.{statement}
 use Rattle.class_rows.proofs.composition.joined_rows.Tie as tie
 
-multiply-requires-2 : tie.Need-multiply-requires-2
-multiply-requires-2 c κs =
+product-rows-requires-2 : tie.Need-product-rows-requires-2
+product-rows-requires-2 c κs =
     let s = c .before .before .before in
     let a = s .args in
     let k = c .before .divide .ensures .1 in
-    let l = joined-less (a .d) (a .d1) (a .d2) (a .m) (c .before .before .multiply .ensures) (s .pre .5) (s .pre .6) k in
+    let l = joined-less (a .d) (a .d1) (a .d2) (a .m) (c .before .before .product-rows .ensures) (s .pre .5) (s .pre .6) k in
     (s .pre .0, s .pre .1 .in-range, k .in-range, omega (arith, l, s .pre .1 .len-le, s .pre .2 .len-le))
 
 divide-requires-2 : tie.Need-divide-requires-2
 divide-requires-2 c κs =
     let s = c .before .before .before .before .before in
     let a = s .args in
-    let u = c .before .before .before .before .multiply .ensures in (
+    let u = c .before .before .before .before .product-rows .ensures in (
       s .pre .0,
-      c .add-rows .ensures .in-range,
+      c .sum-rows .ensures .in-range,
       u .in-range,
       joined-nonzero (a .d) (a .d1) (a .d2) (a .m) u (s .pre .5) (s .pre .6) (c .before .before .before .divide .ensures .1),
     )
@@ -29,8 +29,8 @@ returns c =
     let s = c .before .before .before .before .before .before .before in
     let a = s .args in
     let e = c .before .before .before in
-    joined-stands (a .d) (a .d1) (a .d2) (a .m) (e .before .before .before .multiply .ensures) (s .pre .5) (s .pre .6) (e .before .before .divide .ensures .1)
-    (a .v1) (e .multiply2 .ensures) (c .before .before .add-rows .ensures) (c .before .divide2 .ensures .1)
+    joined-stands (a .d) (a .d1) (a .d2) (a .m) (e .before .before .before .product-rows .ensures) (s .pre .5) (s .pre .6) (e .before .before .divide .ensures .1)
+    (a .v1) (e .product-rows2 .ensures) (c .before .before .sum-rows .ensures) (c .before .divide2 .ensures .1)
 
 pub joined-rows-spec : {M : Type 1} → statement M
-joined-rows-spec = tie.close (tie.spec (λ c κs. search needs) (λ c κs. search needs) multiply-requires-2 (λ c κs. search needs) divide-requires-2 returns)
+joined-rows-spec = tie.close (tie.spec (λ c κs. search needs) (λ c κs. search needs) product-rows-requires-2 (λ c κs. search needs) divide-requires-2 returns)

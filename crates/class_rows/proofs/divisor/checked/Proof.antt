@@ -6,7 +6,7 @@ use Rattle.char2_algebra.proofs.Lead.{monic-nonzero}
 use Rattle.row_theory.specs.Field.{𝔸}
 use Rattle.row_theory.proofs.Rows.Length.{places-len}
 use Rattle.class_rows.specs.internal.Check.{FormedRows}
-use Rattle.class_rows.proofs.{CheckRows.denied, CheckRows.no-it-is-not, CheckRows.formed-divisor, CheckRows.division-decides, ReductionRows.cofactor-row}
+use Rattle.class_rows.proofs.{CheckRows.decides-not, CheckRows.decides-false, CheckRows.formed-divisor, CheckRows.division-decides, ReductionRows.cofactor-row}
 use Rattle.class_rows.proofs.divisor.checked.Statement.{statement}
 use Rattle.class_rows.proofs.divisor.checked.Tie as tie
 
@@ -17,7 +17,7 @@ formed c = c .before .in-form .ensures .0 (not-false _ (c .if1 .left))
 returns : tie.Need-returns
 returns c =
     record {
-      decides = no-it-is-not refl (λ p. denied (c .before .in-form .ensures) (not-true _ (c .if1 .taken)) (formed-divisor p));
+      decides = decides-false refl (λ p. decides-not (c .before .in-form .ensures) (not-true _ (c .if1 .taken)) (formed-divisor p));
       cofactor = λ e. absurd (true≢false (sym e));
     }
 

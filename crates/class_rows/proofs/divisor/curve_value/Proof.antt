@@ -11,8 +11,8 @@ returns c =
     let s = c .before .before .before in
     let d = s .args .d in
     stands-eq d
-    (ap (λ z. 𝔸 d .ring .add z (poly d (s .args .f))) (c .before .add-rows .ensures .stands ∙ ap (λ z. 𝔸 d .ring .add z (poly d (s .args .v))) (c .before .before .square-row .ensures .stands)))
-    (c .add-rows2 .ensures)
+    (ap (λ z. 𝔸 d .ring .add z (poly d (s .args .f))) (c .before .sum-rows .ensures .stands ∙ ap (λ z. 𝔸 d .ring .add z (poly d (s .args .v))) (c .before .before .square-row .ensures .stands)))
+    (c .sum-rows2 .ensures)
 
 pub curve-value-spec : {M : Type 1} → statement M
 curve-value-spec = tie.close (tie.spec (λ c κs. search needs) (λ c κs. search needs) (λ c κs. search needs) returns)

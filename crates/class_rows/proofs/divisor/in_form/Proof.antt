@@ -2,18 +2,18 @@
 use mathlib.Core.Path.{refl, sym, _∙_}
 use borrow.Author.Tests.{not-true, not-false}
 use Rattle.binary_field.proofs.Degrees.{accepted-degree, degree-accepted}
-use Rattle.class_rows.proofs.CheckRows.{denied, no-it-is-not, also}
+use Rattle.class_rows.proofs.CheckRows.{decides-not, decides-false, decides-iff}
 use Rattle.class_rows.proofs.divisor.in_form.Statement.{statement}
 use Rattle.class_rows.proofs.divisor.in_form.Tie as tie
 
 returns : tie.Need-returns
-returns c = no-it-is-not refl (λ p. c .if1 .taken (c .before .degree-refusal .ensures ∙ degree-accepted _ (p .degree)))
+returns c = decides-false refl (λ p. c .if1 .taken (c .before .degree-refusal .ensures ∙ degree-accepted _ (p .degree)))
 
 is-curve-requires : tie.Need-is-curve-requires
 is-curve-requires c κs = accepted-degree _ (sym (c .before .degree-refusal .ensures) ∙ c .if1 .left)
 
 returns-2 : tie.Need-returns-2
-returns-2 c = no-it-is-not refl (λ p. denied (c .before .is-curve .ensures) (not-true _ (c .if2 .taken)) (p .curve))
+returns-2 c = decides-false refl (λ p. decides-not (c .before .is-curve .ensures) (not-true _ (c .if2 .taken)) (p .curve))
 
 is-pair-requires : tie.Need-is-pair-requires
 is-pair-requires c κs = let first = c .before .before in accepted-degree _ (sym (first .before .degree-refusal .ensures) ∙ first .if1 .left)
@@ -22,7 +22,7 @@ returns-3 : tie.Need-returns-3
 returns-3 c =
     let second = c .before in
     let first = second .before .before in
-    also (c .is-pair .ensures)
+    decides-iff (c .is-pair .ensures)
     (λ p. record {
       degree = accepted-degree _ (sym (first .before .degree-refusal .ensures) ∙ first .if1 .left);
       curve = second .before .is-curve .ensures .0 (not-false _ (second .if2 .left));

@@ -2,7 +2,7 @@
 use Prim.Native.Nat.{_-_, _≤_}
 use mathlib.Core.Path.{refl}
 use native.Mathlib.Omega.{arith}
-use Rattle.class_rows.proofs.CheckRows.{bound-is, Below, below-none, below-more, below-all, yes-it-is, no-it-is-not}
+use Rattle.class_rows.proofs.CheckRows.{bound-is, Below, below-none, below-more, below-all, decides-true, decides-false}
 use Rattle.class_rows.proofs.divisor.in_range.Statement.{statement}
 use Rattle.class_rows.proofs.divisor.in_range.Tie as tie
 
@@ -15,7 +15,7 @@ abbrev μ-loop : tie.MeasureT-loop
 returns : tie.Need-returns Inv-loop μ-loop
 returns c =
     let e = bound-is _ (c .before .before .before .before .pre) (c .before .before .before .bound .ensures) in
-    no-it-is-not refl (λ h. absurd (omega (arith, e, h (c .before .before .loop .i), c .if1 .taken)))
+    decides-false refl (λ h. absurd (omega (arith, e, h (c .before .before .loop .i), c .if1 .taken)))
 
 pub in-range-spec : {M : Type 1} → statement M
 in-range-spec =
@@ -31,4 +31,4 @@ in-range-spec =
     (λ c. omega arith)
     (λ c. omega arith)
     (λ c. (omega arith, below-more _ (c .before .before .loop .inv .1) (bound-is _ (c .before .before .before .before .pre) (c .before .before .before .bound .ensures)) (c .if1 .left)))
-    (λ c. yes-it-is (below-all _ (c .before .loop .inv .1) (omega arith) (c .before .before .before .good .1 .0 .1 .0 .1))))
+    (λ c. decides-true (below-all _ (c .before .loop .inv .1) (omega arith) (c .before .before .before .good .1 .0 .1 .0 .1))))

@@ -2,12 +2,12 @@
 use mathlib.Core.Path.{refl, sym, _∙_}
 use native.Mathlib.Omega.{arith}
 use Rattle.row_theory.proofs.Rows.Length.{places-len, length-le}
-use Rattle.class_rows.proofs.CheckRows.{no-it-is-not, none-monic, monic-decides}
+use Rattle.class_rows.proofs.CheckRows.{decides-false, none-monic, monic-decides}
 use Rattle.class_rows.proofs.divisor.is_monic.Statement.{statement}
 use Rattle.class_rows.proofs.divisor.is_monic.Tie as tie
 
 returns : tie.Need-returns
-returns c = no-it-is-not refl (none-monic _ _ (sym (c .if1 .taken) ∙ places-len _ (c .before .length .ensures) _ (c .before .before .pre)))
+returns c = decides-false refl (none-monic _ _ (sym (c .if1 .taken) ∙ places-len _ (c .before .length .ensures) _ (c .before .before .pre)))
 
 mul-result : tie.Need-mul-result
 mul-result c =

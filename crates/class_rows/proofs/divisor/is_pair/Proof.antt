@@ -2,23 +2,23 @@
 use mathlib.Core.Path.{refl}
 use native.Mathlib.Omega.{arith}
 use borrow.Author.Tests.{not-true, not-false}
-use Rattle.class_rows.proofs.CheckRows.{denied, no-it-is-not, also}
+use Rattle.class_rows.proofs.CheckRows.{decides-not, decides-false, decides-iff}
 use Rattle.row_theory.proofs.Rows.Length.{places-len}
 use Rattle.class_rows.proofs.divisor.is_pair.Statement.{statement}
 use Rattle.class_rows.proofs.divisor.is_pair.Tie as tie
 
 returns : tie.Need-returns
-returns c = no-it-is-not refl (λ p. denied (c .before .in-range .ensures) (not-true _ (c .if1 .taken)) (p .u-range))
+returns c = decides-false refl (λ p. decides-not (c .before .in-range .ensures) (not-true _ (c .if1 .taken)) (p .u-range))
 
 returns-2 : tie.Need-returns-2
-returns-2 c = no-it-is-not refl (λ p. denied (c .before .in-range2 .ensures) (not-true _ (c .if2 .taken)) (p .v-range))
+returns-2 c = decides-false refl (λ p. decides-not (c .before .in-range2 .ensures) (not-true _ (c .if2 .taken)) (p .v-range))
 
 returns-3 : tie.Need-returns-3
-returns-3 c = no-it-is-not refl (λ p. absurd (omega (arith, places-len _ (c .before .length .ensures) _ (p .u-range), p .u-len, c .if3 .taken)))
+returns-3 c = decides-false refl (λ p. absurd (omega (arith, places-len _ (c .before .length .ensures) _ (p .u-range), p .u-len, c .if3 .taken)))
 
 returns-4 : tie.Need-returns-4
 returns-4 c =
-    no-it-is-not refl
+    decides-false refl
     (λ p. absurd (omega (arith, places-len _ (c .before .before .before .length .ensures) _ (p .u-range), places-len _ (c .before .length2 .ensures) _ (p .v-range), p .v-len, c .if4 .taken)))
 
 is-monic-requires : tie.Need-is-monic-requires
@@ -36,7 +36,7 @@ returns-5 c =
     let v-range = second .before .in-range2 .ensures .0 (not-false _ (second .if2 .left)) in
     let n = places-len _ (long .before .length .ensures) _ u-range in
     let m = places-len _ (last .before .length2 .ensures) _ v-range in
-    also (c .is-monic .ensures)
+    decides-iff (c .is-monic .ensures)
     (λ p. record {
       u-range = u-range;
       v-range = v-range;

@@ -11,7 +11,7 @@ use Rattle.class_rows.proofs.euclid.bezout.Reads as bezout
 use Rattle.class_rows.proofs.euclid.bezout.Kinds as bezout-kinds
 use Rattle.class_rows.proofs.euclid.+bezout.Lts-bezout as lts
 use Rattle.class_rows.proofs.euclid.bezout_constant.Reads as bezout-constant-reads
-use Rattle.class_rows.proofs.euclid.bezout_nought.Reads as bezout-nought-reads
+use Rattle.class_rows.proofs.euclid.bezout_zero.Reads as bezout-zero-reads
 use Rattle.class_rows.proofs.euclid.substituted.Reads as substituted-reads
 use Rattle.class_rows.proofs.row.divide.Reads as divide-reads
 use Rattle.class_rows.proofs.row.length.Reads as length-reads
@@ -32,8 +32,8 @@ abbrev callees : ℕ → lts.Claims
 callees t = (
   length-reads.Asked,
   length-reads.Learnt,
-  bezout-nought-reads.Asked,
-  bezout-nought-reads.Learnt,
+  bezout-zero-reads.Asked,
+  bezout-zero-reads.Learnt,
   bezout-constant-reads.Asked,
   bezout-constant-reads.Learnt,
   divide-reads.Asked,
@@ -51,13 +51,13 @@ length-requires t c κs = tt
 found : (t : ℕ) (c : lts.After-length (callees t) (given t) bezout.Post) → c .length .result ≡ row-len (c .before .args .d) (c .before .args .b)
 found t c = places-len _ (c .length .ensures) (c .before .args .d) (c .before .pre .1 .2)
 
-bezout-nought-requires : (t : ℕ) → lts.Need-bezout-nought-requires (callees t) (given t) bezout.Post
-bezout-nought-requires t c κs =
+bezout-zero-requires : (t : ℕ) → lts.Need-bezout-zero-requires (callees t) (given t) bezout.Post
+bezout-zero-requires t c κs =
     let pre = c .before .before .pre .1 in
     (pre .0, pre .1)
 
 returns : (t : ℕ) → lts.Need-returns (callees t) (given t) bezout.Post
-returns t c = c .bezout-nought .ensures (c .before .before .before .args .b) (sym (found t (c .before .before)) ∙ c .before .if1 .taken)
+returns t c = c .bezout-zero .ensures (c .before .before .before .args .b) (sym (found t (c .before .before)) ∙ c .before .if1 .taken)
 
 bezout-constant-requires : (t : ℕ) → lts.Need-bezout-constant-requires (callees t) (given t) bezout.Post
 bezout-constant-requires t c κs =
@@ -69,7 +69,7 @@ returns-2 t c = c .bezout-constant .ensures (c .before .before .before .before .
 
 -- past the tests b is not 0
 b-nonzero : (t : ℕ) (c : lts.Else2 (callees t) (given t) bezout.Post)
-    → ¬ (poly (c .before .before .before .args .d) (c .before .before .before .args .b) ≡ 𝔸 (c .before .before .before .args .d) .ring .nought)
+    → ¬ (poly (c .before .before .before .args .d) (c .before .before .before .args .b) ≡ 𝔸 (c .before .before .before .args .d) .ring .zero)
 b-nonzero t c =
     nonzero-of-len (𝔸 (c .before .before .before .args .d)) (poly (c .before .before .before .args .d) (c .before .before .before .args .b))
     (omega (arith, found t (c .before .before), c .before .if1 .left))
@@ -108,5 +108,5 @@ returns-3 t c =
 
 pub +bezout-spec : {M : Type 1} → statement M
 +bezout-spec = close μ
-    (λ t. lts.spec (callees t) (given t) bezout.Post (length-requires t) (bezout-nought-requires t) (returns t) (bezout-constant-requires t) (returns-2 t)
+    (λ t. lts.spec (callees t) (given t) bezout.Post (length-requires t) (bezout-zero-requires t) (returns t) (bezout-constant-requires t) (returns-2 t)
     (divide-requires t) (bezout-requires t) (substituted-requires t) (returns-3 t))

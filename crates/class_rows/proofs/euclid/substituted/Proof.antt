@@ -10,7 +10,7 @@ returns : tie.Need-returns
 returns c =
     let s = c .before .before .before .before .before in
     let d = s .args .d in
-    (refl, refl, stands-eq d (ap (𝔸 d .ring .add (poly d (s .args .r .s))) (c .before .multiply .ensures .stands)) (c .add-rows .ensures))
+    (refl, refl, stands-eq d (ap (𝔸 d .ring .add (poly d (s .args .r .s))) (c .before .product-rows .ensures .stands)) (c .sum-rows .ensures))
 
 pub substituted-spec : {M : Type 1} → statement M
 substituted-spec = tie.close (tie.spec (λ c κs. search needs) (λ c κs. search needs) returns)

@@ -9,7 +9,7 @@ use Rattle.class_rows.proofs.halving.add_product.Tie as tie
 returns : tie.Need-returns
 returns c =
     let d = c .before .before .args .d in
-    stands-eq d (ap (𝔸 d .ring .add (poly d (c .before .before .args .a))) (c .before .multiply .ensures .stands)) (c .add-rows .ensures)
+    stands-eq d (ap (𝔸 d .ring .add (poly d (c .before .before .args .a))) (c .before .product-rows .ensures .stands)) (c .sum-rows .ensures)
 
 pub add-product-spec : {M : Type 1} → statement M
 add-product-spec = tie.close (tie.spec (λ c κs. search needs) (λ c κs. search needs) returns)

@@ -34,7 +34,7 @@ second :
     (lifted c .before .first-lift .result)
     (lifted c .root-of2 .result)
     (c .before .before .before .before .inverted .result)
-    (c .before .before .before .plus .result)
+    (c .before .before .before .sum-of .result)
     (c .before .before .root-of3 .result)
     (c .before .second-square .result)
     (c .root-row .result)
@@ -43,14 +43,14 @@ second c =
       first = first (lifted c);
       t-nonzero = c .before .before .before .before .before .if1 .left;
       i-is = c .before .before .before .before .inverted .ensures;
-      g-is = c .before .before .before .plus .ensures;
+      g-is = c .before .before .before .sum-of .ensures;
       q-is = c .before .before .root-of3 .ensures;
       p-is = c .before .second-square .ensures;
       a-is = c .root-row .ensures;
     }
 
-stepped-row-requires : tie.Need-stepped-row-requires
-stepped-row-requires c κs =
+exchanged-row-requires : tie.Need-exchanged-row-requires
+exchanged-row-requires c κs =
     let p = start (c .before .before) .pre in
     let k = c .quadratic-row .ensures in
     (p .0, p .1 .v-range, k .in-range, p .1 .u-range, quadratic-fits _ _ _ _ _ k (omega (arith, p .1 .u-len)))
@@ -58,19 +58,19 @@ stepped-row-requires c κs =
 root-pair-requires : tie.Need-root-pair-requires
 root-pair-requires c κs =
     let l = c .before .before .before in
-    (start l .pre .0, l .before .first-lift .ensures .in-range, c .stepped-row .ensures .in-range, root-nonzero-3-square _ _ _ _ (first l) (c .before .before .if1 .taken))
+    (start l .pre .0, l .before .first-lift .ensures .in-range, c .exchanged-row .ensures .in-range, root-nonzero-3-square _ _ _ _ (first l) (c .before .before .if1 .taken))
 
 returns : tie.Need-returns
 returns c =
     let k = c .before .before in
     let f = first (k .before .before) in
-    stands-pair-eq _ (result-3-square _ _ _ _ f (k .before .if1 .taken) (k .quadratic-row .ensures) (c .before .stepped-row .ensures)) (c .root-pair .ensures)
+    stands-pair-eq _ (result-3-square _ _ _ _ f (k .before .if1 .taken) (k .quadratic-row .ensures) (c .before .exchanged-row .ensures)) (c .root-pair .ensures)
 
 second-square-requires : tie.Need-second-square-requires
 second-square-requires c κs =
     let l = c .before .before .before .before in
     let f = first l in
-    (start l .pre .0, f .rows .u-range, f .s-is .in-range, f .t-is .in-range, c .root-of3 .ensures .in-range, c .before .plus .ensures .in-range, first-lift-short _ _ _ _ f)
+    (start l .pre .0, f .rows .u-range, f .s-is .in-range, f .t-is .in-range, c .root-of3 .ensures .in-range, c .before .sum-of .ensures .in-range, first-lift-short _ _ _ _ f)
 
 second-remainder-requires : tie.Need-second-remainder-requires
 second-remainder-requires c κs =
@@ -104,7 +104,7 @@ half-of-degree-3-spec =
     (λ c. search needs)
     (λ c κs. (c .before .before .pre .0, c .first-lift .ensures .in-range 1))
     (λ c κs. search needs)
-    stepped-row-requires
+    exchanged-row-requires
     root-pair-requires
     returns
     (λ c κs. search needs)

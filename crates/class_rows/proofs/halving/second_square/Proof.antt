@@ -10,7 +10,7 @@ lifted-row-requires c κs =
     (p .0, c .scale .ensures .in-range, c .before .before .quadratic-row .ensures .in-range, c .before .quartic-row .ensures .in-range, p .2, quartic-fits _ _ _ _ _ (c .before .quartic-row .ensures) (p .6))
 
 returns : tie.Need-returns
-returns c = second-square-stands _ _ _ _ _ _ (c .before .before .before .before .times .ensures) (c .before .before .before .quadratic-row .ensures) (c .before .before .quartic-row .ensures) (c .before .scale .ensures) (c .lifted-row .ensures)
+returns c = second-square-stands _ _ _ _ _ _ (c .before .before .before .before .product-of .ensures) (c .before .before .before .quadratic-row .ensures) (c .before .before .quartic-row .ensures) (c .before .scale .ensures) (c .lifted-row .ensures)
 
 pub second-square-spec : {M : Type 1} → statement M
 second-square-spec =

@@ -41,7 +41,7 @@ product-at-requires c κs =
 loop-again : tie.Need-loop-again Inv-loop μ-loop
 loop-again c =
     let l = c .before .before .before .loop .inv in
-    (omega arith, l .1, divided-turn _ (l .2) (omega arith) (l .0) (c .before .before .before .before .before .before .pre .3) (l .1) (c .before .product-at .ensures) (c .plus .ensures))
+    (omega arith, l .1, divided-turn _ (l .2) (omega arith) (l .0) (c .before .before .before .before .before .before .pre .3) (l .1) (c .before .product-at .ensures) (c .sum-of .ensures))
 
 pub quotient-spec : {M : Type 1} → statement M
 quotient-spec =

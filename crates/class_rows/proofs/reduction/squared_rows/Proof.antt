@@ -10,20 +10,20 @@ square-row-requires c κs = let p = c .before .before .pre in let l = reduced-le
 square-row-requires-2 : tie.Need-square-row-requires-2
 square-row-requires-2 c κs = let p = c .before .before .before .pre in let l = reduced-len _ (p .1) in (p .0, p .1 .v-range, omega arith)
 
-add-rows-requires : tie.Need-add-rows-requires
-add-rows-requires c κs = let p = c .before .before .before .before .pre in (p .0, c .square-row2 .ensures .in-range, p .1 .on-curve .in-range)
+sum-rows-requires : tie.Need-sum-rows-requires
+sum-rows-requires c κs = let p = c .before .before .before .before .pre in (p .0, c .square-row2 .ensures .in-range, p .1 .on-curve .in-range)
 
 divide-requires : tie.Need-divide-requires
 divide-requires c κs =
     let p = c .before .before .before .before .before .pre in
     let s = c .before .before .square-row .ensures in
-    (p .0, c .add-rows .ensures .in-range, s .in-range, squared-nonzero _ (p .1) s)
+    (p .0, c .sum-rows .ensures .in-range, s .in-range, squared-nonzero _ (p .1) s)
 
 returns : tie.Need-returns
 returns c =
     let e = c .before .before in
     let q = e .before .before in
-    squared _ (q .before .before .before .before .args .a) (q .before .square-row .ensures) (q .square-row2 .ensures) (e .before .add-rows .ensures) (e .divide .ensures)
+    squared _ (q .before .before .before .before .args .a) (q .before .square-row .ensures) (q .square-row2 .ensures) (e .before .sum-rows .ensures) (e .divide .ensures)
 
 pub squared-rows-spec : {M : Type 1} → statement M
-squared-rows-spec = tie.close (tie.spec square-row-requires square-row-requires-2 add-rows-requires divide-requires returns)
+squared-rows-spec = tie.close (tie.spec square-row-requires square-row-requires-2 sum-rows-requires divide-requires returns)

@@ -4,7 +4,7 @@ use Prim.Native.Nat.{_+_, _-_, _≤_}
 use native.Mathlib.Omega.{arith}
 use Rattle.row_theory.specs.{Field.𝔸, Field.el, Field.poly, internal.Elements.x-power}
 use Rattle.row_theory.proofs.Rows.{Fill.Filled, Fill.filled-start, Fill.filled-turn, Fill.filled-to, Fill.filled-end, Sums.added-turn, Sums.added-past, Length.places-len}
-use Rattle.row_theory.proofs.{Rows.Coefficients.stands-eq, Rows.Coefficients.self-stands, Rows.Sums.multiple-nought, Rows.Sums.added-below}
+use Rattle.row_theory.proofs.{Rows.Coefficients.stands-eq, Rows.Coefficients.self-stands, Rows.Sums.multiple-zero, Rows.Sums.added-below}
 use Rattle.class_rows.proofs.row.add_multiple.Statement.{statement}
 use Rattle.class_rows.proofs.row.add_multiple.Tie as tie
 
@@ -29,7 +29,7 @@ loop-again c =
     let s = c .before .before .before .loop .inv .2 in (
       omega arith,
       omega arith,
-      filled-to (omega arith) (filled-turn s (omega arith) (added-turn _ _ _ _ _ _ (s .above _ (omega arith)) (c .before .times .ensures) (c .plus .ensures))),
+      filled-to (omega arith) (filled-turn s (omega arith) (added-turn _ _ _ _ _ _ (s .above _ (omega arith)) (c .before .product-of .ensures) (c .sum-of .ensures))),
     )
 
 returns-2 : tie.Need-returns-2 Inv-loop μ-loop
@@ -43,7 +43,7 @@ add-multiple-spec =
     (tie.spec
     Inv-loop
     μ-loop
-    (λ c. let pre = c .before .pre in stands-eq _ (multiple-nought _ _ _ (c .if1 .taken)) (self-stands _ _ (pre .1)))
+    (λ c. let pre = c .before .pre in stands-eq _ (multiple-zero _ _ _ (c .if1 .taken)) (self-stands _ _ (pre .1)))
     (λ c κs. tt)
     loop-holds
     (λ c. omega arith)
@@ -52,7 +52,7 @@ add-multiple-spec =
     (λ c. omega arith)
     (λ c. omega arith)
     (λ c κs. let pre = c .before .before .before .before .pre in (pre .0, pre .2, pre .3 (c .before .loop .i)))
-    (λ c κs. (c .before .before .before .before .before .pre .0, c .before .before .loop .inv .2 .range _, c .times .ensures .in-range))
+    (λ c κs. (c .before .before .before .before .before .pre .0, c .before .before .loop .inv .2 .range _, c .product-of .ensures .in-range))
     (λ c. omega arith)
     (λ c. omega arith)
     (λ c. omega arith)

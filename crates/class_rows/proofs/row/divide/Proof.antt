@@ -24,8 +24,8 @@ loop-holds c =
     let len = places-len _ (c .length .ensures) _ (s .pre .1) in
     (length-le _ _ len size, dividing-start size (s .pre .1) len)
 
-times-requires : tie.Need-times-requires Inv-loop μ-loop
-times-requires c κs =
+product-of-requires : tie.Need-product-of-requires Inv-loop μ-loop
+product-of-requires c κs =
     let l = c .before .before .before in
     (l .before .pre .0, c .before .loop .inv .1 .r-range _, l .leading .ensures .1 .in-range)
 
@@ -35,14 +35,14 @@ add-multiple-requires c κs =
     let v = t .before .loop .inv in
     let l = t .before .before .before in
     let s = at-top l in
-    (l .before .pre .0, struck-range (v .1) (t .loop-test .taken) (v .0), c .times .ensures .in-range, low-range s, omega (arith, low-len s, v .0, t .loop-test .taken))
+    (l .before .pre .0, struck-range (v .1) (t .loop-test .taken) (v .0), c .product-of .ensures .in-range, low-range s, omega (arith, low-len s, v .0, t .loop-test .taken))
 
 loop-again : tie.Need-loop-again Inv-loop μ-loop
 loop-again c =
     let t = c .before .before in
     let v = t .before .loop .inv in
     let l = t .before .before .before in
-    (omega (arith, v .0), dividing-turn (v .1) (t .loop-test .taken) (v .0) (low-len (at-top l)) (c .before .times .ensures) (c .add-multiple .ensures) (c .add-multiple .ok .1 .0 .1))
+    (omega (arith, v .0), dividing-turn (v .1) (t .loop-test .taken) (v .0) (low-len (at-top l)) (c .before .product-of .ensures) (c .add-multiple .ensures) (c .add-multiple .ok .1 .0 .1))
 
 returns : tie.Need-returns Inv-loop μ-loop
 returns c =
@@ -66,7 +66,7 @@ divide-spec =
     (λ c. omega arith)
     (λ c. omega arith)
     (λ c. omega arith)
-    times-requires
+    product-of-requires
     (λ c. omega arith)
     (λ c. omega arith)
     (λ c. omega arith)

@@ -14,8 +14,8 @@ returns c =
     let e = places-len _ (c .before .length .ensures) d (s .pre .1) in
     opposite-short d C (s .args .a) (s .pre .1) (s .pre .2) (omega arith)
 
-add-rows-requires : tie.Need-add-rows-requires
-add-rows-requires c κs =
+sum-rows-requires : tie.Need-sum-rows-requires
+sum-rows-requires c κs =
     let s = c .before .before .before .before .before in
     (s .pre .0, s .pre .2, c .one .ensures _ .in-range)
 
@@ -25,7 +25,7 @@ returns-2 c =
     let s = c .before .before .before .before .before .before in
     let d = s .args .d in
     let e = places-len _ (c .before .before .before .length .ensures) d (s .pre .1) in
-    opposite-long d C (s .args .a) (s .pre .1) (s .pre .2) (omega arith) (c .before .one .ensures _) (c .add-rows .ensures)
+    opposite-long d C (s .args .a) (s .pre .1) (s .pre .2) (omega arith) (c .before .one .ensures _) (c .sum-rows .ensures)
 
 pub opposite-of-reduced-spec : {M : Type 1} → statement M
-opposite-of-reduced-spec = tie.close (tie.spec (λ c κs. search needs) returns (λ c κs. search needs) add-rows-requires returns-2)
+opposite-of-reduced-spec = tie.close (tie.spec (λ c κs. search needs) returns (λ c κs. search needs) sum-rows-requires returns-2)

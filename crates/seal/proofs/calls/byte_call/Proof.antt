@@ -8,7 +8,7 @@ returns : tie.Need-returns
 returns c =
     let told = c .before in
     let read = told .before .before .before in
-    call-unread _ _ _ _ _ (read .read-call .result) (read .read-call .ensures) (told .enum-told2 .given .1) (c .place-refusal .ensures)
+    call-unread _ _ _ _ _ (read .read-call .result) (read .read-call .ensures) (told .enum-told2 .given .1) (c .offset-refusal .ensures)
 
 returns-2 : tie.Need-returns-2
 returns-2 c =

@@ -10,7 +10,7 @@ returns : tie.Need-returns
 unfolding membership-call
 returns c =
     let read = c .before .read-record in
-    c .place-refusal .ensures ∙ read-refusal (read .result) _ (read .ensures)
+    c .offset-refusal .ensures ∙ read-refusal (read .result) _ (read .ensures)
 
 pub seal-membership-spec : {M : Type 1} → statement M
 seal-membership-spec =

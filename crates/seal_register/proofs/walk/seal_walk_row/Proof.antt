@@ -1,5 +1,5 @@
 -- `seal_walk_row` meets its contract: a proof through its MIR by hand, since the row is a slice of structs.
--- It uses the contracts of `opened`, `turns` and `walked_on`. The loop's invariant is `Head`: the number of classes
+-- It uses the contracts of `started`, `steps-left` and `walked_on`. The loop's invariant is `Head`: the number of classes
 -- walked over, the walk so far, and that it is what the steps over those classes answer. Each turn copies one class out
 -- of the row and makes one step.
 use mathlib.Core.{Path._≡_, Path.refl, Path.sym, Path._∙_, Path.ap, WellFounded.WellFounded, WellFounded.InvImage·wf, List.List, List.[], List._∷_, List.head-eq-of-cons-eq}
@@ -19,18 +19,18 @@ use sound.WpLaws.{fmOf, WpFn-mono}
 use denote.{RattleType.owns, Laws.Is, Laws.Makes, Laws.shows, Memory.pointee, Memory.shares, Plain.uint-tells, Plain.uint-makes, Plain.uint-lawful, Ref.RefT, Exit.yes, Slice.sliceTy, Slice.sliceVal, Slice.ShrSlice, Slice.Room, Slice.slice-vals, Slice.shr-slice-tells, Signature.plain, Signature.shrSliceOf, Index.place-is, Index.elem-out, Index.elem-back, Index.looks-slice, Index.shuts-slice, Steps.owned, Steps.nothing}
 use denote.Struct.Laws as LL
 use denote.Triple.{Statement.Contract, Statement.Triple, Entry.onEntry, Spec.Meets, Spec.tripleOf, Table.entered, Table.cited, Walked.says, Walked.Stays, Walked.stay-dropped, Walked.walkOf, Walked.AllGo, Walked.goes-dropped, Walked.ends-at, Walked.walked, Walked.walk-meets}
-use Rattle.lists.specs.Walk.{after}
+use Rattle.lists.specs.Walk.{foldl}
 use Rattle.jacobian.specs.{Answer.Result, Answer.neutral-class, Answer.verdict-of, declared.Curve.Curve, declared.Class.Class}
 use Rattle.history.specs.Register.{sealed}
 use Rattle.jacobian.proofs.Curve as C
 use Rattle.jacobian.proofs.Curve.Laws as C′
 use Rattle.jacobian.proofs.Class as K
 use Rattle.jacobian.proofs.Class.Laws as K′
-use Rattle.seal_register.specs.{declared.walk.RowWalk.RowWalk, RowWalk.reached, internal.RowSteps.opening-refusal, internal.RowSteps.turns-due, internal.RowSteps.onward, RowWalk.row-walk-answer}
-use Rattle.seal_register.proofs.{ByHand.empty, ByHand.full, ByHand.var, ByHand.tests, ByHand.Promised, ByHand.asks, RowSteps.after-next, RowSteps.turns-few, RowSteps.row-walked}
+use Rattle.seal_register.specs.{declared.walk.RowWalk.RowWalk, RowWalk.reached, internal.RowSteps.start-refusal, internal.RowSteps.remaining-steps, internal.RowSteps.onward, RowWalk.row-walk-answer}
+use Rattle.seal_register.proofs.{ByHand.empty, ByHand.full, ByHand.var, ByHand.tests, ByHand.Promised, ByHand.asks, RowSteps.foldl-next, RowSteps.turns-few, RowSteps.row-walked}
 use Rattle.seal_register.proofs.walk.RowWalk as R
 use Rattle.seal_register.proofs.walk.RowWalk.Laws as R′
-use Rattle.seal_register.proofs.walk.{opened.signature as opened, opened.Symbol.name as #opened, opened.Symbol.routine as opened-code, opened.Met.met as opened-met, turns.signature as turns, turns.Symbol.name as #turns, turns.Symbol.routine as turns-code, turns.Met.met as turns-met, walked_on.signature as walked-on, walked_on.Symbol.name as #walked-on, walked_on.Symbol.routine as walked-on-code, walked_on.Met.met as walked-on-met, seal_walk_row.Key.name as #seal-walk-row, seal_walk_row.Statement.statement}
+use Rattle.seal_register.proofs.walk.{started.signature as started, started.Symbol.name as #opened, started.Symbol.routine as started-code, started.Met.met as started-met, steps_left.signature as steps-left, steps_left.Symbol.name as #turns, steps_left.Symbol.routine as turns-code, steps_left.Met.met as turns-met, walked_on.signature as walked-on, walked_on.Symbol.name as #walked-on, walked_on.Symbol.routine as walked-on-code, walked_on.Met.met as walked-on-met, seal_walk_row.Key.name as #seal-walk-row, seal_walk_row.Statement.statement}
 use Rattle.seal_register.proofs.walk.seal_walk_row as row
 use Rattle.seal_register.proofs.walk.seal_walk_row.Code as code
 use Rattle.seal_register.proofs.walk.seal_walk_row.Code.Mir as mir
@@ -59,20 +59,20 @@ kvs = LL.vals K.the-type K′.the-laws
 
 -- what the contracts of the three functions ensure, and these contracts
 abbrev opening : Curve × (Class × (ℕ × Unit {0})) → RowWalk → Type 0
-opening a w = reached w ≡ sealed (opening-refusal (a .0) (a .1 .0) (a .1 .1 .0)) (a .1 .0)
+opening a w = reached w ≡ sealed (start-refusal (a .0) (a .1 .0) (a .1 .1 .0)) (a .1 .0)
 
 abbrev counting : RowWalk × (ℕ × Unit {0}) → ℕ → Type 0
-counting a n = n ≡ turns-due (verdict-of (a .0 .refusal)) (a .1 .0)
+counting a n = n ≡ remaining-steps (verdict-of (a .0 .refusal)) (a .1 .0)
 
 abbrev stepping : Curve × (RowWalk × (Class × Unit {0})) → RowWalk → Type 0
 stepping a w = reached w ≡ onward (a .0) (reached (a .1 .0)) (a .1 .1 .0)
 
 module _ {M : Type 1} (𝓤 : URA M) (H : Heap 𝓤) (A : Atoms 𝓤) where
-  abbrev Opened : Contract 𝓤
-  Opened = Promised (opened .params) (opened .result) 𝓤 H A opening
+  abbrev Started : Contract 𝓤
+  Started = Promised (started .params) (started .result) 𝓤 H A opening
 
   abbrev Turns : Contract 𝓤
-  Turns = Promised (turns .params) (turns .result) 𝓤 H A counting
+  Turns = Promised (steps-left .params) (steps-left .result) 𝓤 H A counting
 
   abbrev WalkedOn : Contract 𝓤
   WalkedOn = Promised (walked-on .params) (walked-on .result) 𝓤 H A stepping
@@ -84,10 +84,10 @@ record Head (c : Curve) (x : Result) (ys : List Class) (n : ℕ) : Type 0 where
   w : RowWalk
   v : Val
   is : Is R.the-row w (v ∷ [])
-  reach : reached w ≡ after (onward c) x (take i ys)
+  reach : reached w ≡ foldl (onward c) x (take i ys)
 
 module _ {M : Type 1} (𝓤 : URA M) (H : Heap 𝓤) (A : Atoms 𝓤) (W : Given 𝓤 H A) (mem : Memory → SProp 𝓤) (run : Routine → Fun 𝓤) (𝓣 : Tables 𝓤 H)
-    (known-opened : Triple 𝓤 (𝓣 .C #opened) (Opened 𝓤 H A)) (known-turns : Triple 𝓤 (𝓣 .C #turns) (Turns 𝓤 H A)) (known-step : Triple 𝓤 (𝓣 .C #walked-on) (WalkedOn 𝓤 H A)) where
+    (known-started : Triple 𝓤 (𝓣 .C #opened) (Started 𝓤 H A)) (known-steps-left : Triple 𝓤 (𝓣 .C #turns) (Turns 𝓤 H A)) (known-step : Triple 𝓤 (𝓣 .C #walked-on) (WalkedOn 𝓤 H A)) where
   module _ (κ : Lft) (q : Share) (c : Curve) (s : Class) (b o : ℕ) (γ : GName) (ys : List Class)
       (ic : Is C.the-row c (cv c ∷ [])) (is : Is K.the-row s (kv s ∷ [])) (room : Room K.the-row (length ys)) where
     abbrev x : Curve × (Class × (RefT (List Class) × Unit {0}))
@@ -165,7 +165,7 @@ module _ {M : Type 1} (𝓤 : URA M) (H : Heap 𝓤) (A : Atoms 𝓤) (W : Given
             move ! (26 ∷ 27 ∷ 24 ∷ 25 ∷ 22 ∷ 23 ∷ 20 ∷ 21 ∷ 18 ∷ 19 ∷ 16 ∷ 17 ∷ 14 ∷ 15 ∷ 12 ∷ 13 ∷ 10 ∷ 11 ∷ 8 ∷ 9 ∷ 6 ∷ 7 ∷ 4 ∷ 5 ∷ 2 ∷ 3 ∷ []) $
             free1 ! $ free1 ! $ free1 ! $ free1 ! $ free1 ! $ free1 ! $ free1 ! $ free1 ! $ free1 ! $ free1 ! $ free1 ! $ free1 ! $ free1 ! $ free0 ! $ keep ! (1 ∷ []) $
             by ! (exits (h .w) (h .v) (h .is)
-            (h .reach ∙ ap (λ k. after (onward c) (reached w₀) (take k ys)) e ∙ row-walked c s ys (reached w₀) n e₀ m₀))
+            (h .reach ∙ ap (λ k. foldl (onward c) (reached w₀) (take k ys)) e ∙ row-walked c s ys (reached w₀) n e₀ m₀))
 
         -- the class of this turn
         abbrev now-at : Here → Class
@@ -192,7 +192,7 @@ module _ {M : Type 1} (𝓤 : URA M) (H : Heap 𝓤) (A : Atoms 𝓤) (W : Given
           w = w;
           v = v;
           is = r;
-          reach = e ∙ ap (λ y. onward c y (now-at h)) (h .reach) ∙ sym (after-next (onward c) (reached w₀) ys (h .i) neutral-class (within h l));
+          reach = e ∙ ap (λ y. onward c y (now-at h)) (h .reach) ∙ sym (foldl-next (onward c) (reached w₀) ys (h .i) neutral-class (within h l));
         }
 
         turned : (h : Here) → Sq W (At h) (runs (𝓣 .C) (𝓣 .Λ) E mir.turn-1 (anyQ (Turned h)))
@@ -226,7 +226,7 @@ module _ {M : Type 1} (𝓤 : URA M) (H : Heap 𝓤) (A : Atoms 𝓤) (W : Given
         loop-on h = first ! $ blocks ! $ loops ! 𝓣 Nearer Nearer-wf At turned h
 
     begins : (w : RowWalk) (v : Val) → Is R.the-row w (v ∷ []) → (n : ℕ) → Head c (reached w) ys n
-    unfolding after
+    unfolding foldl
     begins w v g n = record { i = 0; low = zero-le; w = w; v = v; is = g; reach = refl }
 
     walk : ent 𝓤 (onEntry 𝓤 H A row.signature (κ, tt) (q, tt) x at) (WpFn 𝓤 H (𝓣 .C) (𝓣 .Λ) code.function (cv c ∷ kv s ∷ sliceVal (b, o) (length ys) ∷ []) Post)
@@ -244,13 +244,13 @@ module _ {M : Type 1} (𝓤 : URA M) (H : Heap 𝓤) (A : Atoms 𝓤) (W : Given
         -- [the fractured borrow; its token; _12; …]
         assigns ! (of-opd ! (load ! (from ! (fld ! refl (stop !))) (look-in ! 20 (sub ! 1 refl (whole !)))))
         (from ! (stop !)) (init ! 10 refl (tt, record { fits = room .0 })) $
-        asks (fmOf 𝓤 H (W .laws) 𝓣) (opened .params) (opened .result) opening known-opened (makes-c, (makes-k, (uint-makes 𝓤 H A W w64, tt)))
+        asks (fmOf 𝓤 H (W .laws) 𝓣) (started .params) (started .result) opening known-started (makes-c, (makes-k, (uint-makes 𝓤 H A W w64, tt)))
         (c, (s, (length ys, tt))) (cv c ∷ [], (kv s ∷ [], (vint w64 (length ys) ∷ [], tt))) (ic, (is, ((refl, room .0), tt)))
         (and-then ! (var 25 refl) (and-then ! (var 23 refl) (and-then ! (var 11 refl) (no-more !)))) (λ v w e g.
         land ! (from ! (stop !)) (init ! 18 refl (typed-r w v g)) $
         assigns ! (of-opd ! (load ! (from ! (fld ! refl (stop !))) (look-in ! 20 (sub ! 1 refl (whole !)))))
         (from ! (stop !)) (store ! 10 refl (tt, record { fits = room .0 })) $
-        asks (fmOf 𝓤 H (W .laws) 𝓣) (turns .params) (turns .result) counting known-turns (makes-r, (uint-makes 𝓤 H A W w64, tt))
+        asks (fmOf 𝓤 H (W .laws) 𝓣) (steps-left .params) (steps-left .result) counting known-steps-left (makes-r, (uint-makes 𝓤 H A W w64, tt))
         (w, (length ys, tt)) (v ∷ [], (vint w64 (length ys) ∷ [], tt)) (g, ((refl, room .0), tt))
         (and-then ! (var 19 refl) (and-then ! (var 11 refl) (no-more !))) (λ u n m k.
         land ! (from ! (stop !)) (init ! 16 refl (uint-lawful 𝓤 H A W w64 .typed n _ k .0)) $
@@ -281,6 +281,6 @@ seal-walk-row-spec 𝓤 H 𝓜 𝓖 𝓡 =
     entered 𝓤 H (tripleOf 𝓤 H (𝓖 .A) row.signature (row.spec 𝓤 H (𝓖 .A) (𝓜 .mem) (𝓡 .run)))
     (tables 𝓤 H 𝓜 𝓡 code.env .C) (tables 𝓤 H 𝓜 𝓡 code.env .Λ) #seal-walk-row code.function (code.unfolded 𝓤 H 𝓜 𝓡)
     (row-meets 𝓤 H (𝓖 .A) (givenOf 𝓤 H 𝓜 𝓖) (𝓜 .mem) (𝓡 .run) (tablesOf 𝓤 H 𝓜 (tables 𝓤 H 𝓜 𝓡 code.env))
-    (cited 𝓤 H (Opened 𝓤 H (𝓖 .A)) 𝓜 𝓡 code.env #opened opened-code code.calls-seal-register·walk·opened (opened-met 𝓤 H 𝓜 𝓖 𝓡))
-    (cited 𝓤 H (Turns 𝓤 H (𝓖 .A)) 𝓜 𝓡 code.env #turns turns-code code.calls-seal-register·walk·turns (turns-met 𝓤 H 𝓜 𝓖 𝓡))
+    (cited 𝓤 H (Started 𝓤 H (𝓖 .A)) 𝓜 𝓡 code.env #opened started-code code.calls-seal-register·walk·started (started-met 𝓤 H 𝓜 𝓖 𝓡))
+    (cited 𝓤 H (Turns 𝓤 H (𝓖 .A)) 𝓜 𝓡 code.env #turns turns-code code.calls-seal-register·walk·steps-left (turns-met 𝓤 H 𝓜 𝓖 𝓡))
     (cited 𝓤 H (WalkedOn 𝓤 H (𝓖 .A)) 𝓜 𝓡 code.env #walked-on walked-on-code code.calls-seal-register·walk·walked-on (walked-on-met 𝓤 H 𝓜 𝓖 𝓡)))

@@ -2,7 +2,7 @@
 use borrow.Author.Needs.{needs}
 use mathlib.Core.Path.{sym, _∙_}
 use Rattle.jacobian.specs.Checks.{unless}
-use Rattle.stored_form.specs.{Fields.drawing-refusal, Held.drawing-name}
+use Rattle.stored_form.specs.{Fields.drawing-refusal, Record.drawing-name}
 use Rattle.stored_form.proofs.drawings.drawing_refusal.Statement.{statement}
 use Rattle.stored_form.proofs.drawings.drawing_refusal.Tie as tie
 

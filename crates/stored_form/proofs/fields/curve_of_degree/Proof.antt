@@ -1,6 +1,6 @@
 -- `fields::curve_of_degree` meets its contract.
 use borrow.Author.Needs.{needs}
-use Rattle.stored_form.specs.Held.{curve-of-degree}
+use Rattle.stored_form.specs.Record.{curve-of-degree}
 use Rattle.stored_form.proofs.fields.curve_of_degree.Statement.{statement}
 use Rattle.stored_form.proofs.fields.curve_of_degree.Tie as tie
 

@@ -1,7 +1,7 @@
 -- `effect::read_call` meets its contract.
 use borrow.Author.Needs.{needs}
 use mathlib.Core.Path.{sym, ap, _∙_}
-use Rattle.stored_form.specs.Records.{read-of}
+use Rattle.stored_form.specs.Reader.{read-of}
 use Rattle.written_form.proofs.Effects.{room-refused, room-read}
 use Rattle.written_form.proofs.effect.read_call.Statement.{statement}
 use Rattle.written_form.proofs.effect.read_call.Tie as tie

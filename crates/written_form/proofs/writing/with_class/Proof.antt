@@ -10,7 +10,7 @@ returns c =
     let headed = first .before .before .before in
     let counted = headed .before in
     let start = counted .before in
-    class-filled (start .args .row) (start .args .at) (start .args .a) (counted .places-of .result) (counted .places-of .ensures) (headed .with-head .ensures) (first .with-coefficients .ensures) (c .with-coefficients2 .ensures)
+    class-filled (start .args .buffer) (start .args .at) (start .args .a) (counted .places-of .result) (counted .places-of .ensures) (headed .with-head .ensures) (first .with-coefficients .ensures) (c .with-coefficients2 .ensures)
 
 pub with-class-spec : {M : Type 1} → statement M
 with-class-spec =

@@ -5,13 +5,13 @@ use mathlib.Core.Path.{_≡_}
 use mathlib.Core.List.{reverse}
 use lib.ListN.{take, drop}
 use lib.Seq.{sets}
-use Rattle.stored_form.specs.Elements.{element-bytes}
+use Rattle.stored_form.specs.Elements.{encode-elements}
 use Rattle.written_form.proofs.Rows.{none-stored, one-stored, all-stored}
 use Rattle.written_form.proofs.writing.with_coefficients.Statement.{statement}
 use Rattle.written_form.proofs.writing.with_coefficients.Tie as tie
 
 abbrev Inv-loop : tie.InvT-loop
-Inv-loop at n r t₀ i₀ t i = (i ≤ n) × (t ≡ sets t₀ at (element-bytes (reverse (drop i (take n r)))))
+Inv-loop at n r t₀ i₀ t i = (i ≤ n) × (t ≡ sets t₀ at (encode-elements (reverse (drop i (take n r)))))
 
 abbrev μ-loop : tie.MeasureT-loop
 μ-loop at n r t₀ i₀ t i = i

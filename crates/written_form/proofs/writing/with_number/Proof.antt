@@ -4,13 +4,13 @@ use Prim.Native.Nat.{_≤_, _-_}
 use mathlib.Core.Path.{_≡_, refl}
 use lib.ListN.{take}
 use lib.Seq.{sets}
-use Rattle.stored_form.specs.Number.{bytes-of}
+use Rattle.stored_form.specs.Number.{encode-number}
 use Rattle.written_form.proofs.Rows.{byte-more, bytes-all}
 use Rattle.written_form.proofs.writing.with_number.Statement.{statement}
 use Rattle.written_form.proofs.writing.with_number.Tie as tie
 
 abbrev Inv-loop : tie.InvT-loop
-Inv-loop at k x r₀ i₀ r i = (i ≤ k) × (r ≡ sets r₀ at (take i (bytes-of k x)))
+Inv-loop at k x r₀ i₀ r i = (i ≤ k) × (r ≡ sets r₀ at (take i (encode-number k x)))
 
 abbrev μ-loop : tie.MeasureT-loop
 μ-loop at k x r₀ i₀ r i = k - i
