@@ -1,4 +1,4 @@
--- Bytes stored in a row one after the other.
+-- Bytes stored in a buffer one after the other.
 use Prim.Native.Nat.{ℕ, zero, suc, _+_, _-_, _≤_, _<_}
 use mathlib.Core.Path.{_≡_, sym, ap, ap₂, _∙_}
 use mathlib.Core.List.{List, [], _∷_, _++_}
@@ -30,12 +30,12 @@ drop-replicate zero n = let e : n - 0 ≡ n = omega arith in rw e
 drop-replicate (suc k) zero = let e : 0 - suc k ≡ 0 = omega arith in rw e
 drop-replicate (suc k) (suc n) = let e : suc n - suc k ≡ n - k = omega arith in rw e (drop-replicate k n)
 
--- one more byte after those stored from the start of the row
+-- one more byte after those stored from the start of the buffer
 pub store-next : (d xs : List ℕ) (i y : ℕ) {r : List ℕ} → length xs ≡ i → r ≡ sets d 0 xs → set r i y ≡ sets d 0 (xs ++ y ∷ [])
 store-next d xs i y len e =
     ap₂ (λ (l : List ℕ) (k : ℕ). set l k y) e (sym (zero-add (length xs) ∙ len)) ∙ sets-append d 0 xs (y ∷ [])
 
--- bytes stored at the start of a row of n that was 0 throughout
+-- bytes stored at the start of a buffer of n that was 0 throughout
 pub filled : (xs : List ℕ) (n : ℕ) → length xs ≤ n → sets (replicate n 0) 0 xs ≡ xs ++ replicate (n - length xs) 0
 filled xs n le =
     let long : length (replicate {A = ℕ} n 0) ≡ n = length-replicate n 0 in

@@ -1,4 +1,4 @@
--- A line of text: a row of bytes with its length.
+-- A line of text: a buffer of bytes with its length.
 use Prim.Native.Nat.{ℕ, _+_, _-_}
 use mathlib.Core.Bool.{cond}
 use mathlib.Core.List.{List, [], _∷_, _++_}

@@ -31,7 +31,7 @@ pub fn empty() -> Line
     }
 }
 
-// Puts a byte at an offset and answers the next offset; after the end of the row it puts nothing and answers the same.
+// Puts a byte at an offset and answers the next offset; after the end of the buffer it puts nothing and answers the same.
 fn put(out: &mut [u8], at: usize, b: u8) -> usize
     ensures { λ r. ⌜ record { len = r; bytes = now (out .exit) } ≡ with-bytes (record { len = at; bytes = now (out .entry) }) (b ∷ []) ⌝ }
 {
@@ -170,7 +170,7 @@ fn within(len: usize) -> usize
     LINE
 }
 
-// Writes the first len bytes of a row to standard output and answers how many these are, at most all.
+// Writes the first len bytes of a buffer to standard output and answers how many these are, at most all.
 fn write_bytes(len: usize, bytes: [u8; LINE]) -> usize
     ensures { λ r. ⌜ r ≡ min len line-room ⌝ }
 {

@@ -194,7 +194,7 @@ fn name_length(len: usize) -> usize
     DRAWING_LIMIT
 }
 
-// The first line, with the first len bytes of a row as the drawing number.
+// The first line, with the first len bytes of a buffer as the drawing number.
 fn first_line(count: u64, len: usize, bytes: [u8; DRAWING_LIMIT]) -> Line
     ensures { λ r. ⌜ r ≡ in-line (first-line count (take len bytes)) ⌝ }
 {

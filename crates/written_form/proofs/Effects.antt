@@ -4,9 +4,9 @@
 -- `call-short`: an output that is too short is refused with 101.
 -- `call-refused`, `call-found`: a call whose record is refused, and one whose record is read.
 -- `answer-written`, `answer-refused`: a call whose response depends on a verdict.
-use Prim.Native.Nat.{ℕ, _≤_, _<_, min}
-use mathlib.Core.Path.{_≡_, sym, ap, ap₂, _∙_}
-use mathlib.Core.List.{List, _++_}
+use Prim.Native.Nat.{ℕ, _-_, _≤_, _<_, min}
+use mathlib.Core.Path.{_≡_, sym, ap, _∙_}
+use mathlib.Core.List.{List, [], _++_}
 use native.Mathlib.Omega.{arith}
 use lib.{ListN.length, ListN.take, ListN.drop, ListN.length-take, Seq.take-take, Seq.take-length}
 use borrow.Author.Tests.{lt-ltb, le-ltb, le-leb, lt-leb}
@@ -16,7 +16,7 @@ use Rattle.stored_form.specs.declared.{Record.Record, Read.Read, Cursor.Cursor,
 use Rattle.written_form.specs.Effect.{Effect, Response, effect, refuse, write, response, refusal-response, bytes-response, on-outcome, on-reading, put, read-call, room-refusal, byte-call, room}
 use Rattle.stored_form.proofs.Readers.{offset-found, offset-refused-as}
 use Rattle.written_form.specs.Ranges.{append}
-use Rattle.written_form.proofs.Appending.{front-fits}
+use Rattle.written_form.proofs.Appending.{append-write}
 
 -- ---- a response written
 
@@ -49,7 +49,7 @@ module _ (v : Verdict) (xs out : List ℕ) where
 
 -- ---- the copy that the code makes
 
--- the first bytes of a row, appended at the start of the output
+-- the first bytes of a buffer, appended at the start of the output
 module _ (answer len : ℕ) (buffer out : List ℕ) (long : length buffer ≡ room) {n : ℕ} (e : n ≡ min len room) where
   abbrev xs : List ℕ
   xs = take len buffer
@@ -61,12 +61,13 @@ module _ (answer len : ℕ) (buffer out : List ℕ) (long : length buffer ≡ ro
   put-short h = put-over _ out (let l = first-length in omega arith)
 
   pub put-all : n ≤ length out → {r : ℕ} {output : List ℕ} → effect r output ≡ append buffer 0 n (effect 0 out) → effect answer output ≡ put (response answer xs) out
+  unfolding write
   put-all h f =
       let l = first-length in
+      let z : n - 0 ≡ n = omega arith in
       let all : take n buffer ≡ xs = sym (take-take n len buffer (omega arith)) ∙ ap (λ (k : ℕ). take k xs) (sym l) ∙ take-length xs in
-      ap (λ (x : Effect). effect answer (x .output))
-      (f ∙ front-fits buffer n out (omega arith) h ∙ ap₂ (λ (ys : List ℕ) (k : ℕ). effect n (ys ++ drop k out)) all (sym l))
-      ∙ sym (put-in _ out (omega arith))
+      let wrote = append-write buffer 0 n [] out (omega arith) (omega arith) (omega arith) ∙ ap (λ (k : ℕ). write (take k buffer) out) z ∙ ap (λ (ys : List ℕ). write ys out) all in
+      ap (λ (x : Effect). effect answer (x .output)) (f ∙ wrote) ∙ sym (put-in _ out (omega arith))
 
 -- ---- a call
 

@@ -1,5 +1,5 @@
 -- Laws of a call's response and effect, of rows of bytes as the code fills them; every call wrote or refused.
 pub mod Appending
 pub mod Effects
-pub mod Rows
+pub mod Buffers
 pub mod WroteOrRefused

@@ -15,7 +15,7 @@ pub const REGISTER_ROOM: usize = COUNT_ROOM + stored_form::CLASS_ROOM;
 // The most bytes that a response has.
 pub const ROOM: usize = REGISTER_ROOM;
 
-// The response of a call: its answer, and the bytes to write at the start of the lent output, the first len of the row.
+// The response of a call: its answer, and the bytes to write at the start of the lent output, the first len of the buffer.
 pub struct Output {
     pub answer: u32,
     pub len: usize,
@@ -43,7 +43,7 @@ pub fn refusal_output(n: u32) -> Output
     }
 }
 
-// The length, but at most that of the row.
+// The length, but at most that of the buffer.
 fn within(len: usize) -> usize
     ensures { λ r. ⌜ r ≡ min len room ⌝ }
 {
@@ -53,7 +53,7 @@ fn within(len: usize) -> usize
     ROOM
 }
 
-// Writes the first len bytes of a row at the start of the output and answers `answer`; 101 if they do not fit.
+// Writes the first len bytes of a buffer at the start of the output and answers `answer`; 101 if they do not fit.
 fn put_bytes(answer: u32, len: usize, buffer: [u8; ROOM], output: &mut [u8]) -> u32
     ensures { λ r. ⌜ effect r (now (output .exit)) ≡ put (response answer (take len buffer)) (now (output .entry)) ⌝ }
 {

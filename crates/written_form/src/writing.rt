@@ -1,4 +1,4 @@
-// The fields that calls on byte areas write, encoded into a row of bytes.
+// The fields that calls on byte areas write, encoded into a buffer.
 ghost use mathlib.Core.Path.{_≡_};
 ghost use mathlib.Core.List.{_++_};
 ghost use Prim.Native.Nat.{_+_, _*_, _/_, _%_, _^_, _≤_, _<_, min};
@@ -30,7 +30,7 @@ fn byte_of(x: u64, i: usize) -> u8
     ((x >> (8 * i)) % 256) as u8
 }
 
-// The row with the k lowest bytes of a number stored at an offset, high byte first.
+// The buffer with the k lowest bytes of a number stored at an offset, high byte first.
 fn with_number(buffer: [u8; ROOM], at: usize, k: usize, x: u64) -> [u8; ROOM]
     requires { ⌜ (k ≤ element-length) × (at + k ≤ room) ⌝ }
     ensures { λ r. ⌜ r ≡ sets buffer at (encode-number k x) ⌝ }
@@ -44,7 +44,7 @@ fn with_number(buffer: [u8; ROOM], at: usize, k: usize, x: u64) -> [u8; ROOM]
     r
 }
 
-// The row with the head of a field stored at an offset.
+// The buffer with the head of a field stored at an offset.
 fn with_head(buffer: [u8; ROOM], at: usize, tag: u8, len: usize) -> [u8; ROOM]
     requires { ⌜ at + 3 ≤ room ⌝ }
     ensures { λ r. ⌜ r ≡ sets buffer at (head-bytes tag len) ⌝ }
@@ -54,7 +54,7 @@ fn with_head(buffer: [u8; ROOM], at: usize, tag: u8, len: usize) -> [u8; ROOM]
     with_number(r, at + 1, 2, len as u64)
 }
 
-// The row with the coefficients below degree n stored at an offset, highest power first.
+// The buffer with the coefficients below degree n stored at an offset, highest power first.
 fn with_coefficients(buffer: [u8; ROOM], at: usize, n: usize, r: [u64; 3]) -> [u8; ROOM]
     requires { ⌜ (n ≤ 3) × (at + element-length * n ≤ room) ⌝ }
     ensures { λ t. ⌜ (t ≡ sets buffer at (encode-elements (encode-row n r))) × (length r ≡ 3) ⌝ }
@@ -79,7 +79,7 @@ fn places_of(degree: u64) -> usize
     3
 }
 
-// The output of a row with the field of a class at an offset, and of all bytes before it.
+// The output of a buffer with the field of a class at an offset, and of all bytes before it.
 fn with_class(buffer: [u8; ROOM], at: usize, a: Class) -> Output
     requires { ⌜ at + class-room ≤ room ⌝ }
     ensures { λ r. ⌜ (r ≡ filled buffer at (class-field 0x43 a)) × (length (class-field 0x43 a) ≤ class-room) ⌝ }
@@ -99,7 +99,7 @@ fn with_class(buffer: [u8; ROOM], at: usize, a: Class) -> Output
     }
 }
 
-// The row with the field of a count stored at an offset.
+// The buffer with the field of a count stored at an offset.
 fn with_count(buffer: [u8; ROOM], at: usize, tag: u8, n: u64) -> [u8; ROOM]
     requires { ⌜ at + count-room ≤ room ⌝ }
     ensures { λ r. ⌜ r ≡ sets buffer at (encode-field tag (encode-number count-length n)) ⌝ }

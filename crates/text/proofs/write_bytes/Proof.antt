@@ -1,4 +1,4 @@
--- `write_bytes` meets its contract: the row has the bytes that are written.
+-- `write_bytes` meets its contract: the buffer has the bytes that are written.
 use mathlib.Core.Path.{sym}
 use native.Mathlib.Omega.{arith}
 use lib.Seq.{length-take-le}

@@ -15,7 +15,7 @@ Inv-loop k bytes i₀ i = (i ≤ k) × (printable (take k bytes) ≡ printable (
 abbrev μ-loop : tie.MeasureT-loop
 μ-loop k bytes i₀ i = k - i
 
--- the row has that many bytes
+-- the buffer has that many bytes
 within : (c : tie.Start Inv-loop μ-loop) → c .args .k ≤ length (c .args .t1)
 within c = omega (arith, c .good .0 .1 .0 .1, c .pre)
 

@@ -1,6 +1,6 @@
 -- `writing::byte_of` meets its contract.
 use borrow.Author.Needs.{needs}
-use Rattle.written_form.proofs.Rows.{shifted}
+use Rattle.written_form.proofs.Buffers.{shifted}
 use Rattle.written_form.proofs.writing.byte_of.Statement.{statement}
 use Rattle.written_form.proofs.writing.byte_of.Tie as tie
 

@@ -4,7 +4,7 @@ use mathlib.Core.Path.{refl}
 use mathlib.Core.List.{[]}
 use native.Mathlib.Omega.{arith}
 use Rattle.written_form.specs.Effect.{class-response}
-use Rattle.written_form.proofs.Rows.{filled-response, refuses, writes}
+use Rattle.written_form.proofs.Buffers.{filled-response, refuses, writes}
 use Rattle.written_form.proofs.writing.class_output.Statement.{statement}
 use Rattle.written_form.proofs.writing.class_output.Tie as tie
 

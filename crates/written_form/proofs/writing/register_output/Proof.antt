@@ -3,7 +3,7 @@ use borrow.Author.Needs.{needs}
 use mathlib.Core.Path.{sym}
 use native.Mathlib.Omega.{arith}
 use Rattle.stored_form.specs.Fields.{count-field}
-use Rattle.written_form.proofs.Rows.{filled-response, refuses, writes}
+use Rattle.written_form.proofs.Buffers.{filled-response, refuses, writes}
 use Rattle.stored_form.proofs.Lengths.{length-count}
 use Rattle.written_form.proofs.writing.register_output.Statement.{statement}
 use Rattle.written_form.proofs.writing.register_output.Tie as tie

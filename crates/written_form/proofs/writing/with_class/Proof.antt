@@ -1,6 +1,6 @@
 -- `writing::with_class` meets its contract.
 use borrow.Author.Needs.{needs}
-use Rattle.written_form.proofs.Rows.{class-filled}
+use Rattle.written_form.proofs.Buffers.{class-filled}
 use Rattle.written_form.proofs.writing.with_class.Statement.{statement}
 use Rattle.written_form.proofs.writing.with_class.Tie as tie
 

@@ -6,7 +6,7 @@ use mathlib.Core.List.{reverse}
 use lib.ListN.{take, drop}
 use lib.Seq.{sets}
 use Rattle.stored_form.specs.Elements.{encode-elements}
-use Rattle.written_form.proofs.Rows.{none-stored, one-stored, all-stored}
+use Rattle.written_form.proofs.Buffers.{none-stored, one-stored, all-stored}
 use Rattle.written_form.proofs.writing.with_coefficients.Statement.{statement}
 use Rattle.written_form.proofs.writing.with_coefficients.Tie as tie
 

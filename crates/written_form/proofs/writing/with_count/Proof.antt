@@ -3,7 +3,7 @@ use borrow.Author.Needs.{needs}
 use mathlib.Core.Path.{sym}
 use Rattle.stored_form.specs.{Number.encode-number, Head.count-length}
 use Rattle.stored_form.proofs.Digits.{length-bytes}
-use Rattle.written_form.proofs.Rows.{field-filled}
+use Rattle.written_form.proofs.Buffers.{field-filled}
 use Rattle.written_form.proofs.writing.with_count.Statement.{statement}
 use Rattle.written_form.proofs.writing.with_count.Tie as tie
 

@@ -1,7 +1,7 @@
 -- `writing::with_head` meets its contract.
 use borrow.Author.Needs.{needs}
 use mathlib.Core.Path.{_∙_}
-use Rattle.written_form.proofs.Rows.{head-filled}
+use Rattle.written_form.proofs.Buffers.{head-filled}
 use Rattle.written_form.proofs.writing.with_head.Statement.{statement}
 use Rattle.written_form.proofs.writing.with_head.Tie as tie
 

@@ -5,7 +5,7 @@ use mathlib.Core.Path.{_≡_, refl}
 use lib.ListN.{take}
 use lib.Seq.{sets}
 use Rattle.stored_form.specs.Number.{encode-number}
-use Rattle.written_form.proofs.Rows.{byte-more, bytes-all}
+use Rattle.written_form.proofs.Buffers.{byte-more, bytes-all}
 use Rattle.written_form.proofs.writing.with_number.Statement.{statement}
 use Rattle.written_form.proofs.writing.with_number.Tie as tie
 

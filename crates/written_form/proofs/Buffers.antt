@@ -1,4 +1,4 @@
--- Numbers and fields stored in a row of bytes, as the code stores them, and the response of the row.
+-- Numbers and fields stored in a buffer, as the code stores them, and the response of the buffer.
 use Prim.Native.Nat.{ℕ, zero, suc, _+_, _*_, _-_, _/_, _%_, _^_, _≤_, _<_, min}
 use mathlib.Core.Path.{_≡_, refl, sym, ap, ap₂, _∙_}
 use mathlib.Core.List.{List, [], _∷_, _++_, append-nil, reverse, reverse-cons}
@@ -128,7 +128,7 @@ module _ (buffer : List ℕ) (at : ℕ) (a : Class) (n : ℕ) (low : n ≡ min (
       let s : at + 3 + 8 * n + 8 * n ≡ at + length (class-field 0x43 a) = omega arith in
       (ap₂ (λ (k : ℕ) (b : List ℕ). record { answer = k; len = k; bytes = b }) s stores, omega arith)
 
--- ---- the response of a filled row
+-- ---- the response of a filled buffer
 
 module _ (xs ys : List ℕ) (fits : length xs + length ys ≤ room) {k : ℕ} (e : k ≡ length xs) where
   pub filled-response : {buffer : List ℕ} {o : Output} → buffer ≡ sets (replicate room 0) 0 xs → o ≡ filled buffer k ys → response-of o ≡ bytes-response (xs ++ ys)
