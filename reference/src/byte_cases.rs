@@ -1,5 +1,5 @@
-//! Records of the ten byte calls and archives, most of them mutated, with what the calls and the walk report owe for
-//! them. They are made by a generator with a fixed seed, so that the first n are the same in every run.
+//! Records of the ten byte calls and archives, most of them mutated, with what is expected of the calls and of the
+//! walk report for them. They are made by a generator with a fixed seed, so that the first n are the same in every run.
 //!
 //! - `pool`: curves over both fields with classes of every degree, from which the records are made.
 //! - `mutation`: what is done to the fields and to the bytes of a record.
@@ -17,7 +17,7 @@ use crate::stored::{class_field, count_field, curve_fields, operation_field, DRA
 use mutation::mutated;
 use pool::{pools, Pool};
 
-/// A call, and what it owes: the answer, and the bytes written, of which a refusal has none.
+/// A call, and what is expected of it: the answer, and the bytes written, of which a refusal has none.
 #[derive(Clone, Debug, PartialEq, Eq)]
 pub struct ByteCase {
     pub call: Call,
@@ -212,8 +212,8 @@ mod tests {
         let input = [curve_fields(&curve).concat(), class_field(&Class::neutral())].concat();
         let case = ByteCase::new(Call::Double, input.clone(), 51);
         let numbers = vec![0, 0, 0, 51, 0, 0, 0, 34, 0, 0, 0, 3];
-        let owed = [vec![3], vec![0; 8], numbers, input, vec![0x43, 0, 0]].concat();
-        assert_eq!(case.bytes(), owed);
+        let expected = [vec![3], vec![0; 8], numbers, input, vec![0x43, 0, 0]].concat();
+        assert_eq!(case.bytes(), expected);
         let stamp = ByteCase::new(Call::Stamp(0x0102030405060708), vec![], 51).bytes();
         assert_eq!(stamp, [7, 1, 2, 3, 4, 5, 6, 7, 8, 0, 0, 0, 51, 0, 0, 0, 0, 0, 0, 0, 102]);
     }
@@ -226,8 +226,8 @@ mod tests {
         for call in CALLS {
             let made = || cases.iter().filter(|case| case.call.with_beside(0) == call);
             let met: HashSet<u32> = made().map(|case| case.answer).collect();
-            let mut owed = HashSet::from([102, 103, 104, 105, 106, 107, 112]);
-            owed.extend(match call {
+            let mut expected = HashSet::from([102, 103, 104, 105, 106, 107, 112]);
+            expected.extend(match call {
                 Call::Membership => vec![110, 111, 0],
                 Call::Commit => vec![101, 109, 110, 111, 114, 8, 24, 40, 56],
                 Call::Undo => vec![101, 109, 110, 111, 113, 8, 24, 40, 56],
@@ -236,7 +236,7 @@ mod tests {
                 Call::Halvings(_) => vec![101, 110, 111, 119, 3, 19, 35, 51],
                 _ => vec![101, 110, 111, 3, 19, 35, 51],
             });
-            assert_eq!(met, owed, "{call:?}");
+            assert_eq!(met, expected, "{call:?}");
             for degree in [5, 61] {
                 let accepted = |case: &&ByteCase| case.answer <= 100 && case.input[3] == degree;
                 assert!(made().filter(accepted).count() > 50, "{call:?} {degree}");

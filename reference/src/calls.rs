@@ -112,7 +112,7 @@ fn written(call: Call, input: &[u8]) -> Result<Vec<u8>, Refusal> {
     let class = reader.class(&curve)?;
     let second = if call == Call::Sum { Some(reader.class(&curve)?) } else { None };
     reader.end()?;
-    let owed = match (call, second) {
+    let expected = match (call, second) {
         (Call::Opposite, _) => curve.opposite(&class),
         (Call::Sum, Some(second)) => curve.sum(&class, &second),
         (Call::Double, _) => curve.double(&class),
@@ -121,7 +121,7 @@ fn written(call: Call, input: &[u8]) -> Result<Vec<u8>, Refusal> {
         (Call::Halvings(k), _) => halvings(&curve, k, &class)?,
         _ => return Ok(vec![]),
     };
-    Ok(class_field(&owed))
+    Ok(class_field(&expected))
 }
 
 /// The answer, and what the call writes at the start of an output of this length; on a refusal nothing.

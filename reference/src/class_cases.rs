@@ -1,4 +1,4 @@
-//! The cases of the program `conformance`: calls on classes, in the bytes that it reads, and the line that it owes for
+//! The cases of the program `conformance`: calls on classes, in the bytes that it reads, and the line that is expected for
 //! each.
 //!
 //! A case is 138 bytes: the call, the degree d, f3, f1 and f0, and two classes; the calls on one class leave the second
@@ -141,7 +141,7 @@ impl ClassValues {
     }
 }
 
-/// A case, and the line that is owed for it, with its end.
+/// A case, and the line that is expected for it, with its end.
 #[derive(Clone, Debug, PartialEq, Eq)]
 pub struct Case {
     pub call: u8,
@@ -230,8 +230,8 @@ impl Case {
     }
 
     /// The same with an answer that is known already.
-    pub fn known(call: u8, curve: CurveValues, class: &Class, number: u64, owed: &Class) -> Case {
-        let line = format!("{}\n", printed(owed));
+    pub fn known(call: u8, curve: CurveValues, class: &Class, number: u64, expected: &Class) -> Case {
+        let line = format!("{}\n", printed(expected));
         Case { call, curve, a: class.into(), b: ClassValues { degree: number, ..NEUTRAL }, line }
     }
 
@@ -283,7 +283,7 @@ pub fn stored_cases() -> Vec<Case> {
     [examples::cases(), edges::cases(), drawn::cases(), no_calls()].concat()
 }
 
-/// What the program is given, the stored cases and then one that is cut short, and what it owes for that.
+/// What the program is given, the stored cases and then one that is cut short, and what is expected for that.
 pub fn stored() -> (Vec<u8>, String) {
     let cases = stored_cases();
     let mut input: Vec<u8> = cases.iter().flat_map(Case::bytes).collect();

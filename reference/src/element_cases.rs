@@ -1,5 +1,5 @@
-//! The cases of the program `element_trial`: calls on elements, in the bytes that it reads, and the line that it
-//! owes for each.
+//! The cases of the program `element_trial`: calls on elements, in the bytes that it reads, and the line that is
+//! expected for each.
 //!
 //! A case is 18 bytes: the call (1 sum, 2 product, 3 square, 4 square root, 5 inverse, 6 root of y^2 + y = a), the
 //! degree, and two numbers of eight bytes, high byte first; the calls on one element leave the second number aside.
@@ -130,7 +130,7 @@ pub fn input() -> Vec<u8> {
     bytes
 }
 
-/// What it owes for that input.
+/// What is expected for that input.
 pub fn output() -> String {
     let mut text: String = all_cases().iter().map(Case::line).collect();
     text.push_str("cut short\n");

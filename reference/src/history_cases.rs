@@ -1,5 +1,5 @@
 //! The cases of the program `history_trial`: commits and undos on one register (document 01, 'The register'), in the
-//! bytes that it reads, and the lines that it owes.
+//! bytes that it reads, and the lines that are expected of it.
 //!
 //! A record is 146 bytes: the call, the degree d, f3, f1 and f0, the count, the seal and an operation's class. A class is
 //! its degree, u0, u1, u2, v0, v1 and v2. All numbers but d take eight bytes, high byte first. A start sets the register
@@ -104,7 +104,7 @@ struct Accepted {
     before: RegisterValues,
 }
 
-/// Calls on one register after another: what the program is given and what it owes for that.
+/// Calls on one register after another: what the program is given and what is expected for that.
 pub struct Trial {
     pub input: Vec<u8>,
     pub output: String,
@@ -126,7 +126,7 @@ impl Trial {
         self.input.extend(class.bytes());
     }
 
-    fn owe(&mut self, line: &str) {
+    fn expect_line(&mut self, line: &str) {
         self.output.push_str(line);
         self.output.push('\n');
     }
@@ -139,7 +139,7 @@ impl Trial {
 
     pub fn show(&mut self) {
         self.record(SHOW, UNREAD, NONSENSE);
-        self.owe(&self.register.shown());
+        self.expect_line(&self.register.shown());
     }
 
     /// A call with its answer. The register that follows is the next call's; on a refusal that is the same one.
@@ -149,9 +149,9 @@ impl Trial {
             Ok(next) => {
                 self.accepted.push(Accepted { call, class, before: self.register });
                 self.register = next;
-                self.owe(&next.line());
+                self.expect_line(&next.line());
             }
-            Err(number) => self.owe(&format!("refused {number}")),
+            Err(number) => self.expect_line(&format!("refused {number}")),
         }
     }
 
@@ -174,12 +174,12 @@ impl Trial {
     }
 
     /// Takes back the newest accepted call with the same class, a commit by an undo and an undo by a commit. The answer
-    /// owed is the register just before that call, which was noted then: nothing is computed. False where there is none.
+    /// expected is the register just before that call, which was noted then: nothing is computed. False where there is none.
     pub fn take_back(&mut self) -> bool {
         let Some(Accepted { call, class, before }) = self.accepted.pop() else { return false };
         self.record(if call == COMMIT { UNDO } else { COMMIT }, UNREAD, class);
         self.register = before;
-        self.owe(&before.line());
+        self.expect_line(&before.line());
         true
     }
 
@@ -204,11 +204,11 @@ pub fn stored() -> Trial {
     lists::stored(&mut trial);
     for call in [4, 255] {
         trial.record(call, UNREAD, NONSENSE);
-        trial.owe("no such call");
+        trial.expect_line("no such call");
     }
     trial.show();
     trial.input.extend([0, 5, 0]);
-    trial.owe("cut short");
+    trial.expect_line("cut short");
     trial
 }
 

@@ -9,14 +9,15 @@
 //! - `multiples`: multiples of a class by sums alone, and repeated halves.
 //! - `bench_classes`: every reduced class of a curve over the bench field.
 //! - `class_number`: how many they are, from points alone.
-//! - `element_cases`: the cases that the program `element_trial` is run on, and the lines that it owes.
+//! - `element_cases`: the cases that the program `element_trial` is run on, and the lines that are expected of it.
 //! - `class_cases`: the same for the program `conformance`: calls on classes.
 //! - `history_cases`: the same for the program `history_trial`: commits and undos on a register, and taking them back.
 //! - `stamp`: the class of an operation's stamp.
 //! - `stored`: the stored form's writer and checking reader.
 //! - `calls`: the ten calls on byte areas.
 //! - `archive`: the archive, its walk and the walk report.
-//! - `byte_cases`: records and archives, mutated or not, and what the byte calls and the walk report owe for them.
+//! - `byte_cases`: records and archives, mutated or not, and what the byte calls and the walk report have to
+//!   answer for them.
 //! - `samples`: the archives that are kept in examples/.
 //! - `view_archives`: archives rich in neutral operations.
 //! - `random`: a small generator with a fixed seed, for cases that are the same in every run.
@@ -40,7 +41,7 @@ pub mod stamp;
 pub mod stored;
 pub mod view_archives;
 
-/// Writes what a program is given to the file stdin of a folder, and what it owes for that to the file stdout.
+/// Writes what a program is given to the file stdin of a folder, and what is expected for that to the file stdout.
 pub fn write_case(folder: &str, input: Vec<u8>, output: String) {
     for (name, bytes) in [("stdin", input), ("stdout", output.into_bytes())] {
         std::fs::write(std::path::Path::new(folder).join(name), bytes).expect("the folder takes the file");

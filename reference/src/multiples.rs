@@ -104,10 +104,10 @@ mod tests {
         let mut random = Random::new(14);
         for curve in [BENCH, WIDE].into_iter().flat_map(curves) {
             for class in drawn_classes(&mut random, &curve) {
-                for (n, owed) in multiples(&curve, &class).take(71).enumerate() {
-                    assert!(curve.is_member(&owed));
-                    assert_eq!(multiple(&curve, n as u64, &class).as_ref(), Ok(&owed));
-                    assert_eq!(curve.multiple(n as u128, &class), owed);
+                for (n, expected) in multiples(&curve, &class).take(71).enumerate() {
+                    assert!(curve.is_member(&expected));
+                    assert_eq!(multiple(&curve, n as u64, &class).as_ref(), Ok(&expected));
+                    assert_eq!(curve.multiple(n as u128, &class), expected);
                 }
             }
         }

@@ -1,4 +1,4 @@
-//! Archives rich in neutral operations, as which view changes are stored, with the reports that are owed for them: every
+//! Archives rich in neutral operations, as which view changes are stored, with the reports that are expected for them: every
 //! list of up to so many operations out of the neutral class, a class, its opposite and another class, over both fields.
 
 use crate::archive::Archive;
@@ -54,8 +54,8 @@ mod tests {
                 (1, Some(2)) | (2, Some(1)) => 'R',
                 _ => '-',
             };
-            let owed: String = std::iter::once('.').chain((0..list.len()).map(letter)).collect();
-            assert_eq!(archive.letters(), owed, "{list:?}");
+            let expected: String = std::iter::once('.').chain((0..list.len()).map(letter)).collect();
+            assert_eq!(archive.letters(), expected, "{list:?}");
             archives += 1;
             neutral_pairs += list.windows(2).filter(|next| next == &[0, 0]).count();
         }

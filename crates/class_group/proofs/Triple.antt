@@ -1,5 +1,5 @@
 -- Triples u, v, w with v² + v + f = w u.
--- `lift-meets`, `step-meets`, `chain-meets`: lifts, steps and chains of them keep the equation.
+-- `lift-meets`, `exchange-meets`, `chain-meets`: lifts, exchanges and chains of them keep the equation.
 use mathlib.Core.Path.{_≡_}
 use Rattle.field_laws.specs.Ring.{Ring2}
 use Rattle.field_laws.specs.Field.{Field2}
@@ -32,9 +32,9 @@ module _ {K P : Type 0} {F : Field2 K} {A : Polynomials F P} (C : Curve A) where
   unfolding value lift
   lift-meets k T h = lift-identity (A .ring) (T .u) (T .v) (T .w) (C .f) k h
 
-  pub step-meets : (T : Triple P) → Meets T → Meets (exchange A T)
+  pub exchange-meets : (T : Triple P) → Meets T → Meets (exchange A T)
   unfolding value exchange
-  step-meets T h = step-identity (A .ring) (T .u) (T .v) (T .w) (C .f) h
+  exchange-meets T h = step-identity (A .ring) (T .u) (T .v) (T .w) (C .f) h
 
   -- T comes from S by lifts, and by steps at which w is not 0
   pub data Chain (S : Triple P) : Triple P → Type 0 where
@@ -45,4 +45,4 @@ module _ {K P : Type 0} {F : Field2 K} {A : Polynomials F P} (C : Curve A) where
   pub chain-meets : {S T : Triple P} → Chain S T → Meets S → Meets T
   chain-meets start m = m
   chain-meets (lifted {T = T} k c) m = lift-meets k T (chain-meets c m)
-  chain-meets (stepped {T = T} h c) m = step-meets T (chain-meets c m)
+  chain-meets (stepped {T = T} h c) m = exchange-meets T (chain-meets c m)

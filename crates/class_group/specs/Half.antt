@@ -1,5 +1,5 @@
 -- The half of a class, by rules on its coefficients for each degree (docs/SPECIFICATION.md, 2).
--- A triple u, v, w with u w = v² + v + f is changed by lifts and steps, which keep its class, until the first
+-- A triple u, v, w with u w = v² + v + f is changed by lifts and exchanges, which keep its class, until the first
 -- polynomial is a constant times a square a²; the half is then [a, v modulo a].
 -- Two rules divide, each by a coefficient that a test has shown not to be zero.
 -- The rules need not be believed: proofs/Halving.antt proves that the half is the only reduced class whose double is
@@ -33,7 +33,7 @@ module _ {K P : Type 0} {F : Field2 K} (A : Polynomials F P) where
   unfoldable pub lift : P → Triple P → Triple P
   lift k T = record { u = T .u; v = T .v ⊞ k · T .u; w = T .w ⊞ k ⊞ k · k · T .u }
 
-  -- a step: u and w are exchanged, and v becomes v + 1, not reduced modulo the new u
+  -- the exchange of u and w: v becomes v + 1, not reduced modulo the new u
   unfoldable pub exchange : Triple P → Triple P
   exchange T = record { u = T .w; v = T .v ⊞ 𝟙; w = T .u }
 
@@ -45,14 +45,14 @@ module _ {K P : Type 0} {F : Field2 K} (A : Polynomials F P) where
   unfoldable pub quadratic : K → K → K → P
   quadratic k2 k1 k0 = con k0 ⊞ x · (con k1 ⊞ x · con k2)
 
-  -- degree 1: the lift by k2 x² + k1 x + k0 with k2 = √w5, k1 = √w3, k0 = √(w1 + k1), and a step; w has degree 6
+  -- degree 1: the lift by k2 x² + k1 x + k0 with k2 = √w5, k1 = √w3, k0 = √(w1 + k1), and an exchange; w has degree 6
   unfoldable pub half-of-degree-1 : Triple P → Pair P
   half-of-degree-1 T =
       let k1 = root (coeff (T .w) 3) in
       let k = quadratic (root (coeff (T .w) 5)) k1 (root (coeff (T .w) 1 ⊞ₖ k1)) in
       halved 𝟙ₖ (exchange (lift k T))
 
-  -- degree 2, u1 not zero: the lift with k2 = 1/√u1, k1 = √(w3/u1), k0 = √((w1 + k1)/u1), and a step
+  -- degree 2, u1 not zero: the lift with k2 = 1/√u1, k1 = √(w3/u1), k0 = √((w1 + k1)/u1), and an exchange
   unfoldable pub lifted-half-of-degree-2 : (T : Triple P) → ¬ (coeff (T .u) 1 ≡ 𝟘ₖ) → Pair P
   lifted-half-of-degree-2 T shown =
       let u1 = coeff (T .u) 1 in
@@ -69,11 +69,11 @@ module _ {K P : Type 0} {F : Field2 K} (A : Polynomials F P) where
   unfoldable pub first-lift : P → P → P
   first-lift u w = let k = quadratic 𝟘ₖ 𝟘ₖ (root (coeff w 3)) in w ⊞ k ⊞ k · k · u
 
-  -- degree 3: the triple after the lift by √w3 and a step; its first polynomial is x⁴ + e2 x² + t² x + e0
+  -- degree 3: the triple after the lift by √w3 and an exchange; its first polynomial is x⁴ + e2 x² + t² x + e0
   unfoldable pub exchanged-of-degree-3 : Triple P → Triple P
   exchanged-of-degree-3 T = exchange (lift (quadratic 𝟘ₖ 𝟘ₖ (root (coeff (T .w) 3))) T)
 
-  -- degree 3, t not zero: the lift by (x + q)/t with q = √(u1 + 1/t), where u1 is that of the class, and a step
+  -- degree 3, t not zero: the lift by (x + q)/t with q = √(u1 + 1/t), where u1 is that of the class, and an exchange
   unfoldable pub lifted-half-of-degree-3 : (T : Triple P) → ¬ (root (coeff (exchanged-of-degree-3 T .u) 1) ≡ 𝟘ₖ) → Pair P
   lifted-half-of-degree-3 T shown =
       let S = exchanged-of-degree-3 T in

@@ -1,4 +1,4 @@
-//! Makes archives and the reports that `walkreport` owes for them: `archives samples FOLDER` those that are kept in
+//! Makes archives and the reports expected of `walkreport` for them: `archives samples FOLDER` those that are kept in
 //! examples/, `archives failures FOLDER` those in examples/failures/, `archives views FOLDER` those that are rich in neutral
 //! operations, `archives N FOLDER` the first N of the mutated ones.
 //! Each is written to FOLDER/NAME.bin, its report to FOLDER/NAME.report. With the failures come the printed seal of a

@@ -1,5 +1,5 @@
 //! Makes cases of the program `conformance`: `class_vectors KIND FOLDER [F3 F1 F0]` writes what the program is given to
-//! FOLDER/stdin and what it owes for that to FOLDER/stdout. The kinds are
+//! FOLDER/stdin and what is expected for that to FOLDER/stdout. The kinds are
 //!
 //! - `stored`, the cases that are kept with the program;
 //! - `thousand`, doubles and halves over GF(2^61);
@@ -27,7 +27,7 @@ fn on_curve(kind: &str, curve: CurveValues) -> Vec<Case> {
     }
 }
 
-/// What the program is given, and what it owes for that.
+/// What the program is given, and what is expected for that.
 fn made(kind: &str, coefficients: &[u64]) -> Option<(Vec<u8>, String)> {
     let cases = match (kind, coefficients) {
         ("stored", []) => return Some(stored()),

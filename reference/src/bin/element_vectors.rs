@@ -1,5 +1,5 @@
 //! Makes the cases that are kept with the program `element_trial`: `element_vectors stored FOLDER` writes what the program
-//! is given to FOLDER/stdin and what it owes for that to FOLDER/stdout.
+//! is given to FOLDER/stdin and what is expected for that to FOLDER/stdout.
 
 use reference::element_cases::{input, output};
 use reference::write_case;

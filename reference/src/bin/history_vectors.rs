@@ -1,5 +1,5 @@
 //! Makes cases of the program `history_trial`: `history_vectors KIND FOLDER` writes what the program is given to
-//! FOLDER/stdin and what it owes for that to FOLDER/stdout. The kinds are
+//! FOLDER/stdin and what is expected for that to FOLDER/stdout. The kinds are
 //!
 //! - `stored`, the cases that are kept with the program;
 //! - `bench`, `known-halves` and `wide`, lists of calls that are taken back: over the bench field, on curves over

@@ -70,27 +70,27 @@ fn twelve_examples() {
             let classes: Vec<u8> = classes.iter().flat_map(|class| class_field(class)).collect();
             run(call, &[curve_fields(curve).concat(), classes].concat(), &[9; 60])
         };
-        let owed = |class: &Class| {
+        let expected = |class: &Class| {
             let mut output = class_field(class);
             let length = output.len() as u32;
             output.resize(60, 9);
             (length, output)
         };
-        assert_eq!(answer(Call::Double, &a, &[&x]), owed(&x2), "1");
-        assert_eq!(answer(Call::Double, &a, &[&x2]), owed(&x3_one), "2");
-        assert_eq!(answer(Call::Double, &a, &[&x3_one]), owed(&x), "3");
-        assert_eq!(answer(Call::Half, &a, &[&one]), owed(&one), "4");
-        assert_eq!(answer(Call::Half, &b, &[&b2]), owed(&b1), "5");
-        assert_eq!(answer(Call::Half, &b, &[&b3]), owed(&b2), "6");
-        assert_eq!(answer(Call::Half, &b, &[&b4]), owed(&b3), "7");
-        assert_eq!(answer(Call::Sum, &a, &[&x, &x_one]), owed(&one), "8");
-        assert_eq!(answer(Call::Sum, &a, &[&x3, &x3]), owed(&x_one), "9");
-        assert_eq!(answer(Call::Sum, &b, &[&b2, &b1_one]), owed(&b1), "10");
-        assert_eq!(answer(Call::Sum, &b, &[&b3, &b4_opposite]), owed(&b3_one), "11");
+        assert_eq!(answer(Call::Double, &a, &[&x]), expected(&x2), "1");
+        assert_eq!(answer(Call::Double, &a, &[&x2]), expected(&x3_one), "2");
+        assert_eq!(answer(Call::Double, &a, &[&x3_one]), expected(&x), "3");
+        assert_eq!(answer(Call::Half, &a, &[&one]), expected(&one), "4");
+        assert_eq!(answer(Call::Half, &b, &[&b2]), expected(&b1), "5");
+        assert_eq!(answer(Call::Half, &b, &[&b3]), expected(&b2), "6");
+        assert_eq!(answer(Call::Half, &b, &[&b4]), expected(&b3), "7");
+        assert_eq!(answer(Call::Sum, &a, &[&x, &x_one]), expected(&one), "8");
+        assert_eq!(answer(Call::Sum, &a, &[&x3, &x3]), expected(&x_one), "9");
+        assert_eq!(answer(Call::Sum, &b, &[&b2, &b1_one]), expected(&b1), "10");
+        assert_eq!(answer(Call::Sum, &b, &[&b3, &b4_opposite]), expected(&b3_one), "11");
         assert_eq!(answer(Call::Membership, &a, &[&x]), (0, vec![9; 60]), "12");
         assert_eq!(answer(Call::Membership, &b, &[&x]), (111, vec![9; 60]), "12");
-        assert_eq!(answer(Call::Opposite, &a, &[&x]), owed(&x_one));
-        assert_eq!(answer(Call::Opposite, &a, &[&one]), owed(&one), "not [1, 1]");
+        assert_eq!(answer(Call::Opposite, &a, &[&x]), expected(&x_one));
+        assert_eq!(answer(Call::Opposite, &a, &[&one]), expected(&one), "not [1, 1]");
     }
 }
 
@@ -212,8 +212,8 @@ fn counts() {
     let commit = |count| run(Call::Commit, &register(count, &input, &neutral), &[0; 56]);
     let undo = |count| run(Call::Undo, &register(count, &curve_a(BENCH).double(&input), &neutral), &[0; 56]);
     let starts = |(answer, output): (u32, Vec<u8>), count: u16, class: &Class| {
-        let owed = [count_field(count), class_field(class)].concat();
-        answer as usize == owed.len() && output.starts_with(&owed)
+        let expected = [count_field(count), class_field(class)].concat();
+        answer as usize == expected.len() && output.starts_with(&expected)
     };
     let double = curve_a(BENCH).double(&input);
     assert!(starts(commit(0), 1, &double));
@@ -237,14 +237,14 @@ fn counts() {
 #[test]
 fn stamps() {
     let input = |curve: &Curve| curve_fields(curve).concat();
-    let owed = |x: u64, y: u64| {
+    let expected = |x: u64, y: u64| {
         let body = [x.to_be_bytes(), y.to_be_bytes()].concat();
         [vec![0x43, 0, 16], body, vec![9; 41]].concat()
     };
     for (field, limit) in [(BENCH, 4), (WIDE, 1 << 58)] {
         let a = curve_a(field);
-        assert_eq!(run(Call::Stamp(0), &input(&a), &[9; 60]), (19, owed(0, 0)));
-        assert_eq!(run(Call::Stamp(0), &input(&Curve::new(field, 0, 0, 6)), &[9; 60]), (19, owed(0, 2)));
+        assert_eq!(run(Call::Stamp(0), &input(&a), &[9; 60]), (19, expected(0, 0)));
+        assert_eq!(run(Call::Stamp(0), &input(&Curve::new(field, 0, 0, 6)), &[9; 60]), (19, expected(0, 2)));
         assert_eq!(answered(Call::Stamp(limit - 1), &input(&a)), 19);
         let without = if field == BENCH { Curve::new(field, 4, 5, 1) } else { Curve::new(field, 0, 1, 1) };
         assert_eq!(answered(Call::Stamp(0), &input(&without)), 116);
@@ -269,8 +269,9 @@ fn multiples_and_halvings() {
     let (xx, xxx_one) = (Class::new(vec![0, 0, 1], vec![]), Class::new(vec![0, 0, 0, 1], vec![1]));
     for field in [BENCH, WIDE] {
         let input = record(Call::Double, field);
-        let owed = [(0, Class::neutral()), (1, x()), (2, xx.clone()), (4, xxx_one.clone()), ((1 << 61) - 1, x())];
-        for (n, class) in owed {
+        let expected =
+            [(0, Class::neutral()), (1, x()), (2, xx.clone()), (4, xxx_one.clone()), ((1 << 61) - 1, x())];
+        for (n, class) in expected {
             assert_eq!(answer(Call::Multiple(n), &input, 51), written(&class), "{n}");
         }
         for (k, class) in [(0, &x()), (1, &xxx_one), (2, &xx), (3, &x()), (64, &xxx_one)] {

@@ -30,8 +30,8 @@ pub fn bench(values: CurveValues) -> Vec<Case> {
     let halves = halves_from_doubles(&curve, &classes);
     let mut cases = vec![];
     for class in of_every_degree(&classes, [1, 20, 79, 900]) {
-        for (n, owed) in (0..=70).zip(multiples(&curve, &class)) {
-            cases.push(Case::known(MULTIPLE, values, &class, n, &owed));
+        for (n, expected) in (0..=70).zip(multiples(&curve, &class)) {
+            cases.push(Case::known(MULTIPLE, values, &class, n, &expected));
         }
         let mut halved = &class;
         for k in 0..=HALVINGS_LIMIT {
@@ -64,7 +64,7 @@ pub fn order(values: CurveValues) -> Vec<Case> {
             (largest, &neutral),
             (largest + 1, class),
         ]
-        .map(|(n, owed)| Case::known(MULTIPLE, values, class, n, owed))
+        .map(|(n, expected)| Case::known(MULTIPLE, values, class, n, expected))
     };
     of_every_degree(&classes, [1, 9, 10, 20]).iter().flat_map(on_class).collect()
 }

@@ -1,6 +1,6 @@
 //! Lists of commits of which one operation is changed (document 02, request 7): n commits from a first seal, and the same
 //! from that seal with operation k alone, counted from the oldest, changed from class D to class E. The seal after
-//! operation j is then the same where j is below k, and from k on it moves by 2^(j-k) times E - D. What is owed for the
+//! operation j is then the same where j is below k, and from k on it moves by 2^(j-k) times E - D. What is expected for the
 //! changed list is made so from the first list's seals, and the multiple from sums by decimal digits: it is neither
 //! committed nor doubled.
 //!
@@ -111,10 +111,10 @@ impl<'a> Variants<'a> {
             seals.push(trial.register.seal.class(self.ground.curve).expect("the seal is a class"));
         });
         let multiples = self.multiples();
-        let owed: Vec<Class> = (1..).zip(&seals).map(|(j, seal)| self.moved(j, seal, &multiples)).collect();
-        assert_eq!(owed.last() == seals.last(), self.changed == self.operations);
+        let expected: Vec<Class> = (1..).zip(&seals).map(|(j, seal)| self.moved(j, seal, &multiples)).collect();
+        assert_eq!(expected.last() == seals.last(), self.changed == self.operations);
         self.list(trial, random, |trial, i| {
-            let next = trial.register.moved(trial.register.count + 1, &owed[i]);
+            let next = trial.register.moved(trial.register.count + 1, &expected[i]);
             trial.answered(COMMIT, (&self.changed[i]).into(), Ok(next));
         });
     }

@@ -95,7 +95,7 @@ fn registers(trial: &mut Trial, field: Field) {
 pub fn run(trial: &mut Trial) {
     // before the first start
     trial.record(COMMIT, super::UNREAD, NEUTRAL);
-    trial.owe("refused 106");
+    trial.expect_line("refused 106");
     for field in [BENCH, WIDE] {
         document_walk(trial, field);
         counts(trial, field);

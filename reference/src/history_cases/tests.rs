@@ -17,7 +17,7 @@ fn calls(trial: &Trial) -> Vec<(u8, u8, String)> {
         if record[0] == START {
             degree = record[1];
         } else {
-            calls.push((degree, record[0], lines.next().expect("a line is owed").to_string()));
+            calls.push((degree, record[0], lines.next().expect("a line is expected").to_string()));
         }
     }
     calls

@@ -19,7 +19,7 @@ fn refused(trial: &Trial) -> Vec<Vec<bool>> {
     lists.map(|list| lines.by_ref().take(list.len()).map(|line| line.starts_with("refused")).collect()).collect()
 }
 
-/// What is owed for a changed list is what its commits lead to by the rule, one after the other. In most cases refused calls
+/// What is expected for a changed list is what its commits lead to by the rule, one after the other. In most cases refused calls
 /// stand at other places in the two lists.
 #[test]
 fn owed_by_commits() {
@@ -51,11 +51,11 @@ fn neither_a_doubling_more_nor_the_other_sign() {
         for_each(field, |variants| {
             let curve = variants.ground.curve;
             let last = |operations| committed(variants, operations).pop().expect("there is a commit");
-            let (first, owed) = (last(&variants.operations), last(&variants.changed));
-            let by = curve.difference(&owed, &first);
+            let (first, expected) = (last(&variants.operations), last(&variants.changed));
+            let by = curve.difference(&expected, &first);
             let wrong = [Class::neutral(), curve.double(&by), curve.opposite(&by)].map(|by| curve.sum(&first, &by));
             let same = variants.operations == variants.changed;
-            assert_eq!(wrong.map(|wrong| wrong == owed), [same; 3]);
+            assert_eq!(wrong.map(|wrong| wrong == expected), [same; 3]);
         });
     }
 }
@@ -84,7 +84,7 @@ fn kind(variants: &Variants) -> (&'static str, &'static str) {
 #[test]
 fn every_length_kind_and_degree() {
     let changes = ["same", "neutral", "opposite", "a point more", "any"];
-    let owed = changes.map(|change| ["newest", "oldest", "between"].map(|place| (change, place)));
+    let expected = changes.map(|change| ["newest", "oldest", "between"].map(|place| (change, place)));
     for field in [BENCH, WIDE] {
         let (mut lists, mut curves) = (vec![], HashSet::new());
         let (mut kinds, mut degrees) = (HashSet::new(), HashSet::new());
@@ -99,7 +99,7 @@ fn every_length_kind_and_degree() {
         });
         assert_eq!((lists.len(), curves.len()), (1 + 63 * 3, 4));
         assert!((1..=64).all(|n| lists.contains(&(n, 1)) && lists.contains(&(n, n))));
-        assert_eq!(kinds, HashSet::from_iter(owed.concat()));
+        assert_eq!(kinds, HashSet::from_iter(expected.concat()));
         assert_eq!(degrees, HashSet::from([0, 1, 2, 3]));
     }
 }
