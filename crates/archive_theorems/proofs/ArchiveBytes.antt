@@ -8,7 +8,7 @@ use lib.Dec.{leb, lit<}
 use lib.ListN.{length, getD}
 use borrow.Author.Tests.{leb-true}
 use Rattle.jacobian.proofs.ByValue.Checks.{both}
-use Rattle.stored_form.specs.{Number.Bytes, Fields.printable, Fields.count-field, Fields.drawing-field, Classes.curve-fields-bytes, Classes.class-field, Classes.operation-fields}
+use Rattle.stored_form.specs.{Number.Bytes, Head.count-length, Fields.printable, Fields.count-field, Fields.drawing-field, Classes.curve-fields-bytes, Classes.class-field, Classes.operation-fields}
 use Rattle.stored_form_theorems.proofs.{Written.bytes-append, Written.number-bytes, Written.field-bytes, Written.class-bytes, Written.first-bytes, Operations.operations-bytes}
 use Rattle.archive.specs.Archive.{Archive}
 use Rattle.archive_theorems.specs.Written.{archive-bytes}
@@ -33,6 +33,6 @@ archive-is-bytes a ok =
     let seal : List ℕ = class-field 0x43 (a .seal) in
     let named : Bytes name =
     bytes-append (curve-fields-bytes (a .curve)) (drawing-field (a .drawing)) (first-bytes (a .curve)) (field-bytes 0x46 _ (lit< tt) (printable-bytes (a .drawing) ok)) in
-    let counted : Bytes (name ++ count) = bytes-append name count named (field-bytes 0x42 _ (lit< tt) (number-bytes 2 (length (a .operations)))) in
+    let counted : Bytes (name ++ count) = bytes-append name count named (field-bytes 0x42 _ (lit< tt) (number-bytes count-length (length (a .operations)))) in
     let sealed : Bytes (name ++ count ++ seal) = bytes-append (name ++ count) seal counted (class-bytes 0x43 (a .seal) (lit< tt)) in
     bytes-append (name ++ count ++ seal) (operation-fields (a .operations)) sealed (operations-bytes (a .operations))

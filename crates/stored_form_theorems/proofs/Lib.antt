@@ -11,6 +11,7 @@ pub mod RecordRoundTrips
 -- tag by tag, for a field and its value;
 pub mod FieldLaws
 pub mod FieldValues
+pub mod FieldsInNumbers
 pub mod Written
 -- and for operations in order.
 pub mod Operations

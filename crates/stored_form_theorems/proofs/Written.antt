@@ -8,7 +8,7 @@ use native.Mathlib.Nat.{mod-lt}
 use lib.Dec.{lit<}
 use lib.ListN.{length}
 use Rattle.jacobian.specs.declared.{Curve.Curve, Class.Class}
-use Rattle.stored_form.specs.{Number.encode-number, Number.Bytes, Head.head-bytes, Head.encode-field, Elements.encode-elements, Fields.degree-field}
+use Rattle.stored_form.specs.{Number.encode-number, Number.Bytes, Head.degree-length, Head.head-bytes, Head.encode-field, Elements.encode-elements, Fields.degree-field}
 use Rattle.stored_form.specs.Classes.{curve-field, curve-fields-bytes, encode-row, class-field}
 
 pub bytes-append : (xs ys : List ℕ) → Bytes xs → Bytes ys → Bytes (xs ++ ys)
@@ -42,5 +42,5 @@ class-bytes tag a t =
 pub first-bytes : (c : Curve) → Bytes (curve-fields-bytes c)
 unfolding curve-fields-bytes degree-field curve-field
 first-bytes c =
-    bytes-append (degree-field (c .degree)) (curve-field c) (field-bytes 0x40 _ (lit< tt) (number-bytes 1 (c .degree)))
+    bytes-append (degree-field (c .degree)) (curve-field c) (field-bytes 0x40 _ (lit< tt) (number-bytes degree-length (c .degree)))
     (field-bytes 0x41 _ (lit< tt) (elements-are-bytes _))
