@@ -5,3 +5,4 @@ pub mod RefusalOf
 pub mod Degrees
 pub mod Replies
 pub mod Valid
+pub mod Checking

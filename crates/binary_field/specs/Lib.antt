@@ -2,3 +2,4 @@
 pub mod Field
 pub mod Checks
 pub mod Answer
+pub mod Checking

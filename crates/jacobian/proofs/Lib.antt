@@ -7,4 +7,5 @@ pub mod Calls
 pub mod Moves
 pub mod Group
 pub mod Refusals
+pub mod Checking
 pub mod Valid

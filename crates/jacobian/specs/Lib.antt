@@ -4,6 +4,7 @@ pub mod Checks
 pub mod Refusals
 pub mod Curves
 pub mod Classes
+pub mod Checking
 pub mod Examples
 pub mod Answer
 pub mod Group

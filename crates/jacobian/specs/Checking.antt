@@ -1,0 +1,36 @@
+-- What the checks of a curve and of classes by value require, in checking order (docs/SPECIFICATION.md, 3 and 6).
+use Prim.Native.Nat.{ℕ, _≤_, _^_}
+use mathlib.Core.{Path._≡_, List.List, List.[], List._∷_, List._++_}
+use lib.ListN.{length, getD}
+use Rattle.char2_algebra.specs.Divides.{Divides}
+use Rattle.class_group.specs.Mumford.{value}
+use Rattle.row_theory.specs.Field.{𝔸}
+use Rattle.jacobian.specs.{Checks.Check, Checks.check, Curves.coefficients, Curves.curve, Classes.pair, declared.Curve.Curve, declared.Class.Class}
+pub use Rattle.binary_field.specs.Checking.{Below, degree-check}
+
+-- the checks of a curve: the degree is 5 or 61, then every coefficient is below 2^d
+abbrev pub curve-checks : Curve → List Check
+curve-checks c = degree-check (c .degree) ∷ check 107 (Below (2 ^ c .degree) (coefficients c)) ∷ []
+
+-- a row of three numbers, which are 0 from index n on
+pub record Padded (n : ℕ) (r : List ℕ) : Type 0 where
+  pub three : length r ≡ 3
+  pub zeros : (i : ℕ) → n ≤ i → getD r i 0 ≡ 0
+
+-- the checks of a class: its form, then the range of its numbers, then that u divides v² + v + f
+abbrev pub class-checks : Curve → Class → List Check
+class-checks c a =
+    let d = c .degree in
+    let n = a .degree in
+    check 104 ((n ≤ 3) × Padded n (a .u) × Padded n (a .v))
+    ∷ check 110 (Below (2 ^ d) (a .u) × Below (2 ^ d) (a .v))
+    ∷ check 111 (Divides (𝔸 d .ring) (pair d a .u) (value (curve c) (pair d a .v)))
+    ∷ []
+
+-- the checks of a call on one class
+abbrev pub checks-of-one : Curve → Class → List Check
+checks-of-one c a = curve-checks c ++ class-checks c a
+
+-- the checks of a call on two classes
+abbrev pub checks-of-two : Curve → Class → Class → List Check
+checks-of-two c a b = checks-of-one c a ++ class-checks c b
