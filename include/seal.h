@@ -19,7 +19,8 @@
  * Answers. A call that is accepted writes at the start of the output and answers how many bytes it wrote, at most 56;
  * seal_membership writes nothing and answers 0. A call that is refused answers the refusal's number, 101 or more
  * (seal_refusals.h), and has changed no byte. No call changes the input, nor a byte of the output after those it
- * wrote. The input's fields are read in order, and each goes through 102 to 111 before the next is begun.
+ * wrote. The input's fields are read in order, and each goes through its checks of 102 to 111 before the next is begun;
+ * 108 is of archives, which no call for C reads.
  *
  * Areas. The input may hold anything: nothing has to be checked before a call. The one duty of the caller is to hand
  * over areas that are his, as long as said, with the output apart from the input: where they overlap, nothing is
@@ -56,8 +57,8 @@ uint32_t seal_membership(const uint8_t *in, size_t in_len);
  * Reads 0x40, 0x41, 0x43; writes 0x43. Refusals: 101 to 107, 110 to 112. */
 uint32_t seal_opposite(const uint8_t *in, size_t in_len, uint8_t *out, size_t out_len);
 
-/* The sum of two classes, those of a commutative group: sums in either order and in either grouping write the same bytes,
- * with the neutral class the other class's field is written, and with its opposite that of the neutral class.
+/* The sum of two classes, those of a commutative group: sums in either order and in either grouping write the same
+ * bytes, with the neutral class the other class's field is written, and with its opposite that of the neutral class.
  * Reads 0x40, 0x41, 0x43, 0x43; writes 0x43. Refusals: 101 to 107, 110 to 112. */
 uint32_t seal_sum(const uint8_t *in, size_t in_len, uint8_t *out, size_t out_len);
 
@@ -70,8 +71,8 @@ uint32_t seal_double(const uint8_t *in, size_t in_len, uint8_t *out, size_t out_
 uint32_t seal_half(const uint8_t *in, size_t in_len, uint8_t *out, size_t out_len);
 
 /* The register after an operation: twice the seal plus the operation's class, and the count one higher.
- * Where one of the commits from a seal on has class E in place of D, the last seal moves by E - D, doubled once for each
- * commit that follows; it moves whenever D and E differ (examples/compare_variants.c).
+ * Where one of the commits from a seal on has class E in place of D, the last seal moves by E - D, doubled once for
+ * each commit that follows; it moves whenever D and E differ (examples/compare_variants.c).
  * Reads 0x40, 0x41, 0x42, 0x43 (the seal), 0x44; writes 0x42, 0x43. Refusals: 101 to 107, 109 to 112, 114. */
 uint32_t seal_commit(const uint8_t *in, size_t in_len, uint8_t *out, size_t out_len);
 

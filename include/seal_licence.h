@@ -23,8 +23,8 @@
  * Answers. A call that is accepted writes at the start of the output and answers how many bytes it wrote: 3, 19, 35 or
  * 51. A call that is refused answers the refusal's number, 101 or more (seal_refusals.h), and has changed no byte. No
  * call changes the input, nor a byte of the output after those it wrote. 101 comes before any byte of the input is
- * looked at; the fields are read in order, and each goes through 102 to 111 before the next is begun; then comes 112,
- * and 118 or 119 last.
+ * looked at; the fields are read in order, and each goes through its checks, 102 to 107, 110 and 111, before the next
+ * is begun; then comes 112, and 118 or 119 last.
  *
  * Areas. The input may hold anything: nothing has to be checked before a call. The one duty of the caller is to hand
  * over areas that are his, as long as said, with the output apart from the input: where they overlap, nothing is

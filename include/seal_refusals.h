@@ -30,7 +30,7 @@
 #define SEAL_BODY_CUT 105            /* the input ends before the body does */
 #define SEAL_WRONG_DEGREE 106        /* the degree is neither 5 nor 61 */
 #define SEAL_CURVE_COEFFICIENT 107   /* a curve coefficient is 2^d or more */
-#define SEAL_DRAWING_NUMBER 108      /* a drawing number byte lies outside 0x20 to 0x7E; in archives alone */
+#define SEAL_DRAWING_NUMBER 108      /* a drawing number byte lies outside 0x20 to 0x7E; of archives, no call for C */
 #define SEAL_COUNT_TOO_HIGH 109      /* the count, or the number of classes in a row, exceeds 1,024 */
 #define SEAL_CLASS_COEFFICIENT 110   /* a class coefficient is 2^d or more */
 #define SEAL_NOT_A_CLASS 111         /* u does not divide v^2 + v + f */

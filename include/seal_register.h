@@ -7,11 +7,12 @@
  *     cc -Iinclude model.c target/staticlib/libseal_register.a
  *
  * A commit or an undo answers 0 where it is accepted, and the register is then the one that follows. Else it answers
- * the refusal's number (seal_refusals.h), and has changed no byte of the register. Of the numbers 101 to 103, 105,
- * 108 and 112 are of byte areas alone, 115 and 116 are of stamps, 118 and 119 of multiples and halvings, and 104 is
- * SEAL_WRONG_SHAPE: a class's degree is above 3, or a number at or past its degree is not 0. They are checked in this
- * order: 106 and 107 of the curve, 109 of the count, then 104, 110 and 111 of the seal and of the class, then 113 or
- * 114.
+ * the refusal's number (seal_refusals.h), and every member of the register is as it was; so is its padding, which is
+ * how the code is made and is tested, and not a part of the proved contract. The numbers that these calls answer stand
+ * at each call. Of the others 101 to 103, 105 and 112 are of byte areas, 108 is of archives, which no call for C reads,
+ * 115 and 116 are of stamps, 118 and 119 of multiples and halvings. 104 is SEAL_WRONG_SHAPE here: a class's degree is
+ * above 3, or a number at or past its degree is not 0. They are checked in this order: 106 and 107 of the curve, 109 of
+ * the count, then 104, 110 and 111 of the seal and of the class, then 113 or 114.
  *
  * Areas. Register, curve and classes may hold any numbers: nothing has to be checked before a call. The one duty of
  * the caller is to lend a register that is his, at an address aligned to 8 bytes and not NULL, that nobody else uses
