@@ -1,6 +1,9 @@
--- `report-made`: the lines that the report's steps make, one after the other, are the report's lines.
+-- The loop of the program makes the report.
+-- `report-made`: from the first state the loop makes the report's lines, and ends after them.
+-- `report-only`: it makes no other lines.
+-- `halfway-begin`: before the first turn the lines made so far, and then those to come, are the report's.
 use Prim.Native.Nat.{ℕ, zero, suc, _+_, _-_}
-use mathlib.Core.Path.{_≡_, refl, sym, ap, _∙_, subst}
+use mathlib.Core.Path.{_≡_, refl, sym, ap, ap₂, _∙_, subst, subst₂}
 use mathlib.Core.List.{List, [], _∷_}
 use native.Mathlib.Omega.{arith}
 use Rattle.jacobian.specs.{Answer.Accepts, Answer.Result, Answer.neutral-class, Answer.subtract-and-halve-answer, declared.Curve.Curve, declared.Class.Class}
@@ -17,8 +20,9 @@ use Rattle.archive.proofs.Valid.{archive-found}
 use Rattle.archive_theorems.proofs.Parts.{parts-of, seal-sound}
 use Rattle.lists.specs.Walk.{walk}
 use Rattle.walk_report.specs.{Lines.line, Lines.first-line, Lines.refusal-line, Walk.seals, Walk.next-older, Walk.letter, Walk.letters, Report.seal-lines, Report.walk-lines, Report.lines-of, Report.report-lines}
-use Rattle.walk_report.specs.Steps.{report-at, with-stage, with-seal, progress, older, on-operation, advanced-by, advanced, letter-before, undone, next-of, next-line, refused-report, first-report, begin-by, begin, lines-left, texts}
-use Rattle.walk_report.proofs.LinesLeft.{expected-older}
+use Rattle.walk_report.specs.Steps.{report-at, with-stage, with-seal, progress, older, on-operation, advanced-by, advanced, letter-before, undone, next-of, next-line, refused-report, first-report, begin-by, begin, LineResult}
+use Rattle.walk_report.specs.Loop.{none, MakesAll, Halfway}
+use Rattle.walk_report.proofs.{LinesLeft.expected-older, Loop.turn-all, Loop.makes-only}
 use Rattle.report_theorems.proofs.ArchiveWalk.{step-is}
 use Rattle.walk_report.specs.declared.{Stage.Stage, Report.Report, Progress.Progress}
 use Rattle.walk_report.specs.declared.Stage.the-variants.{First, Last, Undo, Over}
@@ -79,30 +83,32 @@ module _ (s : List ℕ) where
       ap (λ (m : Progress). letter-before (h .curve) a (m .report)) (advanced-more n stage h seal b at (m .this))
       ∙ ap (letter (h .curve) a) (sym (m .all))
 
-  -- the line of an undo, and the lines after it
-  undo-made : (n : ℕ) (h : Record) (seal a : Class) (at k : ℕ) {before : Class} {ops : List Class} {end : ℕ} → read-operations n h s at ≡ found ops end →
+  -- the line of an undo, and the state after it
+  undo-line : (n : ℕ) (h : Record) (seal a : Class) (at k : ℕ) {before : Class} {ops : List Class} {end : ℕ} → read-operations n h s at ≡ found ops end →
       h .count ≡ k + suc n → subtract-and-halve-answer (h .curve) seal a .class ≡ before →
-      let m = advanced (report-at Undo (reader (operations-expected n) h) before a) s at in
-      texts (suc n) (report-at Undo (reader (operations-expected n) h) seal a) s at ≡ line (k + 1) (letter (h .curve) a ops) before ∷ texts n (m .report) s (m .next .at)
-  unfolding texts next-line next-of undone
-  undo-made n h seal a at k {before} {ops} e counted same =
+      next-line (report-at Undo (reader (operations-expected n) h) seal a) s at
+      ≡ record { text = line (k + 1) (letter (h .curve) a ops) before; progress = advanced (report-at Undo (reader (operations-expected n) h) before a) s at }
+  unfolding next-line next-of undone
+  undo-line n h seal a at k {before} {ops} e counted same =
       let c : Curve = h .curve in
       let r : Report = report-at Undo (reader (operations-expected n) h) seal a in
       let number : h .count - older (operations-expected n) ≡ k + 1 = omega (arith, counted, expected-older n) in
-      let rest : ℕ → Progress → List (List ℕ) = λ j m. texts j (m .report) s (m .next .at) in
       let carried : Class → Progress = λ x. record { report = with-seal x (advanced r s at .report); next = advanced r s at .next } in
-      ap (λ (x : Class). line (h .count - older (operations-expected n)) (letter-before c a (advanced r s at .report)) x ∷ rest n (carried x)) same
-      ∙ ap (λ (j : ℕ). line j (letter-before c a (advanced r s at .report)) before ∷ rest n (carried before)) number
-      ∙ ap (λ (j : ℕ). line (k + 1) j before ∷ rest n (carried before)) (letter-is n h seal a a Undo at e)
-      ∙ ap (λ (m : Progress). line (k + 1) (letter c a ops) before ∷ rest n m) (sym (advanced-seal before r at))
+      let made : ℕ → ℕ → Class → LineResult = λ i j x. record { text = line i j x; progress = carried x } in
+      ap (made _ (letter-before c a (advanced r s at .report))) same
+      ∙ ap₂ (λ (i j : ℕ). made i j before) number (letter-is n h seal a a Undo at e)
+      ∙ ap (λ (m : Progress). record { text = line (k + 1) (letter c a ops) before; progress = m }) (sym (advanced-seal before r at))
 
   -- all lines after that of a seal
 
   walk-made : (n : ℕ) (stage : Stage) (h : Record) (seal b : Class) (at k : ℕ) {ops : List Class} {end : ℕ} → read-operations n h s at ≡ found ops end →
       h .count ≡ k + n → Accepts (h .curve) seal →
-      let m = advanced (report-at stage (reader (operations-expected n) h) seal b) s at in texts n (m .report) s (m .next .at) ≡ later-lines (h .curve) k seal ops
-  unfolding texts later-lines letters
-  walk-made zero stage h seal b at k e counted hs = ap (later-lines (h .curve) k seal) (sym (no-operations h s at e))
+      MakesAll s (advanced (report-at stage (reader (operations-expected n) h) seal b) s at) (later-lines (h .curve) k seal ops)
+  unfolding later-lines letters
+  walk-made zero stage h seal b at k e counted hs =
+      let m : Progress = progress (report-at Over (reader (operations-expected 0) h) seal b) at in
+      subst₂ (MakesAll s) (sym (advanced-none stage h seal b at)) (ap (later-lines (h .curve) k seal) (sym (no-operations h s at e)))
+      (record { end = m; makes = none; over = refl })
   walk-made (suc n) stage h seal b at k e counted hs =
       let c : Curve = h .curve in
       let m = newest h s at n e in
@@ -114,13 +120,11 @@ module _ (s : List ℕ) where
       let more : Record = with-operation a h in
       let is : m .values ≡ more = with-field-operation h s at (m .this) in
       let rest : read-operations n more s next ≡ found ops _ = ap (λ (x : Record). read-operations n x s next) (sym is) ∙ m .rest in
-      ap (λ (x : Progress). texts (suc n) (x .report) s (x .next .at))
-      (advanced-more n stage h seal b at (m .this) ∙ ap (λ (x : Record). progress (report-at Undo (reader (operations-expected n) x) seal a) next) is)
-      ∙ undo-made n more seal a next k rest counted (ap (λ (x : Result). x .class) (step-is hs ha))
-      ∙ ap (λ (l : List (List ℕ)). line (k + 1) (letter c a ops) before ∷ l)
-      (walk-made n Undo more before a next (k + 1) rest (omega (arith, counted)) (undo-sound hs ha))
-      ∙ sym (lines-from c (k + 1) (letter c a ops) before ops)
-      ∙ ap (later-lines c k seal) (sym (m .all))
+      subst₂ (MakesAll s)
+      (sym (advanced-more n stage h seal b at (m .this) ∙ ap (λ (x : Record). progress (report-at Undo (reader (operations-expected n) x) seal a) next) is))
+      (sym (lines-from c (k + 1) (letter c a ops) before ops) ∙ ap (later-lines c k seal) (sym (m .all)))
+      (turn-all s refl (undo-line n more seal a next k rest counted (ap (λ (x : Result). x .class) (step-is hs ha)))
+      (walk-made n Undo more before a next (k + 1) rest (omega (arith, counted)) (undo-sound hs ha)))
 
 -- ---- an accepted archive
 
@@ -131,16 +135,13 @@ module _ (s : List ℕ) where
   begin-first z e = ap (λ (n : ℕ). begin-by n (read-header s)) z ∙ ap first-report (then-found _ e)
 
   -- the first two lines, and the lines after them
-  first-made : (n : ℕ) (h : Record) (seal b : Class) (at : ℕ) →
-      let r = report-at First (reader (operations-expected n) h) seal b in
-      let m = advanced (with-stage Last r) s at in
-      texts (lines-left r) r s at ≡ first-line (h .count) (drawing-name (h .drawing)) ∷ line 0 0x2E seal ∷ texts n (m .report) s (m .next .at)
-  unfolding texts lines-left next-line next-of
-  first-made n h seal b at =
-      let m = advanced (report-at Last (reader (operations-expected n) h) seal b) s at in
-      ap (λ (j : ℕ). first-line (h .count) (drawing-name (h .drawing)) ∷ line 0 0x2E seal ∷ texts j (m .report) s (m .next .at)) (expected-older n)
+  first-made : (n : ℕ) (h : Record) (seal b : Class) (at : ℕ) {lines : List (List ℕ)} →
+      MakesAll s (advanced (report-at Last (reader (operations-expected n) h) seal b) s at) lines →
+      MakesAll s (progress (report-at First (reader (operations-expected n) h) seal b) at) (first-line (h .count) (drawing-name (h .drawing)) ∷ line 0 0x2E seal ∷ lines)
+  unfolding next-line next-of
+  first-made n h seal b at l = turn-all s refl refl (turn-all s refl refl l)
 
-  accepted-made : {a : Archive} {end : ℕ} → read-archive s ≡ found a end → texts (lines-left (begin s .report)) (begin s .report) s (begin s .next .at) ≡ walk-lines a
+  accepted-made : {a : Archive} {end : ℕ} → read-archive s ≡ found a end → MakesAll s (begin s) (walk-lines a)
   unfolding walk-lines archive-refusal archive-of
   accepted-made {a} e =
       let p = parts-of s e in
@@ -149,28 +150,34 @@ module _ (s : List ℕ) where
       let ops : List Class = p .operations in
       let hs : Accepts c (h .class) = subst (λ (x : Archive). Accepts (x .curve) (x .seal)) (p .archive) (seal-sound s e) in
       let counted = operations-counted s (h .count) h (p .first) (p .operations-read) in
-      ap (λ (m : Progress). texts (lines-left (m .report)) (m .report) s (m .next .at)) (begin-first (ap reading-refusal e) (p .header-read))
-      ∙ first-made (h .count) h (h .class) neutral-class (p .first)
-      ∙ ap (λ (l : List (List ℕ)). first-line (h .count) (drawing-name (h .drawing)) ∷ line 0 0x2E (h .class) ∷ l)
-      (walk-made s (h .count) Last h (h .class) neutral-class (p .first) 0 (p .operations-read) (omega arith) hs)
-      ∙ ap (λ (l : List (List ℕ)). first-line (h .count) (drawing-name (h .drawing)) ∷ l) (sym (lines-from c 0 0x2E (h .class) ops))
+      subst₂ (MakesAll s) (sym (begin-first (ap reading-refusal e) (p .header-read)))
+      (ap (λ (l : List (List ℕ)). first-line (h .count) (drawing-name (h .drawing)) ∷ l) (sym (lines-from c 0 0x2E (h .class) ops))
       ∙ ap (λ (n : ℕ). first-line n (drawing-name (h .drawing)) ∷ seal-lines 0 (0x2E ∷ letters c ops) (seals c (h .class) ops)) (sym counted)
-      ∙ ap walk-lines (sym (p .archive))
+      ∙ ap walk-lines (sym (p .archive)))
+      (first-made (h .count) h (h .class) neutral-class (p .first)
+      (walk-made s (h .count) Last h (h .class) neutral-class (p .first) 0 (p .operations-read) (omega arith) hs))
 
   -- ---- a refused one
 
-  refused-made : (n : ℕ) → read-archive s ≡ refused n → texts (lines-left (begin s .report)) (begin s .report) s (begin s .next .at) ≡ refusal-line n ∷ []
-  unfolding begin begin-by archive-refusal refused-report lines-left texts next-line next-of
+  refused-made : (n : ℕ) → read-archive s ≡ refused n → MakesAll s (begin s) (refusal-line n ∷ [])
+  unfolding begin begin-by archive-refusal refused-report next-line next-of
   refused-made zero e = absurd (found-not-refused (sym e ∙ archive-found s (ap reading-refusal e) .2))
   refused-made (suc n) e =
-      ap (λ (k : ℕ). let m = begin-by k (read-header s) in texts (lines-left (m .report)) (m .report) s (m .next .at)) (ap reading-refusal e)
+      subst (λ (k : ℕ). MakesAll s (begin-by k (read-header s)) (refusal-line (suc n) ∷ [])) (sym (ap reading-refusal e))
+      (turn-all s refl refl (record { end = _; makes = none; over = refl }))
 
--- ---- the theorem
+-- ---- the theorems
 
-pub report-made : (s : List ℕ) → texts (lines-left (begin s .report)) (begin s .report) s (begin s .next .at) ≡ report-lines s
+pub report-made : (s : List ℕ) → MakesAll s (begin s) (report-lines s)
 unfolding report-lines lines-of
 report-made s = go (read-archive s) refl
   where
-    go : (x : Reading Archive) → read-archive s ≡ x → texts (lines-left (begin s .report)) (begin s .report) s (begin s .next .at) ≡ lines-of x
+    go : (x : Reading Archive) → read-archive s ≡ x → MakesAll s (begin s) (lines-of x)
     go (found a end) e = accepted-made s e
     go (refused n) e = refused-made s n e
+
+pub report-only : (s : List ℕ) {lines : List (List ℕ)} → MakesAll s (begin s) lines → lines ≡ report-lines s
+report-only s l = makes-only s l (report-made s)
+
+pub halfway-begin : (s : List ℕ) → Halfway s (begin s)
+halfway-begin s = record { so-far = []; to-come = report-lines s; made = none; left = report-made s; whole = refl }

@@ -3,3 +3,4 @@ pub mod Marks
 pub mod LineParts
 pub mod Advances
 pub mod LinesLeft
+pub mod Loop

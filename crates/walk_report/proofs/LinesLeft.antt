@@ -1,4 +1,5 @@
--- `lines-fewer`: after each line of the report fewer lines are to come.
+-- The measure of the program's loop: `lines-left`, the number of lines that are at most to come.
+-- `lines-fewer`: after each line of the report it is less.
 use Prim.Native.Nat.{ℕ, zero, suc, _-_, _≤_, _<_}
 use mathlib.Core.Path.{_≡_, refl, sym}
 use mathlib.Core.Bool.{true, true≢false}
@@ -9,9 +10,18 @@ use Rattle.stored_form.specs.{Reading.Reading, Reading.found, Reading.refused, 
 use Rattle.archive.specs.{Reader.reader, Reader.operations-expected, Reader.read-next, declared.Expected.Expected, declared.Reader.Reader}
 use Rattle.archive.specs.Reader as reading
 use Rattle.archive.specs.declared.Expected.the-variants as expected
-use Rattle.walk_report.specs.Steps.{report-at, older, on-operation, advanced-by, advanced, undone, next-of, next-line, pending, lines-left}
+use Rattle.walk_report.specs.Steps.{report-at, older, on-operation, advanced-by, advanced, undone, next-of, next-line, pending}
 use Rattle.walk_report.specs.declared.{Stage.Stage, Report.Report}
 use Rattle.walk_report.specs.declared.Stage.the-variants.{Refusal, First, Last, Undo, Over}
+
+unfoldable pub lines-left : Report → ℕ
+lines-left r = elim (r .stage) [
+  | Refusal n ↦ 1
+  | First ↦ suc (suc (older (r .reader .expected)))
+  | Last ↦ suc (older (r .reader .expected))
+  | Undo ↦ suc (older (r .reader .expected))
+  | Over ↦ 0
+]
 
 pub expected-older : (n : ℕ) → older (operations-expected n) ≡ n
 unfolding operations-expected

@@ -3,3 +3,4 @@ pub mod Walk
 pub mod Lines
 pub mod Report
 pub mod Steps
+pub mod Loop

@@ -118,18 +118,3 @@ pending First = true
 pending Last = true
 pending Undo = true
 pending Over = false
-
--- the number of lines still to come
-unfoldable pub lines-left : Report → ℕ
-lines-left r = elim (r .stage) [
-  | Refusal n ↦ 1
-  | First ↦ suc (suc (older (r .reader .expected)))
-  | Last ↦ suc (older (r .reader .expected))
-  | Undo ↦ suc (older (r .reader .expected))
-  | Over ↦ 0
-]
-
--- the texts of the next n lines from a state and an offset on
-unfoldable pub texts : ℕ → Report → List ℕ → ℕ → List (List ℕ)
-texts zero r s at = []
-texts (suc n) r s at = let m = next-line r s at in m .text ∷ texts n (m .progress .report) s (m .progress .next .at)
