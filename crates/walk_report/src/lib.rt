@@ -8,7 +8,7 @@ ghost use lib.ListN.{take};
 ghost use Rattle.stored_form.specs.{Head.drawing-limit, Record.drawing-name};
 ghost use Rattle.text.specs.Line.{in-line};
 ghost use Rattle.walk_report.specs.Lines.{line, first-line};
-ghost use Rattle.walk_report.specs.Steps.{with-stage, progress, older, advanced, undoing, letter-before, line-answer, undone, next-line, refused-report, begin, pending};
+ghost use Rattle.walk_report.specs.Steps.{with-stage, progress, older, advanced, line-answer, undone, next-line, refused-report, begin, pending};
 
 mod letters;
 mod lines;
@@ -16,7 +16,6 @@ mod lines;
 use archive::Expected;
 use archive::Reader;
 use jacobian::Class;
-use jacobian::Curve;
 use stored_form::Cursor;
 use stored_form::DRAWING_LIMIT;
 use stored_form::Offset;
@@ -120,28 +119,6 @@ fn advanced(r: Report, s: &[u8], at: Cursor) -> Progress
     }
 }
 
-// Whether an operation is to be undone next.
-fn undoing(stage: Stage) -> bool
-    ensures { λ r. ⌜ r ≡ undoing stage ⌝ }
-{
-    match stage {
-        Stage::Refusal(_) => false,
-        Stage::First => false,
-        Stage::Last => false,
-        Stage::Undo => true,
-        Stage::Over => false,
-    }
-}
-
-// The letter of the operation a, where r is the state at the next older one, if there is one.
-fn letter_before(curve: Curve, a: Class, r: Report) -> u8
-    ensures { λ b. ⌜ b ≡ letter-before curve a r ⌝ }
-{
-    let stage = r.stage;
-    let older = r.operation;
-    letters::letter(curve, a, undoing(stage), older)
-}
-
 // count less older; 0 if that is negative.
 fn undone_of(count: u64, older: u64) -> u64
     ensures { λ r. ⌜ r ≡ count - older ⌝ }
@@ -167,7 +144,7 @@ fn undone(r: Report, s: &[u8], at: Cursor) -> LineAnswer
     let m = advanced(r, s, at);
     let after = m.report;
     let next = m.next;
-    let mark = letter_before(curve, a, after);
+    let mark = letters::letter_before(curve, a, after);
     let line = lines::seal_line(undone_of(values.count, older(expected)), mark, before);
     let stage = after.stage;
     let more = after.reader;

@@ -1,8 +1,8 @@
--- `letter_before` meets its contract.
+-- `letters::letter_before` meets its contract.
 use borrow.Author.Needs.{needs}
 use Rattle.walk_report.proofs.Marks.{marks}
-use Rattle.walk_report.proofs.letter_before.Statement.{statement}
-use Rattle.walk_report.proofs.letter_before.Tie as tie
+use Rattle.walk_report.proofs.letters.letter_before.Statement.{statement}
+use Rattle.walk_report.proofs.letters.letter_before.Tie as tie
 
 returns : tie.Need-returns
 returns c = search (needs, marks)
