@@ -1,9 +1,13 @@
--- The report that the steps make, its numbers and the lengths of its lines; an archive's walk; demand 3 for archives.
+-- The report that the loop makes, what its lines say and how they end; an archive's walk; demand 3 for archives.
 pub mod Digits
+pub mod Cuts
+pub mod Parse
 pub mod LineRoom
 pub mod ArchiveWalk
 pub mod ReportMade
+pub mod Printed
 pub mod Letters
+pub mod ReportSays
 pub mod Through
 pub mod Kept
 pub mod Demand3
