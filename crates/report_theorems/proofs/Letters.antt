@@ -2,6 +2,8 @@
 -- `line-count`: the report has two lines more than the archive has operations.
 -- `header-lines`: the first two lines, in which no operation has a letter.
 -- `operation-line`: the line with k + 1 operations undone has the letter of operation k; the newest is operation 0.
+-- `operation-letter`: that letter is M exactly where operation k is neutral; else R exactly where there is a next older
+--   operation and operation k is its opposite; else -. The line says its number, that letter and the walk's seal.
 -- `letter-moves`: which letters changed when M came to be tested before R (docs/changes/05.md).
 use Prim.Native.Nat.{ℕ, zero, suc, _+_, _<_}
 use mathlib.Core.Path.{_≡_, refl, sym, ap, ap₂, _∙_}
@@ -20,7 +22,10 @@ use Rattle.archive.specs.Archive.{Archive, read-archive}
 use Rattle.walk_report.specs.{Lines.line, Lines.first-line, Walk.seals, Walk.opposed, Walk.neutral, Walk.next-older, Walk.mark, Walk.letter, Walk.letters}
 use Rattle.walk_report.specs.Report.{seal-lines, walk-lines, lines-of, report-lines}
 use Rattle.archive_theorems.proofs.Parts.{operations-accepted}
-use Rattle.report_theorems.proofs.ReportMade.{later-lines, lines-from}
+use Rattle.report_theorems.specs.Parse.{parse-seal-line}
+use Rattle.report_theorems.specs.Letters.{operation, Reverses, Letter, OperationLine}
+use Rattle.report_theorems.specs.Letters as letters-of
+use Rattle.report_theorems.proofs.{ReportMade.later-lines, ReportMade.lines-from, ArchiveWalk.seal-accepted, ArchiveWalk.count-fits, Parse.seal-line-says, Decided.decides-opposed, Decided.decides-neutral, Decided.decides-older}
 
 -- ---- the lines, one by one
 
@@ -73,6 +78,48 @@ module _ (s : List ℕ) {x : Archive} {end : ℕ} (reads : read-archive s ≡ fo
   operation-line k h =
       ap (λ r. getD (lines-of r) (suc (suc k)) []) reads
       ∙ lettered (x .curve) k 0 (suc k) 0x2E (x .seal) (x .operations) h (omega arith)
+
+-- ---- what the letters say
+
+module _ {c : Curve} (ops : List Class) (all : All (Accepts c) ops) (k : ℕ) (within : k < length ops) where
+  accepted-at : (i : ℕ) → i < length ops → Accepts c (operation ops i)
+  accepted-at i h = all-at i neutral-class h all
+
+  reverses-older : Reverses c ops k → next-older (opposed c (operation ops k)) (drop (suc k) ops) ≡ true
+  reverses-older r =
+      decides-older (opposed c (operation ops k)) (suc k) ops .1
+      (r .kept, decides-opposed (accepted-at k within) (accepted-at (suc k) (r .kept)) .1 (r .opposite))
+
+  older-reverses : next-older (opposed c (operation ops k)) (drop (suc k) ops) ≡ true → Reverses c ops k
+  older-reverses h =
+      let kept = decides-older (opposed c (operation ops k)) (suc k) ops .0 h in
+      record { kept = kept .0; opposite = decides-opposed (accepted-at k within) (accepted-at (suc k) (kept .0)) .0 (kept .1) }
+
+  marked : Letter c ops k (letter c (operation ops k) (drop (suc k) ops))
+  unfolding letter mark
+  marked = go (neutral (operation ops k)) (next-older (opposed c (operation ops k)) (drop (suc k) ops)) refl refl
+    where
+      go : (n r : Bool) → neutral (operation ops k) ≡ n → next-older (opposed c (operation ops k)) (drop (suc k) ops) ≡ r → Letter c ops k (cond n 0x4D (cond r 0x52 0x2D))
+      go true r e f = letters-of.neutral (decides-neutral (accepted-at k within) .0 e)
+      go false true e f = letters-of.reversal (λ h. true≢false (sym (decides-neutral (accepted-at k within) .1 h) ∙ e)) (older-reverses f)
+      go false false e f = letters-of.other (λ h. true≢false (sym (decides-neutral (accepted-at k within) .1 h) ∙ e)) (λ h. true≢false (sym (reverses-older h) ∙ f))
+
+-- the line of operation k
+pub operation-letter : (s : List ℕ) {x : Archive} {end : ℕ} → read-archive s ≡ found x end → (k : ℕ) → k < length (x .operations) →
+    OperationLine x k (getD (report-lines s) (suc (suc k)) [])
+operation-letter s {x} reads k h =
+    let c : Curve = x .curve in
+    let ops : List Class = x .operations in
+    let mark : ℕ = letter c (operation ops k) (drop (suc k) ops) in
+    let seal : Class = getD (seals c (x .seal) ops) (suc k) neutral-class in
+    let accepted : Accepts c seal = seal-accepted s reads (suc k) (omega (arith, h)) in
+    let is = operation-line s reads k h in
+    record {
+      mark = mark;
+      is-letter = marked ops (operations-accepted s reads) k h;
+      is-line = is;
+      says = ap parse-seal-line is ∙ seal-line-says (suc k) mark seal accepted (count-fits s reads (suc k) (omega (arith, h)));
+    }
 
 -- ---- M before R
 
