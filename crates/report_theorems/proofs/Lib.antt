@@ -5,6 +5,7 @@ pub mod Parse
 pub mod LineRoom
 pub mod ArchiveWalk
 pub mod ReportMade
+pub mod Opposite
 pub mod Decided
 pub mod Printed
 pub mod Letters

@@ -20,7 +20,7 @@ use Rattle.archive.proofs.Valid.{archive-found}
 use Rattle.archive_theorems.proofs.Parts.{parts-of, seal-sound}
 use Rattle.lists.specs.Walk.{walk}
 use Rattle.walk_report.specs.{Lines.line, Lines.first-line, Lines.refusal-line, Walk.seals, Walk.next-older, Walk.letter, Walk.letters, Report.seal-lines, Report.walk-lines, Report.lines-of, Report.report-lines}
-use Rattle.walk_report.specs.Steps.{report-at, with-stage, with-seal, progress, older, on-operation, advanced-by, advanced, letter-before, undone, next-of, next-line, refused-report, first-report, begin-by, begin, LineResult}
+use Rattle.walk_report.specs.Steps.{report-at, with-seal, progress, older, on-operation, advanced-by, advanced, letter-before, undone, next-of, next-line, refused-report, first-report, begin-by, begin, LineResult}
 use Rattle.walk_report.specs.Loop.{none, MakesAll, Halfway}
 use Rattle.walk_report.proofs.{LinesLeft.expected-older, Loop.turn-all, Loop.makes-only}
 use Rattle.report_theorems.proofs.ArchiveWalk.{step-is}

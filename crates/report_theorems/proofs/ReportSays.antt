@@ -4,11 +4,11 @@
 -- `refusal-says`: the report of a refused archive is one line, which says the number of the refusal.
 -- `lines-whole`: each line of each report ends in 0x0A and has no other.
 -- What the lines of the operations say is `operation-letter` (Letters.antt).
-use Prim.Native.Nat.{ℕ, zero, suc, _+_, _^_, _<_}
+use Prim.Native.Nat.{ℕ, _+_, _^_, _<_}
 use mathlib.Core.Path.{_≡_, refl, sym, ap, _∙_, subst}
 use mathlib.Core.Bool.{Bool, true, false, cond, _&&_, _||_, true≢false}
 use mathlib.Core.List.{List, [], _∷_}
-use mathlib.Core.Logic.{_⊎_, inl, inr}
+use mathlib.Core.Logic.{inl, inr}
 use native.Mathlib.Omega.{arith}
 use lib.Dec.{eqb, ltb, lit<}
 use lib.ListN.{length, getD}
@@ -20,7 +20,7 @@ use Rattle.stored_form.specs.Reading.{Reading, found, refused, reading-refusal}
 use Rattle.archive.specs.Archive.{Archive, read-archive, archive-refusal}
 use Rattle.archive.proofs.Valid.{archive-valid}
 use Rattle.archive_theorems.proofs.Parts.{seal-sound}
-use Rattle.walk_report.specs.{Lines.line, Lines.refusal-line, Walk.seals, Walk.neutral, Walk.mark, Walk.letter, Walk.letters, Report.seal-lines, Report.walk-lines, Report.lines-of, Report.report-lines}
+use Rattle.walk_report.specs.{Lines.refusal-line, Walk.seals, Walk.neutral, Walk.mark, Walk.letter, Walk.letters, Report.seal-lines, Report.walk-lines, Report.lines-of, Report.report-lines}
 use Rattle.report_theorems.specs.Parse.{parse-seal-line, parse-first-line, parse-refusal-line, Without, WholeLine}
 use Rattle.report_theorems.proofs.{ReportMade.lines-from, ArchiveWalk.header-passes, ArchiveWalk.count-fits}
 use Rattle.report_theorems.proofs.Parse.{seal-line-says, seal-line-whole, first-line-says, first-line-whole, refusal-line-says, refusal-line-whole}

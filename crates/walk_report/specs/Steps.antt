@@ -1,7 +1,7 @@
 -- The report made step by step: a line, and the report's state after it (docs/SPECIFICATION.md, 10).
 use Prim.Native.Nat.{ℕ, zero, suc, _-_}
 use mathlib.Core.Bool.{Bool, true, false, _&&_}
-use mathlib.Core.List.{List, [], _∷_}
+use mathlib.Core.List.{List, []}
 use Rattle.jacobian.specs.{Answer.neutral-class, Answer.subtract-and-halve-answer, declared.Curve.Curve, declared.Class.Class}
 use Rattle.stored_form.specs.{Reading.Reading, Reading.found, Reading.refused, Record.drawing-name}
 use Rattle.archive.specs.{Archive.archive-refusal, Reader.start, Reader.read-next, Reader.read-header, declared.Expected.Expected, declared.Reader.Reader}
