@@ -1,9 +1,9 @@
--- The half of a class, by rules on its coefficients for each degree (docs/SPECIFICATION.md, 2).
--- A triple u, v, w with u w = v² + v + f is changed by lifts and exchanges, which keep its class, until the first
--- polynomial is a constant times a square a²; the half is then [a, v modulo a].
--- Two rules divide, each by a coefficient that a test has shown not to be zero.
--- The rules need not be believed: proofs/Halving.antt proves that the half is the only reduced class whose double is
--- the given class.
+-- The half of a class is the only reduced class whose Cantor double is the class (docs/SPECIFICATION.md, 2). That
+-- `half` is this class is proved in proofs/Halving.antt (`half-reduced`, `double-half`, `half-unique`).
+-- It is found by rules on the coefficients, for each degree, and these need not be believed: a triple u, v, w with
+-- u w = v² + v + f is changed by lifts and exchanges, which keep its class, until the first polynomial is a constant
+-- times a square a²; the half is then [a, v modulo a]. Two rules divide, each by a coefficient that a test has shown
+-- not to be zero.
 use Prim.Native.Nat.{ℕ, zero, suc}
 use mathlib.Core.Path.{_≡_}
 use Rattle.field_laws.specs.Ring.{Ring2}
@@ -93,7 +93,7 @@ module _ {K P : Type 0} {F : Field2 K} {A : Polynomials F P} (C : Curve A) where
   unfoldable pub triple : Pair P → Triple P
   triple D = record { u = D .u; v = D .v; w = A .quot (value C (D .v)) (D .u) }
 
-  -- the half by the length of u, which is its degree plus one; the neutral class is its own half
+  -- the rule by the length of u, which is its degree plus one; the neutral class is its own half
   unfoldable pub half-by : ℕ → Pair P → Pair P
   half-by zero D = D
   half-by (suc zero) D = D
@@ -101,6 +101,6 @@ module _ {K P : Type 0} {F : Field2 K} {A : Polynomials F P} (C : Curve A) where
   half-by (suc (suc (suc zero))) D = half-of-degree-2 A (triple D)
   half-by (suc (suc (suc (suc n)))) D = half-of-degree-3 A (triple D)
 
-  -- the half of a class
+  -- the half of a class: the only reduced class whose double is the class, found by the rule for its degree
   unfoldable pub half : Pair P → Pair P
   half D = half-by (A .len (D .u)) D

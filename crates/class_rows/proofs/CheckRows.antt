@@ -1,6 +1,6 @@
 -- The check of rows of any numbers: what each test shows where it holds and where it fails.
 use Prim.Native.Nat.{ℕ, _+_, _-_, _≤_, _<_, _^_}
-use mathlib.Core.{Path._≡_, Path.refl, Path.sym, Path._∙_, Path.ap, Path.subst, Bool.Bool, Bool.true, Bool.false, Bool.true≢false, List.List}
+use mathlib.Core.{Path._≡_, Path.refl, Path.sym, Path._∙_, Path.ap, Path.subst, Bool.Bool, Bool.true, Bool.false, Bool.true≢false, Bool._&&_, List.List}
 use native.Mathlib.{Omega.arith, Decide.decLe}
 use lib.{Dec.eqb, ListN.length, ListN.getD, ListN.List·getD-eq-default}
 use borrow.Author.Tests.{eqb-true, eq-eqb}
@@ -9,13 +9,12 @@ use Rattle.binary_field.specs.Answer.{bound}
 use Rattle.binary_field.proofs.Degrees.{bound-accepted}
 use Rattle.char2_algebra.specs.Lead.{Monic}
 use Rattle.char2_algebra.proofs.{Degree.len-zero, Degree.len-of-zero, Division.rem-of-divides, Division.divides-of-rem, Lead.monic-nonzero}
-use Rattle.class_group.specs.Curve as Theory
-use Rattle.class_group.specs.{Mumford.value, Reduction.Counted}
-use Rattle.row_theory.specs.{Field.degree-of, Field.Poly, Field.𝔸, Field.el, Field.poly, Row.InRange, Row.Stands, Row.row-len}
-use Rattle.class_rows.specs.{Pair.rows-pair, Core.OnCurve, Core.StandsCounted, Checked.Decides, Checked.Divisor, Checked.Gives, internal.Check.FormedRows}
+use Rattle.class_group.specs.Mumford.{value}
+use Rattle.row_theory.specs.{Field.degree-of, Field.𝔸, Field.el, Field.poly, Row.InRange, Row.Stands, Row.row-len}
+use Rattle.class_rows.specs.{Pair.rows-pair, internal.Check.Decides, Core.Divisor, internal.Check.FormedRows}
 use Rattle.row_theory.proofs.{Rows.Elements.degree-is, Rows.Elements.zero-lt, Rows.Elements.el-one, Rows.Elements.one-of-one, Rows.Lead.leads, Rows.Lead.lead-row}
 use Rattle.class_rows.proofs.ReductionRows.{reduced-on, value-stands}
-use Rattle.class_rows.specs.declared.{row.RowPair.RowPair, reduction.CountedRows.CountedRows, RowsAnswer.RowsAnswer}
+use Rattle.class_rows.specs.declared.row.RowPair.{RowPair}
 
 -- ---- tests that decide a statement
 pub decides-true : {P : Type 0} → P → Decides true P
@@ -32,6 +31,16 @@ decides-iff h f g = (λ e. f (h .0 e), λ q. h .1 (g q))
 
 pub by-number : {m n : ℕ} {P : Type 0} → (m ≡ n → P) → (P → m ≡ n) → Decides (eqb m n) P
 by-number {m} {n} f g = (λ e. f (eqb-true m n e), λ p. eq-eqb m n (g p))
+
+pub same-answer : (t x : Bool) {P : Type 0} → Decides t P → Decides x P → t ≡ x
+same-answer true x h k = sym (k .1 (h .0 refl))
+same-answer false true h k = h .1 (k .0 refl)
+same-answer false false h k = refl
+
+pub both-decide : (x y : Bool) {P Q : Type 0} → Decides x P → Decides y Q → Decides (x && y) (P × Q)
+both-decide true y h k = (λ e. (h .0 refl, k .0 e), λ p. k .1 (p .1))
+both-decide false true h k = (λ e. (h .0 e, k .0 refl), λ p. h .1 (p .0))
+both-decide false false h k = (λ e. (h .0 e, k .0 e), λ p. h .1 (p .0))
 
 -- ---- the range of a row
 pub bound-is : (d : ℕ) {m : ℕ} → Accepted d → m ≡ bound d → m ≡ 2 ^ degree-of d
@@ -81,17 +90,12 @@ module _ {d : ℕ} {f : List ℕ} {a : RowPair} where
         pair = record { u-range = r .u-range; v-range = r .v-range; u-monic = r .reduced .u-monic; u-len = r .reduced .u-len; v-len = r .reduced .v-len };
       }
 
-  -- the division decides whether the pair is a divisor
-  pub division-decides : {n : ℕ} {l rest : List ℕ} (h : FormedRows d f a)
-      → Stands d l (𝔸 d .ring .add (𝔸 d .ring .add (𝔸 d .ring .mul (poly d (a .v)) (poly d (a .v))) (poly d (a .v))) (poly d f))
-      → Stands d rest (𝔸 d .rem (poly d l) (poly d (a .u)))
-      → n ≡ row-len d rest
-      → Decides (eqb n 0) (Divisor d f a)
+  -- the remainder of v² + v + f decides whether the pair is a divisor
+  pub remainder-decides : {n : ℕ} (h : FormedRows d f a) → n ≡ 𝔸 d .len (𝔸 d .rem (value (h .curve .0) (poly d (a .v))) (poly d (a .u))) → Decides (eqb n 0) (Divisor d f a)
   unfolding rows-pair
-  division-decides h t s e =
+  remainder-decides h same =
       let nonzero = monic-nonzero (𝔸 d) (poly d (a .u)) (h .pair .u-monic) in
       let C = h .curve .0 in
-      let same = e ∙ ap (𝔸 d .len) (s .stands ∙ ap (λ z. 𝔸 d .rem z (poly d (a .u))) (value-stands d (a .v) (h .curve .1) t)) in
       by-number
       (λ z. record {
         degree = h .degree;
@@ -110,13 +114,11 @@ module _ {d : ℕ} {f : List ℕ} {a : RowPair} where
       })
       (λ D. same ∙ ap (𝔸 d .len) (rem-of-divides (𝔸 d) (poly d (a .u)) nonzero (value C (poly d (a .v))) (reduced-on d (D .reduced) (h .curve .1) .divides)) ∙ len-of-zero (𝔸 d))
 
--- ---- the answer of an open function
-module _ {d : ℕ} {f : List ℕ} {asked : Type 0} {a : RowPair} {t : Bool} (h : Decides t asked) {of : Theory.Curve (𝔸 d) → Counted (Poly d)} where
-  pub rows-refused : {r : RowsAnswer} → t ≡ false → r ≡ record { divisor = false; rows = record { pair = a; steps = 0 } } → Gives d f asked a of r
-  rows-refused e k =
-      let no = ap (λ r. r .divisor) k in
-      record { decides = decides-false no (decides-not h e); stands = λ n. absurd (true≢false (sym n ∙ no)); else = λ _. ap (λ r. r .rows) k }
-
-  pub rows-given : {b : CountedRows} → t ≡ true
-      → ((C : Theory.Curve (𝔸 d)) → OnCurve d f C → StandsCounted d b (of C)) → Gives d f asked a of (record { divisor = true; rows = b })
-  rows-given e s = record { decides = decides-true (h .0 e); stands = λ _. s; else = λ k. absurd (true≢false k) }
+  -- the same of the rows of a division
+  pub division-decides : {n : ℕ} {l rest : List ℕ} (h : FormedRows d f a)
+      → Stands d l (𝔸 d .ring .add (𝔸 d .ring .add (𝔸 d .ring .mul (poly d (a .v)) (poly d (a .v))) (poly d (a .v))) (poly d f))
+      → Stands d rest (𝔸 d .rem (poly d l) (poly d (a .u)))
+      → n ≡ row-len d rest
+      → Decides (eqb n 0) (Divisor d f a)
+  division-decides h t s e =
+      remainder-decides h (e ∙ ap (𝔸 d .len) (s .stands ∙ ap (λ z. 𝔸 d .rem z (poly d (a .u))) (value-stands d (a .v) (h .curve .1) t)))

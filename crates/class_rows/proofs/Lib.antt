@@ -6,4 +6,6 @@ pub mod HalfRows
 pub mod OppositeRows
 pub mod MoveRows
 pub mod CheckRows
+pub mod Tests
+pub mod Answers
 pub mod TakingBack

@@ -1,116 +1,96 @@
--- Demand 3 of rows, for every degree, every row f of a curve and all rows that are a reduced divisor of it.
--- The answers of `unary_rows` and `binary_rows` are those of their contracts, and each is given to the next call.
--- `half-accepted`, `double-accepted`: the half and the double of a divisor are not refused, and are divisors.
+-- Demand 3 of rows, for every degree, every row f of a curve and all rows that are a divisor of it.
+-- The answers are those of `unary_rows` and `binary_rows`, and each is given to the next call.
+-- `unary-accepted`, `binary-accepted`: no operation refuses divisors, and its answer is a divisor again.
 -- `double-of-half`: the double of the half is the divisor.
 -- `half-of-double`: the half of the double is the divisor.
 -- `only-half`: the half is the only divisor whose double is the one given.
 -- `subtract-of-add`: subtract and halve undoes double and add with the same second pair.
 -- `add-of-subtract`: double and add undoes subtract and halve with the same second pair.
 use Prim.Native.Nat.{ℕ}
-use mathlib.Core.{Path._≡_, Path.sym, Path._∙_, Path.ap, Bool.true, List.List}
-use lib.ListN.{getD}
+use mathlib.Core.{Path._≡_, Path.sym, Path._∙_, Path.ap, Path.ap₂, Bool.Bool, Bool.true, Bool._&&_, List.List}
 use Rattle.class_group.specs.Curve as Theory
-use Rattle.class_group.specs.{Mumford.Pair, Mumford.Reduced, Reduction.Counted, Operations.double, Half.half, Moves.double-and-add, Moves.subtract-and-halve}
-use Rattle.class_group.proofs.{Closed.double-reduced, Halving.half-reduced, Halving.double-half, Halving.half-double, Halving.half-unique}
-use Rattle.class_group.proofs.Moves.{moves, counted-double-and-add-class, counted-subtract-and-halve-class}
-use Rattle.row_theory.specs.{Field.𝔸, Field.Poly, Field.el, Field.poly, Row.InRange}
-use Rattle.row_theory.proofs.Rows.{Elements.el-injective, Coefficients.coeff-poly, Coefficients.poly-is, Coefficients.self-stands}
-use Rattle.class_rows.specs.{Pair.StandsPair, Pair.rows-pair, Core.OnCurve, Checked.Divisor, Checked.Gives, Checked.UnaryAnswer, Checked.BinaryAnswer, Checked.SameRows}
-use Rattle.class_rows.specs.declared.{row.RowPair.RowPair, RowsAnswer.RowsAnswer, Unary.the-variants.Double, Unary.the-variants.Half}
-use Rattle.class_rows.specs.declared.{Binary.the-variants.DoubleAndAdd, Binary.the-variants.SubtractAndHalve}
-use Rattle.class_rows.proofs.ReductionRows.{pair-eq, stands-pair-eq, reduced-on, reduced-rows}
+use Rattle.class_group.specs.{Mumford.Reduced, Reduction.Counted, Operations.double, Half.half, Moves.double-and-add, Moves.subtract-and-halve}
+use Rattle.class_group.proofs.{Halving.double-half, Halving.half-double}
+use Rattle.class_group.proofs.Moves.{subtract-double-and-add, double-subtract-and-halve, counted-double-and-add-class, counted-subtract-and-halve-class}
+use Rattle.row_theory.specs.Field.{𝔸, Poly}
+use Rattle.class_rows.specs.{Pair.rows-pair, Pair.rows-of, Checked.row-curve, Checked.is-divisor, Operations.unary, Operations.binary, Answer.answered, Answer.unary-answer, Answer.binary-answer}
+use Rattle.class_rows.specs.declared.{row.RowPair.RowPair, Unary.Unary, Unary.the-variants.Double, Unary.the-variants.Half, Binary.Binary, Binary.the-variants.DoubleAndAdd, Binary.the-variants.SubtractAndHalve}
+use Rattle.class_rows.proofs.{ReductionRows.pair-eq, Tests.shown, Answers.divisor-rows, Answers.divisor-reduced, Answers.rows-of-stand, Answers.rows-of-divisor, Answers.unary-reduced, Answers.binary-reduced}
 
--- ---- rows in range have the same numbers exactly where they stand for the same polynomials
-module _ (d : ℕ) where
-  numbers-of-poly : (a b : List ℕ) → InRange d a → InRange d b → poly d a ≡ poly d b → (i : ℕ) → getD a i 0 ≡ getD b i 0
-  numbers-of-poly a b h k e i = el-injective d _ _ (h i) (k i) (sym (coeff-poly d a i) ∙ ap (λ p. 𝔸 d .coeff p i) e ∙ coeff-poly d b i)
+module _ (d : ℕ) (f : List ℕ) where
+  abbrev C : Theory.Curve (𝔸 d)
+  C = row-curve d f
 
-  poly-of-numbers : (a b : List ℕ) → ((i : ℕ) → getD a i 0 ≡ getD b i 0) → poly d a ≡ poly d b
-  poly-of-numbers a b h = poly-is d a (poly d b) (λ i. ap (el d) (h i) ∙ sym (coeff-poly d b i))
+  -- ---- the answers for divisors
+  given : (t : Bool) (a : RowPair) (c : Counted (Poly d)) → t ≡ true → (answered d t a c .divisor ≡ true) × (answered d t a c .rows .pair ≡ rows-of d (c .class))
+  unfolding answered
+  given t a c e = (ap (λ t. answered d t a c .divisor) e, ap (λ t. answered d t a c .rows .pair) e)
 
-  pair-of-same : {a b : RowPair} → SameRows a b → rows-pair d a ≡ rows-pair d b
-  unfolding rows-pair
-  pair-of-same {a} {b} s j = record { u = poly-of-numbers (a .u) (b .u) (s .u-same) j; v = poly-of-numbers (a .v) (b .v) (s .v-same) j }
+  module _ (op : Unary) (a : RowPair) (h : is-divisor d f a ≡ true) where
+    unary-rows-are : unary-answer op d f a .rows .pair ≡ rows-of d (unary op C (rows-pair d a) .class)
+    unfolding unary-answer
+    unary-rows-are = given _ a _ h .1
 
-module _ {d : ℕ} {f : List ℕ} where
-  -- ---- rows that stand for a class of the curve of a divisor
-  self-pair : {a : RowPair} → Divisor d f a → StandsPair d a (rows-pair d a)
-  unfolding rows-pair
-  self-pair h = record { u-stands = self-stands d _ (h .reduced .u-range); v-stands = self-stands d _ (h .reduced .v-range) }
+    reduced : Reduced C (unary op C (rows-pair d a) .class)
+    reduced = unary-reduced d C op (divisor-reduced (shown h))
 
-  same : {a b : RowPair} {D : Pair (Poly d)} → Divisor d f a → StandsPair d b D → D ≡ rows-pair d a → SameRows b a
-  unfolding rows-pair
-  same h s e = record {
-    u-same = numbers-of-poly d _ _ (s .u-stands .in-range) (h .reduced .u-range) (s .u-stands .stands ∙ ap (λ D. D .u) e);
-    v-same = numbers-of-poly d _ _ (s .v-stands .in-range) (h .reduced .v-range) (s .v-stands .stands ∙ ap (λ D. D .v) e);
-  }
+    unary-pair : rows-pair d (unary-answer op d f a .rows .pair) ≡ unary op C (rows-pair d a) .class
+    unary-pair = ap (rows-pair d) unary-rows-are ∙ pair-eq d (rows-of-stand d reduced)
 
-  divisor-of : {a b : RowPair} {D : Pair (Poly d)} → (h : Divisor d f a) → Reduced (h .reduced .C) D → StandsPair d b D → Divisor d f b
-  divisor-of h r s = record { degree = h .degree; reduced = reduced-rows d (h .reduced .on-curve) r s }
+    pub unary-accepted : (unary-answer op d f a .divisor ≡ true) × (is-divisor d f (unary-answer op d f a .rows .pair) ≡ true)
+    unfolding unary-answer
+    unary-accepted = (given _ a _ h .0, ap (is-divisor d f) unary-rows-are ∙ rows-of-divisor (shown h) reduced)
 
-  -- the pair of an answer, on a curve of f
-  given : {asked : Type 0} {a : RowPair} {of : Theory.Curve (𝔸 d) → Counted (Poly d)} {r : RowsAnswer}
-      → Gives d f asked a of r → asked → (C : Theory.Curve (𝔸 d)) → OnCurve d f C → StandsPair d (r .rows .pair) (of C .class)
-  given g k C on = g .stands (g .decides .1 k) C on .pair-stands
+  module _ (op : Binary) (a b : RowPair) (h : is-divisor d f a ≡ true) (k : is-divisor d f b ≡ true) where
+    binary-rows-are : binary-answer op d f a b .rows .pair ≡ rows-of d (binary op C (rows-pair d a) (rows-pair d b) .class)
+    unfolding binary-answer
+    binary-rows-are = given _ a _ (ap₂ _&&_ h k) .1
+
+    both-reduced : Reduced C (binary op C (rows-pair d a) (rows-pair d b) .class)
+    both-reduced = binary-reduced d C op (divisor-reduced (shown h)) (divisor-reduced (shown k))
+
+    binary-pair : rows-pair d (binary-answer op d f a b .rows .pair) ≡ binary op C (rows-pair d a) (rows-pair d b) .class
+    binary-pair = ap (rows-pair d) binary-rows-are ∙ pair-eq d (rows-of-stand d both-reduced)
+
+    pub binary-accepted : (binary-answer op d f a b .divisor ≡ true) × (is-divisor d f (binary-answer op d f a b .rows .pair) ≡ true)
+    unfolding binary-answer
+    binary-accepted = (given _ a _ (ap₂ _&&_ h k) .0, ap (is-divisor d f) binary-rows-are ∙ rows-of-divisor (shown h) both-reduced)
 
   -- ---- double and half
-  module _ {a : RowPair} {r : RowsAnswer} (h : Divisor d f a) where
-    pub half-accepted : UnaryAnswer Half d f a r → (r .divisor ≡ true) × Divisor d f (r .rows .pair)
-    half-accepted H = let k = h .reduced in (H .decides .1 h, divisor-of h (half-reduced (k .C) (k .reduced)) (given H h (k .C) (k .on-curve)))
-
-    pub double-accepted : UnaryAnswer Double d f a r → (r .divisor ≡ true) × Divisor d f (r .rows .pair)
+  module _ (a : RowPair) (h : is-divisor d f a ≡ true) where
+    pub double-of-half : unary-answer Double d f (unary-answer Half d f a .rows .pair) .rows .pair ≡ a
     unfolding double
-    double-accepted D = let k = h .reduced in (D .decides .1 h, divisor-of h (double-reduced (k .C) (k .reduced)) (given D h (k .C) (k .on-curve)))
+    double-of-half =
+        unary-rows-are Double (unary-answer Half d f a .rows .pair) (unary-accepted Half a h .1)
+        ∙ ap (rows-of d) (ap (double C) (unary-pair Half a h) ∙ double-half C (divisor-reduced (shown h)))
+        ∙ sym (divisor-rows (shown h))
 
-    pub double-of-half : {s : RowsAnswer} → UnaryAnswer Half d f a r → UnaryAnswer Double d f (r .rows .pair) s → (s .divisor ≡ true) × SameRows (s .rows .pair) a
+    pub half-of-double : unary-answer Half d f (unary-answer Double d f a .rows .pair) .rows .pair ≡ a
     unfolding double
-    double-of-half H D =
-        let k = h .reduced in
-        let n = half-accepted H .1 in
-        (D .decides .1 n, same h (given D n (k .C) (k .on-curve)) (ap (double (k .C)) (pair-eq d (given H h (k .C) (k .on-curve))) ∙ double-half (k .C) (k .reduced)))
+    half-of-double =
+        unary-rows-are Half (unary-answer Double d f a .rows .pair) (unary-accepted Double a h .1)
+        ∙ ap (rows-of d) (ap (half C) (unary-pair Double a h) ∙ half-double C (divisor-reduced (shown h)))
+        ∙ sym (divisor-rows (shown h))
 
-    pub half-of-double : {s : RowsAnswer} → UnaryAnswer Double d f a r → UnaryAnswer Half d f (r .rows .pair) s → (s .divisor ≡ true) × SameRows (s .rows .pair) a
-    unfolding double
-    half-of-double D H =
-        let k = h .reduced in
-        let n = double-accepted D .1 in
-        (H .decides .1 n, same h (given H n (k .C) (k .on-curve)) (ap (half (k .C)) (pair-eq d (given D h (k .C) (k .on-curve))) ∙ half-double (k .C) (k .reduced)))
-
-    pub only-half : {b : RowPair} {s : RowsAnswer}
-        → UnaryAnswer Half d f a r → Divisor d f b → UnaryAnswer Double d f b s → SameRows (s .rows .pair) a → SameRows b (r .rows .pair)
-    unfolding double
-    only-half {b} H n D e =
-        let k = h .reduced in
-        let twice : double (k .C) (rows-pair d b) ≡ rows-pair d a = sym (pair-eq d (given D n (k .C) (k .on-curve))) ∙ pair-of-same d e in
-        same (half-accepted H .1) (self-pair n)
-        (half-unique (k .C) (k .reduced) (reduced-on d (n .reduced) (k .on-curve)) twice ∙ sym (pair-eq d (given H h (k .C) (k .on-curve))))
+  pub only-half : (a b : RowPair) → is-divisor d f b ≡ true → unary-answer Double d f b .rows .pair ≡ a → b ≡ unary-answer Half d f a .rows .pair
+  only-half a b k e = sym (half-of-double b k) ∙ ap (λ r. unary-answer Half d f r .rows .pair) e
 
   -- ---- the two rules that move a seal
-  module _ {a b : RowPair} {r : RowsAnswer} (h : Divisor d f a) (n : Divisor d f b) where
-    added : BinaryAnswer DoubleAndAdd d f a b r → (C : Theory.Curve (𝔸 d)) → OnCurve d f C → StandsPair d (r .rows .pair) (double-and-add C (rows-pair d a) (rows-pair d b))
-    added G C on = stands-pair-eq d (counted-double-and-add-class C _ _) (given G (h, n) C on)
+  module _ (a b : RowPair) (h : is-divisor d f a ≡ true) (k : is-divisor d f b ≡ true) where
+    pub subtract-of-add : binary-answer SubtractAndHalve d f (binary-answer DoubleAndAdd d f a b .rows .pair) b .rows .pair ≡ a
+    subtract-of-add =
+        binary-rows-are SubtractAndHalve (binary-answer DoubleAndAdd d f a b .rows .pair) b (binary-accepted DoubleAndAdd a b h k .1) k
+        ∙ ap (rows-of d)
+        (counted-subtract-and-halve-class C _ _
+        ∙ ap (λ D. subtract-and-halve C D (rows-pair d b)) (binary-pair DoubleAndAdd a b h k ∙ counted-double-and-add-class C _ _)
+        ∙ subtract-double-and-add C (divisor-reduced (shown h)) (divisor-reduced (shown k)))
+        ∙ sym (divisor-rows (shown h))
 
-    subtracted : BinaryAnswer SubtractAndHalve d f a b r → (C : Theory.Curve (𝔸 d)) → OnCurve d f C
-        → StandsPair d (r .rows .pair) (subtract-and-halve C (rows-pair d a) (rows-pair d b))
-    subtracted G C on = stands-pair-eq d (counted-subtract-and-halve-class C _ _) (given G (h, n) C on)
-
-  module _ {a b : RowPair} {r s : RowsAnswer} (h : Divisor d f a) (n : Divisor d f b) where
-    pub subtract-of-add : BinaryAnswer DoubleAndAdd d f a b r → BinaryAnswer SubtractAndHalve d f (r .rows .pair) b s → (s .divisor ≡ true) × SameRows (s .rows .pair) a
-    subtract-of-add A B =
-        let k = h .reduced in
-        let m = reduced-on d (n .reduced) (k .on-curve) in
-        let t = added h n A (k .C) (k .on-curve) in
-        let o = divisor-of h (moves (k .C) .rule-closed (k .reduced) m) t in (
-          B .decides .1 (o, n),
-          same h (subtracted o n B (k .C) (k .on-curve)) (ap (λ D. subtract-and-halve (k .C) D (rows-pair d b)) (pair-eq d t) ∙ moves (k .C) .back-rule (k .reduced) m),
-        )
-
-    pub add-of-subtract : BinaryAnswer SubtractAndHalve d f a b r → BinaryAnswer DoubleAndAdd d f (r .rows .pair) b s → (s .divisor ≡ true) × SameRows (s .rows .pair) a
-    add-of-subtract A B =
-        let k = h .reduced in
-        let m = reduced-on d (n .reduced) (k .on-curve) in
-        let t = subtracted h n A (k .C) (k .on-curve) in
-        let o = divisor-of h (moves (k .C) .back-closed (k .reduced) m) t in (
-          B .decides .1 (o, n),
-          same h (added o n B (k .C) (k .on-curve)) (ap (λ D. double-and-add (k .C) D (rows-pair d b)) (pair-eq d t) ∙ moves (k .C) .rule-back (k .reduced) m),
-        )
+    pub add-of-subtract : binary-answer DoubleAndAdd d f (binary-answer SubtractAndHalve d f a b .rows .pair) b .rows .pair ≡ a
+    add-of-subtract =
+        binary-rows-are DoubleAndAdd (binary-answer SubtractAndHalve d f a b .rows .pair) b (binary-accepted SubtractAndHalve a b h k .1) k
+        ∙ ap (rows-of d)
+        (counted-double-and-add-class C _ _
+        ∙ ap (λ D. double-and-add C D (rows-pair d b)) (binary-pair SubtractAndHalve a b h k ∙ counted-subtract-and-halve-class C _ _)
+        ∙ double-subtract-and-halve C (divisor-reduced (shown h)) (divisor-reduced (shown k)))
+        ∙ sym (divisor-rows (shown h))

@@ -1,40 +1,39 @@
--- The answers of the open functions for rows of any numbers: whether they are reduced divisors of the curve of f, and
--- if so, the rows of the theory's result.
-use Prim.Native.Nat.{ℕ}
-use mathlib.Core.{Path._≡_, Bool.Bool, Bool.true, Bool.false, List.List, Logic._↔_}
-use lib.ListN.{getD}
-use Rattle.binary_field_theory.specs.Element.{Accepted}
+-- Whether rows of any numbers are a reduced class of the curve of a row f.
+use Prim.Native.Nat.{ℕ, _-_, _^_}
+use mathlib.Core.{Bool.Bool, Bool._&&_, List.List}
+use lib.{Dec.eqb, Dec.ltb, Dec.leb, ListN.length, ListN.getD}
+use Rattle.binary_field_theory.specs.Element.{is-degree}
+use Rattle.binary_field.specs.Answer.{below}
 use Rattle.class_group.specs.Curve as Theory
-use Rattle.class_group.specs.Reduction.{Counted}
-use Rattle.row_theory.specs.Field.{Poly, 𝔸}
-use Rattle.class_rows.specs.{Pair.rows-pair, Core.OnCurve, Core.ReducedRows, Core.StandsCounted, Operations.unary, Operations.binary}
-use Rattle.class_rows.specs.declared.{row.RowPair.RowPair, Unary.Unary, Binary.Binary, RowsAnswer.RowsAnswer}
+use Rattle.class_group.specs.{Mumford.value, Coefficients.curve-of}
+use Rattle.row_theory.specs.{Field.F, Field.𝔸, Field.el, Field.poly, Row.places}
+use Rattle.class_rows.specs.declared.row.RowPair.{RowPair}
 
--- t is true exactly where P holds
-abbrev pub Decides : Bool → Type 0 → Type 0
-Decides t P = (t ≡ true) ↔ P
+-- a row of twelve elements of degree d
+unfoldable pub is-row : ℕ → List ℕ → Bool
+is-row d r = eqb (length r) 12 && below (2 ^ d) r
+
+-- the leading number of a row is 1
+unfoldable pub is-monic : List ℕ → Bool
+is-monic r = eqb (getD r (places r - 1) 0) 1
+
+-- f is monic of degree 7; `places` is the degree plus one
+unfoldable pub is-curve : ℕ → List ℕ → Bool
+is-curve d f = is-row d f && eqb (places f) 8 && is-monic f
+
+-- u is monic of degree at most 3, and v has a smaller degree
+unfoldable pub is-pair : ℕ → RowPair → Bool
+is-pair d a = is-row d (a .u) && is-row d (a .v) && leb (places (a .u)) 4 && ltb (places (a .v)) (places (a .u)) && is-monic (a .u)
+
+-- the curve y² + y = f of a row f: x^7 and the seven numbers below it
+unfoldable pub row-curve : (d : ℕ) → List ℕ → Theory.Curve (𝔸 d)
+unfolding 𝔸
+row-curve d f = curve-of (F d) (λ i. el d (getD f i 0))
+
+-- u divides v² + v + f: the remainder is 0
+unfoldable pub divides : ℕ → List ℕ → RowPair → Bool
+divides d f a = eqb (𝔸 d .len (𝔸 d .rem (value (row-curve d f) (poly d (a .v))) (poly d (a .u)))) 0
 
 -- the degree is 5 or 61, and the rows are a reduced class of the curve of f
-pub record Divisor (d : ℕ) (f : List ℕ) (a : RowPair) : Type 0 where
-  pub degree : Accepted d
-  pub reduced : ReducedRows d f a
-
--- `divisor` says whether `asked` holds. If so, rows and steps are the theory's on every curve of f; if not, the first
--- pair given and no step
-pub record Gives (d : ℕ) (f : List ℕ) (asked : Type 0) (a : RowPair) (of : Theory.Curve (𝔸 d) → Counted (Poly d)) (r : RowsAnswer) : Type 0 where
-  pub decides : Decides (r .divisor) asked
-  pub stands : r .divisor ≡ true → (C : Theory.Curve (𝔸 d)) → OnCurve d f C → StandsCounted d (r .rows) (of C)
-  pub else : r .divisor ≡ false → r .rows ≡ record { pair = a; steps = 0 }
-
--- the answer of `unary_rows`
-abbrev pub UnaryAnswer : Unary → (d : ℕ) → List ℕ → RowPair → RowsAnswer → Type 0
-UnaryAnswer op d f a r = Gives d f (Divisor d f a) a (λ C. unary op C (rows-pair d a)) r
-
--- the answer of `binary_rows`
-abbrev pub BinaryAnswer : Binary → (d : ℕ) → List ℕ → RowPair → RowPair → RowsAnswer → Type 0
-BinaryAnswer op d f a b r = Gives d f (Divisor d f a × Divisor d f b) a (λ C. binary op C (rows-pair d a) (rows-pair d b)) r
-
--- two pairs of rows with the same numbers at every index
-pub record SameRows (a b : RowPair) : Type 0 where
-  pub u-same : (i : ℕ) → getD (a .u) i 0 ≡ getD (b .u) i 0
-  pub v-same : (i : ℕ) → getD (a .v) i 0 ≡ getD (b .v) i 0
+unfoldable pub is-divisor : ℕ → List ℕ → RowPair → Bool
+is-divisor d f a = is-degree d && is-curve d f && is-pair d a && divides d f a

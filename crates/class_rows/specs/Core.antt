@@ -1,6 +1,7 @@
 -- Rows that are a reduced class of the curve of a row f, and rows with a count of steps.
 use Prim.Native.Nat.{ℕ}
 use mathlib.Core.{Path._≡_, List.List}
+use Rattle.binary_field_theory.specs.Element.{Accepted}
 use Rattle.class_group.specs.Curve as Theory
 use Rattle.class_group.specs.{Mumford.Reduced, Reduction.Counted}
 use Rattle.row_theory.specs.{Field.𝔸, Field.Poly, Field.poly, Row.InRange}
@@ -18,6 +19,11 @@ pub record ReducedRows (d : ℕ) (f : List ℕ) (a : RowPair) : Type 0 where
   pub u-range : InRange d (a .u)
   pub v-range : InRange d (a .v)
   pub reduced : Reduced C (rows-pair d a)
+
+-- the degree is 5 or 61, and the rows are a reduced class of the curve of f
+pub record Divisor (d : ℕ) (f : List ℕ) (a : RowPair) : Type 0 where
+  pub degree : Accepted d
+  pub reduced : ReducedRows d f a
 
 -- the rows and the number of steps are those of a reduction
 pub record StandsCounted (d : ℕ) (r : CountedRows) (c : Counted (Poly d)) : Type 0 where

@@ -3,4 +3,5 @@ pub mod Pair
 pub mod Core
 pub mod Operations
 pub mod Checked
+pub mod Answer
 pub mod internal

@@ -7,13 +7,14 @@ use Rattle.class_rows.specs.declared.{Unary.Unary, Unary.the-variants.Op
 use Rattle.class_rows.specs.declared.Binary.the-variants.{Sum, DoubleAndAdd, SubtractAndHalve}
 
 module _ {K P : Type 0} {F : Field2 K} {A : Polynomials F P} where
-  -- the opposite, double or half of a class
+  -- the opposite, double or half of a class; the half is the only reduced class whose double is the class
   abbrev pub unary : Unary → Curve A → Pair P → Counted P
   unary Opposite C D = record { class = opposite C D; steps = 0 }
   unary Double C D = counted-double C D
   unary Half C D = record { class = half C D; steps = 0 }
 
-  -- the sum of two classes, twice the first plus the second, or the half of the first less the second
+  -- the sum of two classes; twice the first plus the second; or the half of the first less the second, which is the
+  -- only reduced class that doubled, plus the second, is the first
   abbrev pub binary : Binary → Curve A → Pair P → Pair P → Counted P
   binary Sum C D E = counted-sum C D E
   binary DoubleAndAdd C D E = counted-double-and-add C D E

@@ -2,7 +2,7 @@
 // divisor of the curve of the row f, and the operations on one such pair and on two. Each function checks its rows, by
 // one division for each pair. The quotient w = (v² + v + f) / u serves the double and the half.
 ghost use mathlib.Core.{Path._≡_, Bool.false};
-ghost use Rattle.class_rows.specs.Checked.{Decides, Divisor, UnaryAnswer, BinaryAnswer};
+ghost use Rattle.class_rows.specs.{Checked.is-divisor, Answer.UnaryAnswers, Answer.BinaryAnswers};
 
 mod composition;
 mod divisor;
@@ -43,7 +43,7 @@ pub struct RowsAnswer {
 
 // Is the pair a reduced divisor of the curve?
 pub fn is_divisor(d: u8, f: [u64; 12], a: RowPair) -> bool
-    ensures { λ t. ⌜ Decides t (Divisor d f a) ⌝ }
+    ensures { λ t. ⌜ t ≡ is-divisor d f a ⌝ }
 {
     let check = checked(d, f, a);
     check.divisor
@@ -62,7 +62,7 @@ fn refused(a: RowPair) -> RowsAnswer
 
 // The operation on one pair.
 pub fn unary_rows(op: Unary, d: u8, f: [u64; 12], a: RowPair) -> RowsAnswer
-    ensures { λ r. ⌜ UnaryAnswer op d f a r ⌝ }
+    ensures { λ r. ⌜ UnaryAnswers op d f a r ⌝ }
 {
     let check = checked(d, f, a);
     if !check.divisor {
@@ -78,7 +78,7 @@ pub fn unary_rows(op: Unary, d: u8, f: [u64; 12], a: RowPair) -> RowsAnswer
 
 // The operation on two pairs.
 pub fn binary_rows(op: Binary, d: u8, f: [u64; 12], a: RowPair, b: RowPair) -> RowsAnswer
-    ensures { λ r. ⌜ BinaryAnswer op d f a b r ⌝ }
+    ensures { λ r. ⌜ BinaryAnswers op d f a b r ⌝ }
 {
     let check = checked_both(d, f, a, b);
     if !check.divisor {

@@ -3,6 +3,7 @@ pub mod Elements
 pub mod Coefficients
 pub mod Length
 pub mod Fill
+pub mod RowOf
 pub mod Constants
 pub mod Shift
 pub mod Roots

@@ -17,6 +17,15 @@ pub record Stands (d : ℕ) (r : List ℕ) (p : Poly d) : Type 0 where
 unfoldable pub filled : List ℕ → List ℕ
 filled r = r ++ replicate (12 - length r) 0
 
+-- n coefficients of a polynomial as numbers, from that of x^i on
+unfoldable pub numbers-from : (d : ℕ) → Poly d → ℕ → ℕ → List ℕ
+numbers-from d p i zero = []
+numbers-from d p i (suc n) = (𝔸 d .coeff p i) .0 ∷ numbers-from d p (suc i) n
+
+-- the row of twelve numbers of a polynomial
+unfoldable pub row-of : (d : ℕ) → Poly d → List ℕ
+row-of d p = numbers-from d p 0 12
+
 -- the length of a row, from the length of its tail and its first number
 unfoldable pub places-cons : ℕ → ℕ → ℕ
 places-cons (suc k) n = suc (suc k)

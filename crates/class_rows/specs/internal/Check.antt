@@ -1,12 +1,16 @@
 -- The promises of the private functions of the check.
 use Prim.Native.Nat.{ℕ, _≤_, _<_}
-use mathlib.Core.{Path._≡_, Bool.true, List.List}
+use mathlib.Core.{Path._≡_, Bool.Bool, Bool.true, List.List, Logic._↔_}
 use Rattle.binary_field_theory.specs.Element.{Accepted}
 use Rattle.char2_algebra.specs.Lead.{Monic}
 use Rattle.class_group.specs.Curve as Theory
 use Rattle.row_theory.specs.{Field.𝔸, Field.poly, Row.InRange, Row.row-len}
-use Rattle.class_rows.specs.{Core.OnCurve, Checked.Decides, internal.Cofactor.CofactorRow}
+use Rattle.class_rows.specs.{Core.OnCurve, internal.Cofactor.CofactorRow}
 use Rattle.class_rows.specs.declared.{row.RowPair.RowPair, divisor.Check.Check}
+
+-- t is true exactly where P holds
+abbrev pub Decides : Bool → Type 0 → Type 0
+Decides t P = (t ≡ true) ↔ P
 
 -- the pair is in range, u is monic of degree at most 3, and v has a smaller degree
 pub record FormedPair (d : ℕ) (a : RowPair) : Type 0 where

@@ -7,8 +7,9 @@ use native.Mathlib.Decide.{decLe}
 use lib.ListN.{getD, length, drop, List·getD-eq-default}
 use lib.Dec.{eqb}
 use lib.Seq.{getD-drop}
-use borrow.Author.Tests.{lt-ltb, le-ltb, eq-eqb}
+use borrow.Author.Tests.{le-ltb, eq-eqb}
 use Rattle.binary_field.specs.Answer.{below}
+pub use Rattle.class_rows.proofs.Tests.{below-all}
 use Rattle.jacobian.specs.{Checks.blank, Classes.padded}
 use Rattle.jacobian.proofs.ByValue.Checks.{blank-past}
 
@@ -26,11 +27,6 @@ module _ {m : ℕ} {r : List ℕ} where
       go : (j : ℕ) → j < i + 1 → Dec (i ≤ j) → getD r j 0 < m
       go j k (no l) = b .at j (omega arith)
       go j k (yes l) = let s : i ≡ j = omega arith in subst (λ n. getD r n 0 < m) s h
-
-pub below-all : (m : ℕ) (r : List ℕ) → ((j : ℕ) → j < length r → getD r j 0 < m) → below m r ≡ true
-unfolding below
-below-all m [] h = refl
-below-all m (n ∷ r) h = rw (lt-ltb n m (h 0 (omega arith))) (below-all m r (λ j k. h (suc j) (omega arith)))
 
 pub below-fails : (m : ℕ) (r : List ℕ) (i : ℕ) → i < length r → m ≤ getD r i 0 → below m r ≡ false
 unfolding below

@@ -1,32 +1,20 @@
 -- What the checks of a curve and a class show where none of them refuses.
 use Prim.Native.Nat.{ℕ, zero, suc, _^_, _≤_, _<_}
 use mathlib.Core.Path.{_≡_, refl}
-use mathlib.Core.{Bool.Bool, Bool.true, Bool.false, Bool._&&_, List.List, List.[], List._∷_}
+use mathlib.Core.{Bool.true, List.List, List.[], List._∷_}
 use native.Mathlib.Omega.{arith}
-use lib.{Dec.eqb, Dec.ltb, Dec.lit<, Dec.lit≤, ListN.getD, ListN.length, ListN.drop, Pow.pow-pos}
-use borrow.Author.Tests.{ltb-true, leb-true, eqb-true}
+use lib.{Dec.eqb, Dec.lit<, Dec.lit≤, ListN.getD, ListN.length, ListN.drop, Pow.pow-pos}
+use borrow.Author.Tests.{leb-true, eqb-true}
 use Rattle.binary_field_theory.specs.Element.{Accepted}
 use Rattle.class_group.specs.Mumford.{value}
 use Rattle.row_theory.specs.Field.{𝔸}
 use Rattle.jacobian.specs.{Checks.blank, Curves.coefficients, Curves.degree-refusal, Curves.coefficient-refusal, Curves.curve-refusal, Curves.f-row, Curves.curve, Classes.pair, Classes.padded, Classes.shape-refusal, Classes.range-refusal, Classes.class-refusal, declared.Curve.Curve, declared.Class.Class}
-use Rattle.binary_field.specs.Answer.{below}
 pub use Rattle.binary_field.proofs.Checks.{then-zero, first-due, next-due, unless-zero}
+pub use Rattle.class_rows.proofs.Tests.{both, below-at}
 use Rattle.binary_field.proofs.Degrees.{accepted-degree}
 use Rattle.jacobian.proofs.ByValue.Degrees.{by-degree}
 
--- ---- one check
-pub both : (x y : Bool) → (x && y) ≡ true → (x ≡ true) × (y ≡ true)
-both true y e = (refl, e)
-both false true e = (e, refl)
-both false false e = (e, e)
-
 -- ---- rows
-pub below-at : (m : ℕ) (r : List ℕ) → 0 < m → below m r ≡ true → (i : ℕ) → getD r i 0 < m
-unfolding below
-below-at m [] h e i = h
-below-at m (n ∷ r) h e zero = ltb-true n m (both (ltb n m) (below m r) e .0)
-below-at m (n ∷ r) h e (suc i) = below-at m r h (both (ltb n m) (below m r) e .1) i
-
 blank-at : (r : List ℕ) → blank r ≡ true → (i : ℕ) → getD r i 0 ≡ 0
 unfolding blank
 blank-at [] e i = refl

@@ -1,8 +1,9 @@
--- A row filled with zeros stands for the same polynomial.
-use Prim.Native.Nat.{ℕ, zero, suc, _-_}
+-- A row filled with zeros has twelve numbers, and stands for the same polynomial.
+use Prim.Native.Nat.{ℕ, zero, suc, _-_, _≤_}
 use mathlib.Core.Path.{_≡_, refl, sym, _∙_, ap}
 use mathlib.Core.List.{List, [], _∷_, _++_}
-use lib.ListN.{length, getD, replicate}
+use native.Mathlib.Omega.{arith}
+use lib.ListN.{length, getD, replicate, length-append, length-replicate}
 use Rattle.row_theory.specs.{Field.el, Field.poly, Row.filled}
 use Rattle.row_theory.proofs.Rows.Coefficients.{coeff-poly, poly-is}
 
@@ -15,6 +16,10 @@ getD-fill : (r : List ℕ) (n i : ℕ) → getD (r ++ replicate n 0) i 0 ≡ get
 getD-fill [] n i = getD-zeros n i
 getD-fill (x ∷ r) n zero = refl
 getD-fill (x ∷ r) n (suc i) = getD-fill r n i
+
+pub filled-length : (r : List ℕ) → length r ≤ 12 → length (filled r) ≡ 12
+unfolding filled
+filled-length r h = simp (length-append, length-replicate) (omega arith)
 
 pub getD-filled : (r : List ℕ) (i : ℕ) → getD (filled r) i 0 ≡ getD r i 0
 unfolding filled

@@ -1,30 +1,20 @@
 -- The refusals of a call on classes in form: whether their rows are divisors decides between 111 and 0.
 use Prim.Native.Nat.{ℕ, zero, suc}
-use mathlib.Core.Path.{_≡_, refl, sym, _∙_, ap, ap₂}
+use mathlib.Core.Path.{_≡_, refl, _∙_, ap, ap₂}
 use mathlib.Core.{Bool.Bool, Bool.true, Bool.false, Bool._&&_, List.List}
 use lib.Dec.{eqb}
 use Rattle.class_group.specs.Mumford.{value}
 use Rattle.row_theory.specs.{Field.𝔸, Row.filled}
-use Rattle.class_rows.specs.{Checked.Decides, Checked.Divisor, declared.row.RowPair.RowPair}
+use Rattle.class_rows.specs.{Checked.is-divisor, declared.row.RowPair.RowPair}
 use Rattle.jacobian.specs.{Checks.unless, Checks._or-else_, Curves.curve-refusal, Curves.f-row, Curves.curve, Classes.pair, Classes.shape-refusal, Classes.range-refusal, Classes.class-refusal, internal.ClassRows.RowsOf, internal.Refusals.form-refusal, Answer.refusal, Answer.refusal-of-two, declared.Curve.Curve, declared.Class.Class}
-use Rattle.jacobian.proofs.{ByValue.Checks.ShapePasses, ByValue.Checks.RangePasses, ByValue.Checks.then-zero, ByValue.Checks.first-due, ByValue.Checks.next-due, ByValue.Checks.curve-passes, ByValue.Checks.shape-passes, ByValue.Checks.range-passes, ByValue.Passing.divides-decides}
+use Rattle.jacobian.proofs.{ByValue.Checks.ShapePasses, ByValue.Checks.RangePasses, ByValue.Checks.then-zero, ByValue.Checks.first-due, ByValue.Checks.next-due, ByValue.Checks.curve-passes, ByValue.Checks.shape-passes, ByValue.Checks.range-passes, ByValue.Passing.divisor-is}
 
 then-assoc : (m n k : ℕ) → (m or-else n) or-else k ≡ m or-else (n or-else k)
 unfolding _or-else_
 then-assoc zero n k = refl
 then-assoc (suc m) n k = refl
 
--- ---- two answers to one question
-same-answer : (t x : Bool) {P : Type 0} → Decides t P → Decides x P → t ≡ x
-same-answer true x h k = sym (k .1 (h .0 refl))
-same-answer false true h k = h .1 (k .0 refl)
-same-answer false false h k = refl
-
-both-decide : (x y : Bool) {P Q : Type 0} → Decides x P → Decides y Q → Decides (x && y) (P × Q)
-both-decide true y h k = (λ e. (h .0 refl, k .0 e), λ p. k .1 (p .1))
-both-decide false true h k = (λ e. (h .0 e, k .0 refl), λ p. h .1 (p .0))
-both-decide false false h k = (λ e. (h .0 e, k .0 e), λ p. h .1 (p .0))
-
+-- ---- two tests
 unless-both : (x y : Bool) (n : ℕ) → unless (x && y) (suc n) ≡ unless x (suc n) or-else unless y (suc n)
 unfolding unless _or-else_
 unless-both true y n = refl
@@ -63,23 +53,21 @@ module _ (c : Curve) (a : Class) where
         next-due refl (then-zero _ _ z .0) (next-due refl (then-zero _ _ z .1) refl)
 
     module _ (ok : curve-refusal c ≡ 0) {f : List ℕ} (e : f ≡ filled (f-row c)) {r : RowPair} (rows : RowsOf a r) where
-      divides-rows : Decides divides (Divisor (c .degree) f r)
-      divides-rows = divides-decides c a (curve-passes c ok) form-shape form-range e rows
+      divides-rows : is-divisor (c .degree) f r ≡ divides
+      divides-rows = divisor-is c a (curve-passes c ok) form-shape form-range e rows
 
-      pub class-due : {t : Bool} → Decides t (Divisor (c .degree) f r) → unless t 111 ≡ class-refusal c a
-      class-due {t} h = ap (λ t. unless t 111) (same-answer t divides h divides-rows) ∙ class-divides
+      pub class-due : {t : Bool} → t ≡ is-divisor (c .degree) f r → unless t 111 ≡ class-refusal c a
+      class-due h = ap (λ t. unless t 111) (h ∙ divides-rows) ∙ class-divides
 
-      pub one-due : {t : Bool} → Decides t (Divisor (c .degree) f r) → unless t 111 ≡ refusal c a
+      pub one-due : {t : Bool} → t ≡ is-divisor (c .degree) f r → unless t 111 ≡ refusal c a
       unfolding refusal
       one-due h = next-due refl ok (class-due h)
 
 -- ---- two classes
 module _ (c : Curve) (a b : Class) (ok : curve-refusal c ≡ 0) (y : form-refusal (c .degree) a ≡ 0) (z : form-refusal (c .degree) b ≡ 0) {f : List ℕ} (e : f ≡ filled (f-row c)) {r s : RowPair} where
-  pub two-due : RowsOf a r → RowsOf b s → {t : Bool} → Decides t (Divisor (c .degree) f r × Divisor (c .degree) f s) → unless t 111 ≡ refusal-of-two c a b
+  pub two-due : RowsOf a r → RowsOf b s → {t : Bool} → t ≡ (is-divisor (c .degree) f r && is-divisor (c .degree) f s) → unless t 111 ≡ refusal-of-two c a b
   unfolding refusal refusal-of-two
-  two-due left right {t} h =
-      let x = divides c a in
-      let w = divides c b in
-      ap (λ t. unless t 111) (same-answer t (x && w) h (both-decide x w (divides-rows c a y ok e left) (divides-rows c b z ok e right)))
-      ∙ unless-both x w 110
+  two-due left right h =
+      ap (λ t. unless t 111) (h ∙ ap₂ _&&_ (divides-rows c a y ok e left) (divides-rows c b z ok e right))
+      ∙ unless-both (divides c a) (divides c b) 110
       ∙ ap₂ _or-else_ (next-due refl ok (class-divides c a y)) (class-divides c b z)

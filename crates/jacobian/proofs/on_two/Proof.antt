@@ -1,8 +1,9 @@
 -- `on_two` meets its contract: where no check before the divisions refuses, the divisions of the rows decide.
 use mathlib.Core.Path.{_∙_}
 use Rattle.class_rows.specs.Operations.{binary}
+use Rattle.class_rows.proofs.Answers.{binary-divisor, binary-stands}
 use Rattle.jacobian.specs.{Curves.curve, Classes.pair}
-use Rattle.jacobian.proofs.{ByValue.Checks.curve-passes, ByValue.Passing.on-curve, ByValue.Passing.rows-pair-is, ByValue.Refusals.form-shape, ByValue.Refusals.two-due, ByValue.Answers.at-refusal, ByValue.Answers.refused-answered}
+use Rattle.jacobian.proofs.{ByValue.Passing.row-curve-is, ByValue.Passing.rows-pair-is, ByValue.Refusals.form-shape, ByValue.Refusals.two-due, ByValue.Answers.at-refusal, ByValue.Answers.refused-answered}
 use borrow.Author.Needs.{needs}
 use Rattle.jacobian.proofs.on_two.Statement.{statement}
 use Rattle.jacobian.proofs.on_two.Tie as tie
@@ -33,9 +34,9 @@ returns-2 c =
     let second = after .before .to-rows2 .ensures in
     let gives = after .binary-rows .ensures in
     at-refusal d (binary (s .args .op) C (pair d (s .args .a)) (pair d (s .args .b)))
-    (two-due (s .args .curve) (s .args .a) (s .args .b) (z .0) (z .1) (z .2) f first second (gives .decides))
+    (two-due (s .args .curve) (s .args .a) (s .args .b) (z .0) (z .1) (z .2) f first second (binary-divisor gives))
     (c .answered .ensures d _
-    (λ held. rw (rows-pair-is d first, rows-pair-is d second) at (gives .stands held C (on-curve (s .args .curve) (curve-passes _ (z .0)) f))))
+    (λ held. rw (rows-pair-is d first, rows-pair-is d second, row-curve-is (s .args .curve) f) at (binary-stands gives held)))
 
 pub on-two-spec : {M : Type 1} → statement M
 on-two-spec = tie.close (tie.spec (λ c κs. search needs) (λ c κs. search needs) returns (λ c κs. search needs) to-rows-requires to-rows-requires-2 (λ c κs. search needs) (λ c κs. search needs) returns-2)
