@@ -1,8 +1,9 @@
 -- The answers of the open functions, from what their rows stand for: rows of twelve numbers in range are determined by
 -- the pair that they stand for.
--- `unary-refused`, `binary-refused`, `unary-given`, `binary-given`: an answer as `unary_rows` and `binary_rows` promise it.
+-- `unary-refused`, `binary-refused`: where the check fails, the answer is as promised.
+-- `unary-given`, `binary-given`: where it holds, rows that stand for the theory's result are the answer promised.
 -- `unary-divisor`, `binary-divisor`: an answer says whether the rows given are divisors.
--- `unary-stands`, `binary-stands`: and if so its rows stand for the theory's result.
+-- `unary-stands`, `binary-stands`: if they are, the rows of the answer stand for the theory's result.
 use Prim.Native.Nat.{ℕ}
 use mathlib.Core.{Path._≡_, Path.refl, Path.sym, Path._∙_, Path.ap, Path.ap₂, Path.subst, Bool.Bool, Bool.true, Bool.false, Bool.true≢false, Bool._&&_, List.List}
 use native.Mathlib.Omega.{arith}

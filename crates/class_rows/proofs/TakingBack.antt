@@ -9,9 +9,9 @@
 use Prim.Native.Nat.{ℕ}
 use mathlib.Core.{Path._≡_, Path.sym, Path._∙_, Path.ap, Path.ap₂, Bool.Bool, Bool.true, Bool._&&_, List.List}
 use Rattle.class_group.specs.Curve as Theory
-use Rattle.class_group.specs.{Mumford.Reduced, Reduction.Counted, Operations.double, Half.half, Moves.double-and-add, Moves.subtract-and-halve}
-use Rattle.class_group.proofs.{Halving.double-half, Halving.half-double}
-use Rattle.class_group.proofs.Moves.{subtract-double-and-add, double-subtract-and-halve, counted-double-and-add-class, counted-subtract-and-halve-class}
+use Rattle.class_group.specs.{Mumford.Pair, Mumford.Reduced, Reduction.Counted, Operations.sum, Operations.double}
+use Rattle.class_group.specs.Moves.{double-and-add, subtract-and-halve, counted-double-and-add, counted-subtract-and-halve}
+use Rattle.class_group.proofs.{Halving.double-half, Halving.half-double, Moves.subtract-double-and-add, Moves.double-subtract-and-halve}
 use Rattle.row_theory.specs.Field.{𝔸, Poly}
 use Rattle.class_rows.specs.{Pair.rows-pair, Pair.rows-of, Checked.row-curve, Checked.is-divisor, Operations.unary, Operations.binary, Answer.answered, Answer.unary-answer, Answer.binary-answer}
 use Rattle.class_rows.specs.declared.{row.RowPair.RowPair, Unary.Unary, Unary.the-variants.Double, Unary.the-variants.Half, Binary.Binary, Binary.the-variants.DoubleAndAdd, Binary.the-variants.SubtractAndHalve}
@@ -56,41 +56,40 @@ module _ (d : ℕ) (f : List ℕ) where
     unfolding binary-answer
     binary-accepted = (given _ a _ (ap₂ _&&_ h k) .0, ap (is-divisor d f) binary-rows-are ∙ rows-of-divisor (shown h) both-reduced)
 
-  -- ---- double and half
-  module _ (a : RowPair) (h : is-divisor d f a ≡ true) where
-    pub double-of-half : unary-answer Double d f (unary-answer Half d f a .rows .pair) .rows .pair ≡ a
-    unfolding double
-    double-of-half =
-        unary-rows-are Double (unary-answer Half d f a .rows .pair) (unary-accepted Half a h .1)
-        ∙ ap (rows-of d) (ap (double C) (unary-pair Half a h) ∙ double-half C (divisor-reduced (shown h)))
-        ∙ sym (divisor-rows (shown h))
+  -- ---- an operation that undoes another on reduced classes undoes it on divisors
+  unary-undone : (op back : Unary) → ((D : Pair (Poly d)) → Reduced C D → unary back C (unary op C D .class) .class ≡ D)
+      → (a : RowPair) → is-divisor d f a ≡ true → unary-answer back d f (unary-answer op d f a .rows .pair) .rows .pair ≡ a
+  unary-undone op back undoes a h =
+      unary-rows-are back (unary-answer op d f a .rows .pair) (unary-accepted op a h .1)
+      ∙ ap (rows-of d) (ap (λ D. unary back C D .class) (unary-pair op a h) ∙ undoes (rows-pair d a) (divisor-reduced (shown h)))
+      ∙ sym (divisor-rows (shown h))
 
-    pub half-of-double : unary-answer Half d f (unary-answer Double d f a .rows .pair) .rows .pair ≡ a
-    unfolding double
-    half-of-double =
-        unary-rows-are Half (unary-answer Double d f a .rows .pair) (unary-accepted Double a h .1)
-        ∙ ap (rows-of d) (ap (half C) (unary-pair Double a h) ∙ half-double C (divisor-reduced (shown h)))
-        ∙ sym (divisor-rows (shown h))
+  binary-undone : (op back : Binary) → ((D E : Pair (Poly d)) → Reduced C D → Reduced C E → binary back C (binary op C D E .class) E .class ≡ D)
+      → (a b : RowPair) → is-divisor d f a ≡ true → is-divisor d f b ≡ true → binary-answer back d f (binary-answer op d f a b .rows .pair) b .rows .pair ≡ a
+  binary-undone op back undoes a b h k =
+      binary-rows-are back (binary-answer op d f a b .rows .pair) b (binary-accepted op a b h k .1) k
+      ∙ ap (rows-of d) (ap (λ D. binary back C D (rows-pair d b) .class) (binary-pair op a b h k) ∙ undoes (rows-pair d a) (rows-pair d b) (divisor-reduced (shown h)) (divisor-reduced (shown k)))
+      ∙ sym (divisor-rows (shown h))
+
+  -- ---- double and half
+  pub double-of-half : (a : RowPair) → is-divisor d f a ≡ true → unary-answer Double d f (unary-answer Half d f a .rows .pair) .rows .pair ≡ a
+  unfolding double
+  double-of-half = unary-undone Half Double (λ D r. double-half C r)
+
+  pub half-of-double : (a : RowPair) → is-divisor d f a ≡ true → unary-answer Half d f (unary-answer Double d f a .rows .pair) .rows .pair ≡ a
+  unfolding double
+  half-of-double = unary-undone Double Half (λ D r. half-double C r)
 
   pub only-half : (a b : RowPair) → is-divisor d f b ≡ true → unary-answer Double d f b .rows .pair ≡ a → b ≡ unary-answer Half d f a .rows .pair
   only-half a b k e = sym (half-of-double b k) ∙ ap (λ r. unary-answer Half d f r .rows .pair) e
 
   -- ---- the two rules that move a seal
-  module _ (a b : RowPair) (h : is-divisor d f a ≡ true) (k : is-divisor d f b ≡ true) where
-    pub subtract-of-add : binary-answer SubtractAndHalve d f (binary-answer DoubleAndAdd d f a b .rows .pair) b .rows .pair ≡ a
-    subtract-of-add =
-        binary-rows-are SubtractAndHalve (binary-answer DoubleAndAdd d f a b .rows .pair) b (binary-accepted DoubleAndAdd a b h k .1) k
-        ∙ ap (rows-of d)
-        (counted-subtract-and-halve-class C _ _
-        ∙ ap (λ D. subtract-and-halve C D (rows-pair d b)) (binary-pair DoubleAndAdd a b h k ∙ counted-double-and-add-class C _ _)
-        ∙ subtract-double-and-add C (divisor-reduced (shown h)) (divisor-reduced (shown k)))
-        ∙ sym (divisor-rows (shown h))
+  pub subtract-of-add : (a b : RowPair) → is-divisor d f a ≡ true → is-divisor d f b ≡ true
+      → binary-answer SubtractAndHalve d f (binary-answer DoubleAndAdd d f a b .rows .pair) b .rows .pair ≡ a
+  unfolding double-and-add subtract-and-halve counted-double-and-add counted-subtract-and-halve sum double
+  subtract-of-add = binary-undone DoubleAndAdd SubtractAndHalve (λ D E r s. subtract-double-and-add C r s)
 
-    pub add-of-subtract : binary-answer DoubleAndAdd d f (binary-answer SubtractAndHalve d f a b .rows .pair) b .rows .pair ≡ a
-    add-of-subtract =
-        binary-rows-are DoubleAndAdd (binary-answer SubtractAndHalve d f a b .rows .pair) b (binary-accepted SubtractAndHalve a b h k .1) k
-        ∙ ap (rows-of d)
-        (counted-double-and-add-class C _ _
-        ∙ ap (λ D. double-and-add C D (rows-pair d b)) (binary-pair SubtractAndHalve a b h k ∙ counted-subtract-and-halve-class C _ _)
-        ∙ double-subtract-and-halve C (divisor-reduced (shown h)) (divisor-reduced (shown k)))
-        ∙ sym (divisor-rows (shown h))
+  pub add-of-subtract : (a b : RowPair) → is-divisor d f a ≡ true → is-divisor d f b ≡ true
+      → binary-answer DoubleAndAdd d f (binary-answer SubtractAndHalve d f a b .rows .pair) b .rows .pair ≡ a
+  unfolding double-and-add subtract-and-halve counted-double-and-add counted-subtract-and-halve sum double
+  add-of-subtract = binary-undone SubtractAndHalve DoubleAndAdd (λ D E r s. double-subtract-and-halve C r s)

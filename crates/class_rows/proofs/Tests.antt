@@ -1,4 +1,4 @@
--- The tests of the definition of the check.
+-- The tests that `is-divisor` is made of: what each shows where it is true, and that it is true where that holds.
 -- `shown`: rows of which `is-divisor` is true have twelve numbers each, and are a divisor of the curve of f.
 -- `divisor-iff`: of rows of twelve numbers it is true exactly where the degree is 5 or 61, f is monic of degree 7, and
 -- the rows are a reduced class of its curve.
@@ -154,7 +154,7 @@ pub record Sized (a : RowPair) : Type 0 where
   pub u-size : length (a .u) ≡ 12
   pub v-size : length (a .v) ≡ 12
 
--- a pair of the code has rows of twelve numbers; what is known of a field is said of its numbers one by one
+-- a pair of the code has rows of twelve numbers; the logic says it of each row under a map that changes no number
 pub sized : (a : RowPair) → length (map (λ v. v) (a .u)) ≡ 12 → length (map (λ v. v) (a .v)) ≡ 12 → Sized a
 sized a u v = record { u-size = sym (length-map (a .u) (λ v. v)) ∙ u; v-size = sym (length-map (a .v) (λ v. v)) ∙ v }
 

@@ -1,4 +1,5 @@
-// The half of a class, computed from its coefficients by a rule for each degree.
+// The half of a class: the only class whose double is the one given, computed from the coefficients by a rule for each
+// degree.
 ghost use Prim.Native.Nat.{_+_, _≤_, _<_, _^_};
 ghost use mathlib.Core.Path.{_≡_};
 ghost use lib.ListN.{getD};

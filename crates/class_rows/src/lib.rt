@@ -60,7 +60,7 @@ fn refused(a: RowPair) -> RowsAnswer
     }
 }
 
-// The operation on one pair.
+// The operation on one pair. The half of a divisor is the only divisor whose double is the one given.
 pub fn unary_rows(op: Unary, d: u8, f: [u64; 12], a: RowPair) -> RowsAnswer
     ensures { λ r. ⌜ UnaryAnswers op d f a r ⌝ }
 {
@@ -76,7 +76,8 @@ pub fn unary_rows(op: Unary, d: u8, f: [u64; 12], a: RowPair) -> RowsAnswer
     }
 }
 
-// The operation on two pairs.
+// The operation on two pairs. The half of the first less the second is the only divisor that doubled, plus the second,
+// is the first.
 pub fn binary_rows(op: Binary, d: u8, f: [u64; 12], a: RowPair, b: RowPair) -> RowsAnswer
     ensures { λ r. ⌜ BinaryAnswers op d f a b r ⌝ }
 {
