@@ -2,9 +2,12 @@
 -- `sum-replies`, `product-replies`, `square-replies`, `root-replies`: the answer for elements of an accepted degree.
 -- `sum-in-field`, `product-in-field`, `square-in-field`, `root-in-field`, `inverse-in-field`: it is the number of the
 -- field's operation.
+-- `root-means`: a square root's answer is the only element whose square is a, or the refusal.
 -- `inverse-means`: an inverse's answer is the only element whose product with a is 1, or the refusal.
 -- `inverse-zero-refused`: the inverse of 0 is refused with 117 in each field.
 -- `quadratic-means`: the answer is the root of y² + y = a with lowest bit 0, that there is no root, or the refusal.
+-- `quadratic-in-field`: a root of y² + y = a is one in the field.
+-- `found-is`, `none-found`, `found-root`: what a caller that matches on the answer knows.
 use mathlib.Core.{Path._≡_, Path.refl, Path.ap, Path.sym, Path._∙_, Bool.Bool, Bool.true, Bool.false, Bool._&&_, List.[], List._∷_, Option.Option, Option.none, Option.some}
 use Prim.Native.Nat.{ℕ, zero, suc, _-_, _%_, _^_, _<_}
 use native.Mathlib.Omega.{arith}
@@ -14,8 +17,9 @@ use Rattle.binary_field.specs.{declared.Answer.Answer, declared.Answer.t
 use Rattle.binary_field.specs.declared.{Solution.Solution, Solution.the-variants.Root, Solution.the-variants.NoRoot}
 use Rattle.binary_field.specs.declared.Solution.the-variants as solution
 use Rattle.binary_field_theory.specs.{Carryless._⊕_, Element.is-degree, Element.Accepted, Element.product, Element.square, Element.power, Element.root, Element.inverse, Quadratic.even-root, Quadratic.trace, Quadratic.half-trace}
-use Rattle.binary_field_theory.proofs.{Linear.both, Elements.element-path, Theorems.one-inverse, Theorems.even-root-found, Theorems.even-root-none, Theorems.even-root-by-trace, Theorems.none-by-trace}
-use Rattle.binary_field.specs.{Field.field, Answer.element, Answer.refusal, Answer.reply, Answer.below, Answer.degree-refusal, Answer.element-refusal, Answer.inverse-refusal, Answer.answered, Answer.sum-reply, Answer.product-reply, Answer.square-reply, Answer.root-reply, Answer.inverse-reply, Answer.InverseMeans, Answer.solved, Answer.quadratic-answer, Answer.Means, Checks.unless, Checks._or-else_}
+use Rattle.binary_field_theory.specs.Quadratic as equation
+use Rattle.binary_field_theory.proofs.{Linear.both, Elements.element-path, Theorems.one-root, Theorems.one-inverse, Theorems.even-root-found, Theorems.even-root-none, Theorems.even-root-by-trace, Theorems.none-by-trace}
+use Rattle.binary_field.specs.{Field.field, Answer.element, Answer.refusal, Answer.reply, Answer.below, Answer.degree-refusal, Answer.element-refusal, Answer.inverse-refusal, Answer.answered, Answer.sum-reply, Answer.product-reply, Answer.square-reply, Answer.root-reply, Answer.inverse-reply, Answer.InverseMeans, Answer.RootMeans, Answer.QuadraticReply, Answer.found, Answer.no-root, Answer.refused, Answer.solution-reply, Answer.solved, Answer.quadratic-reply, Answer.QuadraticMeans, Checks.unless, Checks._or-else_}
 use Rattle.field_laws.specs.Division.{inverse-of}
 use Rattle.binary_field.proofs.Field.{add-number, mul-number, zero-number, root-number, inverse-number, element-small}
 use Rattle.binary_field.proofs.Checks.{then-zero}
@@ -90,6 +94,15 @@ module _ (d a : ℕ) (hd : Accepted d) (ha : a < 2 ^ d) where
   none-inverse : ¬ (a ≡ 0) → inverse-refusal d a ≡ 0
   unfolding inverse-refusal unless _or-else_
   none-inverse ne = rw (none-one, lt-ltb 0 a (omega (arith, ne)))
+
+-- each case of a square root's answer says what is true
+pub root-means : (d a : ℕ) → RootMeans d a (root-reply d a)
+unfolding root-reply answered
+root-means d a = by (element-refusal d (a ∷ [])) refl
+  where
+    by : (k : ℕ) → element-refusal d (a ∷ []) ≡ k → RootMeans d a (answered k (root d a))
+    by zero e = let p = none-refused d a a refl (refusal-twice d a ∙ e) in (e, one-root d (p .0) a (p .1))
+    by (suc k) e = (sym e, λ z. omega arith)
 
 -- ---- the inverse
 
@@ -183,45 +196,70 @@ no-refusal {x} {k} {v} e f =
 
 -- ---- the root of y² + y = a
 
-refused-of : (k : ℕ) (o : Option ℕ) → (k ≡ 0 → ⊥) → solution.Refused k ≡ solved k o
+-- for a caller that matches on the answer: a root is the reply's root
+pub found-is : {t : Solution} {y z : ℕ} → t ≡ Root y → solution-reply t ≡ found z → y ≡ z
+found-is {t} {y} {z} e f =
+    let g : solution-reply t ≡ found y = ap solution-reply e in
+    cc
+
+pub none-found : {t : Solution} {y : ℕ} → t ≡ Root y → solution-reply t ≡ no-root → ⊥
+none-found {t} {y} e f =
+    let g : solution-reply t ≡ found y = ap solution-reply e in
+    let z : _≡_ {A = ℕ} 0 1 = cc in
+    omega arith
+
+pub found-root : (t : Solution) {z : ℕ} → solution-reply t ≡ found z → t ≡ Root z
+found-root (Root y) {z} e = let f : y ≡ z = cc in ap Root f
+found-root NoRoot e = let z : _≡_ {A = ℕ} 0 1 = cc in absurd (omega arith)
+found-root (solution.Refused k) e = let z : _≡_ {A = ℕ} 0 1 = cc in absurd (omega arith)
+
+-- a root is one in the field
+pub quadratic-in-field : (d : ℕ) (ok : Accepted d) {a y : ℕ} → a < 2 ^ d → equation.Root d a y
+    → field d ok .ring .add (field d ok .ring .mul (at d ok y) (at d ok y)) (at d ok y) ≡ at d ok a
+unfolding equation.quadratic square
+quadratic-in-field d ok {a} {y} ha r =
+    element-path d
+    (rw (add-number d ok, mul-number d ok, element-small d ok y (r .below), element-small d ok a ha) (r .solves))
+
+refused-of : (k : ℕ) (o : Option ℕ) → (k ≡ 0 → ⊥) → refused k ≡ solved k o
 unfolding solved
 refused-of zero o h = absurd (h refl)
 refused-of (suc k) o h = refl
 
-pub quadratic-refused : (d a : ℕ) {k : ℕ} → k ≡ element-refusal d (a ∷ a ∷ []) → (k ≡ 0 → ⊥) → solution.Refused k ≡ quadratic-answer d a
-unfolding quadratic-answer
+pub quadratic-refused : (d a : ℕ) {k : ℕ} → k ≡ element-refusal d (a ∷ a ∷ []) → (k ≡ 0 → ⊥) → refused k ≡ quadratic-reply d a
+unfolding quadratic-reply
 quadratic-refused d a {k} e h = refused-of k (even-root d a) h ∙ ap (λ (n : ℕ). solved n (even-root d a)) (e ∙ refusal-twice d a)
 
 -- for an element of an accepted degree the answer is what the search finds, by trace and half-trace
 module _ (d a : ℕ) (ok : Accepted d) (ha : a < 2 ^ d) where
-  quadratic-solved : quadratic-answer d a ≡ solved 0 (even-root d a)
-  unfolding quadratic-answer
+  quadratic-solved : quadratic-reply d a ≡ solved 0 (even-root d a)
+  unfolding quadratic-reply
   quadratic-solved = ap (λ (n : ℕ). solved n (even-root d a)) (none-one d a ok ha)
 
-  pub quadratic-none : even-root d a ≡ none → quadratic-answer d a ≡ NoRoot
+  pub quadratic-none : even-root d a ≡ none → quadratic-reply d a ≡ no-root
   unfolding solved
   quadratic-none e = quadratic-solved ∙ ap (solved 0) e
 
-  pub quadratic-some : {y : ℕ} → even-root d a ≡ some y → quadratic-answer d a ≡ Root y
+  pub quadratic-some : {y : ℕ} → even-root d a ≡ some y → quadratic-reply d a ≡ found y
   unfolding solved
   quadratic-some e = quadratic-solved ∙ ap (solved 0) e
 
-  pub no-root-by-trace : {t : ℕ} → t ≡ trace d a → (t ≡ 0 → ⊥) → NoRoot ≡ quadratic-answer d a
+  pub no-root-by-trace : {t : ℕ} → t ≡ trace d a → (t ≡ 0 → ⊥) → no-root ≡ quadratic-reply d a
   no-root-by-trace {t} e h = sym (quadratic-none (none-by-trace d ok a (λ z. h (e ∙ z))))
 
-  pub root-by-trace : {t h : ℕ} → t ≡ trace d a → t ≡ 0 → h ≡ half-trace d a → Root (h ⊕ h % 2) ≡ quadratic-answer d a
+  pub root-by-trace : {t h : ℕ} → t ≡ trace d a → t ≡ 0 → h ≡ half-trace d a → found (h ⊕ h % 2) ≡ quadratic-reply d a
   root-by-trace {t} {h} e z f =
-      ap (λ (x : ℕ). Root (x ⊕ x % 2)) f ∙ sym (quadratic-some (even-root-by-trace d ok a ha (sym e ∙ z)))
+      ap (λ (x : ℕ). found (x ⊕ x % 2)) f ∙ sym (quadratic-some (even-root-by-trace d ok a ha (sym e ∙ z)))
 
 -- each case of the answer says what is true
-pub quadratic-means : (d a : ℕ) → Means d a (quadratic-answer d a)
-unfolding quadratic-answer solved
+pub quadratic-means : (d a : ℕ) → QuadraticMeans d a (quadratic-reply d a)
+unfolding quadratic-reply solved
 quadratic-means d a = by (element-refusal d (a ∷ [])) refl (even-root d a) refl
   where
     accepted : element-refusal d (a ∷ []) ≡ 0 → Accepted d
     accepted e = none-refused d a a refl (refusal-twice d a ∙ e) .0
 
-    by : (k : ℕ) → element-refusal d (a ∷ []) ≡ k → (o : Option ℕ) → even-root d a ≡ o → Means d a (solved k o)
+    by : (k : ℕ) → element-refusal d (a ∷ []) ≡ k → (o : Option ℕ) → even-root d a ≡ o → QuadraticMeans d a (solved k o)
     by zero e (some y) f = (e, even-root-found d (accepted e) f)
     by zero e none f = (e, even-root-none d (accepted e) a .0 f)
     by (suc k) e o f = (sym e, λ z. omega arith)

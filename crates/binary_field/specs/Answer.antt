@@ -8,7 +8,7 @@ use Rattle.binary_field.specs.declared.Answer.{Answer, the-variants.Elem
 use Rattle.binary_field.specs.declared.Solution.{Solution, the-variants.Root, the-variants.NoRoot}
 use Rattle.binary_field.specs.declared.Solution.the-variants as solution
 use Rattle.binary_field_theory.specs.Quadratic as equation
-use Rattle.binary_field_theory.specs.{Carryless._⊕_, Element.is-degree, Element.product, Element.square, Element.root, Element.inverse, Element.OneInverse, Quadratic.even-root}
+use Rattle.binary_field_theory.specs.{Carryless._⊕_, Element.is-degree, Element.product, Element.square, Element.root, Element.inverse, Element.OneRoot, Element.OneInverse, Quadratic.even-root}
 
 -- an element, or a refusal with its number
 pub data Reply : Type 0 where
@@ -72,6 +72,11 @@ square-reply d a = answered (element-refusal d (a ∷ [])) (square d a)
 unfoldable pub root-reply : ℕ → ℕ → Reply
 root-reply d a = answered (element-refusal d (a ∷ [])) (root d a)
 
+-- the meaning of a square root's answer: b is the only element whose square is a; or k is the refusal
+abbrev pub RootMeans : ℕ → ℕ → Reply → Type 0
+RootMeans d a (element b) = (element-refusal d (a ∷ []) ≡ 0) × OneRoot d a b
+RootMeans d a (refusal k) = (k ≡ element-refusal d (a ∷ [])) × ¬ (k ≡ 0)
+
 -- the inverse of an element other than 0; 0 is refused
 unfoldable pub inverse-reply : ℕ → ℕ → Reply
 inverse-reply d zero = refusal (inverse-refusal d zero)
@@ -82,19 +87,31 @@ abbrev pub InverseMeans : ℕ → ℕ → Reply → Type 0
 InverseMeans d a (element b) = (inverse-refusal d a ≡ 0) × OneInverse d a b
 InverseMeans d a (refusal k) = (k ≡ inverse-refusal d a) × ¬ (k ≡ 0)
 
+-- the answer to the equation y² + y = a: a root, that there is none, or a refusal with its number
+pub data QuadraticReply : Type 0 where
+  found : ℕ → QuadraticReply
+  no-root : QuadraticReply
+  refused : ℕ → QuadraticReply
+
+-- the code's answer as such a reply
+abbrev pub solution-reply : Solution → QuadraticReply
+solution-reply (Root y) = found y
+solution-reply NoRoot = no-root
+solution-reply (solution.Refused k) = refused k
+
 -- the refusal where it is not 0, else the root, or that there is none
-unfoldable pub solved : ℕ → Option ℕ → Solution
-solved zero (some y) = Root y
-solved zero none = NoRoot
-solved (suc k) o = solution.Refused (suc k)
+unfoldable pub solved : ℕ → Option ℕ → QuadraticReply
+solved zero (some y) = found y
+solved zero none = no-root
+solved (suc k) o = refused (suc k)
 
 -- the root of y² + y = a with lowest bit 0, that there is no root, or the refusal
-unfoldable pub quadratic-answer : ℕ → ℕ → Solution
-quadratic-answer d a = solved (element-refusal d (a ∷ [])) (even-root d a)
+unfoldable pub quadratic-reply : ℕ → ℕ → QuadraticReply
+quadratic-reply d a = solved (element-refusal d (a ∷ [])) (even-root d a)
 
 -- the meaning of the answer: y is the root with lowest bit 0, and y + 1 is the only other root;
 -- no element is a root; or k is the refusal
-abbrev pub Means : ℕ → ℕ → Solution → Type 0
-Means d a (Root y) = (element-refusal d (a ∷ []) ≡ 0) × equation.EvenRoot d a y
-Means d a NoRoot = (element-refusal d (a ∷ []) ≡ 0) × ((y : ℕ) → equation.Root d a y → ⊥)
-Means d a (solution.Refused k) = (k ≡ element-refusal d (a ∷ [])) × ¬ (k ≡ 0)
+abbrev pub QuadraticMeans : ℕ → ℕ → QuadraticReply → Type 0
+QuadraticMeans d a (found y) = (element-refusal d (a ∷ []) ≡ 0) × equation.EvenRoot d a y
+QuadraticMeans d a no-root = (element-refusal d (a ∷ []) ≡ 0) × ((y : ℕ) → equation.Root d a y → ⊥)
+QuadraticMeans d a (refused k) = (k ≡ element-refusal d (a ∷ [])) × ¬ (k ≡ 0)

@@ -4,7 +4,7 @@
 ghost use mathlib.Core.Path.{_≡_};
 ghost use mathlib.Core.List.{[], _∷_};
 ghost use Rattle.binary_field.specs.Checks.{unless};
-ghost use Rattle.binary_field.specs.Answer.{reply, below, bound, degree-refusal, element-refusal, inverse-refusal, sum-reply, product-reply, square-reply, root-reply, inverse-reply, quadratic-answer};
+ghost use Rattle.binary_field.specs.Answer.{reply, below, bound, degree-refusal, element-refusal, inverse-refusal, sum-reply, product-reply, square-reply, root-reply, inverse-reply, solution-reply, quadratic-reply};
 
 mod carryless;
 mod inverting;
@@ -145,7 +145,7 @@ pub fn inverse(d: u8, a: u64) -> Answer
 
 // The root of y² + y = a with lowest bit 0: the half-trace of a with that bit cleared, if the trace of a is 0.
 pub fn quadratic_root(d: u8, a: u64) -> Solution
-    ensures { λ r. ⌜ r ≡ quadratic-answer d a ⌝ }
+    ensures { λ r. ⌜ solution-reply r ≡ quadratic-reply d a ⌝ }
 {
     let n = refusal(d, a, a);
     if n != 0 {

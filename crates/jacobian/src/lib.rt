@@ -123,7 +123,7 @@ fn form_refusal_of_two(c: Curve, a: Class, b: Class) -> u32
 }
 
 // A refusal, with the neutral class and no step.
-pub fn refused(n: u32) -> ClassAnswer
+fn refused(n: u32) -> ClassAnswer
     ensures { λ r. ⌜ reply r ≡ refusing n ⌝ }
 {
     let class = neutral();

@@ -3,18 +3,17 @@
 -- `element-root`: the element of a root solves the equation in the field.
 -- `point-accepts`: where y² + y = f(x), the variable plus x divides y² + y + f, and the class of (x, y) is accepted.
 use Prim.Native.Nat.{ℕ, zero, suc, _≤_, _<_, _^_}
-use mathlib.Core.{Path._≡_, Path.refl, Path.sym, Path.ap, Path.ap₂, Path._∙_, List.List, List.[], List._∷_, List.map}
+use mathlib.Core.{Path._≡_, Path.refl, Path.sym, Path.ap, Path.ap₂, Path.subst, Path._∙_, List.List, List.[], List._∷_, List.map}
 use native.Mathlib.Omega.{arith}
 use lib.ListN.{getD}
 use Rattle.field_laws.specs.{Ring.Ring2, Field.Field2}
 use Rattle.char2_algebra.specs.{Polynomials.Polynomials, Divides.Divides}
 use Rattle.char2_algebra.proofs.{Ring.ring2, Ring.⊞-𝟘, Degree.coeff-zero, Degree.con-of-zero, Degree.con-one, Degree.con-mul, Degree.coeff-con-add-x-mul, Degree.coeff-con-add-x-mul-suc}
-use Rattle.binary_field_theory.specs.{Carryless._⊕_, Element.Accepted, Element.square, Element.product, Quadratic.quadratic, Quadratic.Root}
-use Rattle.binary_field_theory.proofs.Elements.{element-path}
-use Rattle.binary_field.proofs.Field.{add-number, mul-number}
+use Rattle.binary_field_theory.specs.{Element.Accepted, Quadratic.Root}
+use Rattle.binary_field.proofs.Replies.{quadratic-in-field}
 use Rattle.class_group.specs.{Mumford.value, NonSingular.evaluate}
 use Rattle.row_theory.specs.{Field.degree-of, Field.accepted, Field.K, Field.F, Field.Poly, Field.𝔸, Field.el, Field.poly, Row.InRange}
-use Rattle.row_theory.proofs.{Rows.Elements.degree-is, Rows.Elements.el-number, Rows.Elements.el-zero, Rows.Elements.el-one, Rows.Elements.zero-lt, Rows.Coefficients.coeff-poly, Rows.Coefficients.poly-is}
+use Rattle.row_theory.proofs.{Rows.Elements.degree-is, Rows.Elements.el-of, Rows.Elements.el-zero, Rows.Elements.el-one, Rows.Elements.zero-lt, Rows.Coefficients.coeff-poly, Rows.Coefficients.poly-is}
 use Rattle.jacobian.specs.{Curves.f-row, Curves.curve, Curves.curve-refusal, Classes.u-row, Classes.pair, Answer.Accepts, declared.Curve.Curve, declared.Class.Class}
 use Rattle.jacobian.proofs.{ByValue.Checks.ShapePasses, ByValue.Checks.curve-passes, ByValue.Passing.f-is, Representation.Form.Formed, Representation.formed-accepted, Representation.accepts-both}
 use Rattle.stamps.specs.Stamps.{value-at, point-class}
@@ -108,16 +107,8 @@ module _ (d : ℕ) where
 module _ (d : ℕ) (ok : Accepted d) {a y : ℕ} (v : K d) (is : a ≡ v .0) (r : Root d a y) where
   -- the root as an element
   pub element-root : F d .ring .add (F d .ring .mul (el d y) (el d y)) (el d y) ≡ v
-  unfolding F quadratic square
-  element-root =
-      element-path (degree-of d)
-      (add-number (degree-of d) (accepted d) (F d .ring .mul (el d y) (el d y)) (el d y)
-      ∙ ap₂ _⊕_ (mul-number (degree-of d) (accepted d) (el d y) (el d y)
-      ∙ ap₂ (λ n m. product n m m) (degree-is d ok) (el-number d y y-lt)) (el-number d y y-lt)
-      ∙ r .solves ∙ is)
-    where
-      y-lt : y < 2 ^ degree-of d
-      y-lt = rw (degree-is d ok) (r .below)
+  unfolding F el
+  element-root = quadratic-in-field (degree-of d) (accepted d) (rw is (v .1)) (subst (λ (n : ℕ). Root n a y) (sym (degree-is d ok)) r) ∙ ap (el d) is ∙ el-of d v
 
 module _ (d x y : ℕ) (ok : Accepted d) (hx : x < 2 ^ d) (hy : y < 2 ^ d) where
   one-range : (n : ℕ) → n < 2 ^ d → InRange d (n ∷ 0 ∷ 0 ∷ [])

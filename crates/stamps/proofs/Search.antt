@@ -1,48 +1,49 @@
 -- The search over the candidates of a stamp in order, and the answer of the call.
 -- `candidate-lt`: the candidates of a stamp below 2^(d-3) are elements.
+-- `found-means`, `none-means`: what the root of a candidate's equation means.
 -- `class-found`, `class-missed`: a candidate has a class exactly where its equation has a root.
 -- `found-at`, `found-none`: the search finds the first candidate with a class, or none.
 -- `refused-first`, `answered-last`: the answer is the refusal before the search, or what the search finds.
 use Prim.Native.Nat.{ℕ, zero, suc, _+_, _-_, _*_, _^_, _≤_, _<_}
-use mathlib.Core.{Path._≡_, Path.refl, Path.sym, Path.ap, Path.subst, Path.fun-ext, Path._∙_, List.List, Option.Option, Option.none, Option.some, Option.Option·map}
+use mathlib.Core.{Path._≡_, Path.refl, Path.sym, Path.ap, Path.subst, Path.fun-ext, Path._∙_, List.List, Option.Option, Option.none, Option.some, Option.Option·map, Logic._↔_}
 use native.Mathlib.{Numerals.add-one, Omega.arith}
 use lib.Dec.{ltb}
 use borrow.Author.Tests.{lt-ltb, le-ltb, ltb-true}
-use Rattle.binary_field_theory.specs.{Element.Accepted, Search.first, Quadratic.even-root}
-use Rattle.binary_field_theory.proofs.{Products.degree-cases, Search.first-zero, Search.none-yet, Search.found-first}
-use Rattle.binary_field.specs.{Answer.quadratic-answer, declared.Solution.Solution, declared.Solution.the-variants.Root, declared.Solution.the-variants.NoRoot}
+use Rattle.binary_field_theory.specs.{Element.Accepted, Search.first, Quadratic.Root, Quadratic.EvenRoot, Quadratic.even-root}
+use Rattle.binary_field_theory.proofs.Search.{first-zero, none-yet, found-first}
+use Rattle.binary_field.specs.{Answer.solution-reply, Answer.quadratic-reply, Answer.QuadraticMeans, declared.Solution.Solution}
 use Rattle.binary_field.specs.declared.Solution.the-variants as solution
-use Rattle.binary_field.proofs.Replies.{quadratic-none, quadratic-some}
+use Rattle.binary_field.proofs.Replies.{quadratic-means, quadratic-none, quadratic-some, found-is, none-found, found-root}
 use Rattle.row_theory.specs.Row.{filled}
 use Rattle.jacobian.specs.{Checks.unless, Curves.f-row, Curves.curve-refusal, Answer.Reply, Answer.refusing, declared.Curve.Curve, declared.Class.Class}
-use Rattle.jacobian.proofs.ByValue.Checks.{next-due, then-zero, unless-zero}
+use Rattle.jacobian.proofs.ByValue.{Degrees.by-degree, Checks.next-due, Checks.then-zero, Checks.unless-zero}
 use Rattle.stamps.specs.Stamps.{value-at, point-class, class-at, first-class, stamp-refusal, stamped, stamp-answer}
 use Rattle.stamps.proofs.Values.{value-lt, value-filled}
 
 -- ---- the candidates are elements
 
 pub eight-times : (d : ℕ) → Accepted d → 8 * 2 ^ (d - 3) ≡ 2 ^ d
-eight-times = degree-cases (λ d. 8 * 2 ^ (d - 3) ≡ 2 ^ d) refl refl
+eight-times = by-degree (λ d. 8 * 2 ^ (d - 3) ≡ 2 ^ d) refl refl
 
 pub candidate-lt : (d s i : ℕ) → Accepted d → s < 2 ^ (d - 3) → i < 8 → 8 * s + i < 2 ^ d
 candidate-lt d s i ok hs hi = let e : 8 * 2 ^ (d - 3) ≡ 2 ^ d = eight-times d ok in omega arith
 
 pub bound-le : (d : ℕ) → Accepted d → 2 ^ (d - 3) ≤ 2 ^ 58
-bound-le = degree-cases (λ d. 2 ^ (d - 3) ≤ 2 ^ 58) (omega arith) (omega arith)
+bound-le = by-degree (λ d. 2 ^ (d - 3) ≤ 2 ^ 58) (omega arith) (omega arith)
 
 -- ---- one candidate
 
-root-of : Solution → ℕ
-root-of (Root y) = y
-root-of NoRoot = 0
-root-of (solution.Refused k) = 0
+-- what the root that is searched for means, as the call on elements says it
+module _ (d v : ℕ) (ok : Accepted d) (lt : v < 2 ^ d) where
+  pub found-means : {y : ℕ} → even-root d v ≡ some y → EvenRoot d v y
+  found-means e = subst (QuadraticMeans d v) (quadratic-some d v ok lt e) (quadratic-means d v) .1
 
-root-is : {y z : ℕ} → Root y ≡ Root z → y ≡ z
-unfolding root-of
-root-is e = ap root-of e
-
-root-not-none : {y : ℕ} → Root y ≡ NoRoot → ⊥
-root-not-none {y} e = let z : _≡_ {A = ℕ} 0 1 = cc in omega arith
+  pub none-means : (even-root d v ≡ none) ↔ ((y : ℕ) → Root d v y → ⊥)
+  none-means = (λ e. subst (QuadraticMeans d v) (quadratic-none d v ok lt e) (quadratic-means d v) .1, λ h. by h (even-root d v) refl)
+    where
+      by : ((y : ℕ) → Root d v y → ⊥) → (o : Option ℕ) → even-root d v ≡ o → even-root d v ≡ none
+      by h none e = e
+      by h (some y) e = absurd (h y (found-means e .root))
 
 module _ (d : ℕ) (f : List ℕ) (x : ℕ) where
   class-some : {y : ℕ} → even-root d (value-at d f x) ≡ some y → class-at d f x ≡ some (point-class x y)
@@ -58,19 +59,19 @@ module _ (d : ℕ) (f : List ℕ) (x : ℕ) where
     v-lt : v < 2 ^ d
     v-lt = rw is (value-lt d ok f x)
 
-    pub class-found : {t : Solution} {y : ℕ} → t ≡ Root y → t ≡ quadratic-answer d v → class-at d f x ≡ some (point-class x y)
+    pub class-found : {t : Solution} {y : ℕ} → t ≡ solution.Root y → solution-reply t ≡ quadratic-reply d v → class-at d f x ≡ some (point-class x y)
     class-found {t} {y} e g = by (even-root d v) refl
       where
         by : (o : Option ℕ) → even-root d v ≡ o → class-at d f x ≡ some (point-class x y)
-        by none h = absurd (root-not-none (sym e ∙ g ∙ quadratic-none d v ok v-lt h))
-        by (some z) h = class-some (ap (even-root d) (sym is) ∙ h ∙ ap some (sym (root-is (sym e ∙ g ∙ quadratic-some d v ok v-lt h))))
+        by none h = absurd (none-found e (g ∙ quadratic-none d v ok v-lt h))
+        by (some z) h = class-some (ap (even-root d) (sym is) ∙ h ∙ ap some (sym (found-is e (g ∙ quadratic-some d v ok v-lt h))))
 
-    pub class-missed : {t : Solution} → ((y : ℕ) → t ≡ Root y → ⊥) → t ≡ quadratic-answer d v → class-at d f x ≡ none
-    class-missed {t} e g = by (even-root d v) refl
+    pub class-missed : (t : Solution) → ((y : ℕ) → t ≡ solution.Root y → ⊥) → solution-reply t ≡ quadratic-reply d v → class-at d f x ≡ none
+    class-missed t e g = by (even-root d v) refl
       where
         by : (o : Option ℕ) → even-root d v ≡ o → class-at d f x ≡ none
         by none h = class-none (ap (even-root d) (sym is) ∙ h)
-        by (some z) h = absurd (e z (g ∙ quadratic-some d v ok v-lt h))
+        by (some z) h = absurd (e z (found-root t (g ∙ quadratic-some d v ok v-lt h)))
 
 -- ---- the search
 

@@ -13,12 +13,12 @@ use native.Mathlib.Omega.{arith}
 use lib.ListN.{getD}
 use borrow.Author.Tests.{lt-ltb, le-ltb}
 use Rattle.binary_field_theory.specs.{Element.Accepted, Search.first, Quadratic.Root, Quadratic.even-root}
-use Rattle.binary_field_theory.proofs.{Search.first-found, Search.none-before, Search.all-none, Theorems.even-root-found, Theorems.even-root-none}
+use Rattle.binary_field_theory.proofs.Search.{first-found, none-before, all-none}
 use Rattle.jacobian.specs.{Checks.unless, Checks._or-else_, Refusals.IsRefusal, Refusals.refusals, Refusals.listed, Refusals.ValidRefusal, Valid.ValidReply, Curves.f-row, Curves.degree-refusal, Curves.coefficient-refusal, Curves.curve-refusal, Answer.Reply, Answer.Verdict, Answer.accepted, Answer.refused, Answer.Accepts, declared.Curve.Curve, declared.Class.Class}
 use Rattle.jacobian.specs.Valid as valid
 use Rattle.jacobian.proofs.{Refusals.valid-unless, Refusals.valid-or-else, Valid.curve-refusal-valid, ByValue.Checks.curve-passes, ByValue.Checks.next-due}
 use Rattle.stamps.specs.Stamps.{value-at, point-class, class-at, first-class, stamp-refusal, stamped, stamp-answer, Rootless, FirstClass}
-use Rattle.stamps.proofs.{Search.candidate-lt, Search.passed, Points.point-accepts}
+use Rattle.stamps.proofs.{Values.value-lt, Search.candidate-lt, Search.found-means, Search.none-means, Search.passed, Points.point-accepts}
 
 -- ---- every answer is valid
 
@@ -90,11 +90,11 @@ module _ (c : Curve) (s : ℕ) where
   -- a candidate without a class has no root
   none-rootless : (x : ℕ) → Accepted d → class-at d (f-row c) x ≡ none → Rootless c x
   unfolding class-at
-  none-rootless x ok e = even-root-none d ok _ .0 (map-eq-none-iff (point-class x) _ .0 e)
+  none-rootless x ok e = none-means d _ ok (value-lt d ok _ x) .0 (map-eq-none-iff (point-class x) _ .0 e)
 
   rootless-none : (x : ℕ) → Accepted d → Rootless c x → class-at d (f-row c) x ≡ none
   unfolding class-at
-  rootless-none x ok h = map-eq-none-iff (point-class x) _ .1 (even-root-none d ok _ .1 h)
+  rootless-none x ok h = map-eq-none-iff (point-class x) _ .1 (none-means d _ ok (value-lt d ok _ x) .1 h)
 
   pub stamp-gives : stamp-answer c s .outcome ≡ accepted → (i : ℕ) × FirstClass c s i (stamp-answer c s .class)
   unfolding stamp-answer first-class class-at
@@ -107,7 +107,7 @@ module _ (c : Curve) (s : ℕ) where
         record {
           place = f .1;
           y = m .0;
-          root = even-root-found d ok (m .1);
+          root = found-means d _ ok (value-lt d ok _ _) (m .1);
           class = sym (m .2);
           earlier = λ j h. none-rootless (8 * s + j) ok (none-before (λ i. class-at d (f-row c) (8 * s + i)) (f .0) (f .3) j h);
         },

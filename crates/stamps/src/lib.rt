@@ -1,12 +1,13 @@
 // The class of a stamp, by value: of eight candidates x the first for which y² + y = f(x) has a root, with the root
 // whose lowest bit is 0. The checks come in this order: 106 and 107 for the curve, 115 for the stamp, and 116 where no
 // candidate has a root.
-ghost use Prim.Native.Nat.{_-_, _*_, _+_, _<_, _^_};
+ghost use Prim.Native.Nat.{ℕ, _-_, _<_, _^_};
 ghost use mathlib.Core.Path.{_≡_};
 ghost use mathlib.Core.Option.{some};
-ghost use Rattle.binary_field_theory.specs.{Carryless._⊕_, Element.Accepted, Element.product};
-ghost use Rattle.row_theory.specs.Row.{InRange};
-ghost use Rattle.jacobian.specs.Answer.{reply};
+ghost use Rattle.binary_field_theory.specs.Element.{Accepted};
+ghost use Rattle.binary_field.specs.Answer.{element, reply as element-reply};
+ghost use Rattle.row_theory.specs.{Field.degree-of, Field.F, Field.el, Row.InRange, internal.Elements.Is};
+ghost use Rattle.jacobian.specs.Answer.{reply, refusing};
 ghost use Rattle.stamps.specs.Stamps.{value-at, point-class, first-class, stamp-refusal, stamped, stamp-answer};
 use binary_field::Answer;
 use binary_field::Solution;
@@ -18,19 +19,26 @@ use jacobian::Outcome;
 // The number of candidates of a stamp.
 const CANDIDATES: u64 = 8;
 
-// r x + a. No product is computed where r is 0.
+// The number of an answer that is not a refusal.
+fn number(answer: Answer) -> u64
+    ensures { λ r. ⌜ ((n : ℕ) → element-reply answer ≡ element n → r ≡ n) ⌝ }
+{
+    match answer {
+        Answer::Element(n) => n,
+        Answer::Refused(_) => 0,
+    }
+}
+
+// r x + a, by the calls on elements. No product is computed where r is 0.
 fn times_plus(d: u8, r: u64, x: u64, a: u64) -> u64
-    requires { ⌜ Accepted d × (r < 2 ^ d) × (x < 2 ^ d) × (a < 2 ^ d) ⌝ }
-    ensures { λ s. ⌜ s ≡ a ⊕ product d x r ⌝ }
+    requires { ⌜ Accepted d × (r < 2 ^ degree-of d) × (x < 2 ^ degree-of d) × (a < 2 ^ degree-of d) ⌝ }
+    ensures { λ s. ⌜ Is d s (F d .ring .add (el d a) (F d .ring .mul (el d x) (el d r))) ⌝ }
 {
     if r == 0 {
         return a;
     }
-    let answer = binary_field::product(d, x, r);
-    match answer {
-        Answer::Element(p) => a ^ p,
-        Answer::Refused(_) => 0,
-    }
+    let p = number(binary_field::product(d, x, r));
+    number(binary_field::sum(d, a, p))
 }
 
 // The value of f at x, by Horner's rule.
@@ -45,6 +53,18 @@ fn value_at(d: u8, f: [u64; 12], x: u64) -> u64
         r = times_plus(d, r, x, f[i]);
     }
     r
+}
+
+// A refusal, with the neutral class and no step.
+fn refused(n: u32) -> ClassAnswer
+    ensures { λ r. ⌜ reply r ≡ refusing n ⌝ }
+{
+    let class = jacobian::neutral();
+    ClassAnswer {
+        outcome: Outcome::Refused(n),
+        class,
+        steps: 0,
+    }
 }
 
 // The class of the point (x, y), with no reduction step.
@@ -76,7 +96,7 @@ fn first_class(d: u8, f: [u64; 12], s: u64) -> ClassAnswer
         }
         i += 1;
     }
-    jacobian::refused(116)
+    refused(116)
 }
 
 // One more than the largest stamp of a degree: the candidates of all smaller numbers make up the field.
@@ -107,7 +127,7 @@ pub fn stamp(curve: Curve, s: u64) -> ClassAnswer
 {
     let n = stamp_refusal(curve, s);
     if n != 0 {
-        return jacobian::refused(n);
+        return refused(n);
     }
     let f = jacobian::curves::f_row(curve);
     first_class(curve.degree, f, s)

@@ -49,7 +49,7 @@ loop-again c =
     let v = q .before in
     let t = v .before in
     let p = t .before .before .pre in
-    (omega arith, one-more _ _ _ _ (t .before .loop .inv .1) (class-missed _ _ _ (p .0) (v .value-at .ensures) (λ y e. no-key (rw e at (c .match .keys2))) (q .quadratic-root .ensures)))
+    (omega arith, one-more _ _ _ _ (t .before .loop .inv .1) (class-missed _ _ _ (p .0) (v .value-at .ensures) (q .quadratic-root .result) (λ y e. no-key (rw e at (c .match .keys2))) (q .quadratic-root .ensures)))
 
 returns-2 : tie.Need-returns-2 Inv-loop μ-loop
 returns-2 c =
