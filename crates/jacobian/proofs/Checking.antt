@@ -3,7 +3,11 @@
 -- `class-checked`: on a curve that is not refused, that of a class is 104 of its form, then 110 of its numbers, then 111.
 -- `one-checked`: the refusal of a call on one class is that of the curve, then that of the class.
 -- `two-checked`: that of a call on two classes is this of the first, then that of the second.
-use Prim.Native.Nat.{ℕ, _^_, _≤_}
+-- `curve-answered`, `membership-answered`: the answer on a curve and on a class is accepted where all checks hold, else
+-- refused with the number of the first that fails.
+-- `unary-answered`, `binary-answered`: so is that of each call on one class and on two, a refusal with the neutral class
+-- and no step.
+use Prim.Native.Nat.{ℕ, zero, suc, _^_, _≤_}
 use mathlib.Core.{Path._≡_, Path.refl, Path.ap, Path._∙_, Bool.Bool, Bool.true, Bool._&&_, List.List, List.[], List._∷_, Logic._↔_}
 use native.Mathlib.Omega.{arith}
 use lib.{Dec.eqb, Dec.leb, ListN.length, ListN.drop}
@@ -13,11 +17,14 @@ use Rattle.binary_field.proofs.Checking.{degree-checked, below-decides}
 pub use Rattle.binary_field.proofs.RefusalOf.{refusal-none, refusal-unless, refusal-or-else, refusal-held, held-refusal, refusal-number}
 use Rattle.char2_algebra.specs.Divides.{Divides}
 use Rattle.char2_algebra.proofs.{Degree.len-zero, Degree.len-of-zero, Lead.monic-nonzero, Division.rem-of-divides, Division.divides-of-rem}
-use Rattle.class_group.specs.Mumford.{value}
-use Rattle.row_theory.specs.Field.{𝔸}
-use Rattle.jacobian.specs.{Checks.unless, Checks.check, Checks.blank, Checks.RefusalOf, Curves.coefficients, Curves.degree-refusal, Curves.coefficient-refusal, Curves.curve-refusal, Curves.curve}
+use Rattle.class_group.specs.{Mumford.value, Reduction.Counted}
+use Rattle.row_theory.specs.Field.{Poly, 𝔸}
+use Rattle.class_rows.specs.{Operations.unary, Operations.binary, declared.Unary.Unary, declared.Binary.Binary}
+use Rattle.jacobian.specs.{Checks.unless, Checks.Check, Checks.check, Checks.blank, Checks.RefusalOf, Checks.all-hold, Checks.first-fails, Curves.coefficients, Curves.degree-refusal, Curves.coefficient-refusal, Curves.curve-refusal, Curves.curve}
 use Rattle.jacobian.specs.{Classes.pair, Classes.padded, Classes.shape-refusal, Classes.range-refusal, Classes.class-refusal, Answer.refusal, Answer.refusal-of-two, declared.Curve.Curve, declared.Class.Class}
-use Rattle.jacobian.specs.Checking.{Below, degree-check, curve-checks, Padded, class-checks, checks-of-one, checks-of-two}
+use Rattle.jacobian.specs.Checking.{Below, degree-check, curve-checks, Padded, class-checks, checks-of-one, checks-of-two, VerdictOf, ReplyOf}
+use Rattle.jacobian.specs.Checking as checking
+use Rattle.jacobian.specs.Answer.{verdict-of, answered, curve-answer, membership-answer, unary-answer, binary-answer}
 use Rattle.jacobian.proofs.ByValue.{Checks.then-zero, Checks.both, Checks.blank-past, Checks.curve-passes, Checks.shape-passes, Checks.range-passes, Below.from-blank}
 use Rattle.jacobian.proofs.Representation.Form.{passes-formed, u-monic}
 
@@ -84,3 +91,33 @@ unfolding refusal-of-two refusal
 two-checked c a b =
     refusal-or-else (checks-of-one c a) (class-checks c b) (refusal c a) (class-refusal c b) (one-checked c a)
     (λ h. class-checked c b (then-zero _ _ (refusal-held (one-checked c a) h) .0))
+
+-- ---- the answers
+
+verdict-by : (cs : List Check) (n : ℕ) → RefusalOf cs n → VerdictOf cs (verdict-of n)
+unfolding verdict-of
+verdict-by cs zero (all-hold e h) = checking.VerdictOf.accepts refl h
+verdict-by cs (suc n) (all-hold e h) = absurd (omega arith)
+verdict-by cs zero (first-fails z h) = absurd (z refl)
+verdict-by cs (suc n) (first-fails z h) = checking.VerdictOf.refuses (suc n) refl h
+
+reply-by : (cs : List Check) (n d : ℕ) (D : Counted (Poly d)) → RefusalOf cs n → ReplyOf cs (answered d n D)
+unfolding answered
+reply-by cs zero d D (all-hold e h) = checking.ReplyOf.accepts refl h
+reply-by cs (suc n) d D (all-hold e h) = absurd (omega arith)
+reply-by cs zero d D (first-fails z h) = absurd (z refl)
+reply-by cs (suc n) d D (first-fails z h) = checking.ReplyOf.refuses (suc n) refl h
+
+pub curve-answered : (c : Curve) → VerdictOf (curve-checks c) (curve-answer c)
+unfolding curve-answer
+curve-answered c = verdict-by (curve-checks c) (curve-refusal c) (curve-checked c)
+
+pub membership-answered : (c : Curve) (a : Class) → VerdictOf (checks-of-one c a) (membership-answer c a)
+unfolding membership-answer
+membership-answered c a = verdict-by (checks-of-one c a) (refusal c a) (one-checked c a)
+
+pub unary-answered : (op : Unary) (c : Curve) (a : Class) → ReplyOf (checks-of-one c a) (unary-answer op c a)
+unary-answered op c a = reply-by (checks-of-one c a) (refusal c a) (c .degree) (unary op (curve c) (pair (c .degree) a)) (one-checked c a)
+
+pub binary-answered : (op : Binary) (c : Curve) (a b : Class) → ReplyOf (checks-of-two c a b) (binary-answer op c a b)
+binary-answered op c a b = reply-by (checks-of-two c a b) (refusal-of-two c a b) (c .degree) (binary op (curve c) (pair (c .degree) a) (pair (c .degree) b)) (two-checked c a b)

@@ -1,4 +1,5 @@
 -- `examples`: every row of the table of examples holds, over either field.
+-- `further-examples`: so does every row of our own tables, on curves with f3, f1 and f0 all different.
 -- The rows are computed, and the numbers compared with those of the table.
 use Prim.Native.Nat.{ℕ}
 use mathlib.Core.Bool.{Bool, true, _&&_}
@@ -17,6 +18,7 @@ use Rattle.jacobian.specs.Curves.{curve}
 use Rattle.jacobian.specs.Classes.{pair}
 use Rattle.jacobian.specs.Answer.{Result, result, accepted, refused, membership-answer, double-answer, half-answer, sum-answer}
 use Rattle.jacobian.specs.Examples.{Example, twice-is, half-is, sum-is, on-and-not-on, Gives, Holds, table}
+use Rattle.jacobian.specs.FurtherExamples.{bench-table, wide-table}
 use Rattle.jacobian.proofs.ByValue.Degrees.{by-degree}
 use Rattle.jacobian.proofs.Computing.{computing}
 use Rattle.jacobian.proofs.Examples.Compare.{alike-pairs, pairs-eq, alike-verdicts, verdicts-eq, alike-results, results-eq}
@@ -39,6 +41,14 @@ test-all (e ∷ es) = test e && test-all es
 computed : T (test-all (table 5)) × T (test-all (table 61))
 unfolding computing
 computed = (tt, tt)
+
+computed-bench : T (test-all bench-table)
+unfolding computing
+computed-bench = tt
+
+computed-wide : T (test-all wide-table)
+unfolding computing
+computed-wide = tt
 
 -- ---- what passes the test holds
 gives-gives : (c : Curve) (D : Pair (Poly (c .degree))) (s : Result) (r : Class) → T (gives c D s r) → Gives c D s r
@@ -66,3 +76,7 @@ all-hold (e ∷ es) t =
 -- the twelve examples, over either field (docs/SPECIFICATION.md, 2.9)
 pub examples : (d : ℕ) → Accepted d → All Holds (table d)
 examples = by-degree (λ d. All Holds (table d)) (all-hold (table 5) (computed .0)) (all-hold (table 61) (computed .1))
+
+-- our own examples, over the bench field and over that of degree 61
+pub further-examples : All Holds bench-table × All Holds wide-table
+further-examples = (all-hold bench-table computed-bench, all-hold wide-table computed-wide)

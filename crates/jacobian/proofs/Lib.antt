@@ -8,4 +8,7 @@ pub mod Moves
 pub mod Group
 pub mod Refusals
 pub mod Checking
+pub mod Acceptance
+pub mod Edges
+pub mod Steps
 pub mod Valid

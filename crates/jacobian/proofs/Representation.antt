@@ -35,7 +35,7 @@ module _ (c : Curve) (ok : curve-refusal c ≡ 0) where
   range-in r h i = rw bound-is at (h i)
 
   -- an accepted class is in form, and one in form is accepted where u divides v² + v + f
-  accepted-formed : (a : Class) → class-refusal c a ≡ 0 → Formed (c .degree) a
+  pub accepted-formed : (a : Class) → class-refusal c a ≡ 0 → Formed (c .degree) a
   accepted-formed a e =
       let p = class-passes c a e in
       passes-formed (c .degree) (curve-passes c ok .accepted) a (p .shape) (p .range)

@@ -5,7 +5,8 @@ use lib.ListN.{length, getD}
 use Rattle.char2_algebra.specs.Divides.{Divides}
 use Rattle.class_group.specs.Mumford.{value}
 use Rattle.row_theory.specs.Field.{𝔸}
-use Rattle.jacobian.specs.{Checks.Check, Checks.check, Curves.coefficients, Curves.curve, Classes.pair, declared.Curve.Curve, declared.Class.Class}
+use Rattle.jacobian.specs.{Answer.Verdict, Answer.accepted, Answer.refused, Answer.Reply, Answer.refusing}
+use Rattle.jacobian.specs.{Checks.Check, Checks.check, Checks.AllHold, Checks.FirstFails, Curves.coefficients, Curves.curve, Classes.pair, declared.Curve.Curve, declared.Class.Class}
 pub use Rattle.binary_field.specs.Checking.{Below, degree-check}
 
 -- the checks of a curve: the degree is 5 or 61, then every coefficient is below 2^d
@@ -34,3 +35,15 @@ checks-of-one c a = curve-checks c ++ class-checks c a
 -- the checks of a call on two classes
 abbrev pub checks-of-two : Curve → Class → Class → List Check
 checks-of-two c a b = checks-of-one c a ++ class-checks c b
+
+-- ---- what a call answers by its checks
+
+-- the outcome of checks made in order: accepted where all hold, else refused with the number of the first that fails
+pub data VerdictOf (cs : List Check) (v : Verdict) : Type 0 where
+  accepts : v ≡ accepted → AllHold cs → VerdictOf cs v
+  refuses : (n : ℕ) → v ≡ refused n → FirstFails cs n → VerdictOf cs v
+
+-- the same of an answer with a class: a refusal has the neutral class and no step
+pub data ReplyOf (cs : List Check) (r : Reply) : Type 0 where
+  accepts : r .outcome ≡ accepted → AllHold cs → ReplyOf cs r
+  refuses : (n : ℕ) → r ≡ refusing n → FirstFails cs n → ReplyOf cs r

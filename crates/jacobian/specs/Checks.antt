@@ -4,7 +4,7 @@ use Prim.Native.Nat.{ℕ}
 use mathlib.Core.{Bool.Bool, Bool.true, Bool._&&_, List.List, List.[], List._∷_}
 use lib.Dec.{eqb}
 unfoldable pub use Rattle.binary_field.specs.Checks.{unless, _or-else_}
-pub use Rattle.binary_field.specs.Checks.{Check, check, AllHold, FirstFails, RefusalOf}
+pub use Rattle.binary_field.specs.Checks.{Check, check, AllHold, FirstFails, RefusalOf, all-hold, first-fails}
 
 -- every number is 0
 unfoldable pub blank : List ℕ → Bool

@@ -5,7 +5,9 @@ pub mod Refusals
 pub mod Curves
 pub mod Classes
 pub mod Checking
+pub mod Membership
 pub mod Examples
+pub mod FurtherExamples
 pub mod Answer
 pub mod Group
 pub mod Valid

@@ -65,19 +65,19 @@ module _ (d : ℕ) (a : Class) (h : Formed d a) where
       at (yes k) (yes e) = rw (e, u-row-top a long) (one-lt d)
       at (yes k) (no e) = rw (u-row-past a long i (omega arith)) (zero-lt d)
 
-  coeff-u-below : (i : ℕ) → i < a .degree → 𝔸 d .coeff (pair d a .u) i ≡ el d (getD (a .u) i 0)
+  pub coeff-u-below : (i : ℕ) → i < a .degree → 𝔸 d .coeff (pair d a .u) i ≡ el d (getD (a .u) i 0)
   unfolding pair
   coeff-u-below i k = coeff-poly d (u-row a) i ∙ ap (el d) (u-row-below a long i k)
 
-  coeff-u-top : 𝔸 d .coeff (pair d a .u) (a .degree) ≡ F d .ring .one
+  pub coeff-u-top : 𝔸 d .coeff (pair d a .u) (a .degree) ≡ F d .ring .one
   unfolding pair
   coeff-u-top = coeff-poly d (u-row a) (a .degree) ∙ ap (el d) (u-row-top a long) ∙ el-one d
 
-  coeff-u-past : (i : ℕ) → a .degree < i → 𝔸 d .coeff (pair d a .u) i ≡ F d .ring .zero
+  pub coeff-u-past : (i : ℕ) → a .degree < i → 𝔸 d .coeff (pair d a .u) i ≡ F d .ring .zero
   unfolding pair
   coeff-u-past i k = coeff-poly d (u-row a) i ∙ ap (el d) (u-row-past a long i k) ∙ el-zero d
 
-  coeff-v : (i : ℕ) → 𝔸 d .coeff (pair d a .v) i ≡ el d (getD (a .v) i 0)
+  pub coeff-v : (i : ℕ) → 𝔸 d .coeff (pair d a .v) i ≡ el d (getD (a .v) i 0)
   unfolding pair
   coeff-v i = coeff-poly d (a .v) i
 
