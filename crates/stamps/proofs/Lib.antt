@@ -3,3 +3,4 @@ pub mod Values
 pub mod Search
 pub mod Points
 pub mod Theorems
+pub mod Edges

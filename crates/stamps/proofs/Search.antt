@@ -7,7 +7,6 @@
 use Prim.Native.Nat.{ℕ, zero, suc, _+_, _-_, _*_, _^_, _≤_, _<_}
 use mathlib.Core.{Path._≡_, Path.refl, Path.sym, Path.ap, Path.subst, Path.fun-ext, Path._∙_, List.List, Option.Option, Option.none, Option.some, Option.Option·map, Logic._↔_}
 use native.Mathlib.{Numerals.add-one, Omega.arith}
-use lib.Dec.{ltb}
 use borrow.Author.Tests.{lt-ltb, le-ltb, ltb-true}
 use Rattle.binary_field_theory.specs.{Element.Accepted, Search.first, Quadratic.Root, Quadratic.EvenRoot, Quadratic.even-root}
 use Rattle.binary_field_theory.proofs.Search.{first-zero, none-yet, found-first}

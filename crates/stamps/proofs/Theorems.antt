@@ -3,21 +3,25 @@
 -- `stamp-refuses`: a refused stamp is refused with a listed number.
 -- `stamp-gives`: an accepted stamp's class is that of its first candidate with a root.
 -- `stamp-accepts`: it is accepted on the curve and has degree 1.
+-- `stamp-checked`: each refusal under its condition and in its order: those of the curve, then 115, then 116.
 -- `stamp-too-large`: on an accepted curve a stamp of 2^(d-3) or more is refused with 115.
 -- `stamp-rootless`: a stamp is refused with 116 exactly where the curve is accepted, the stamp is below 2^(d-3) and
 -- none of its eight candidates has a root.
 -- `stamp-injective`: two accepted stamps of a curve with the same class are equal.
 use Prim.Native.Nat.{ℕ, zero, suc, _+_, _-_, _*_, _/_, _^_, _≤_, _<_}
-use mathlib.Core.{Path._≡_, Path.refl, Path.sym, Path.ap, Path.subst, Path._∙_, Bool.Bool, Bool.true, Bool.false, Logic._↔_, Logic.inl, Logic.inr, List.[], List._∷_, List.List, Option.Option, Option.none, Option.some, Option.Option·map, Option.map-eq-none-iff, Option.map-eq-some-iff}
+use mathlib.Core.{Path._≡_, Path.refl, Path.sym, Path.ap, Path.subst, Path._∙_, Bool.Bool, Bool.true, Bool.false, List.List, List.[], List._∷_, List._++_, Logic._↔_, Logic.inl, Logic.inr, Option.Option, Option.none, Option.some, Option.map-eq-none-iff, Option.map-eq-some-iff}
 use native.Mathlib.Omega.{arith}
-use lib.ListN.{getD}
-use borrow.Author.Tests.{lt-ltb, le-ltb}
-use Rattle.binary_field_theory.specs.{Element.Accepted, Search.first, Quadratic.Root, Quadratic.even-root}
+use lib.{Dec.ltb, ListN.getD}
+use borrow.Author.Tests.{lt-ltb, le-ltb, ltb-true}
+use Rattle.binary_field_theory.specs.{Element.Accepted, Quadratic.even-root}
 use Rattle.binary_field_theory.proofs.Search.{first-found, none-before, all-none}
+use Rattle.jacobian.specs.{Checks.Check, Checks.check, Checks.RefusalOf, Checks.all-hold, Checks.first-fails, Checking.curve-checks, Checking.ReplyOf}
+use Rattle.jacobian.specs.Checking as checking
 use Rattle.jacobian.specs.{Checks.unless, Checks._or-else_, Refusals.IsRefusal, Refusals.refusals, Refusals.listed, Refusals.ValidRefusal, Valid.ValidReply, Curves.f-row, Curves.degree-refusal, Curves.coefficient-refusal, Curves.curve-refusal, Answer.Reply, Answer.Verdict, Answer.accepted, Answer.refused, Answer.Accepts, declared.Curve.Curve, declared.Class.Class}
 use Rattle.jacobian.specs.Valid as valid
-use Rattle.jacobian.proofs.{Refusals.valid-unless, Refusals.valid-or-else, Valid.curve-refusal-valid, ByValue.Checks.curve-passes, ByValue.Checks.next-due}
-use Rattle.stamps.specs.Stamps.{value-at, point-class, class-at, first-class, stamp-refusal, stamped, stamp-answer, Rootless, FirstClass}
+use Rattle.jacobian.proofs.Checking.{refusal-unless, refusal-or-else, refusal-held, curve-checked}
+use Rattle.jacobian.proofs.{Refusals.valid-unless, Refusals.valid-or-else, Valid.curve-refusal-valid, ByValue.Checks.curve-passes}
+use Rattle.stamps.specs.Stamps.{value-at, point-class, class-at, first-class, stamp-refusal, stamped, stamp-answer, SomeRoot, stamp-checks, Rootless, FirstClass}
 use Rattle.stamps.proofs.{Values.value-lt, Search.candidate-lt, Search.found-means, Search.none-means, Search.passed, Points.point-accepts}
 
 -- ---- every answer is valid
@@ -144,6 +148,54 @@ module _ (c : Curve) (s : ℕ) where
         (q .0, q .1, λ i l. none-rootless (8 * s + i) (curve-passes c (q .0) .accepted) (none-before (λ j. class-at d (f-row c) (8 * s + j)) 8 (p .1) i l)),
     λ h. rootless-refused (h .0) (h .1) (h .2),
   )
+
+-- ---- each refusal under its condition
+
+-- 116 where the search finds no class, else 0
+search-refusal : Option Class → ℕ
+search-refusal none = 116
+search-refusal (some a) = 0
+
+searched : {P : Type 0} (o : Option Class) → ((a : Class) → o ≡ some a → P) → (o ≡ none → ¬ P) → RefusalOf (check 116 P ∷ []) (search-refusal o)
+unfolding search-refusal
+searched none h k = first-fails (λ e. omega arith) (inl (k refl, refl))
+searched (some a) h k = all-hold refl (h a refl, tt)
+
+reply-by : (cs : List Check) (m : ℕ) (o : Option Class) → RefusalOf cs (m or-else search-refusal o) → ReplyOf cs (stamped m o)
+unfolding stamped search-refusal _or-else_
+reply-by cs zero none (all-hold e h) = absurd (omega arith)
+reply-by cs zero none (first-fails z h) = checking.ReplyOf.refuses 116 refl h
+reply-by cs zero (some a) (all-hold e h) = checking.ReplyOf.accepts refl h
+reply-by cs zero (some a) (first-fails z h) = absurd (z refl)
+reply-by cs (suc n) o (all-hold e h) = absurd (omega arith)
+reply-by cs (suc n) o (first-fails z h) = checking.ReplyOf.refuses (suc n) refl h
+
+module _ (c : Curve) (s : ℕ) where
+  refusal-checked : RefusalOf (curve-checks c ++ check 115 (s < 2 ^ (c .degree - 3)) ∷ []) (stamp-refusal c s)
+  unfolding stamp-refusal
+  refusal-checked =
+      let m = 2 ^ (c .degree - 3) in
+      refusal-or-else (curve-checks c) (check 115 (s < m) ∷ []) (curve-refusal c) (unless (ltb s m) 115) (curve-checked c)
+      (λ h. refusal-unless (ltb s m) 115 (λ e. omega arith) (ltb-true s m, lt-ltb s m))
+
+  search-checked : curve-refusal c ≡ 0 → RefusalOf (check 116 (SomeRoot c s) ∷ []) (search-refusal (first-class (c .degree) (f-row c) s))
+  unfolding first-class class-at
+  search-checked ok =
+      let d = c .degree in
+      let degree = curve-passes c ok .accepted in
+      searched (first-class d (f-row c) s)
+      (λ a e.
+      let f = first-found (λ i. class-at d (f-row c) (8 * s + i)) 8 e in
+      let m = map-eq-some-iff (point-class (8 * s + f .0)) (even-root d (value-at d (f-row c) (8 * s + f .0))) .0 (f .2) in
+      (f .0, f .1, (m .0, found-means d _ degree (value-lt d degree _ _) (m .1) .root)))
+      (λ e h. none-rootless c s (8 * s + h .0) degree (none-before (λ i. class-at d (f-row c) (8 * s + i)) 8 e (h .0) (h .1)) (h .2 .0) (h .2 .1))
+
+  pub stamp-checked : ReplyOf (stamp-checks c s) (stamp-answer c s)
+  unfolding stamp-answer
+  stamp-checked =
+      reply-by (stamp-checks c s) (stamp-refusal c s) (first-class (c .degree) (f-row c) s)
+      (refusal-or-else (curve-checks c ++ check 115 (s < 2 ^ (c .degree - 3)) ∷ []) (check 116 (SomeRoot c s) ∷ []) (stamp-refusal c s) _ refusal-checked
+      (λ h. search-checked (refusal-held (curve-checked c) (h .0, (h .1 .0, tt)))))
 
 -- ---- two stamps
 

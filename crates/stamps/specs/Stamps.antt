@@ -1,11 +1,11 @@
 -- The class of a stamp on a curve (docs/SPECIFICATION.md, 2 and 6).
 use Prim.Native.Nat.{ℕ, zero, suc, _+_, _-_, _*_, _^_, _<_}
-use mathlib.Core.{Path._≡_, List.List, List.[], List._∷_, List.map, Option.Option, Option.none, Option.some, Option.Option·map}
+use mathlib.Core.{Path._≡_, List.List, List.[], List._∷_, List._++_, List.map, Option.Option, Option.none, Option.some, Option.Option·map}
 use lib.Dec.{ltb}
 use Rattle.binary_field_theory.specs.{Search.first, Quadratic.Root, Quadratic.EvenRoot, Quadratic.even-root}
 use Rattle.class_group.specs.NonSingular.{evaluate}
 use Rattle.row_theory.specs.Field.{F, el}
-use Rattle.jacobian.specs.{Checks.unless, Checks._or-else_, Curves.f-row, Curves.curve-refusal, Answer.Reply, Answer.accepted, Answer.refusing, declared.Curve.Curve, declared.Class.Class}
+use Rattle.jacobian.specs.{Checks.unless, Checks._or-else_, Checks.Check, Checks.check, Checking.curve-checks, Curves.f-row, Curves.curve-refusal, Answer.Reply, Answer.accepted, Answer.refusing, declared.Curve.Curve, declared.Class.Class}
 
 -- the value at x of the polynomial with these coefficients, the lowest first
 unfoldable pub value-at : ℕ → List ℕ → ℕ → ℕ
@@ -38,6 +38,14 @@ unfoldable pub stamp-answer : Curve → ℕ → Reply
 stamp-answer c s = stamped (stamp-refusal c s) (first-class (c .degree) (f-row c) s)
 
 -- ---- what the theorems name
+
+-- y² + y = f(x) has a root for some candidate x of the stamp
+abbrev pub SomeRoot : Curve → ℕ → Type 0
+SomeRoot c s = (i : ℕ) × (i < 8) × ((y : ℕ) × Root (c .degree) (value-at (c .degree) (f-row c) (8 * s + i)) y)
+
+-- the checks of a stamp: those of the curve, then that the stamp is below 2^(d-3), then that a candidate has a root
+abbrev pub stamp-checks : Curve → ℕ → List Check
+stamp-checks c s = curve-checks c ++ check 115 (s < 2 ^ (c .degree - 3)) ∷ check 116 (SomeRoot c s) ∷ []
 
 -- y² + y = f(x) has no root
 abbrev pub Rootless : Curve → ℕ → Type 0

@@ -1,5 +1,4 @@
 -- `stamp` meets its contract.
-use mathlib.Core.Path.{sym, _∙_}
 use borrow.Author.Needs.{needs}
 use Rattle.jacobian.proofs.ByValue.{Checks.curve-passes, Passing.on-curve}
 use Rattle.stamps.proofs.Search.{refused-first, answered-last, passed}
