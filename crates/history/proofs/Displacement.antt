@@ -23,17 +23,17 @@ use native.Mathlib.Omega.{arith}
 use lib.ListN.{length, length-append, length-map, length-reverse}
 use Rattle.lists.specs.{Lists.All, Lists.none, Lists.more, Lists.ChangedAt, Walk.foldl}
 use Rattle.class_group.specs.{Group.Doubling, Multiples.repeat, Multiples.multiple, Multiples.forward}
-use Rattle.lists.proofs.{Lists.all-reverse, Lists.changed-members, Walk.foldl-agrees, Walk.foldl-state, Walk.foldl-back, Walk.turned}
+use Rattle.lists.proofs.{Lists.all-reverse, Lists.changed-members, Walk.foldl-agrees, Walk.foldl-state}
 use Rattle.class_group.proofs.Displacement as group
 use Rattle.jacobian.specs.{Answer.Verdict, Answer.accepted, Answer.refused, Answer.Accepts, Answer.result, Answer.gives, Answer.neutral-class, Answer.sum-answer}
 use Rattle.jacobian.specs.Group.{sum-of, opposite-of, double-of, difference, doublings}
 use Rattle.jacobian.specs.declared.{Curve.Curve, Class.Class}
 use Rattle.jacobian.proofs.{Representation.accepts-curve, Representation.accepts-both, Group.class-is, Group.doubling, Group.sum-given, Group.difference-accepts, Group.doublings-accept, Group.doublings-sum}
-use Rattle.history.specs.Register.{RegisterReply, commit-seal, undo-seal, with-count-and-seal, stepped}
+use Rattle.history.specs.Register.{RegisterReply, commit-seal, with-count-and-seal, stepped}
 use Rattle.history.specs.Machine as definition
 use Rattle.history.specs.Calls.{Call, answer, registers, Event, run, last, newest, classes, OnlyCommits, walk-back, operations, Variants, displaced}
 use Rattle.history.specs.declared.{Register.Register, Step.Step, Step.the-variants.Commit}
-use Rattle.history.proofs.{Seals.commit-sound, Seals.commit-sum, Seals.reversible, OneStep.step-taken, OneCall.refused-stays, Preserved.accepted-classes, Preserved.classes-accept, Preserved.first-passes}
+use Rattle.history.proofs.{Seals.commit-sound, Seals.commit-sum, Seals.reversible, Seals.walk-is-only, OneStep.step-taken, OneCall.refused-stays, Preserved.accepted-classes, Preserved.classes-accept, Preserved.first-passes}
 
 -- ---- the commit's rule over lists of classes
 module _ {c : Curve} {k : ℕ} {d e s : Class} {l m : List Class} (at : ChangedAt k d e l m) (hs : Accepts c s) (hl : All (Accepts c) l) (hm : All (Accepts c) m) where
@@ -192,15 +192,11 @@ module _ (r t : Register) (cs ds : List Call) {k : ℕ} {d e : Class} (v : Varia
 module _ {c : Curve} {s t : Class} {xs ys : List Class} (hs : Accepts c s) (hx : All (Accepts c) xs) (ht : Accepts c t) (hy : All (Accepts c) ys)
     (same : walk-back c s xs ≡ walk-back c t ys) {k : ℕ} {d e : Class} (at : ChangedAt k d e (reverse xs) (reverse ys)) where
   earliest : Accepts c (walk-back c s xs)
-  unfolding walk-back
-  earliest = foldl-state (turned (reversible c)) hs hx
+  earliest = walk-is-only hs hx .accepts
 
   -- commits of the same classes, oldest first, lead from the end of the walk to its first seal
   leads : {a : Class} {l : List Class} → Accepts c a → All (Accepts c) l → foldl (commit-seal c) (walk-back c a l) (reverse l) ≡ a
-  unfolding walk-back
-  leads {a} {l} h k =
-      ap (λ x. foldl (commit-seal c) (foldl (undo-seal c) a x) (reverse l)) (sym (reverse-reverse l))
-      ∙ foldl-back (reversible c) h (all-reverse k)
+  leads h k = walk-is-only h k .holds
 
   leads-changed : foldl (commit-seal c) (walk-back c s xs) (reverse ys) ≡ t
   leads-changed = ap (λ z. foldl (commit-seal c) z (reverse ys)) same ∙ leads ht hy

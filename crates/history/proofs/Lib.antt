@@ -3,6 +3,7 @@ pub mod Machine
 pub mod Seals
 pub mod Registers
 pub mod OneStep
+pub mod Promises
 pub mod OneCall
 pub mod TakingBack
 pub mod Failing

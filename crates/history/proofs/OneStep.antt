@@ -39,10 +39,10 @@ step-taken k r a e = follows-zero _ r (stepped k r a) (follows-accepted _ r (ste
 
 -- ---- a step that passes, and the other one after it
 module _ (r : Register) (a : Class) where
-  seal-sound : {k : Step} → Passing k r a → Accepts (r .curve) (r .seal)
+  pub seal-sound : {k : Step} → Passing k r a → Accepts (r .curve) (r .seal)
   seal-sound p = accepts-both (r .curve) (r .seal) (p .register .curve-passes) (p .register .seal-passes)
 
-  class-sound : {k : Step} → Passing k r a → Accepts (r .curve) a
+  pub class-sound : {k : Step} → Passing k r a → Accepts (r .curve) a
   class-sound p = accepts-both (r .curve) a (p .register .curve-passes) (p .class-passes)
 
   pub stepped-passes : (k : Step) → Passing k r a → Passes (stepped k r a)

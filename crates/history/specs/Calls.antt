@@ -5,7 +5,7 @@ use mathlib.Core.List.{List, [], _∷_, map, reverse}
 use Rattle.lists.specs.{Lists.All, Lists.ChangedAt, Walk.foldl}
 use Rattle.jacobian.specs.{Answer.accepted, Answer.Result, Answer.result, Answer.sum-answer, Answer.subtract-and-halve-answer, Group.difference, Group.doublings}
 use Rattle.jacobian.specs.declared.{Curve.Curve, Class.Class}
-use Rattle.history.specs.Register.{RegisterReply, step-answer, other, undo-seal}
+use Rattle.history.specs.Register.{RegisterReply, step-answer, other, commit-seal, undo-seal}
 use Rattle.history.specs.Machine as machine
 use Rattle.history.specs.Machine.{Machine}
 use Rattle.history.specs.declared.{Register.Register, Step.Step, Step.the-variants.Commit, Step.the-variants.Undo}
@@ -77,7 +77,12 @@ OnlyCommits es = All (λ e. e .call .step ≡ Commit) es
 unfoldable pub seals-back : Register → List Call → List Class
 seals-back r cs = last r cs .seal ∷ map (λ e. e .before .seal) (newest r cs)
 
--- the end of a walk back: the undo rule applied to the seal once for each class; for no class the seal itself
+-- the end of a walk forward: a commit of each class in turn; for no class the seal itself
+abbrev pub walk-forward : Curve → Class → List Class → Class
+walk-forward c seal ops = foldl (commit-seal c) seal ops
+
+-- the end of a walk back: the one seal from which a walk forward over the classes, oldest first, ends in the given one;
+-- found by the undo rule, once for each class, newest first
 unfoldable pub walk-back : Curve → Class → List Class → Class
 walk-back c seal ops = foldl (undo-seal c) seal ops
 

@@ -8,7 +8,7 @@ ghost use Rattle.jacobian.specs.{Checks._or-else_, Curves.curve-refusal, Answer
 ghost use Rattle.jacobian.specs.declared.Class.{Class as Seal};
 ghost use Rattle.count_limit.specs.Limit.{count-refusal};
 ghost use Rattle.history.specs.declared.Register.{Register as Value};
-ghost use Rattle.history.specs.Register.{edge, edge-refusal, with-count-and-seal, sealed, register-reply, follows, step-answer, commit-answer, undo-answer};
+ghost use Rattle.history.specs.Register.{edge, edge-refusal, with-count-and-seal, sealed, register-reply, follows, commit-answer, StepAnswers, UndoAnswers};
 use jacobian::Class;
 use jacobian::ClassAnswer;
 use jacobian::Curve;
@@ -105,7 +105,7 @@ fn followed(register: Register, count: u64, answer: ClassAnswer) -> RegisterAnsw
 impl Register {
     // One step with a class. If accepted, the checks run once, inside the class operation.
     pub fn step(self, step: Step, class: Class) -> RegisterAnswer
-        ensures { λ r. ⌜ register-reply r ≡ step-answer step self class ⌝ }
+        ensures { λ r. ⌜ StepAnswers step self class (register-reply r) ⌝ }
     {
         let curve = self.curve;
         let count = self.count;
@@ -137,9 +137,9 @@ impl Register {
         self.step(Step::Commit, class)
     }
 
-    // The new seal is half of the difference of the old seal and the operation's class, and the count falls by 1.
+    // The new seal is the one that a commit of the class takes to the old seal, and the count falls by 1.
     pub fn undo(self, class: Class) -> RegisterAnswer
-        ensures { λ r. ⌜ register-reply r ≡ undo-answer self class ⌝ }
+        ensures { λ r. ⌜ UndoAnswers self class (register-reply r) ⌝ }
     {
         self.step(Step::Undo, class)
     }

@@ -1,14 +1,15 @@
 -- The answer of a call by value, as the call in place answers it.
 -- `verdict-number`: equal outcomes have equal numbers.
--- `step-in-place`: the number of the outcome and the register of a call by value are the answer in place.
--- `lent-in-place`: for a number other than 0, that number and the lent register as it was are the answer in place.
+-- `step-in-place`: the number of the outcome and the register of a call by value keep what the step promises.
+-- `lent-in-place`: for a number other than 0, so do that number and the lent register as it was.
 use Prim.Native.Nat.{ℕ, zero, suc}
 use mathlib.Core.{Path._≡_, Path.refl, Path.sym, Path._∙_, Path.ap, Bool.not}
 use lib.Dec.{T, eqb}
 use Rattle.jacobian.specs.{Answer.Verdict, Answer.accepted, Answer.refused, Answer.verdict, Answer.verdict-of, Answer.outcome-refusal, declared.Class.Class}
 use Rattle.jacobian.proofs.ByValue.Answers.{outcome-refusal-is}
-use Rattle.history.specs.{Register.RegisterReply, Register.register-reply, Register.follows, Register.step-answer, Calls.answer}
+use Rattle.history.specs.{Register.RegisterReply, Register.register-reply, Register.follows, Register.step-answer, Register.StepAnswers, Calls.answer}
 use Rattle.history.specs.declared.{Register.Register, RegisterAnswer.RegisterAnswer, Step.Step}
+use Rattle.history.proofs.Promises.{step-promised, step-answered}
 use Rattle.seal_register.specs.InPlace.{in-place}
 use Rattle.seal_register.proofs.InPlace.{refusal-leaves}
 
@@ -39,12 +40,14 @@ follows-in-place m given next x n e h =
     ∙ ap (λ (v : Verdict). record { outcome = v; register = x .register }) (sym o)
     ∙ e
 
-pub step-in-place : (k : Step) (r : Register) (a : Class) (x : RegisterAnswer) (n : ℕ) → register-reply x ≡ step-answer k r a → n ≡ outcome-refusal (x .outcome)
-    → in-place n (x .register) ≡ step-answer k r a
+pub step-in-place : (k : Step) (r : Register) (a : Class) (x : RegisterAnswer) (n : ℕ) → StepAnswers k r a (register-reply x) → n ≡ outcome-refusal (x .outcome)
+    → StepAnswers k r a (in-place n (x .register))
 unfolding step-answer
-step-in-place k r a = follows-in-place _ r _
+step-in-place k r a x n h e = step-promised r a k (follows-in-place _ r _ x n (step-answered r a k h) e)
 
-pub lent-in-place : (k : Step) (r : Register) (a : Class) (n : ℕ) (told : Register) → in-place n told ≡ step-answer k r a → T (not (eqb n 0)) → in-place n r ≡ step-answer k r a
+pub lent-in-place : (k : Step) (r : Register) (a : Class) (n : ℕ) (told : Register) → StepAnswers k r a (in-place n told) → T (not (eqb n 0)) → StepAnswers k r a (in-place n r)
 unfolding answer
 lent-in-place k r a zero told e h = absurd h
-lent-in-place k r a (suc n) told e h = ap (in-place (suc n)) (sym (refusal-leaves r (record { step = k; class = a }) n told e)) ∙ e
+lent-in-place k r a (suc n) told e h =
+    let is = step-answered r a k e in
+    step-promised r a k (ap (in-place (suc n)) (sym (refusal-leaves r (record { step = k; class = a }) n told is)) ∙ is)

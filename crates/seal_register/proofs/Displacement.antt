@@ -10,16 +10,15 @@
 -- `row-moves`: the two last seals differ where d and e differ.
 use Prim.Native.Nat.{ℕ, _-_}
 use mathlib.Core.Path.{_≡_, sym, _∙_, ap}
-use mathlib.Core.List.{List, [], _∷_, reverse}
+use mathlib.Core.List.{List, reverse}
 use lib.ListN.{length}
-use Rattle.lists.specs.Lists.{All, none, more, ChangedAt}
-use Rattle.jacobian.specs.{Curves.curve-refusal, Answer.Accepts, Answer.Result, Answer.gives, Answer.verdict-of, declared.Curve.Curve, declared.Class.Class}
-use Rattle.jacobian.proofs.{ByValue.Checks.then-zero, Representation.accepts-both}
+use Rattle.lists.specs.Lists.{All, ChangedAt}
+use Rattle.jacobian.specs.{Answer.Accepts, Answer.Result, Answer.gives, Answer.verdict-of, declared.Curve.Curve, declared.Class.Class}
 use Rattle.history.specs.{Calls.newest, Calls.walk-back, Calls.Variants, Calls.displaced, declared.Register.Register}
 use Rattle.history.proofs.Answers.{sealed-outcome}
 use Rattle.history.proofs.Displacement as history
-use Rattle.seal_register.specs.{InPlace.RecordedCall, InPlace.calls, InPlace.Session, InPlace.left-by, InPlace.newest-recorded, RowWalk.classes-refusal, RowWalk.row-refusal, RowWalk.reached, RowWalk.row-walk-answer, declared.walk.RowWalk.RowWalk}
-use Rattle.seal_register.proofs.{Answer.verdict-number, InPlace.newest-is, InPlace.left-by-last, RowSteps.accepted-is}
+use Rattle.seal_register.specs.{InPlace.RecordedCall, InPlace.calls, InPlace.Session, InPlace.left-by, InPlace.newest-recorded, RowWalk.row-refusal, RowWalk.reached, RowWalk.row-walk-answer, declared.walk.RowWalk.RowWalk}
+use Rattle.seal_register.proofs.{Answer.verdict-number, InPlace.newest-is, InPlace.left-by-last, RowSteps.accepted-is, Promises.row-accepts}
 
 -- ---- lists of calls, each by value or in place
 module _ (r t : Register) (ms ns : List RecordedCall) (here : Session r ms) (there : Session t ns) {k : ℕ} {d e : Class} (v : Variants k d e r t (newest-recorded r ms) (newest-recorded t ns)) where
@@ -36,11 +35,6 @@ module _ (r t : Register) (ms ns : List RecordedCall) (here : Session r ms) (the
   moves = rw (left-by-last r ms here, left-by-last t ns there) (history.moves r t (calls ms) (calls ns) by-value)
 
 -- ---- walks over lent rows, newest first
-classes-pass : (c : Curve) → curve-refusal c ≡ 0 → (ops : List Class) → classes-refusal c ops ≡ 0 → All (Accepts c) ops
-unfolding classes-refusal
-classes-pass c ok [] e = none
-classes-pass c ok (a ∷ ops) e = let p = then-zero _ _ e in more (accepts-both c a ok (p .0)) (classes-pass c ok ops (p .1))
-
 -- a walk that is not refused has an accepted seal and accepted classes, and it reaches the seal of its answer
 record Walked (c : Curve) (s : Class) (ops : List Class) (w : RowWalk) : Type 0 where
   seal : Accepts c s
@@ -48,15 +42,14 @@ record Walked (c : Curve) (s : Class) (ops : List Class) (w : RowWalk) : Type 0 
   reaches : walk-back c s ops ≡ w .seal
 
 walked : (c : Curve) (s : Class) (ops : List Class) (w : RowWalk) → reached w ≡ row-walk-answer c s ops → w .refusal ≡ 0 → Walked c s ops w
-unfolding row-walk-answer row-refusal
+unfolding row-walk-answer
 walked c s ops w e z =
     let none-due : row-refusal c s ops ≡ 0 =
     verdict-number _ 0 (sym (ap (λ (x : Result). x .outcome) e ∙ sealed-outcome (row-refusal c s ops) (walk-back c s ops)) ∙ ap verdict-of z) in
-    let p = then-zero _ _ none-due in
-    let q = then-zero _ _ (then-zero _ _ (p .1) .1) in
+    let p = row-accepts c s ops none-due in
     record {
-      seal = accepts-both c s (p .0) (q .0);
-      operations = classes-pass c (p .0) ops (q .1);
+      seal = p .0;
+      operations = p .1;
       reaches = ap (λ (x : Result). x .class) (accepted-is _ (walk-back c s ops) none-due ∙ sym e);
     }
 

@@ -3,6 +3,7 @@ pub mod Answer
 pub mod ByHand
 pub mod InPlace
 pub mod RowSteps
+pub mod Promises
 pub mod RowWalk
 pub mod Displacement
 pub mod Valid

@@ -5,15 +5,14 @@
 -- refusal and the neutral class.
 use Prim.Native.Nat.{ℕ, zero, suc}
 use mathlib.Core.{Path._≡_, Path.refl, Path.sym, Path._∙_, Path.ap, Path.subst, List.List, List.[], List._∷_, Logic._⊎_, Logic.inl, Logic.inr}
-use Rattle.lists.specs.Walk.{foldl}
-use Rattle.jacobian.specs.{Curves.curve-refusal, Classes.class-refusal, Refusals.IsRefusal, Refusals.ValidRefusal, declared.Curve.Curve, declared.Class.Class}
-use Rattle.jacobian.specs.Answer.{accepted, verdict-of, neutral-class, Accepts, Result, membership-answer}
-use Rattle.jacobian.proofs.{ByValue.Checks.then-zero, Refusals.valid-none, Refusals.valid-or-else, Refusals.refused-valid, Valid.curve-refusal-valid, Valid.class-refusal-valid, Representation.accepts-both}
+use Rattle.jacobian.specs.{Refusals.IsRefusal, Refusals.ValidRefusal, declared.Curve.Curve, declared.Class.Class}
+use Rattle.jacobian.specs.Answer.{accepted, verdict-of, neutral-class, Result, membership-answer}
+use Rattle.jacobian.proofs.{Refusals.valid-none, Refusals.valid-or-else, Refusals.refused-valid, Valid.curve-refusal-valid, Valid.class-refusal-valid}
 use Rattle.history.specs.{Register.RegisterReply, Register.sealed, Register.stepped, Register.follows, Register.step-refusal, Register.step-answer, Calls.Call, Calls.answer, Calls.walk-back, declared.Register.Register}
 use Rattle.count_limit.proofs.Valid.{count-refusal-valid}
-use Rattle.history.proofs.{Seals.undo-sound, Valid.step-refusal-valid}
+use Rattle.history.proofs.{Seals.walk-is-only, Valid.step-refusal-valid}
 use Rattle.seal_register.specs.{InPlace.in-place, RowWalk.classes-refusal, RowWalk.row-refusal, RowWalk.reached, RowWalk.row-walk-answer, declared.walk.RowWalk.RowWalk}
-use Rattle.seal_register.proofs.Answer.{verdict-number}
+use Rattle.seal_register.proofs.{Answer.verdict-number, Promises.row-accepts}
 
 -- where a valid refusal other than 0 gives the outcome, the number is a listed refusal
 refused-number : (m n : ℕ) → ValidRefusal (suc m) → verdict-of n ≡ verdict-of (suc m) → IsRefusal n
@@ -42,19 +41,9 @@ unfolding row-refusal
 row-valid c last ops = valid-or-else _ _ (curve-refusal-valid c) (valid-or-else _ _ (count-refusal-valid _) (valid-or-else _ _ (class-refusal-valid c last) (classes-valid c ops)))
 
 module _ (c : Curve) where
-  -- from an accepted seal over accepted classes, the walk ends in an accepted seal
-  walk-sound : curve-refusal c ≡ 0 → (s : Class) (ops : List Class) → Accepts c s → classes-refusal c ops ≡ 0 → Accepts c (walk-back c s ops)
-  unfolding walk-back foldl classes-refusal
-  walk-sound ok s [] h e = h
-  walk-sound ok s (a ∷ ops) h e = let p = then-zero _ _ e in walk-sound ok _ ops (undo-sound h (accepts-both c a ok (p .0))) (p .1)
-
-  no-refusal : (s : Class) (ops : List Class) → row-refusal c s ops ≡ 0 → (curve-refusal c ≡ 0) × ((class-refusal c s ≡ 0) × (classes-refusal c ops ≡ 0))
-  unfolding row-refusal
-  no-refusal s ops e = let p = then-zero _ _ e in (p .0, then-zero _ _ (then-zero _ _ (p .1) .1))
-
   earliest-accepted : (s : Class) (ops : List Class) → row-refusal c s ops ≡ 0 → membership-answer c (walk-back c s ops) ≡ accepted
   unfolding membership-answer verdict-of
-  earliest-accepted s ops e = let p = no-refusal s ops e in ap verdict-of (walk-sound (p .0) s ops (accepts-both c s (p .0) (p .1 .0)) (p .1 .1) .none)
+  earliest-accepted s ops e = let p = row-accepts c s ops e in ap verdict-of (walk-is-only (p .0) (p .1) .accepts .none)
 
   sealed-valid : (m : ℕ) (t : Class) (w : RowWalk) → ValidRefusal m → (m ≡ 0 → membership-answer c t ≡ accepted) → reached w ≡ sealed m t
       → ((w .refusal ≡ 0) × ((w .seal ≡ t) × (membership-answer c (w .seal) ≡ accepted))) ⊎ (IsRefusal (w .refusal) × (w .seal ≡ neutral-class))

@@ -2,7 +2,7 @@
 // A call copies the register, makes the call by value and, if accepted, writes the new register back; a refusal writes
 // no byte. It answers 0 for an acceptance, else the refusal's number: a function that C calls cannot return an enum.
 ghost use mathlib.Core.Path.{_≡_};
-ghost use Rattle.history.specs.Register.{step-answer, commit-answer, undo-answer};
+ghost use Rattle.history.specs.Register.{commit-answer, StepAnswers, UndoAnswers};
 ghost use Rattle.seal_register.specs.InPlace.{in-place};
 use history::Register;
 use history::Step;
@@ -16,7 +16,7 @@ struct Changed {
 
 // A step with a class, made by value.
 fn stepped(step: Step, register: Register, class: Class) -> Changed
-    ensures { λ x. ⌜ in-place (x .refusal) (x .left) ≡ step-answer step register class ⌝ }
+    ensures { λ x. ⌜ StepAnswers step register class (in-place (x .refusal) (x .left)) ⌝ }
 {
     let a = register.step(step, class);
     let o = a.outcome;
@@ -37,7 +37,7 @@ fn committed(register: Register, class: Class) -> Changed
 
 // An undo with a class.
 fn undone(register: Register, class: Class) -> Changed
-    ensures { λ x. ⌜ in-place (x .refusal) (x .left) ≡ undo-answer register class ⌝ }
+    ensures { λ x. ⌜ UndoAnswers register class (in-place (x .refusal) (x .left)) ⌝ }
 {
     stepped(Step::Undo, register, class)
 }
@@ -57,7 +57,7 @@ pub extern "C" fn seal_register_commit(register: &mut Register, class: Class) ->
 // The lent register becomes the one after an undo; on a refusal it stays as it was.
 #[no_mangle]
 pub extern "C" fn seal_register_undo(register: &mut Register, class: Class) -> u32
-    ensures { λ n. ⌜ in-place n (now (register .exit)) ≡ undo-answer (now (register .entry)) class ⌝ }
+    ensures { λ n. ⌜ UndoAnswers (now (register .entry)) class (in-place n (now (register .exit))) ⌝ }
 {
     let a = undone(*register, class);
     if a.refusal == 0 {

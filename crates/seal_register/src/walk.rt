@@ -4,7 +4,7 @@
 ghost use mathlib.Core.Path.{_≡_};
 ghost use Rattle.jacobian.specs.Answer.{verdict-of};
 ghost use Rattle.history.specs.Register.{sealed};
-ghost use Rattle.seal_register.specs.RowWalk.{reached, row-walk-answer};
+ghost use Rattle.seal_register.specs.RowWalk.{reached, RowWalkAnswers};
 ghost use Rattle.seal_register.specs.internal.RowSteps.{start-refusal, remaining-steps, onward};
 use jacobian::Class;
 use jacobian::Curve;
@@ -83,10 +83,11 @@ fn walked_on(curve: Curve, w: RowWalk, a: Class) -> RowWalk
     }
 }
 
-// The earliest seal, or the refusal of the first check that fails.
+// The earliest seal, from which commits of the row's classes, oldest first, lead to the last one; or the refusal of the
+// first check that fails.
 #[no_mangle]
 pub extern "C" fn seal_walk_row(curve: Curve, last: Class, row: &[Class]) -> RowWalk
-    ensures { λ r. ⌜ reached r ≡ row-walk-answer curve last (now (row .entry)) ⌝ }
+    ensures { λ r. ⌜ RowWalkAnswers curve last (now (row .entry)) (reached r) ⌝ }
 {
     let mut w = started(curve, last, row.len());
     let n = steps_left(w, row.len());

@@ -19,7 +19,7 @@ use denote.{RattleType.owns, Laws.Is, Laws.shows, Memory.mem, Memory.cellAt, Mem
 use denote.Struct.Laws as S
 use denote.Triple.{Statement.Contract, Statement.Triple, Entry.onEntry, Spec.Meets, Clauses.Clauses, Clauses.closing, Walked.says as told, Walked.Stays, Walked.stay-ref, Walked.stay-none, Walked.walkOf, Walked.AllGo, Walked.goes-none, Walked.goes-ref, Walked.ends-at, Walked.walked, Walked.walk-meets}
 use Rattle.jacobian.specs.declared.Class.{Class}
-use Rattle.history.specs.{Register.step-answer, declared.Register.Register, declared.Step.Step}
+use Rattle.history.specs.{Register.StepAnswers, declared.Register.Register, declared.Step.Step}
 use Rattle.history.proofs.Register as R
 use Rattle.history.proofs.Register.Laws as R′
 use Rattle.jacobian.proofs.Class as C
@@ -80,10 +80,10 @@ stayed = (stay-ref (0 ∷ []) tt (plain (λ _. R.the-row)), (stay-none (λ _. C.
 
 -- ---- the contracts for a step: of the function that answers number and register, and of the call in place
 abbrev pub Says : {M : Type 1} (𝓤 : URA M) (H : Heap 𝓤) (𝓐 : Atoms 𝓤) → Step → Contract 𝓤
-Says 𝓤 H 𝓐 k = Promised (says.signature .params) (says.signature .result) 𝓤 H 𝓐 (λ a x. in-place (x .refusal) (x .left) ≡ step-answer k (a .0) (a .1 .0))
+Says 𝓤 H 𝓐 k = Promised (says.signature .params) (says.signature .result) 𝓤 H 𝓐 (λ a x. StepAnswers k (a .0) (a .1 .0) (in-place (x .refusal) (x .left)))
 
 abbrev in-place-clauses : {M : Type 1} (𝓤 : URA M) → Step → Clauses 𝓤 lent.ended
-in-place-clauses 𝓤 k κs a = record { ghost = Unit {0}; requires = λ g. emp 𝓤; ensures = λ g n end. fact 𝓤 (in-place n (end .0 .now) ≡ step-answer k (a .0 .now) (a .1 .0)) }
+in-place-clauses 𝓤 k κs a = record { ghost = Unit {0}; requires = λ g. emp 𝓤; ensures = λ g n end. fact 𝓤 (StepAnswers k (a .0 .now) (a .1 .0) (in-place n (end .0 .now))) }
 
 module _ {M : Type 1} (𝓤 : URA M) (H : Heap 𝓤) (𝓐 : Atoms 𝓤) (W : Given 𝓤 H 𝓐) (k : Step)
     (𝓣 : Tables 𝓤 H) (says-name : Name) (known : Triple 𝓤 (𝓣 .C says-name) (Says 𝓤 H 𝓐 k)) where
@@ -101,7 +101,7 @@ module _ {M : Type 1} (𝓤 : URA M) (H : Heap 𝓤) (𝓐 : Atoms 𝓤) (W : Gi
     Post = walkOf 𝓤 H 𝓐 lent.ended stayed (in-place-clauses 𝓤 k) .post (((κ, tt), (q, tt), tt, x, at), tt)
 
     -- at exit: the promise of the number and of the register left
-    exits : (left : Register) (n : ℕ) (v : Val) → in-place n left ≡ step-answer k r a → Is u32 n (v ∷ [])
+    exits : (left : Register) (n : ℕ) (v : Val) → StepAnswers k r a (in-place n left) → Is u32 n (v ∷ [])
         → ent 𝓤 (sep 𝓤 (𝓐 .obs γ (R.the-row .coded .code left)) (sep 𝓤 (𝓐 .bor κ (Behind (mem R.the-row) b o γ)) (𝓐 .lft κ q))) (Post v)
     exits left n v e is-number =
         qed W (‵ (fobs γ (R.the-row .coded .code left)) ∷ ‵ (fbor κ (Behind (mem R.the-row) b o γ)) ∷ ‵ (flft κ q) ∷ []) ∵
@@ -125,7 +125,7 @@ module _ {M : Type 1} (𝓤 : URA M) (H : Heap 𝓤) (𝓐 : Atoms 𝓤) (W : Gi
 
       -- the number is answered, the borrow is closed at that register, and the locals are freed
       answers : (left : Register) (y : Changed) (t : Bool) → IsRegister left → Is X.the-row y (changed-val y ∷ [])
-          → in-place (y .refusal) left ≡ step-answer k r a → Sq W (After left y t) (runs (𝓣 .C) (𝓣 .Λ) E rest (atRet E Post))
+          → StepAnswers k r a (in-place (y .refusal) left) → Sq W (After left y t) (runs (𝓣 .C) (𝓣 .Λ) E rest (atRet E Post))
       answers left y t is-left is-changed e =
           assigns ! (of-opd ! (load ! (from ! (fld ! refl (stop !))) (look-in ! 9 (sub ! 0 refl (whole !))))) (from ! (stop !))
           (init ! 15 refl (uint-lawful 𝓤 H 𝓐 W w32 .typed (y .refusal) _ (S.owed X.the-type X′.the-laws y _ is-changed .0) .0)) $
@@ -149,7 +149,7 @@ module _ {M : Type 1} (𝓤 : URA M) (H : Heap 𝓤) (𝓐 : Atoms 𝓤) (W : Gi
         -- _4 = *_1
         assigns ! (of-opd ! (load ! (from ! (hop ! (look ! 13 refl) (stop !))) (look-raw ! 0 refl))) (from ! (stop !)) (init ! 7 refl (typed-register r is-register)) $
         -- _3 = says(_4, _2)
-        asks (fmOf 𝓤 H (W .laws) 𝓣) (says.signature .params) (says.signature .result) (λ a x. in-place (x .refusal) (x .left) ≡ step-answer k (a .0) (a .1 .0)) known (S.makes R.the-type R′.the-plain 𝓤 H 𝓐, (S.makes C.the-type C′.the-plain 𝓤 H 𝓐, tt))
+        asks (fmOf 𝓤 H (W .laws) 𝓣) (says.signature .params) (says.signature .result) (λ a x. StepAnswers k (a .0) (a .1 .0) (in-place (x .refusal) (x .left))) known (S.makes R.the-type R′.the-plain 𝓤 H 𝓐, (S.makes C.the-type C′.the-plain 𝓤 H 𝓐, tt))
         (r, (a, tt)) (register-vals r, (class-vals a, tt)) (is-register, (is-class, tt))
         (and-then ! (var 8 refl) (and-then ! (var 12 refl) (no-more !))) (λ v y promised is-changed.
         land ! (from ! (stop !)) (init ! 9 refl (S.lawful X.the-type X′.the-laws 𝓤 H 𝓐 W .typed y _ is-changed .0)) $

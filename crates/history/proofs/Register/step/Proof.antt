@@ -7,6 +7,7 @@ use Rattle.count_limit.proofs.Limit.{limit-keeps}
 use Rattle.history.specs.Register.{edge, stepped, step-answer}
 use Rattle.history.proofs.Registers.{at-number, edge-positive}
 use Rattle.history.proofs.Numbers.{then-positive, step-above, step-at, step-follows}
+use Rattle.history.proofs.Promises.{step-promised}
 use Rattle.history.proofs.Answers.{double-and-add-sealed, subtract-and-halve-sealed}
 use borrow.Author.Needs.{needs}
 use Rattle.history.proofs.Register.step.Statement.{statement}
@@ -23,7 +24,7 @@ returns c =
     let due = c .before .before in
     let s = due .before .before .before .before in
     let above = step-above (s .args .step) (s .args .self) (s .args .class) (λ e. due .if1 .taken (due .before .count-refusal .ensures ∙ e)) in
-    at-number (s .args .self) _ (c .before .count-refusal2 .ensures ∙ sym above) (c .kept .ensures _)
+    step-promised (s .args .self) (s .args .class) (s .args .step) (at-number (s .args .self) _ (c .before .count-refusal2 .ensures ∙ sym above) (c .kept .ensures _))
 
 kept-requires-2 : tie.Need-kept-requires-2
 kept-requires-2 c κs z = then-positive _ _ (edge-positive _) (sym (c .edge-refusal .ensures) ∙ z)
@@ -35,7 +36,8 @@ returns-2 c =
     let s = due .before .before .before .before in
     let within = sym (due .before .count-refusal .ensures) ∙ due .if1 .left in
     let at = c .before .before .if2 .taken ∙ c .before .before .before .edge-count .ensures in
-    at-number (s .args .self) _ (c .before .edge-refusal .ensures ∙ sym (step-at (s .args .step) (s .args .self) (s .args .class) within at)) (c .kept2 .ensures _)
+    step-promised (s .args .self) (s .args .class) (s .args .step)
+    (at-number (s .args .self) _ (c .before .edge-refusal .ensures ∙ sym (step-at (s .args .step) (s .args .self) (s .args .class) within at)) (c .kept2 .ensures _))
 
 add-followed : tie.Need-add-followed
 unfolding count-limit
@@ -58,9 +60,10 @@ returns-3 c =
     let due = m .before .before in
     let s = due .before .before .before .before in
     let within = sym (due .before .count-refusal .ensures) ∙ due .if1 .left in
-    step-follows (s .args .step) (s .args .self) (s .args .class) within (λ e. m .if2 .left (e ∙ sym (m .before .edge-count .ensures)))
+    step-promised (s .args .self) (s .args .class) (s .args .step)
+    (step-follows (s .args .step) (s .args .self) (s .args .class) within (λ e. m .if2 .left (e ∙ sym (m .before .edge-count .ensures)))
     (sym (ap (λ k. stepped k (s .args .self) (s .args .class)) (c .before .before .enum-told .given .1)))
-    (c .followed .ensures _ _ (ap result (c .before .double-and-add .ensures) ∙ double-and-add-sealed _ _ _))
+    (c .followed .ensures _ _ (ap result (c .before .double-and-add .ensures) ∙ double-and-add-sealed _ _ _)))
 
 returns-4 : tie.Need-returns-4
 unfolding stepped
@@ -69,9 +72,10 @@ returns-4 c =
     let due = m .before .before in
     let s = due .before .before .before .before in
     let within = sym (due .before .count-refusal .ensures) ∙ due .if1 .left in
-    step-follows (s .args .step) (s .args .self) (s .args .class) within (λ e. m .if2 .left (e ∙ sym (m .before .edge-count .ensures)))
+    step-promised (s .args .self) (s .args .class) (s .args .step)
+    (step-follows (s .args .step) (s .args .self) (s .args .class) within (λ e. m .if2 .left (e ∙ sym (m .before .edge-count .ensures)))
     (sym (ap (λ k. stepped k (s .args .self) (s .args .class)) (c .before .before .enum-told2 .given .1)))
-    (c .followed2 .ensures _ _ (ap result (c .before .subtract-and-halve .ensures .answer) ∙ subtract-and-halve-sealed _ _ _))
+    (c .followed2 .ensures _ _ (ap result (c .before .subtract-and-halve .ensures .answer) ∙ subtract-and-halve-sealed _ _ _)))
 
 pub step-spec : {M : Type 1} → statement M
 step-spec =

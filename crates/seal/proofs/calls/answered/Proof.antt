@@ -32,7 +32,7 @@ returns-5 c = rw (c .before .before .enum-told5 .given .1) (c .register-output .
 
 returns-6 : tie.Need-returns-6
 unfolding answered
-returns-6 c = rw (c .before .before .enum-told6 .given .1) (c .register-output2 .ensures ∙ ap register-response (c .before .undo .ensures))
+returns-6 c = rw (c .before .before .enum-told6 .given .1) (c .register-output2 .ensures ∙ ap register-response (c .before .undo .ensures .answer))
 
 returns-7 : tie.Need-returns-7
 unfolding answered

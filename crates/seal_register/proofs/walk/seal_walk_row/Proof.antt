@@ -26,8 +26,8 @@ use Rattle.jacobian.proofs.Curve as C
 use Rattle.jacobian.proofs.Curve.Laws as C′
 use Rattle.jacobian.proofs.Class as K
 use Rattle.jacobian.proofs.Class.Laws as K′
-use Rattle.seal_register.specs.{declared.walk.RowWalk.RowWalk, RowWalk.reached, internal.RowSteps.start-refusal, internal.RowSteps.remaining-steps, internal.RowSteps.onward, RowWalk.row-walk-answer}
-use Rattle.seal_register.proofs.{ByHand.empty, ByHand.full, ByHand.var, ByHand.tests, ByHand.Promised, ByHand.asks, RowSteps.foldl-next, RowSteps.turns-few, RowSteps.row-walked}
+use Rattle.seal_register.specs.{declared.walk.RowWalk.RowWalk, RowWalk.reached, internal.RowSteps.start-refusal, internal.RowSteps.remaining-steps, internal.RowSteps.onward, RowWalk.RowWalkAnswers}
+use Rattle.seal_register.proofs.{ByHand.empty, ByHand.full, ByHand.var, ByHand.tests, ByHand.Promised, ByHand.asks, RowSteps.foldl-next, RowSteps.turns-few, RowSteps.row-walked, Promises.row-promised}
 use Rattle.seal_register.proofs.walk.RowWalk as R
 use Rattle.seal_register.proofs.walk.RowWalk.Laws as R′
 use Rattle.seal_register.proofs.walk.{started.signature as started, started.Symbol.name as #opened, started.Symbol.routine as started-code, started.Met.met as started-met, steps_left.signature as steps-left, steps_left.Symbol.name as #turns, steps_left.Symbol.routine as turns-code, steps_left.Met.met as turns-met, walked_on.signature as walked-on, walked_on.Symbol.name as #walked-on, walked_on.Symbol.routine as walked-on-code, walked_on.Met.met as walked-on-met, seal_walk_row.Key.name as #seal-walk-row, seal_walk_row.Statement.statement}
@@ -116,7 +116,7 @@ module _ {M : Type 1} (𝓤 : URA M) (H : Heap 𝓤) (A : Atoms 𝓤) (W : Given
     abbrev makes-r : Makes 𝓤 H A R.the-row (Is R.the-row)
     makes-r = LL.makes R.the-type R′.the-plain 𝓤 H A
 
-    exits : (w : RowWalk) (v : Val) → Is R.the-row w (v ∷ []) → reached w ≡ row-walk-answer c s ys → ent 𝓤 (sem 𝓤 H A (flft κ q)) (Post v)
+    exits : (w : RowWalk) (v : Val) → Is R.the-row w (v ∷ []) → RowWalkAnswers c s ys (reached w) → ent 𝓤 (sem 𝓤 H A (flft κ q)) (Post v)
     exits w v g e =
         qed W (‵ (flft κ q) ∷ []) ∵
         suffices ! _ (ends-at 𝓤 H A row.ended stayed (row.clauses 𝓤 H A mem run) W (((κ, tt), (q, tt), tt, x, at), tt) v w (tt, (tt, (tt, tt))) (tt, (tt, (tt, tt)))) $
@@ -165,7 +165,7 @@ module _ {M : Type 1} (𝓤 : URA M) (H : Heap 𝓤) (A : Atoms 𝓤) (W : Given
             move ! (26 ∷ 27 ∷ 24 ∷ 25 ∷ 22 ∷ 23 ∷ 20 ∷ 21 ∷ 18 ∷ 19 ∷ 16 ∷ 17 ∷ 14 ∷ 15 ∷ 12 ∷ 13 ∷ 10 ∷ 11 ∷ 8 ∷ 9 ∷ 6 ∷ 7 ∷ 4 ∷ 5 ∷ 2 ∷ 3 ∷ []) $
             free1 ! $ free1 ! $ free1 ! $ free1 ! $ free1 ! $ free1 ! $ free1 ! $ free1 ! $ free1 ! $ free1 ! $ free1 ! $ free1 ! $ free1 ! $ free0 ! $ keep ! (1 ∷ []) $
             by ! (exits (h .w) (h .v) (h .is)
-            (h .reach ∙ ap (λ k. foldl (onward c) (reached w₀) (take k ys)) e ∙ row-walked c s ys (reached w₀) n e₀ m₀))
+            (row-promised c s ys (h .reach ∙ ap (λ k. foldl (onward c) (reached w₀) (take k ys)) e ∙ row-walked c s ys (reached w₀) n e₀ m₀)))
 
         -- the class of this turn
         abbrev now-at : Here → Class
