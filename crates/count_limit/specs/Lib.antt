@@ -1,2 +1,3 @@
--- The limit of operations.
+-- The limit of operations, and what its check requires.
 pub mod Limit
+pub mod Checking

@@ -11,6 +11,7 @@ pub mod Preserved
 pub mod Steps
 pub mod WalkingBack
 pub mod Displacement
+pub mod Checking
 pub mod Edges
 pub mod Numbers
 pub mod Answers

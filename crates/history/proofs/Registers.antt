@@ -3,7 +3,9 @@
 -- `step-passes`, `passes-step`: a step has refusal 0 exactly where register, class and count pass.
 -- `edge-positive`: 113 and 114 are not 0.
 -- `follows-accepted`: where the answer is an acceptance, the refusal is 0.
+-- `follows-outcome`: the outcome of the answer is that of the refusal.
 -- `follows-zero`, `follows-refused`: the answer where the refusal is 0, and where it is not.
+-- `follows-number`: the number of a refused answer is the refusal, which is not 0.
 -- `follows-stays`: a refused call answers the register given.
 -- `follows-either`: what holds of the register given and of the next one holds of the answered one.
 -- `at-number`, `at-none`: the same answer for an equal refusal, and for refusal 0.
@@ -13,7 +15,7 @@ use mathlib.Core.Bool.{Bool, true, false, cond}
 use native.Mathlib.Omega.{arith}
 use borrow.Author.Tests.{ne-eqb, eqb-false}
 use lib.Dec.{eqb}
-use Rattle.jacobian.specs.{Checks._or-else_, Curves.curve-refusal, Classes.class-refusal, Answer.accepted, Answer.refused}
+use Rattle.jacobian.specs.{Checks._or-else_, Curves.curve-refusal, Classes.class-refusal, Answer.accepted, Answer.refused, Answer.verdict-of}
 use Rattle.jacobian.specs.declared.Class.{Class}
 use Rattle.jacobian.proofs.ByValue.Checks.{then-zero}
 use Rattle.count_limit.specs.Limit.{count-limit}
@@ -75,6 +77,14 @@ module _ (n : ℕ) (given next : Register) where
       go zero e = refl
       go (suc m) e = let z : _≡_ {A = ℕ} 0 1 = cc in absurd (omega arith)
 
+  pub follows-outcome : follows n given next .outcome ≡ verdict-of n
+  unfolding follows verdict-of
+  follows-outcome = go n
+    where
+      go : (m : ℕ) → follows m given next .outcome ≡ verdict-of m
+      go zero = refl
+      go (suc m) = refl
+
   pub follows-zero : n ≡ 0 → follows n given next ≡ record { outcome = accepted; register = next }
   unfolding follows
   follows-zero e = rw e
@@ -86,6 +96,14 @@ module _ (n : ℕ) (given next : Register) where
       go : (m : ℕ) → ¬ (m ≡ 0) → follows m given next ≡ record { outcome = refused m; register = given }
       go zero h = absurd (h refl)
       go (suc m) h = refl
+
+  pub follows-number : (m : ℕ) → follows n given next .outcome ≡ refused m → (n ≡ m) × ¬ (n ≡ 0)
+  unfolding follows
+  follows-number m e = go n e
+    where
+      go : (k : ℕ) → follows k given next .outcome ≡ refused m → (k ≡ m) × ¬ (k ≡ 0)
+      go zero e = let z : _≡_ {A = ℕ} 0 1 = cc in absurd (omega arith)
+      go (suc k) e = (cc, λ z. omega arith)
 
   pub follows-stays : (m : ℕ) → follows n given next .outcome ≡ refused m → follows n given next .register ≡ given
   unfolding follows

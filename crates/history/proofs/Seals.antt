@@ -6,8 +6,8 @@
 -- `commit-of-undo`: demand 3, twice the half of S - C, plus C, is S.
 -- `undo-is-only`: the undo rule gives the only accepted class that the commit rule takes to S.
 -- `reversible`: the two rules take each other back.
--- `walk-is-only`: a walk back over accepted classes ends in the only accepted class from which a walk forward over them,
--- oldest first, ends in S.
+-- `walk-is-only`: a walk back from S over accepted classes ends in the only accepted class from which a walk forward
+-- over them, oldest first, ends in S.
 use mathlib.Core.Path.{_≡_, sym, _∙_, ap, subst}
 use mathlib.Core.List.{List, reverse, reverse-reverse}
 use Rattle.lists.specs.{Lists.All, Walk.foldl, Walk.Reversible}

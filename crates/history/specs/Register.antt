@@ -3,7 +3,7 @@ use Prim.Native.Nat.{ℕ, zero, suc, _+_, _-_}
 use mathlib.Core.{Path._≡_, Bool.cond}
 use lib.Dec.{eqb}
 use Rattle.class_group.specs.Moves.{double-and-add, subtract-and-halve}
-use Rattle.jacobian.specs.{Checks._or-else_, Refusals.IsRefusal, Curves.curve-refusal, Curves.curve, Classes.pair, Classes.class-of, Classes.class-refusal}
+use Rattle.jacobian.specs.{Checks._or-else_, Curves.curve-refusal, Curves.curve, Classes.pair, Classes.class-of, Classes.class-refusal}
 use Rattle.jacobian.specs.Answer.{Verdict, accepted, refused, verdict, neutral-class, Result, Only}
 use Rattle.jacobian.specs.declared.{Curve.Curve, Class.Class}
 use Rattle.count_limit.specs.Limit.{count-limit, count-refusal}
@@ -14,7 +14,7 @@ use Rattle.history.specs.declared.{Register.Register, RegisterAnswer.Reg
 unfoldable pub commit-seal : Curve → Class → Class → Class
 commit-seal c seal a = let d = c .degree in class-of d (double-and-add (curve c) (pair d seal) (pair d a))
 
--- the seal after an undo: the one seal that a commit of the class takes to the given one; found by halving the difference
+-- the seal after an undo: the one seal that a commit of the class takes to the given one; the difference, halved
 unfoldable pub undo-seal : Curve → Class → Class → Class
 undo-seal c seal a = let d = c .degree in class-of d (subtract-and-halve (curve c) (pair d seal) (pair d a))
 
@@ -87,7 +87,7 @@ commit-answer = step-answer Commit
 abbrev pub undo-answer : Register → Class → RegisterReply
 undo-answer = step-answer Undo
 
--- what an undo promises: its answer; and if accepted, its seal is the only accepted one that a commit takes to the given
+-- what an undo promises: its answer; and if accepted, its seal is the only one that a commit takes to the one given
 pub record UndoAnswers (r : Register) (a : Class) (x : RegisterReply) : Type 0 where
   pub answer : x ≡ undo-answer r a
   pub taken-back : step-refusal Undo r a ≡ 0 → Only (r .curve) (λ h. commit-seal (r .curve) h a ≡ r .seal) (x .register .seal)
@@ -96,8 +96,3 @@ pub record UndoAnswers (r : Register) (a : Class) (x : RegisterReply) : Type 0 w
 abbrev pub StepAnswers : Step → Register → Class → RegisterReply → Type 0
 StepAnswers Commit r a x = x ≡ commit-answer r a
 StepAnswers Undo r a x = UndoAnswers r a x
-
--- an acceptance with the next register, or a listed refusal with the register as it was given
-pub data ValidRegisterReply (given : Register) : RegisterReply → Type 0 where
-  acceptance : (next : Register) → ValidRegisterReply given (record { outcome = accepted; register = next })
-  refusal : (n : ℕ) → IsRefusal n → ValidRegisterReply given (record { outcome = refused n; register = given })

@@ -9,7 +9,7 @@ use Rattle.jacobian.specs.{Answer.Verdict, Answer.accepted, Answer.refused, Ans
 use Rattle.jacobian.proofs.ByValue.Answers.{outcome-refusal-is}
 use Rattle.history.specs.{Register.RegisterReply, Register.register-reply, Register.follows, Register.step-answer, Register.StepAnswers, Calls.answer}
 use Rattle.history.specs.declared.{Register.Register, RegisterAnswer.RegisterAnswer, Step.Step}
-use Rattle.history.proofs.Promises.{step-promised, step-answered}
+use Rattle.history.proofs.{Registers.follows-outcome, Promises.step-promised, Promises.step-answered}
 use Rattle.seal_register.specs.InPlace.{in-place}
 use Rattle.seal_register.proofs.InPlace.{refusal-leaves}
 
@@ -26,16 +26,11 @@ number-of (suc n) = refl
 pub verdict-number : (m n : ℕ) → verdict-of m ≡ verdict-of n → m ≡ n
 verdict-number m n e = sym (number-of m) ∙ ap number e ∙ number-of n
 
-follows-verdict : (m : ℕ) (given next : Register) → follows m given next .outcome ≡ verdict-of m
-unfolding follows verdict-of
-follows-verdict zero given next = refl
-follows-verdict (suc m) given next = refl
-
 follows-in-place : (m : ℕ) (given next : Register) (x : RegisterAnswer) (n : ℕ) → register-reply x ≡ follows m given next → n ≡ outcome-refusal (x .outcome)
     → in-place n (x .register) ≡ follows m given next
 unfolding in-place
 follows-in-place m given next x n e h =
-    let o : verdict (x .outcome) ≡ verdict-of m = ap (λ (y : RegisterReply). y .outcome) e ∙ follows-verdict m given next in
+    let o : verdict (x .outcome) ≡ verdict-of m = ap (λ (y : RegisterReply). y .outcome) e ∙ follows-outcome m given next in
     ap (λ k. in-place k (x .register)) (h ∙ outcome-refusal-is (x .outcome) m o)
     ∙ ap (λ (v : Verdict). record { outcome = v; register = x .register }) (sym o)
     ∙ e

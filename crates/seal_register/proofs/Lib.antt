@@ -6,4 +6,5 @@ pub mod RowSteps
 pub mod Promises
 pub mod RowWalk
 pub mod Displacement
+pub mod Checking
 pub mod Valid

@@ -1,5 +1,6 @@
 -- Demand 3 of the walk over a lent row (docs/SPECIFICATION.md, 8 and 11), after a list of calls, each by value or in
 -- place, on a register that passes its checks, where all accepted calls are commits.
+-- `row-answered`: where no check fails, the walk answers its end.
 -- `row-walk-meets`: the walk from the last seal over the k newest classes is not refused and answers the seal just
 -- before the k-th newest commit, for k = 0 the last seal.
 -- `row-walk-first`: the walk over all classes answers the first seal.
@@ -28,7 +29,7 @@ unrefused c [] (suc k) none = refl
 unrefused c (e ∷ es) zero (more h hs) = refl
 unrefused c (e ∷ es) (suc k) (more h hs) = rw h (unrefused c es k hs)
 
-row-answered : (c : Curve) (s : Class) (ops : List Class) → curve-refusal c ≡ 0 → class-refusal c s ≡ 0 → length ops ≤ count-limit → classes-refusal c ops ≡ 0
+pub row-answered : (c : Curve) (s : Class) (ops : List Class) → curve-refusal c ≡ 0 → class-refusal c s ≡ 0 → length ops ≤ count-limit → classes-refusal c ops ≡ 0
     → row-walk-answer c s ops ≡ record { outcome = accepted; class = walk-back c s ops }
 unfolding row-walk-answer row-refusal sealed _or-else_
 row-answered c s ops hc hs hl ho = rw (hc, within-limit (length ops) hl, hs, ho)

@@ -1,0 +1,8 @@
+-- What the check of a count requires (docs/SPECIFICATION.md, 6).
+use Prim.Native.Nat.{ℕ, _≤_}
+use Rattle.binary_field.specs.Checks.{Check, check}
+use Rattle.count_limit.specs.Limit.{count-limit}
+
+-- the check of a count: it is at most the limit
+abbrev pub count-check : ℕ → Check
+count-check n = check 109 (n ≤ count-limit)
