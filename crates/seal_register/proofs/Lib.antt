@@ -7,4 +7,5 @@ pub mod Promises
 pub mod RowWalk
 pub mod Displacement
 pub mod Checking
+pub mod Edges
 pub mod Valid
