@@ -1,7 +1,5 @@
 -- The laws of multiples and repeated halves by bytes (docs/SPECIFICATION.md, 7 and 11), for every record of one class
 -- that is read, where outputs have room for a class field and n and k are within their limits.
--- `multiple-writes`: n times writes the field of what the call by value gives.
--- `halvings-write`: k halvings write the field of what the call by value gives.
 -- `zero-bytes`: 0 times writes the field of the neutral class.
 -- `once-bytes`: once writes the record's own class field.
 -- `product-bytes`: m n times writes what m times writes on the record rebuilt from n times.
@@ -12,7 +10,8 @@
 -- `halvings-of-doublings-bytes`: k halvings of the record after k byte doublings write the record's own class field.
 -- `doublings-of-halvings-bytes`: k byte doublings of the record rebuilt from k halvings give the record, to the byte.
 -- `only-halvings-bytes`: a record that k byte doublings take to t is the one rebuilt from k halvings of t.
--- That no byte doubling is refused is `doublings-write` of ByteGroup in the crate seal.
+-- That no call of this library is refused there is `multiple-writes` and `halvings-write` of Written in the crate
+-- seal_licence; that no byte doubling is refused is `doublings-write` of ByteGroup in the crate seal.
 use Prim.Native.Nat.{ℕ, zero, suc, _+_, _*_, _^_, _≤_, _<_}
 use mathlib.Core.Path.{_≡_, refl, sym, ap, _∙_}
 use mathlib.Core.List.{List, _++_}
@@ -25,8 +24,8 @@ use Rattle.written_form.specs.Effect.{write}
 use Rattle.stored_form_theorems.proofs.Cuts.{cut-whole}
 use Rattle.seal.specs.{Records.class-record-bytes, Rebuilt.last-field, Rebuilt.class-rebuilt, Calls.half-call, Calls.sum-call, Group.sum-record-of}
 use Rattle.seal.specs.Calls as seal
-use Rattle.seal.proofs.{Passing.class-holds, Passing.Given, Passing.double-given, Passing.half-given, ByteGroup.sum-record-writes, ByteGroup.sum-record-is}
-use Rattle.seal.proofs.ClassCalls.{class-call, call-writes, rebuilt-write, first-is, last-is, stored-writes, stored-rebuilt, is-stored, follow-writes}
+use Rattle.seal.proofs.{Passing.Given, Passing.double-given, Passing.half-given, ByteGroup.sum-record-writes, ByteGroup.sum-record-is}
+use Rattle.seal.proofs.ClassCalls.{class-call, rebuilt-write, first-is, last-is, stored-writes, stored-rebuilt, is-stored, follow-writes}
 use Rattle.jacobian.proofs.Group.{doublings-accept}
 use Rattle.seal_licence.specs.{Multiples.multiple-limit, Multiples.halvings-limit, Multiples.multiple-answer, Multiples.halvings-answer, Multiples.halves, Calls.answered, Calls.multiple-call, Calls.halvings-call}
 use Rattle.seal_licence.proofs.Theorems.{multiple-of-sum, multiple-of-product, multiple-of-zero, multiple-of-one, halves-accept, doublings-are-multiple, halvings-are-halves, halvings-of-doublings, doublings-of-halvings}
@@ -38,17 +37,6 @@ times n c a = multiple-answer c a n
 
 halved : ℕ → Curve → Class → Result
 halved k c a = halvings-answer c a k
-
--- ---- what is written
-
-module _ (s out : List ℕ) (room : class-room ≤ length out) {h : Record} {end : ℕ} (read : read-record class-layout s ≡ found h end) where
-  pub multiple-writes : (n : ℕ) → n < multiple-limit → multiple-call n s out ≡ write (class-field 0x43 (multiple-answer (h .curve) (h .class) n .class)) out
-  unfolding answered times
-  multiple-writes n l = call-writes s out room read (times n) (multiple-given (class-holds s read) n l)
-
-  pub halvings-write : (k : ℕ) → k ≤ halvings-limit → halvings-call k s out ≡ write (class-field 0x43 (halvings-answer (h .curve) (h .class) k .class)) out
-  unfolding answered halved
-  halvings-write k l = call-writes s out room read (halved k) (halvings-given (class-holds s read) k l)
 
 -- ---- the record of a class that passes
 

@@ -2,3 +2,4 @@
 pub mod Passing
 pub mod WroteOrRefused
 pub mod ByteMultiples
+pub mod HalvingsOfMultiples

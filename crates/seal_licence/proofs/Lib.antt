@@ -1,4 +1,5 @@
--- Multiples and repeated halves of a class by value: the classes, the answers, and the theorems on them.
+-- Multiples and repeated halves of a class: the classes, the answers, the theorems on them, and what byte calls write.
 pub mod Values
 pub mod Answers
 pub mod Theorems
+pub mod Written

@@ -14,6 +14,10 @@
 -- `halvings-of-doublings`: k halvings of k doublings give the class.
 -- `doublings-of-halvings`: k doublings of k halvings give the class.
 -- `only-halvings`: an accepted class that k doublings take to another class is what k halvings of that class give.
+-- `halvings-only`: k halvings give the only accepted class that k doublings take to the class.
+-- `halvings-answers`: so what `halvings` promises follows from its answer.
+-- `halvings-of-multiple`: k halvings of 2^k times the class give the class, for k below 61.
+-- `multiple-of-halvings`: 2^k times what k halvings of the class give is the class, for k below 61.
 -- Refusals:
 -- `multiple-refused-first`: the refusal of curve and class comes first, whatever n is.
 -- `halvings-refused-first`: the refusal of curve and class comes first, whatever k is.
@@ -31,15 +35,16 @@ use Rattle.class_group.specs.{Mumford.neutral, Operations.sum, Operations.doubl
 use Rattle.class_group.proofs.{Closed.sum-reduced, Closed.double-reduced, Group.classes, Group.class-doubling, Halving.class-halving}
 use Rattle.class_group.proofs.{Multiples.multiple-one, Multiples.multiple-add, Multiples.multiple-mul, Doublings.doublings-multiple, Doublings.halvings-doublings, Doublings.doublings-halvings}
 use Rattle.jacobian.specs.{Checks.unless, Checks._or-else_, Refusals.refusals, Refusals.listed, Refusals.IsRefusal, Refusals.ValidRefusal, Curves.curve, Classes.pair, Valid.ValidVerdict}
-use Rattle.jacobian.specs.Answer.{Result, result, gives, refused, refusal, Accepts, neutral-class, half-answer, sum-answer}
+use Rattle.jacobian.specs.Answer.{Result, result, gives, refused, refusal, Accepts, Only, neutral-class, half-answer, sum-answer}
 use Rattle.jacobian.specs.Group.{doublings}
 use Rattle.jacobian.specs.declared.{Curve.Curve, Class.Class}
 use Rattle.jacobian.specs.Valid as verdict-valid
 use Rattle.jacobian.proofs.{Calls.reduced, Calls.class-pair, Calls.sum-gives, Calls.sum-accepts, Calls.double-gives, Calls.half-gives, Group.class-is, Group.gives-own, Group.doublings-accept}
 use Rattle.jacobian.proofs.{Representation.pair-injective, Refusals.valid-unless, Refusals.valid-or-else, Refusals.verdict-never-117, Valid.refusal-valid}
-use Rattle.seal_licence.specs.Multiples.{multiple-limit, halvings-limit, refuses, given, multiple-class, halved-class, multiple-refusal, halvings-refusal, multiple-answer, halvings-answer, halves}
+use Rattle.seal_licence.specs.Multiples.{multiple-limit, halvings-limit, refuses, given, multiple-class, halved-class, multiple-refusal, halvings-refusal, multiple-answer, halvings-answer, HalvingsAnswers, halves}
 use Rattle.seal_licence.specs.Valid.{ValidResult}
 use Rattle.seal_licence.specs.Valid as valid
+use Rattle.seal_licence.proofs.Answers.{halvings-passes}
 use Rattle.seal_licence.proofs.Values.{multiple-accepts, multiple-pair, multiple-none, halved-accepts, halved-pair, halved-none, halved-next}
 
 -- ---- an accepted class
@@ -146,6 +151,33 @@ module _ {c : Curve} {a : Class} (h : Accepts c a) where
 
 pub only-halvings : {c : Curve} {a b : Class} → Accepts c b → (k : ℕ) → k ≤ halvings-limit → doublings c k b ≡ a → b ≡ halvings-answer c a k .class
 only-halvings {c} h k l e = sym (class-is (halvings-of-doublings h k l)) ∙ ap (λ x. halvings-answer c x k .class) e
+
+module _ {c : Curve} {a : Class} (h : Accepts c a) where
+  pub halvings-only : (k : ℕ) → k ≤ halvings-limit → Only c (λ b. doublings c k b ≡ a) (halvings-answer c a k .class)
+  halvings-only k l = record {
+    accepts = subst (Accepts c) (sym (class-is (halvings-give h k l))) (halved-accepts h k);
+    holds = doublings-of-halvings h k l;
+    only = λ b q e. only-halvings q k l e;
+  }
+
+  -- ---- the two calls, one after the other
+  pub halvings-of-multiple : (k : ℕ) → k < 61 → halvings-answer c (multiple-answer c a (2 ^ k) .class) k ≡ gives a
+  halvings-of-multiple k l =
+      ap (λ b. halvings-answer c b k) (class-is (doublings-are-multiple h k l)) ∙ halvings-of-doublings h k (omega (arith, l))
+
+  pub multiple-of-halvings : (k : ℕ) → k < 61 → multiple-answer c (halvings-answer c a k .class) (2 ^ k) ≡ gives a
+  multiple-of-halvings k l =
+      let k≤ : k ≤ halvings-limit = omega (arith, l) in
+      doublings-are-multiple (halvings-only k k≤ .accepts) k l ∙ ap gives (doublings-of-halvings h k k≤)
+
+-- what `halvings` promises, from its answer
+pub halvings-answers : {c : Curve} {a : Class} {k : ℕ} {r : Result} → r ≡ halvings-answer c a k → HalvingsAnswers c a k r
+halvings-answers {c} {a} {k} e = record {
+  answer = e;
+  taken-back = λ none.
+      let p = halvings-passes c a k none in
+      subst (λ (r : Result). Only c (λ b. doublings c k b ≡ a) (r .class)) (sym e) (halvings-only (p .0) k (p .1));
+}
 
 -- ---- refusals
 given-refused : (m : ℕ) (x : Class) → ¬ (m ≡ 0) → given m x ≡ refuses m

@@ -1,9 +1,10 @@
 -- n times a class, and a class halved k times, by value (docs/SPECIFICATION.md, 2.11, 3 and 6).
 use Prim.Native.Nat.{ℕ, zero, suc, _^_}
+use mathlib.Core.Path.{_≡_}
 use lib.Dec.{ltb, leb}
 use Rattle.class_group.specs.{Mumford.neutral, Operations.sum, Half.half, Multiples.multiple, Multiples.repeat}
 use Rattle.jacobian.specs.{Checks.unless, Checks._or-else_, Curves.curve, Classes.pair, Classes.class-of}
-use Rattle.jacobian.specs.Answer.{Result, verdict, result, gives, refusing, refusal, half-answer}
+use Rattle.jacobian.specs.{Answer.Result, Answer.verdict, Answer.result, Answer.gives, Answer.refusing, Answer.refusal, Answer.Only, Answer.half-answer, Group.doublings}
 use Rattle.jacobian.specs.declared.{Curve.Curve, Class.Class}
 use Rattle.seal_licence.specs.declared.multiples.ClassResult.{ClassResult}
 
@@ -53,6 +54,11 @@ halvings-refusal c a k = refusal c a or-else unless (leb k halvings-limit) 119
 -- what a class halved k times answers
 unfoldable pub halvings-answer : Curve → Class → ℕ → Result
 halvings-answer c a k = given (halvings-refusal c a k) (halved-class c a k)
+
+-- what halvings promises: its answer; and where it accepts, the only accepted class that k doublings take to a
+pub record HalvingsAnswers (c : Curve) (a : Class) (k : ℕ) (r : Result) : Type 0 where
+  pub answer : r ≡ halvings-answer c a k
+  pub taken-back : halvings-refusal c a k ≡ 0 → Only c (λ h. doublings c k h ≡ a) (r .class)
 
 -- ---- for theorems
 

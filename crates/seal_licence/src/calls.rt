@@ -3,7 +3,7 @@
 ghost use mathlib.Core.Path.{_≡_};
 ghost use Rattle.written_form.specs.{Effect.effect, Effect.response-of, Effect.class-response};
 ghost use Rattle.seal_licence.specs.Multiples.{class-result};
-ghost use Rattle.seal_licence.specs.Calls.{answered, called, multiple-call, halvings-call};
+ghost use Rattle.seal_licence.specs.Calls.{answered, called, multiple-call, HalvesTimes};
 use crate::multiples;
 use crate::multiples::ClassResult;
 use jacobian::ClassAnswer;
@@ -66,10 +66,10 @@ pub extern "C" fn seal_multiple(input: &[u8], n: u64, output: &mut [u8]) -> u32
     class_call(Call::Multiple(n), input, output)
 }
 
-// The class halved k times.
+// The class halved k times: the one class that k doublings take to it.
 #[no_mangle]
 pub extern "C" fn seal_halvings(input: &[u8], k: u64, output: &mut [u8]) -> u32
-    ensures { λ r. ⌜ effect r (now (output .exit)) ≡ halvings-call k (now (input .entry)) (now (output .entry)) ⌝ }
+    ensures { λ r. ⌜ HalvesTimes k (now (input .entry)) (now (output .entry)) (effect r (now (output .exit))) ⌝ }
 {
     class_call(Call::Halvings(k), input, output)
 }

@@ -4,7 +4,7 @@
 ghost use Prim.Native.Nat.{_≤_, _<_, _/_, _^_};
 ghost use mathlib.Core.Path.{_≡_};
 ghost use Rattle.jacobian.specs.{Checks.unless, Checks._or-else_, Answer.gives, Answer.refusal, Answer.Accepts};
-ghost use Rattle.seal_licence.specs.Multiples.{multiple-limit, class-result, refuses, multiple-class, halved-class, multiple-answer, halvings-answer};
+ghost use Rattle.seal_licence.specs.Multiples.{multiple-limit, class-result, refuses, multiple-class, halved-class, multiple-answer, HalvingsAnswers};
 use jacobian::Class;
 use jacobian::Curve;
 use jacobian::Outcome;
@@ -128,9 +128,9 @@ pub fn multiple(curve: Curve, a: Class, n: u64) -> ClassResult
     given(multiple_of_accepted(curve, a, n))
 }
 
-// A class halved k times.
+// A class halved k times: the one class that k doublings take to it.
 pub fn halvings(curve: Curve, a: Class, k: u64) -> ClassResult
-    ensures { λ r. ⌜ class-result r ≡ halvings-answer curve a k ⌝ }
+    ensures { λ r. ⌜ HalvingsAnswers curve a k (class-result r) ⌝ }
 {
     let m = refusal_of(curve, a, k <= HALVINGS_LIMIT, 119);
     if m != 0 {

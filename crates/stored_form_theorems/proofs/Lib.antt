@@ -13,5 +13,7 @@ pub mod FieldLaws
 pub mod FieldValues
 pub mod FieldsInNumbers
 pub mod Written
+-- what is read passes its checks;
+pub mod Passing
 -- and for operations in order.
 pub mod Operations

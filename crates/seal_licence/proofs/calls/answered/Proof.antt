@@ -12,7 +12,7 @@ returns c = rw (c .before .before .before .call .given .1) (c .class-output .ens
 
 returns-2 : tie.Need-returns-2
 unfolding answered
-returns-2 c = rw (c .before .before .before .call2 .given .1) (c .class-output2 .ensures ∙ ap class-response (c .before .halvings .ensures))
+returns-2 c = rw (c .before .before .before .call2 .given .1) (c .class-output2 .ensures ∙ ap class-response (c .before .halvings .ensures .answer))
 
 pub answered-spec : {M : Type 1} → statement M
 answered-spec =
