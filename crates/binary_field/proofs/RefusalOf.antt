@@ -5,10 +5,11 @@
 -- `refusal-held`: the refusal is 0 where all checks hold.
 -- `held-refusal`: all checks hold where the refusal is 0.
 -- `refusal-number`: the refusal is the number of the first check that does not hold.
+-- `refusal-listed`: where the numbers of all checks are in a list, so is the refusal.
 use Prim.Native.Nat.{ℕ, zero, suc}
-use mathlib.Core.{Path._≡_, Path.refl, Path.sym, Path._∙_, Bool.Bool, Bool.true, Bool.false, Bool.true≢false, List.List, List.[], List._∷_, List._++_, Logic._↔_, Logic._⊎_, Logic.inl, Logic.inr}
+use mathlib.Core.{Path._≡_, Path.refl, Path.sym, Path._∙_, Path.subst, Bool.Bool, Bool.true, Bool.false, Bool.true≢false, List.List, List.[], List._∷_, List._++_, Logic._↔_, Logic._⊎_, Logic.inl, Logic.inr}
 use native.Mathlib.Omega.{arith}
-use Rattle.binary_field.specs.Checks.{unless, _or-else_, Check, check, AllHold, FirstFails, RefusalOf, all-hold, first-fails}
+use Rattle.binary_field.specs.Checks.{unless, _or-else_, listed, Check, check, AllHold, FirstFails, RefusalOf, all-hold, first-fails}
 
 pub refusal-none : RefusalOf [] 0
 refusal-none = all-hold refl tt
@@ -68,3 +69,19 @@ held-refusal (first-fails z h) k = absurd (z k)
 pub refusal-number : {cs : List Check} {m : ℕ} (n : ℕ) → RefusalOf cs m → FirstFails cs n → m ≡ n
 refusal-number {cs} n (all-hold e h) k = absurd (not-both cs n h k)
 refusal-number {cs} {m} n (first-fails z h) k = one-number cs m n h k
+
+-- ---- the numbers
+
+-- the numbers of these checks are all in the list
+abbrev pub Numbered : List ℕ → List Check → Type 0
+Numbered ns [] = Unit {0}
+Numbered ns (c ∷ cs) = (listed (c .number) ns ≡ true) × Numbered ns cs
+
+fails-listed : (ns : List ℕ) (cs : List Check) (n : ℕ) → Numbered ns cs → FirstFails cs n → listed n ns ≡ true
+fails-listed ns [] n h f = absurd f
+fails-listed ns (c ∷ cs) n h (inl f) = subst (λ m. listed m ns ≡ true) (sym (f .1)) (h .0)
+fails-listed ns (c ∷ cs) n h (inr f) = fails-listed ns cs n (h .1) (f .1)
+
+pub refusal-listed : (ns : List ℕ) {cs : List Check} {n : ℕ} → Numbered ns cs → RefusalOf cs n → ¬ (n ≡ 0) → listed n ns ≡ true
+refusal-listed ns h (all-hold z held) k = absurd (k z)
+refusal-listed ns {cs} {n} h (first-fails z fails) k = fails-listed ns cs n h fails

@@ -18,32 +18,24 @@
 -- `halvings-answers`: so what `halvings` promises follows from its answer.
 -- `halvings-of-multiple`: k halvings of 2^k times the class give the class, for k below 61.
 -- `multiple-of-halvings`: 2^k times what k halvings of the class give is the class, for k below 61.
--- Refusals:
--- `multiple-refused-first`: the refusal of curve and class comes first, whatever n is.
--- `halvings-refused-first`: the refusal of curve and class comes first, whatever k is.
+-- Refusals of an accepted class (Checking.antt has all refusals in their order):
 -- `multiple-too-large`: n of 2^61 or more is refused with 118.
 -- `halvings-too-many`: k above 64 is refused with 119.
--- `multiple-valid`: every answer of n times is a class or a listed refusal.
--- `halvings-valid`: every answer of k halvings is a class or a listed refusal.
--- `result-never-117`: such an answer is never the refusal 117.
 use Prim.Native.Nat.{ℕ, zero, suc, _+_, _*_, _^_, _≤_, _<_}
-use mathlib.Core.{Path._≡_, Path.refl, Path.sym, Path._∙_, Path.ap, Path.ap₂, Path.subst, Logic.inl, Logic.inr}
+use mathlib.Core.{Path._≡_, Path.refl, Path.sym, Path._∙_, Path.ap, Path.ap₂, Path.subst}
 use native.Mathlib.Omega.{arith}
 use lib.{Dec.lit<, Pow.pow-lt}
 use borrow.Author.Tests.{lt-ltb, le-ltb, le-leb, lt-leb}
 use Rattle.class_group.specs.{Mumford.neutral, Operations.sum, Operations.double, Half.half, Multiples.multiple, Multiples.repeat}
 use Rattle.class_group.proofs.{Closed.sum-reduced, Closed.double-reduced, Group.classes, Group.class-doubling, Halving.class-halving}
 use Rattle.class_group.proofs.{Multiples.multiple-one, Multiples.multiple-add, Multiples.multiple-mul, Doublings.doublings-multiple, Doublings.halvings-doublings, Doublings.doublings-halvings}
-use Rattle.jacobian.specs.{Checks.unless, Checks._or-else_, Refusals.refusals, Refusals.listed, Refusals.IsRefusal, Refusals.ValidRefusal, Curves.curve, Classes.pair, Valid.ValidVerdict}
+use Rattle.jacobian.specs.{Checks.unless, Checks._or-else_, Curves.curve, Classes.pair}
 use Rattle.jacobian.specs.Answer.{Result, result, gives, refused, refusal, Accepts, Only, neutral-class, half-answer, sum-answer}
 use Rattle.jacobian.specs.Group.{doublings}
 use Rattle.jacobian.specs.declared.{Curve.Curve, Class.Class}
-use Rattle.jacobian.specs.Valid as verdict-valid
 use Rattle.jacobian.proofs.{Calls.reduced, Calls.class-pair, Calls.sum-gives, Calls.sum-accepts, Calls.double-gives, Calls.half-gives, Group.class-is, Group.gives-own, Group.doublings-accept}
-use Rattle.jacobian.proofs.{Representation.pair-injective, Refusals.valid-unless, Refusals.valid-or-else, Refusals.verdict-never-117, Valid.refusal-valid}
+use Rattle.jacobian.proofs.{Representation.pair-injective}
 use Rattle.seal_licence.specs.Multiples.{multiple-limit, halvings-limit, refuses, given, multiple-class, halved-class, multiple-refusal, halvings-refusal, multiple-answer, halvings-answer, HalvingsAnswers, halves}
-use Rattle.seal_licence.specs.Valid.{ValidResult}
-use Rattle.seal_licence.specs.Valid as valid
 use Rattle.seal_licence.proofs.Answers.{halvings-passes}
 use Rattle.seal_licence.proofs.Values.{multiple-accepts, multiple-pair, multiple-none, halved-accepts, halved-pair, halved-none, halved-next}
 
@@ -180,25 +172,7 @@ halvings-answers {c} {a} {k} e = record {
 }
 
 -- ---- refusals
-given-refused : (m : ℕ) (x : Class) → ¬ (m ≡ 0) → given m x ≡ refuses m
-unfolding given
-given-refused zero x h = absurd (h refl)
-given-refused (suc m) x h = refl
-
-first-refused : (m n : ℕ) → ¬ (m ≡ 0) → m or-else n ≡ m
-unfolding _or-else_
-first-refused zero n h = absurd (h refl)
-first-refused (suc m) n h = refl
-
 module _ (c : Curve) (a : Class) (n : ℕ) where
-  pub multiple-refused-first : ¬ (refusal c a ≡ 0) → multiple-answer c a n ≡ refuses (refusal c a)
-  unfolding multiple-answer multiple-refusal
-  multiple-refused-first h = rw (first-refused (refusal c a) (unless _ 118) h) (given-refused (refusal c a) _ h)
-
-  pub halvings-refused-first : ¬ (refusal c a ≡ 0) → halvings-answer c a n ≡ refuses (refusal c a)
-  unfolding halvings-answer halvings-refusal
-  halvings-refused-first h = rw (first-refused (refusal c a) (unless _ 119) h) (given-refused (refusal c a) _ h)
-
   pub multiple-too-large : Accepts c a → multiple-limit ≤ n → multiple-answer c a n ≡ refuses 118
   unfolding multiple-answer multiple-refusal given unless _or-else_
   multiple-too-large h l = rw (h .none, le-ltb n multiple-limit l) refl
@@ -206,30 +180,3 @@ module _ (c : Curve) (a : Class) (n : ℕ) where
   pub halvings-too-many : Accepts c a → halvings-limit < n → halvings-answer c a n ≡ refuses 119
   unfolding halvings-answer halvings-refusal given unless _or-else_
   halvings-too-many h l = rw (h .none, lt-leb n halvings-limit l) refl
-
-  -- ---- every refusal is valid
-  multiple-refusal-valid : ValidRefusal (multiple-refusal c a n)
-  unfolding multiple-refusal IsRefusal refusals listed
-  multiple-refusal-valid = valid-or-else _ _ (refusal-valid c a) (valid-unless _ 118 refl)
-
-  halvings-refusal-valid : ValidRefusal (halvings-refusal c a n)
-  unfolding halvings-refusal IsRefusal refusals listed
-  halvings-refusal-valid = valid-or-else _ _ (refusal-valid c a) (valid-unless _ 119 refl)
-
-given-valid : (m : ℕ) (x : Class) → ValidRefusal m → ValidResult (given m x)
-unfolding given ValidRefusal
-given-valid zero x t = valid.ValidResult.acceptance x
-given-valid (suc m) x (inl e) = absurd (omega arith)
-given-valid (suc m) x (inr r) = valid.ValidResult.refusal (suc m) r
-
-pub multiple-valid : (c : Curve) (a : Class) (n : ℕ) → ValidResult (multiple-answer c a n)
-unfolding multiple-answer
-multiple-valid c a n = given-valid _ _ (multiple-refusal-valid c a n)
-
-pub halvings-valid : (c : Curve) (a : Class) (k : ℕ) → ValidResult (halvings-answer c a k)
-unfolding halvings-answer
-halvings-valid c a k = given-valid _ _ (halvings-refusal-valid c a k)
-
-pub result-never-117 : {r : Result} → ValidResult r → ¬ (r .outcome ≡ refused 117)
-result-never-117 (valid.ValidResult.acceptance a) = verdict-never-117 verdict-valid.ValidVerdict.acceptance
-result-never-117 (valid.ValidResult.refusal n i) = verdict-never-117 (verdict-valid.ValidVerdict.refusal n i)

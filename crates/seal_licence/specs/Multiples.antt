@@ -43,7 +43,7 @@ unfoldable pub multiple-answer : Curve → Class → ℕ → Result
 multiple-answer c a n = given (multiple-refusal c a n) (multiple-class c a n)
 
 -- ---- a class halved k times
--- the class halved k times
+-- the one class that k doublings take to the class, found by k halves
 unfoldable pub halved-class : Curve → Class → ℕ → Class
 halved-class c a k = let d = c .degree in class-of d (repeat (half (curve c)) k (pair d a))
 
