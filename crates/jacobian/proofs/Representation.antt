@@ -1,4 +1,5 @@
 -- Classes by value and reduced classes determine each other.
+-- `accepted-formed`, `formed-accepted`: an accepted value is in form; one in form is accepted where u divides.
 -- `accepted-reduced`: an accepted value stands for a reduced class.
 -- `class-of-accepted`: the value of a reduced class is accepted.
 -- `class-of-pair`: an accepted value is the value of the class that it stands for.

@@ -1,4 +1,5 @@
 -- Classes by value that are in form, and their pairs.
+-- `coeff-u-below`, `coeff-u-top`, `coeff-u-past`, `coeff-v`: the coefficients of u and v, place by place.
 -- `u-len`, `u-monic`, `v-len`: u is monic of the class's degree, and v is of lower degree.
 -- `formed-reduced`: the pair is reduced where u divides v² + v + f.
 -- `class-of-formed`: a value in form is the value of its pair.
