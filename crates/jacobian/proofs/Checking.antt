@@ -1,14 +1,16 @@
--- Each refusal of a curve and of classes by value, under its condition and in its order (docs/SPECIFICATION.md, 3 and 6).
+-- Each refusal of a curve and of classes by value under its condition, in its order (docs/SPECIFICATION.md, 3 and 6).
 -- `curve-checked`: the refusal of a curve is 106 of the degree, then 107 of the coefficients.
--- `class-checked`: on a curve that is not refused, that of a class is 104 of its form, then 110 of its numbers, then 111.
+-- `class-checked`: on an accepted curve that of a class is 104 of its form, then 110 of its numbers, then 111.
 -- `one-checked`: the refusal of a call on one class is that of the curve, then that of the class.
 -- `two-checked`: that of a call on two classes is this of the first, then that of the second.
 -- `curve-answered`, `membership-answered`: the answer on a curve and on a class is accepted where all checks hold, else
 -- refused with the number of the first that fails.
--- `unary-answered`, `binary-answered`: so is that of each call on one class and on two, a refusal with the neutral class
+-- `unary-answered`, `binary-answered`: so is that of each call on one class and on two; a refusal has the neutral class
 -- and no step.
+-- `reply-number`: an answer by checks is refused with the number of the first that fails.
+-- `reply-fails`: where it is refused with a number, the first check that fails has it.
 use Prim.Native.Nat.{ℕ, zero, suc, _^_, _≤_}
-use mathlib.Core.{Path._≡_, Path.refl, Path.ap, Path._∙_, Bool.Bool, Bool.true, Bool._&&_, List.List, List.[], List._∷_, Logic._↔_}
+use mathlib.Core.{Path._≡_, Path.refl, Path.sym, Path.ap, Path.subst, Path._∙_, Bool.Bool, Bool.true, Bool._&&_, List.List, List.[], List._∷_, Logic._↔_}
 use native.Mathlib.Omega.{arith}
 use lib.{Dec.eqb, Dec.leb, ListN.length, ListN.drop}
 use borrow.Author.Tests.{le-leb, leb-true, eq-eqb, eqb-true}
@@ -20,11 +22,11 @@ use Rattle.char2_algebra.proofs.{Degree.len-zero, Degree.len-of-zero, Lead.moni
 use Rattle.class_group.specs.{Mumford.value, Reduction.Counted}
 use Rattle.row_theory.specs.Field.{Poly, 𝔸}
 use Rattle.class_rows.specs.{Operations.unary, Operations.binary, declared.Unary.Unary, declared.Binary.Binary}
-use Rattle.jacobian.specs.{Checks.unless, Checks.Check, Checks.check, Checks.blank, Checks.RefusalOf, Checks.all-hold, Checks.first-fails, Curves.coefficients, Curves.degree-refusal, Curves.coefficient-refusal, Curves.curve-refusal, Curves.curve}
+use Rattle.jacobian.specs.{Checks.Check, Checks.check, Checks.FirstFails, Checks.blank, Checks.RefusalOf, Checks.all-hold, Checks.first-fails, Curves.coefficients, Curves.degree-refusal, Curves.coefficient-refusal, Curves.curve-refusal, Curves.curve}
 use Rattle.jacobian.specs.{Classes.pair, Classes.padded, Classes.shape-refusal, Classes.range-refusal, Classes.class-refusal, Answer.refusal, Answer.refusal-of-two, declared.Curve.Curve, declared.Class.Class}
 use Rattle.jacobian.specs.Checking.{Below, degree-check, curve-checks, Padded, class-checks, checks-of-one, checks-of-two, VerdictOf, ReplyOf}
 use Rattle.jacobian.specs.Checking as checking
-use Rattle.jacobian.specs.Answer.{verdict-of, answered, curve-answer, membership-answer, unary-answer, binary-answer}
+use Rattle.jacobian.specs.Answer.{Verdict, accepted, refused, Reply, verdict-of, answered, curve-answer, membership-answer, unary-answer, binary-answer}
 use Rattle.jacobian.proofs.ByValue.{Checks.then-zero, Checks.both, Checks.blank-past, Checks.curve-passes, Checks.shape-passes, Checks.range-passes, Below.from-blank}
 use Rattle.jacobian.proofs.Representation.Form.{passes-formed, u-monic}
 
@@ -107,6 +109,20 @@ reply-by cs zero d D (all-hold e h) = checking.ReplyOf.accepts refl h
 reply-by cs (suc n) d D (all-hold e h) = absurd (omega arith)
 reply-by cs zero d D (first-fails z h) = absurd (z refl)
 reply-by cs (suc n) d D (first-fails z h) = checking.ReplyOf.refuses (suc n) refl h
+
+pub reply-number : {cs : List Check} {r : Reply} (n : ℕ) → ¬ (n ≡ 0) → ReplyOf cs r → FirstFails cs n → r .outcome ≡ refused n
+reply-number {cs} n z (checking.ReplyOf.accepts e h) k = absurd (z (refusal-held {cs = cs} (first-fails z k) h))
+reply-number {cs} n z (checking.ReplyOf.refuses m e f) k = ap (λ (r : Reply). r .outcome) e ∙ ap refused (sym (refusal-number {cs = cs} m (first-fails z k) f))
+
+accepted-not-refused : {n : ℕ} → _≡_ {A = Verdict} accepted (refused n) → ⊥
+accepted-not-refused h = let z : _≡_ {A = ℕ} 0 1 = cc in omega arith
+
+refused-number : {m n : ℕ} → _≡_ {A = Verdict} (refused m) (refused n) → m ≡ n
+refused-number h = cc
+
+pub reply-fails : {cs : List Check} {r : Reply} {n : ℕ} → ReplyOf cs r → r .outcome ≡ refused n → FirstFails cs n
+reply-fails (checking.ReplyOf.accepts e h) is = absurd (accepted-not-refused (sym e ∙ is))
+reply-fails {cs} (checking.ReplyOf.refuses m e f) is = subst (FirstFails cs) (refused-number (sym (ap (λ (r : Reply). r .outcome) e) ∙ is)) f
 
 pub curve-answered : (c : Curve) → VerdictOf (curve-checks c) (curve-answer c)
 unfolding curve-answer

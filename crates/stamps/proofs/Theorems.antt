@@ -9,17 +9,17 @@
 -- none of its eight candidates has a root.
 -- `stamp-injective`: two accepted stamps of a curve with the same class are equal.
 use Prim.Native.Nat.{ℕ, zero, suc, _+_, _-_, _*_, _/_, _^_, _≤_, _<_}
-use mathlib.Core.{Path._≡_, Path.refl, Path.sym, Path.ap, Path.subst, Path._∙_, Bool.Bool, Bool.true, Bool.false, List.List, List.[], List._∷_, List._++_, Logic._↔_, Logic.inl, Logic.inr, Option.Option, Option.none, Option.some, Option.map-eq-none-iff, Option.map-eq-some-iff}
+use mathlib.Core.{Path._≡_, Path.refl, Path.sym, Path.ap, Path.subst, Path._∙_, List.List, List.[], List._∷_, List._++_, Logic._↔_, Logic.inl, Logic.inr, Option.Option, Option.none, Option.some, Option.map-eq-none-iff, Option.map-eq-some-iff}
 use native.Mathlib.Omega.{arith}
 use lib.{Dec.ltb, ListN.getD}
-use borrow.Author.Tests.{lt-ltb, le-ltb, ltb-true}
+use borrow.Author.Tests.{lt-ltb, ltb-true}
 use Rattle.binary_field_theory.specs.{Element.Accepted, Quadratic.even-root}
-use Rattle.binary_field_theory.proofs.Search.{first-found, none-before, all-none}
-use Rattle.jacobian.specs.{Checks.Check, Checks.check, Checks.RefusalOf, Checks.all-hold, Checks.first-fails, Checking.curve-checks, Checking.ReplyOf}
+use Rattle.binary_field_theory.proofs.Search.{first-found, none-before}
+use Rattle.jacobian.specs.{Checks.Check, Checks.check, Checks.RefusalOf, Checks.FirstFails, Checks.all-hold, Checks.first-fails, Checking.curve-checks, Checking.ReplyOf}
 use Rattle.jacobian.specs.Checking as checking
-use Rattle.jacobian.specs.{Checks.unless, Checks._or-else_, Refusals.IsRefusal, Refusals.refusals, Refusals.listed, Refusals.ValidRefusal, Valid.ValidReply, Curves.f-row, Curves.degree-refusal, Curves.coefficient-refusal, Curves.curve-refusal, Answer.Reply, Answer.Verdict, Answer.accepted, Answer.refused, Answer.Accepts, declared.Curve.Curve, declared.Class.Class}
+use Rattle.jacobian.specs.{Checks.unless, Checks._or-else_, Refusals.IsRefusal, Refusals.refusals, Refusals.listed, Refusals.ValidRefusal, Valid.ValidReply, Curves.f-row, Curves.curve-refusal, Answer.Reply, Answer.Verdict, Answer.accepted, Answer.refused, Answer.Accepts, declared.Curve.Curve, declared.Class.Class}
 use Rattle.jacobian.specs.Valid as valid
-use Rattle.jacobian.proofs.Checking.{refusal-unless, refusal-or-else, refusal-held, curve-checked}
+use Rattle.jacobian.proofs.Checking.{refusal-unless, refusal-or-else, refusal-held, held-refusal, curve-checked, reply-number, reply-fails}
 use Rattle.jacobian.proofs.{Refusals.valid-unless, Refusals.valid-or-else, Valid.curve-refusal-valid, ByValue.Checks.curve-passes}
 use Rattle.stamps.specs.Stamps.{value-at, point-class, class-at, first-class, stamp-refusal, stamped, stamp-answer, SomeRoot, stamp-checks, Rootless, FirstClass}
 use Rattle.stamps.proofs.{Values.value-lt, Search.candidate-lt, Search.found-means, Search.none-means, Search.passed, Points.point-accepts}
@@ -68,25 +68,6 @@ point-degree : (x y : ℕ) → point-class x y .degree ≡ 1
 unfolding point-class
 point-degree x y = refl
 
--- ---- 116 comes from the search alone
-
-stamped-none : (n : ℕ) (o : Option Class) → ¬ (n ≡ 116) → stamped n o .outcome ≡ refused 116 → (n ≡ 0) × (o ≡ none)
-unfolding stamped verdict-number
-stamped-none zero none h e = (refl, refl)
-stamped-none zero (some a) h e = absurd (accepted-not-refused (sym e))
-stamped-none (suc n) o h e = absurd (h (ap verdict-number e))
-
-other-numbers : (x y z : Bool) → ¬ ((unless x 106 or-else unless y 107) or-else unless z 115 ≡ 116)
-unfolding unless _or-else_
-other-numbers false y z e = omega arith
-other-numbers true false z e = omega arith
-other-numbers true true false e = omega arith
-other-numbers true true true e = omega arith
-
-never-116 : (c : Curve) (s : ℕ) → ¬ (stamp-refusal c s ≡ 116)
-unfolding stamp-refusal curve-refusal degree-refusal coefficient-refusal
-never-116 c s = other-numbers _ _ _
-
 module _ (c : Curve) (s : ℕ) where
   abbrev d : ℕ
   d = c .degree
@@ -95,10 +76,6 @@ module _ (c : Curve) (s : ℕ) where
   none-rootless : (x : ℕ) → Accepted d → class-at d (f-row c) x ≡ none → Rootless c x
   unfolding class-at
   none-rootless x ok e = none-means d _ ok (value-lt d ok _ x) .0 (map-eq-none-iff (point-class x) _ .0 e)
-
-  rootless-none : (x : ℕ) → Accepted d → Rootless c x → class-at d (f-row c) x ≡ none
-  unfolding class-at
-  rootless-none x ok h = map-eq-none-iff (point-class x) _ .1 (none-means d _ ok (value-lt d ok _ x) .1 h)
 
   pub stamp-gives : stamp-answer c s .outcome ≡ accepted → (i : ℕ) × FirstClass c s i (stamp-answer c s .class)
   unfolding stamp-answer first-class class-at
@@ -126,28 +103,6 @@ module _ (c : Curve) (s : ℕ) where
       let h = g .1 in
       let x-lt = candidate-lt d s (g .0) (curve-passes c (p .0) .accepted) (p .1) (h .place) in
       (subst (Accepts c) (sym (h .class)) (point-accepts c (p .0) (8 * s + g .0) (h .y) x-lt (h .root .root)), ap (λ (a : Class). a .degree) (h .class) ∙ point-degree (8 * s + g .0) (h .y))
-
-  -- ---- refusals
-  pub stamp-too-large : curve-refusal c ≡ 0 → 2 ^ (c .degree - 3) ≤ s → stamp-answer c s .outcome ≡ refused 115
-  unfolding stamp-answer stamp-refusal stamped unless _or-else_
-  stamp-too-large ok h = rw (ok, le-ltb s _ h) refl
-
-  rootless-refused : curve-refusal c ≡ 0 → s < 2 ^ (d - 3) → ((i : ℕ) → i < 8 → Rootless c (8 * s + i)) → stamp-answer c s .outcome ≡ refused 116
-  unfolding stamp-answer stamp-refusal stamped unless _or-else_ first-class
-  rootless-refused ok h k =
-      rw (ok, lt-ltb s _ h)
-      (ap (λ (o : Option Class). stamped 0 o .outcome)
-      (all-none (λ i. class-at d (f-row c) (8 * s + i)) 8 (λ i l. rootless-none (8 * s + i) (curve-passes c ok .accepted) (k i l))))
-
-  pub stamp-rootless : (stamp-answer c s .outcome ≡ refused 116) ↔ ((curve-refusal c ≡ 0) × (s < 2 ^ (c .degree - 3)) × ((i : ℕ) → i < 8 → Rootless c (8 * s + i)))
-  unfolding stamp-answer first-class
-  stamp-rootless = (
-    λ e.
-        let p = stamped-none (stamp-refusal c s) (first-class d (f-row c) s) (never-116 c s) e in
-        let q = passed c s refl (p .0) in
-        (q .0, q .1, λ i l. none-rootless (8 * s + i) (curve-passes c (q .0) .accepted) (none-before (λ j. class-at d (f-row c) (8 * s + j)) 8 (p .1) i l)),
-    λ h. rootless-refused (h .0) (h .1) (h .2),
-  )
 
 -- ---- each refusal under its condition
 
@@ -196,6 +151,26 @@ module _ (c : Curve) (s : ℕ) where
       reply-by (stamp-checks c s) (stamp-refusal c s) (first-class (c .degree) (f-row c) s)
       (refusal-or-else (curve-checks c ++ check 115 (s < 2 ^ (c .degree - 3)) ∷ []) (check 116 (SomeRoot c s) ∷ []) (stamp-refusal c s) _ refusal-checked
       (λ h. search-checked (refusal-held (curve-checked c) (h .0, (h .1 .0, tt)))))
+
+  pub stamp-too-large : curve-refusal c ≡ 0 → 2 ^ (c .degree - 3) ≤ s → stamp-answer c s .outcome ≡ refused 115
+  stamp-too-large ok h =
+      let held = held-refusal (curve-checked c) ok in
+      reply-number 115 (λ e. omega arith) stamp-checked (inr (held .0, inr (held .1 .0, inl (λ l. omega arith, refl))))
+
+  pub stamp-rootless : (stamp-answer c s .outcome ≡ refused 116) ↔ ((curve-refusal c ≡ 0) × (s < 2 ^ (c .degree - 3)) × ((i : ℕ) → i < 8 → Rootless c (8 * s + i)))
+  stamp-rootless = (
+    λ e. fails (reply-fails stamp-checked e),
+    λ h.
+        let held = held-refusal (curve-checked c) (h .0) in
+        reply-number 116 (λ e. omega arith) stamp-checked (inr (held .0, inr (held .1 .0, inr (h .1, inl (λ r. h .2 (r .0) (r .1) (r .2 .0) (r .2 .1), refl))))),
+  )
+    where
+      fails : FirstFails (stamp-checks c s) 116 → (curve-refusal c ≡ 0) × (s < 2 ^ (c .degree - 3)) × ((i : ℕ) → i < 8 → Rootless c (8 * s + i))
+      fails (inl f) = absurd (omega (arith, f .1))
+      fails (inr (_, inl f)) = absurd (omega (arith, f .1))
+      fails (inr (_, inr (_, inl f))) = absurd (omega (arith, f .1))
+      fails (inr (p, inr (q, inr (l, inl f)))) = (refusal-held (curve-checked c) (p, (q, tt)), l, λ i k y r. f .0 (i, k, (y, r)))
+      fails (inr (_, inr (_, inr (_, inr f)))) = absurd (f .1)
 
 -- ---- two stamps
 
