@@ -2,10 +2,12 @@
 -- `register-checked`: the refusal of a register is that of the curve, then 109 of the count, then that of the seal.
 -- `step-checked`: that of a step is the register's, then that of the class, then 114 of a commit or 113 of an undo.
 -- `answer-checked`: the number of the code's answer is that refusal, and a refused call returns the register given.
+-- `listed-within`: a number of one list is in another that has all of them.
 -- `refusal-listed`: where all numbers of checks are listed, so is their refusal.
 -- `step-listed`: a step refuses with one of its own numbers.
+-- `step-numbers-checked`: each of these numbers is that of a check of the step.
 use Prim.Native.Nat.{ℕ}
-use mathlib.Core.{Path._≡_, Path.refl, Path.sym, Path._∙_, Path.ap, Path.subst, Bool.Bool, Bool.true, Bool.false, Bool.true≢false, Bool._&&_, Bool.cond, List.List, List.[], List._∷_, List._++_, Logic._↔_, Logic.inl, Logic.inr}
+use mathlib.Core.{Path._≡_, Path.refl, Path.sym, Path._∙_, Path.ap, Path.subst, Bool.Bool, Bool.true, Bool.false, Bool.true≢false, Bool._&&_, Bool._||_, Bool.cond, List.List, List.[], List._∷_, List._++_, Logic._↔_, Logic.inl, Logic.inr}
 use lib.Dec.{eqb}
 use borrow.Author.Tests.{eq-eqb, eqb-true}
 use Rattle.jacobian.specs.{Checks.Check, Checks.check, Checks.FirstFails, Checks.RefusalOf, Refusals.listed, Curves.curve-refusal, Classes.class-refusal, Checking.curve-checks, Checking.class-checks, Answer.outcome-refusal, declared.Class.Class}
@@ -14,7 +16,7 @@ use Rattle.jacobian.proofs.{ByValue.Checks.then-zero, ByValue.Checks.both, ByVa
 use Rattle.count_limit.specs.{Limit.count-refusal, Checking.count-check}
 use Rattle.count_limit.proofs.Checking.{count-checked}
 use Rattle.history.specs.Register.{RegisterReply, register-reply, register-refusal, edge, edge-refusal, step-refusal, stepped, step-answer}
-use Rattle.history.specs.Checking.{register-checks, edge-check, step-checks, step-numbers, CheckedAnswer}
+use Rattle.history.specs.Checking.{register-checks, edge-check, step-checks, check-numbers, step-numbers, CheckedAnswer}
 use Rattle.history.specs.declared.{Register.Register, RegisterAnswer.RegisterAnswer, Step.Step, Step.the-variants.Commit, Step.the-variants.Undo}
 use Rattle.history.proofs.Registers.{edge-positive, follows-outcome, follows-refused}
 
@@ -57,25 +59,48 @@ module _ (k : Step) (r : Register) (a : Class) where
       }
 
 -- ---- the numbers
--- the numbers of these checks are all listed
-unfoldable pub numbers-listed : List ℕ → List Check → Bool
-numbers-listed ns [] = true
-numbers-listed ns (c ∷ cs) = listed (c .number) ns && numbers-listed ns cs
+-- every number of the first list is in the second
+unfoldable pub all-listed : List ℕ → List ℕ → Bool
+all-listed [] ns = true
+all-listed (m ∷ ms) ns = listed m ns && all-listed ms ns
 
-fails-listed : (ns : List ℕ) (cs : List Check) (n : ℕ) → numbers-listed ns cs ≡ true → FirstFails cs n → listed n ns ≡ true
-unfolding numbers-listed
-fails-listed ns [] n h f = absurd f
-fails-listed ns (c ∷ cs) n h (inl f) = subst (λ m. listed m ns ≡ true) (sym (f .1)) (both (listed (c .number) ns) (numbers-listed ns cs) h .0)
-fails-listed ns (c ∷ cs) n h (inr f) = fails-listed ns cs n (both (listed (c .number) ns) (numbers-listed ns cs) h .1) (f .1)
+pub listed-within : (ms ns : List ℕ) (n : ℕ) → all-listed ms ns ≡ true → listed n ms ≡ true → listed n ns ≡ true
+unfolding all-listed listed
+listed-within [] ns n h e = absurd (true≢false (sym e))
+listed-within (m ∷ ms) ns n h e =
+    let p = both (listed m ns) (all-listed ms ns) h in
+    go (eqb n m) refl e (listed-within ms ns n (p .1))
+  where
+    go : (x : Bool) → eqb n m ≡ x → (x || listed n ms) ≡ true → (listed n ms ≡ true → listed n ns ≡ true) → listed n ns ≡ true
+    go true is e rest = subst (λ (i : ℕ). listed i ns ≡ true) (sym (eqb-true n m is)) (both (listed m ns) (all-listed ms ns) h .0)
+    go false is e rest = rest e
 
-pub refusal-listed : (ns : List ℕ) {cs : List Check} {n : ℕ} → numbers-listed ns cs ≡ true → RefusalOf cs n → ¬ (n ≡ 0) → listed n ns ≡ true
+-- the number of the first check that fails is one of the checks' numbers
+fails-numbered : (cs : List Check) (n : ℕ) → FirstFails cs n → listed n (check-numbers cs) ≡ true
+unfolding check-numbers listed
+fails-numbered [] n f = absurd f
+fails-numbered (c ∷ cs) n (inl f) = rw (eq-eqb n (c .number) (f .1))
+fails-numbered (c ∷ cs) n (inr f) = or-right (eqb n (c .number)) (fails-numbered cs n (f .1))
+  where
+    or-right : (x : Bool) {y : Bool} → y ≡ true → (x || y) ≡ true
+    or-right true e = refl
+    or-right false e = e
+
+pub refusal-listed : (ns : List ℕ) {cs : List Check} {n : ℕ} → all-listed (check-numbers cs) ns ≡ true → RefusalOf cs n → ¬ (n ≡ 0) → listed n ns ≡ true
 refusal-listed ns h (checks.RefusalOf.all-hold z held) k = absurd (k z)
-refusal-listed ns {cs} {n} h (checks.RefusalOf.first-fails z fails) k = fails-listed ns cs n h fails
+refusal-listed ns {cs} {n} h (checks.RefusalOf.first-fails z fails) k = listed-within (check-numbers cs) ns n h (fails-numbered cs n fails)
 
-numbered : (k : Step) (r : Register) (a : Class) → numbers-listed (step-numbers k) (step-checks k r a) ≡ true
-unfolding step-numbers listed numbers-listed
+numbered : (k : Step) (r : Register) (a : Class) → (all-listed (check-numbers (step-checks k r a)) (step-numbers k) && all-listed (step-numbers k) (check-numbers (step-checks k r a))) ≡ true
+unfolding step-numbers check-numbers all-listed listed
 numbered Commit r a = refl
 numbered Undo r a = refl
 
-pub step-listed : (k : Step) (r : Register) (a : Class) → ¬ (step-refusal k r a ≡ 0) → listed (step-refusal k r a) (step-numbers k) ≡ true
-step-listed k r a = refusal-listed (step-numbers k) (numbered k r a) (step-checked k r a)
+module _ (k : Step) (r : Register) (a : Class) where
+  same-numbers : (all-listed (check-numbers (step-checks k r a)) (step-numbers k) ≡ true) × (all-listed (step-numbers k) (check-numbers (step-checks k r a)) ≡ true)
+  same-numbers = both (all-listed (check-numbers (step-checks k r a)) (step-numbers k)) (all-listed (step-numbers k) (check-numbers (step-checks k r a))) (numbered k r a)
+
+  pub step-listed : ¬ (step-refusal k r a ≡ 0) → listed (step-refusal k r a) (step-numbers k) ≡ true
+  step-listed = refusal-listed (step-numbers k) (same-numbers .0) (step-checked k r a)
+
+  pub step-numbers-checked : (n : ℕ) → listed n (step-numbers k) ≡ true → listed n (check-numbers (step-checks k r a)) ≡ true
+  step-numbers-checked n = listed-within (step-numbers k) (check-numbers (step-checks k r a)) n (same-numbers .1)

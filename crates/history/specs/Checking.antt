@@ -20,6 +20,11 @@ edge-check Undo n = check 113 (¬ (n ≡ 0))
 abbrev pub step-checks : Step → Register → Class → List Check
 step-checks k r a = register-checks r ++ (class-checks (r .curve) a ++ (edge-check k (r .count) ∷ []))
 
+-- the numbers of these checks
+unfoldable pub check-numbers : List Check → List ℕ
+check-numbers [] = []
+check-numbers (c ∷ cs) = c .number ∷ check-numbers cs
+
 -- the numbers with which a step can refuse
 unfoldable pub step-numbers : Step → List ℕ
 step-numbers Commit = 104 ∷ 106 ∷ 107 ∷ 109 ∷ 110 ∷ 111 ∷ 114 ∷ []

@@ -7,6 +7,7 @@
 -- then that of the last seal, then that of the classes, newest first.
 -- `row-walk-checked`: the number of the code's walk is that refusal, and a refused walk answers the neutral class.
 -- `row-listed`: a walk refuses with one of its own numbers.
+-- `row-numbers-checked`: each of these numbers is that of a check of the walk.
 use Prim.Native.Nat.{ℕ}
 use mathlib.Core.{Path._≡_, Path.refl, Path.sym, Path._∙_, Path.ap, Path.subst, Bool.true, List.List, List.[], List._∷_, List._++_}
 use lib.ListN.{length}
@@ -14,8 +15,8 @@ use Rattle.jacobian.specs.{Checks.RefusalOf, Refusals.listed, Curves.curve-refu
 use Rattle.jacobian.proofs.Checking.{curve-checked, class-checked, refusal-none, refusal-or-else, refusal-held}
 use Rattle.count_limit.specs.{Limit.count-refusal, Checking.count-check}
 use Rattle.count_limit.proofs.Checking.{count-checked}
-use Rattle.history.specs.{Register.RegisterReply, Register.stepped, Register.step-refusal, Register.step-answer, Calls.Call, Calls.answer, Calls.walk-back, Checking.step-checks, Checking.step-numbers, Checking.CheckedAnswer, declared.Register.Register}
-use Rattle.history.proofs.{Registers.follows-outcome, Registers.follows-refused, Answers.sealed-outcome, Checking.step-checked, Checking.step-listed, Checking.numbers-listed, Checking.refusal-listed}
+use Rattle.history.specs.{Register.RegisterReply, Register.stepped, Register.step-refusal, Register.step-answer, Calls.Call, Calls.answer, Calls.walk-back, Checking.step-checks, Checking.check-numbers, Checking.step-numbers, Checking.CheckedAnswer, declared.Register.Register}
+use Rattle.history.proofs.{Registers.follows-outcome, Registers.follows-refused, Answers.sealed-outcome, Checking.step-checked, Checking.step-listed, Checking.all-listed, Checking.listed-within, Checking.refusal-listed}
 use Rattle.seal_register.specs.{InPlace.in-place, RowWalk.classes-refusal, RowWalk.row-refusal, RowWalk.reached, RowWalk.row-walk-answer, Checking.classes-checks, Checking.row-checks, Checking.row-numbers, declared.walk.RowWalk.RowWalk}
 use Rattle.seal_register.proofs.{Answer.verdict-number, RowSteps.refused-is}
 
@@ -42,8 +43,8 @@ module _ (c : Curve) where
   classes-checked ok [] = refusal-none
   classes-checked ok (a ∷ ops) = refusal-or-else (class-checks c a) (classes-checks c ops) (class-refusal c a) _ (class-checked c a ok) (λ h. classes-checked ok ops)
 
-  classes-numbered : (ops : List Class) → numbers-listed row-numbers (classes-checks c ops) ≡ true
-  unfolding numbers-listed row-numbers listed
+  classes-numbered : (ops : List Class) → all-listed (check-numbers (classes-checks c ops)) row-numbers ≡ true
+  unfolding all-listed check-numbers row-numbers listed
   classes-numbered [] = refl
   classes-numbered (a ∷ ops) = classes-numbered ops
 
@@ -57,8 +58,12 @@ module _ (c : Curve) where
         (λ k. refusal-or-else (class-checks c last) (classes-checks c ops) (class-refusal c last) _ (class-checked c last ok) (λ l. classes-checked ok ops)))
 
     pub row-listed : ¬ (row-refusal c last ops ≡ 0) → listed (row-refusal c last ops) row-numbers ≡ true
-    unfolding numbers-listed row-numbers listed
+    unfolding all-listed check-numbers row-numbers listed
     row-listed = refusal-listed row-numbers (classes-numbered ops) row-checked
+
+    pub row-numbers-checked : (n : ℕ) → listed n row-numbers ≡ true → listed n (check-numbers (row-checks c last ops)) ≡ true
+    unfolding all-listed check-numbers row-numbers listed
+    row-numbers-checked n = listed-within row-numbers (check-numbers (row-checks c last ops)) n refl
 
     module _ (w : RowWalk) (e : reached w ≡ row-walk-answer c last ops) where
       pub row-number : w .refusal ≡ row-refusal c last ops
