@@ -11,13 +11,22 @@ use mathlib.Core.{Path._≡_, Path.refl, Path.sym, Path.ap, Path._∙_, Bool.tru
 use native.Mathlib.Omega.{arith}
 use lib.Dec.{ltb, leb}
 use borrow.Author.Tests.{ltb-true, lt-ltb, leb-true, le-leb}
-use Rattle.jacobian.specs.{Checks.unless, Checks.check, Checks.RefusalOf, Checking.checks-of-one, Refusals.listed, Answer.Verdict, Answer.accepted, Answer.refused, Answer.Result, Answer.refusal, declared.Curve.Curve, declared.Class.Class}
+use Rattle.jacobian.specs.Checks as checks
+use Rattle.jacobian.specs.{Checks.unless, Checks.Check, Checks.check, Checks.RefusalOf, Checking.checks-of-one, Refusals.listed, Answer.Verdict, Answer.accepted, Answer.refused, Answer.Result, Answer.refusal, declared.Curve.Curve, declared.Class.Class}
 use Rattle.jacobian.proofs.Checking.{refusal-unless, refusal-or-else, Numbered, refusal-listed, one-checked}
 use Rattle.seal_licence.specs.Multiples.{multiple-limit, halvings-limit, given, multiple-class, halved-class, multiple-refusal, halvings-refusal, multiple-answer, halvings-answer}
 use Rattle.seal_licence.specs.{Checking.multiple-checks, Checking.halvings-checks, Checking.ResultOf, Checking.multiple-numbers, Checking.halvings-numbers, Valid.ValidResult}
+use Rattle.seal_licence.specs.Checking as checking
 use Rattle.seal_licence.specs.Valid as valid
 
 -- ---- the checks in order
+
+given-result : (cs : List Check) (m : ℕ) (x : Class) → RefusalOf cs m → ResultOf cs x (given m x)
+unfolding given
+given-result cs zero x (checks.RefusalOf.all-hold e h) = checking.ResultOf.all-hold h refl
+given-result cs (suc m) x (checks.RefusalOf.all-hold e h) = absurd (omega arith)
+given-result cs zero x (checks.RefusalOf.first-fails z h) = absurd (z refl)
+given-result cs (suc m) x (checks.RefusalOf.first-fails z h) = checking.ResultOf.first-fails (suc m) h refl
 
 module _ (c : Curve) (a : Class) (n : ℕ) where
   pub multiple-checked : RefusalOf (multiple-checks c a n) (multiple-refusal c a n)
@@ -34,11 +43,11 @@ module _ (c : Curve) (a : Class) (n : ℕ) where
 
   pub multiple-result : ResultOf (multiple-checks c a n) (multiple-class c a n) (multiple-answer c a n)
   unfolding multiple-answer
-  multiple-result = (multiple-refusal c a n, multiple-checked, refl)
+  multiple-result = given-result (multiple-checks c a n) _ _ multiple-checked
 
   pub halvings-result : ResultOf (halvings-checks c a n) (halved-class c a n) (halvings-answer c a n)
   unfolding halvings-answer
-  halvings-result = (halvings-refusal c a n, halvings-checked, refl)
+  halvings-result = given-result (halvings-checks c a n) _ _ halvings-checked
 
 -- ---- the numbers
 
