@@ -1,5 +1,5 @@
 -- Theorems on archives: bytes and values determine each other; an encoded archive is bytes; its length;
--- the drawing number at its limit; reading one part of the input at a time.
+-- the drawing number at its limit; reading one part of the input at a time; the checks in order.
 pub mod Parts
 pub mod Shifted
 pub mod Tail
@@ -8,3 +8,4 @@ pub mod ArchiveBytes
 pub mod ArchiveLength
 pub mod Windows
 pub mod DrawingEdges
+pub mod Checking

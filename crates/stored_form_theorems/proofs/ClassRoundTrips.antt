@@ -1,6 +1,7 @@
 -- The body of a class and the class determine each other.
 -- `encode-decode-class`: the class that a body decodes to is encoded by that body.
 -- `decode-body`: the body of a class that no check refuses decodes to the class.
+-- `length-encoded`: that body has 16 bytes for each degree.
 -- `body-allowed`: the length of that body is allowed.
 -- `class-short`: the field of such a class is no longer than `class-room`.
 use Prim.Native.Nat.{ℕ, zero, suc, _+_, _*_, _/_, _^_, _≤_}
@@ -142,6 +143,9 @@ class-length-of (suc (suc (suc (suc n)))) h = absurd (omega arith)
 module _ (c : Curve) (a : Class) (ok : refusal c a ≡ 0) where
   pub decode-body : decode-class (encode-class a) ≡ a
   decode-body = decode-encode-class a (shaped c a ok)
+
+  pub length-encoded : length (encode-class a) ≡ 16 * a .degree
+  length-encoded = length-body a (shaped c a ok)
 
   pub body-allowed : class-length (length (encode-class a)) ≡ true
   body-allowed = let k = shaped c a ok in ap class-length (length-body a k) ∙ class-length-of (a .degree) (k .low)

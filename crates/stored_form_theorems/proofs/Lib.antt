@@ -17,3 +17,8 @@ pub mod Written
 pub mod Passing
 -- and for operations in order.
 pub mod Operations
+-- The checks of a record, each under its condition; which numbers they refuse with; the lengths that are written.
+pub mod CheckedReadings
+pub mod Checking
+pub mod RefusalNumbers
+pub mod ClassLengths
