@@ -1,8 +1,10 @@
 -- Each byte call of multiples and repeated halves wrote or refused (docs/SPECIFICATION.md, 6 and 7).
--- `multiple-wrote-or-refused`: on every input and output, n times writes at most 51 bytes and answers their number, or
--- answers a listed refusal and leaves the output as it was.
--- `halvings-wrote-or-refused`: on every input and output, k halvings write at most 51 bytes and answer their number, or
--- answer a listed refusal and leave the output as it was.
+-- `multiple-checked`: n times refuses with 101 of the output, then as its record does, then with 118 of n, and no byte
+-- changes; where no check fails, it writes a class's field.
+-- `halvings-checked`: the same of k halvings, with 119 of k.
+-- `multiple-wrote-or-refused`: on every input and output, n times writes 3, 19, 35 or 51 bytes and answers their number,
+-- or answers one of 101 to 107, 110 to 112 and 118 and leaves the output as it was.
+-- `halvings-wrote-or-refused`: the same of k halvings, with 119 in place of 118.
 -- `multiple-decides`: the answer alone of n times says which of the two it was.
 -- `halvings-decides`: the answer alone of k halvings says which of the two it was.
 -- Where the output has room for a class field:
@@ -10,59 +12,88 @@
 -- `halvings-unread`: a record that is not read is refused with its own number, whatever k is.
 -- `too-large-bytes`: a record that is read is refused with 118 for n of 2^61 or more.
 -- `too-many-bytes`: a record that is read is refused with 119 for k above 64.
-use Prim.Native.Nat.{ℕ, _≤_, _<_}
-use mathlib.Core.{Path._≡_, Path.refl, Path.ap, Bool.Bool, Bool.true, Bool.false, List.List}
-use lib.{Dec.ltb, Dec.leb, Dec.lit≤, ListN.length}
-use borrow.Author.Tests.{ltb-true, ltb-false, leb-true, leb-false}
-use Rattle.jacobian.specs.{Refusals.refusals, Refusals.listed, Refusals.IsRefusal, Answer.Result, declared.Curve.Curve, declared.Class.Class}
-use Rattle.stored_form.specs.{Reading.found, Reading.refused as unread, Head.class-room, Reader.read-record, Reader.class-layout, declared.Record.Record}
-use Rattle.written_form.specs.Effect.{refuse, on-outcome, class-response, ValidResponse, number, WroteOrRefused, AnswerDecides}
-use Rattle.written_form.proofs.{Effects.call-refused, Effects.answer-refused, WroteOrRefused.call-wrote-or-refused, WroteOrRefused.answer-decides}
-use Rattle.seal.proofs.{Passing.class-holds, ClassCalls.class-call, WroteOrRefused.class-response-valid}
-use Rattle.seal_licence.specs.Multiples.{multiple-limit, halvings-limit, refuses, multiple-answer, halvings-answer}
+use Prim.Native.Nat.{ℕ, zero, suc, _^_, _≤_, _<_}
+use mathlib.Core.{Path._≡_, Path.refl, Path.sym, Path.ap, Path.subst, List.List, List.[], List._∷_}
+use native.Mathlib.Omega.{arith}
+use lib.{Dec.ltb, Dec.leb, ListN.length}
+use borrow.Author.Tests.{ltb-true, lt-ltb, leb-true, le-leb}
+use Rattle.jacobian.specs.{Checks.check, Checks.unless, Checks._or-else_, Checks.AllHold, Checks.RefusalOf, Refusals.listed, Answer.Result, Answer.refusal, Answer.verdict-of, declared.Curve.Curve, declared.Class.Class}
+use Rattle.jacobian.proofs.Checking.{refusal-unless}
+use Rattle.stored_form.specs.{Reading.found, Reading.refused as unread, Head.class-room, Passing.ClassPasses, Reader.read-record, Reader.class-layout, declared.Record.Record}
+use Rattle.stored_form_theorems.specs.{Checking.record-checks, Checking.record-values, Numbers.class-field-lengths}
+use Rattle.stored_form_theorems.proofs.Checking.{record-found}
+use Rattle.written_form.specs.Effect.{refuse, class-response, EffectOf, WroteOrRefused, AnswerDecides}
+use Rattle.written_form.proofs.{Effects.call-refused, Effects.answer-refused, Checking.ResponseOf, Checking.class-responds, Checking.call-checked, WroteOrRefused.wrote-or-refused, WroteOrRefused.answer-decides}
+use Rattle.seal.proofs.{Passing.class-holds, ClassCalls.class-call}
+use Rattle.seal_licence.specs.Multiples.{multiple-limit, halvings-limit, refuses, given, multiple-refusal, halvings-refusal, multiple-answer, halvings-answer}
 use Rattle.seal_licence.specs.Calls.{answered, multiple-call, halvings-call}
-use Rattle.seal_licence.proofs.Theorems.{multiple-too-large, halvings-too-many}
+use Rattle.seal_licence.proofs.{Theorems.multiple-too-large, Theorems.halvings-too-many, Answers.multiple-passes, Answers.halvings-passes}
+use Rattle.licence_theorems.specs.Checking.{multiple-checks, halvings-checks, multiple-numbers, halvings-numbers}
 use Rattle.licence_theorems.proofs.Passing.{multiple-given, halvings-given}
 
 -- ---- responses
 
--- the response of a listed refusal
-refused-response-valid : (n : ℕ) → IsRefusal n → {r : Result} → r ≡ refuses n → ValidResponse class-room (class-response r)
-unfolding class-response on-outcome
-refused-response-valid n i e = number n i (ap class-response e)
+-- an answer that is given by its refusal
+given-verdict : (m : ℕ) (a : Class) → given m a .outcome ≡ verdict-of m
+unfolding given verdict-of
+given-verdict zero a = refl
+given-verdict (suc m) a = refl
 
-module _ (s : List ℕ) {h : Record} {end : ℕ} (read : read-record class-layout s ≡ found h end) where
-  multiple-response-valid : (n : ℕ) → ValidResponse class-room (class-response (multiple-answer (h .curve) (h .class) n))
-  unfolding IsRefusal refusals listed
-  multiple-response-valid n = by (ltb n multiple-limit) refl
-    where
-      by : (b : Bool) → ltb n multiple-limit ≡ b → ValidResponse class-room (class-response (multiple-answer (h .curve) (h .class) n))
-      by true e = class-response-valid (multiple-given (class-holds s read) n (ltb-true n multiple-limit e))
-      by false e = refused-response-valid 118 refl (multiple-too-large (h .curve) (h .class) n (class-holds s read) (ltb-false n multiple-limit e))
+-- the last check of a class that is accepted
+last-number : (c : Curve) (a : Class) (m : ℕ) → refusal c a ≡ 0 → refusal c a or-else m ≡ m
+unfolding _or-else_
+last-number c a m ok = rw ok refl
 
-  halvings-response-valid : (k : ℕ) → ValidResponse class-room (class-response (halvings-answer (h .curve) (h .class) k))
-  unfolding IsRefusal refusals listed
-  halvings-response-valid k = by (leb k halvings-limit) refl
-    where
-      by : (b : Bool) → leb k halvings-limit ≡ b → ValidResponse class-room (class-response (halvings-answer (h .curve) (h .class) k))
-      by true e = class-response-valid (halvings-given (class-holds s read) k (leb-true k halvings-limit e))
-      by false e = refused-response-valid 119 refl (halvings-too-many (h .curve) (h .class) k (class-holds s read) (leb-false k halvings-limit e))
+module _ (s : List ℕ) (held : AllHold (record-checks class-layout s)) where
+  abbrev h : Record
+  h = record-values class-layout s
+
+  accepts : ClassPasses (h .curve) (h .class)
+  accepts = class-holds s (record-found class-layout s held)
+
+  multiple-responds : (n : ℕ) → ResponseOf (check 118 (n < 2 ^ 61) ∷ []) class-field-lengths (class-response (multiple-answer (h .curve) (h .class) n))
+  unfolding multiple-answer multiple-refusal
+  multiple-responds n =
+      let c = h .curve in
+      let a = h .class in
+      let is = last-number c a (unless (ltb n multiple-limit) 118) (accepts .none) in
+      let checked = refusal-unless (ltb n multiple-limit) 118 (λ z. omega arith) (ltb-true n multiple-limit, lt-ltb n multiple-limit) in
+      class-responds c (multiple-refusal c a n) _ (subst (RefusalOf (check 118 (n < 2 ^ 61) ∷ [])) (sym is) checked) (given-verdict (multiple-refusal c a n) _)
+      (λ z. multiple-given accepts n (multiple-passes c a n z .1) .passes .none)
+
+  halvings-responds : (k : ℕ) → ResponseOf (check 119 (k ≤ 64) ∷ []) class-field-lengths (class-response (halvings-answer (h .curve) (h .class) k))
+  unfolding halvings-answer halvings-refusal
+  halvings-responds k =
+      let c = h .curve in
+      let a = h .class in
+      let is = last-number c a (unless (leb k halvings-limit) 119) (accepts .none) in
+      let checked = refusal-unless (leb k halvings-limit) 119 (λ z. omega arith) (leb-true k halvings-limit, le-leb k halvings-limit) in
+      class-responds c (halvings-refusal c a k) _ (subst (RefusalOf (check 119 (k ≤ 64) ∷ [])) (sym is) checked) (given-verdict (halvings-refusal c a k) _)
+      (λ z. halvings-given accepts k (halvings-passes c a k z .1) .passes .none)
 
 -- ---- the calls
 
-pub multiple-wrote-or-refused : (n : ℕ) (s out : List ℕ) → WroteOrRefused class-room out (multiple-call n s out)
+pub multiple-checked : (n : ℕ) (s out : List ℕ) → EffectOf (multiple-checks n s out) class-field-lengths (let h = record-values class-layout s in class-response (multiple-answer (h .curve) (h .class) n) .bytes) out (multiple-call n s out)
 unfolding answered
-multiple-wrote-or-refused n s out = call-wrote-or-refused class-room class-layout _ s out (λ h end e. multiple-response-valid s e n)
+multiple-checked n s out = call-checked class-room class-layout (λ h. class-response (multiple-answer (h .curve) (h .class) n)) (λ h. check 118 (n < 2 ^ 61) ∷ []) class-field-lengths refl s out (λ held. multiple-responds s held n)
 
-pub halvings-wrote-or-refused : (k : ℕ) (s out : List ℕ) → WroteOrRefused class-room out (halvings-call k s out)
+pub halvings-checked : (k : ℕ) (s out : List ℕ) → EffectOf (halvings-checks k s out) class-field-lengths (let h = record-values class-layout s in class-response (halvings-answer (h .curve) (h .class) k) .bytes) out (halvings-call k s out)
 unfolding answered
-halvings-wrote-or-refused k s out = call-wrote-or-refused class-room class-layout _ s out (λ h end e. halvings-response-valid s e k)
+halvings-checked k s out = call-checked class-room class-layout (λ h. class-response (halvings-answer (h .curve) (h .class) k)) (λ h. check 119 (k ≤ 64) ∷ []) class-field-lengths refl s out (λ held. halvings-responds s held k)
 
-pub multiple-decides : (n : ℕ) (s out : List ℕ) → AnswerDecides class-room out (multiple-call n s out)
-multiple-decides n s out = answer-decides (lit≤ tt) (multiple-wrote-or-refused n s out)
+pub multiple-wrote-or-refused : (n : ℕ) (s out : List ℕ) → WroteOrRefused class-room class-field-lengths multiple-numbers out (multiple-call n s out)
+unfolding listed
+multiple-wrote-or-refused n s out = wrote-or-refused multiple-numbers refl (multiple-checked n s out)
 
-pub halvings-decides : (k : ℕ) (s out : List ℕ) → AnswerDecides class-room out (halvings-call k s out)
-halvings-decides k s out = answer-decides (lit≤ tt) (halvings-wrote-or-refused k s out)
+pub halvings-wrote-or-refused : (k : ℕ) (s out : List ℕ) → WroteOrRefused class-room class-field-lengths halvings-numbers out (halvings-call k s out)
+unfolding listed
+halvings-wrote-or-refused k s out = wrote-or-refused halvings-numbers refl (halvings-checked k s out)
+
+pub multiple-decides : (n : ℕ) (s out : List ℕ) → AnswerDecides class-room class-field-lengths multiple-numbers out (multiple-call n s out)
+multiple-decides n s out = answer-decides refl refl (multiple-wrote-or-refused n s out)
+
+pub halvings-decides : (k : ℕ) (s out : List ℕ) → AnswerDecides class-room class-field-lengths halvings-numbers out (halvings-call k s out)
+halvings-decides k s out = answer-decides refl refl (halvings-wrote-or-refused k s out)
 
 -- ---- refusals, where the output has room
 module _ (s out : List ℕ) (room : class-room ≤ length out) where

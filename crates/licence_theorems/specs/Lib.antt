@@ -1,2 +1,3 @@
--- Records rebuilt from what calls wrote.
+-- Records rebuilt from what calls wrote, and the checks of the calls.
 pub mod Rebuilt
+pub mod Checking

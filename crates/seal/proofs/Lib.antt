@@ -6,6 +6,7 @@ pub mod ByteRegister
 pub mod ByteHalving
 pub mod ByteGroup
 pub mod ByteStamps
+pub mod Checking
 pub mod WroteOrRefused
 pub mod Promises
 pub mod KeptFields

@@ -1,34 +1,35 @@
 -- Every byte call wrote or refused (docs/SPECIFICATION.md, 6).
--- `wrote-or-refused`: on every input and output, a call writes at most its room and answers that length,
--- or it answers the number of a refusal and leaves the output as it was.
+-- `wrote-or-refused`: on every input and output, a call writes bytes of one of its lengths and answers that length,
+-- or it answers one of its numbers and leaves the output as it was.
 -- `call-decides`: the answer alone decides which: up to 100 it is a length, above that the number of a refusal.
 -- `membership-valid`: membership answers 0 or the number of a refusal.
+-- `membership-answers`: it answers 0 or one of its numbers.
 -- `membership-found`, `found-membership`: it answers 0 exactly if the record is read.
 -- `length-read`: a call whose answer is a length had the room, and its record was read.
 -- `accepted-room`, `accepted-read`: so had a commit or an undo, and the register call accepts its values.
-use Prim.Native.Nat.{ℕ, zero, suc, _≤_}
-use mathlib.Core.Path.{_≡_, refl, sym, ap, _∙_, subst}
-use mathlib.Core.{List.List}
-use lib.{Dec.lit≤, ListN.length}
-use Rattle.jacobian.specs.{Refusals.IsRefusal, Refusals.ValidRefusal, Answer.Result, Answer.Verdict, Answer.accepted, Answer.refused, Answer.result, Answer.verdict-of, declared.Curve.Curve, declared.Class.Class}
+use Prim.Native.Nat.{ℕ, _≤_}
+use mathlib.Core.Path.{_≡_, refl, sym, _∙_, subst}
+use mathlib.Core.{Bool.true, List.List}
+use lib.{Dec.leb, Dec.ltb, ListN.length}
+use Rattle.jacobian.specs.{Refusals.listed, Refusals.IsRefusal, Refusals.ValidRefusal, Answer.Verdict, Answer.accepted, Answer.refused, declared.Class.Class}
 use Rattle.jacobian.proofs.Refusals.{refused-valid}
-use Rattle.stamps.specs.Stamps.{stamp-answer}
-use Rattle.stamps.proofs.Theorems.{stamp-accepts, stamp-refuses}
 use Rattle.history.proofs.Valid.{step-refusal-valid}
-use Rattle.history.specs.Register.{step-refusal, stepped, follows, step-answer}
+use Rattle.history.specs.Register.{step-refusal, stepped, step-answer}
 use Rattle.history.specs.declared.{Register.Register, Step.Step, Step.the-variants.Commit, Step.the-variants.Undo}
-use Rattle.stored_form.specs.{Reading.Reading, Reading.found, Reading.refused as unread, Head.class-room, Reader.read-record, Reader.curve-layout, Reader.class-layout, Reader.sum-layout, Reader.register-layout, declared.Record.Record, Classes.class-field}
-use Rattle.written_form.specs.Effect.{Effect, refuse, on-outcome, class-response, register-room, ValidResponse, bytes, WroteOrRefused, AnswerDecides, longest-answer}
-use Rattle.stored_form_theorems.proofs.ClassRoundTrips.{class-short}
+use Rattle.stored_form.specs.{Reading.Reading, Reading.found, Reading.refused as unread, Reader.read-record, Reader.class-layout, Reader.register-layout, declared.Record.Record}
+use Rattle.written_form.specs.Effect.{Effect, refuse, register-room, WroteOrRefused, AnswerDecides, longest-answer}
+use Rattle.stored_form_theorems.specs.Numbers.{ZeroOrOneOf, class-numbers}
+use Rattle.stored_form_theorems.proofs.RefusalNumbers.{refusal-among}
 use Rattle.stored_form.proofs.{Valid.ValidReading, Valid.record-valid, Valid.reading-valid, Valid.reading-found, Valid.found-reading}
-use Rattle.written_form.proofs.{WroteOrRefused.on-valid, WroteOrRefused.call-wrote-or-refused, WroteOrRefused.answer-decides, WroteOrRefused.never-both, Effects.call-refused}
-use Rattle.seal.specs.Records.{register-fields}
-use Rattle.seal.specs.Calls.{register, register-response, answered, membership-call, tags, room, called, step-call}
+use Rattle.written_form.proofs.{Checking.every, WroteOrRefused.answer-decides, WroteOrRefused.never-both, Effects.call-refused}
+use Rattle.written_form.proofs.WroteOrRefused as told
+use Rattle.seal.specs.Calls.{register, membership-call, tags, room, called, step-call}
+use Rattle.seal.specs.Checking.{numbers, lengths}
 use Rattle.seal.specs.declared.calls.Call.{Call}
 use Rattle.seal.specs.declared.calls.Call.the-variants.{Opposite, Double, Half, Sum, Stamp}
 use Rattle.seal.specs.declared.calls.Call.the-variants as Call
-use Rattle.seal.proofs.Passing.{Given, class-holds, sum-holds, opposite-given, double-given, half-given, sum-given}
-use Rattle.seal.proofs.ByteRegister.{follows-fits, of-record, unwritten}
+use Rattle.seal.proofs.Checking.{membership-checked, follows-verdict, call-checked}
+use Rattle.seal.proofs.ByteRegister.{of-record, unwritten}
 
 -- ---- membership
 
@@ -36,6 +37,10 @@ module _ (s : List ℕ) where
   pub membership-valid : ValidRefusal (membership-call s)
   unfolding membership-call
   membership-valid = reading-valid _ (record-valid class-layout s)
+
+  pub membership-answers : ZeroOrOneOf class-numbers (membership-call s)
+  unfolding listed
+  membership-answers = refusal-among class-numbers refl (membership-checked s)
 
   pub membership-found : membership-call s ≡ 0 → (h : Record) × (end : ℕ) × (read-record class-layout s ≡ found h end)
   unfolding membership-call
@@ -45,69 +50,33 @@ module _ (s : List ℕ) where
   unfolding membership-call
   found-membership e = found-reading _ e
 
--- ---- responses
-
--- a class that passes
-pub class-response-valid : {c : Curve} {r : Result} → Given c r → ValidResponse class-room (class-response r)
-unfolding class-response on-outcome
-class-response-valid {c} {r} g = bytes (class-field 0x43 (r .class)) (class-short 0x43 c (r .class) (g .passes .none)) (ap class-response (g .gives-class))
-
-follows-verdict : (n : ℕ) (given next : Register) → follows n given next .outcome ≡ verdict-of n
-unfolding follows verdict-of
-follows-verdict zero given next = refl
-follows-verdict (suc n) given next = refl
+-- ---- the calls
 
 step-refuses : (k : Step) (g : Register) (a : Class) (n : ℕ) → step-answer k g a .outcome ≡ refused n → IsRefusal n
 unfolding step-answer
 step-refuses k g a n e = refused-valid (step-refusal k g a) n (step-refusal-valid k g a) (sym (follows-verdict (step-refusal k g a) g (stepped k g a)) ∙ e)
 
--- a register, or the refusal of the step
-step-response-valid : (k : Step) (g : Register) (a : Class) → ValidResponse register-room (register-response (step-answer k g a))
-unfolding register-response
-step-response-valid k g a =
-    on-valid register-room (step-answer k g a .outcome) (register-fields (step-answer k g a .register))
-    (λ e. follows-fits k g a e)
-    (step-refuses k g a)
+pub wrote-or-refused : (call : Call) (s out : List ℕ) → WroteOrRefused (room call) (lengths call) (numbers call) out (called call s out)
+unfolding listed
+wrote-or-refused Opposite s out = told.wrote-or-refused (numbers Opposite) refl (call-checked Opposite s out)
+wrote-or-refused Double s out = told.wrote-or-refused (numbers Double) refl (call-checked Double s out)
+wrote-or-refused Half s out = told.wrote-or-refused (numbers Half) refl (call-checked Half s out)
+wrote-or-refused Sum s out = told.wrote-or-refused (numbers Sum) refl (call-checked Sum s out)
+wrote-or-refused Call.Commit s out = told.wrote-or-refused (numbers Call.Commit) refl (call-checked Call.Commit s out)
+wrote-or-refused Call.Undo s out = told.wrote-or-refused (numbers Call.Undo) refl (call-checked Call.Undo s out)
+wrote-or-refused (Stamp n) s out = told.wrote-or-refused (numbers (Stamp n)) refl (call-checked (Stamp n) s out)
 
-step-of-record : (k : Step) (s : List ℕ) {h : Record} {end : ℕ} → read-record register-layout s ≡ found h end → ValidResponse register-room (register-response (step-answer k (register h) (h .operation)))
-step-of-record k s {h} e = step-response-valid k (register h) (h .operation)
+lengths-low : (call : Call) → (every (λ n. leb n longest-answer) (lengths call) ≡ true) × (every (λ n. ltb longest-answer n) (numbers call) ≡ true)
+lengths-low Opposite = (refl, refl)
+lengths-low Double = (refl, refl)
+lengths-low Half = (refl, refl)
+lengths-low Sum = (refl, refl)
+lengths-low Call.Commit = (refl, refl)
+lengths-low Call.Undo = (refl, refl)
+lengths-low (Stamp n) = (refl, refl)
 
--- the class of a stamp, or its refusal
-stamp-response-valid : (c : Curve) (n : ℕ) → ValidResponse class-room (class-response (result (stamp-answer c n)))
-unfolding class-response
-stamp-response-valid c n =
-    on-valid class-room (stamp-answer c n .outcome) (class-field 0x43 (stamp-answer c n .class))
-    (λ e. class-short 0x43 c _ (stamp-accepts c n e .0 .none))
-    (stamp-refuses c n)
-
--- ---- the calls
-
-step-wrote-or-refused : (k : Step) (s out : List ℕ) → WroteOrRefused register-room out (step-call k s out)
-unfolding answered
-step-wrote-or-refused Commit s out = call-wrote-or-refused register-room register-layout _ s out (λ h end e. step-of-record Commit s e)
-step-wrote-or-refused Undo s out = call-wrote-or-refused register-room register-layout _ s out (λ h end e. step-of-record Undo s e)
-
-pub wrote-or-refused : (call : Call) (s out : List ℕ) → WroteOrRefused (room call) out (called call s out)
-unfolding answered
-wrote-or-refused Opposite s out = call-wrote-or-refused class-room class-layout _ s out (λ h end e. class-response-valid (opposite-given (class-holds s e)))
-wrote-or-refused Double s out = call-wrote-or-refused class-room class-layout _ s out (λ h end e. class-response-valid (double-given (class-holds s e)))
-wrote-or-refused Half s out = call-wrote-or-refused class-room class-layout _ s out (λ h end e. class-response-valid (half-given (class-holds s e)))
-wrote-or-refused Sum s out = call-wrote-or-refused class-room sum-layout _ s out (λ h end e. let p = sum-holds s e in class-response-valid (sum-given (p .0) (p .1)))
-wrote-or-refused Call.Commit s out = step-wrote-or-refused Commit s out
-wrote-or-refused Call.Undo s out = step-wrote-or-refused Undo s out
-wrote-or-refused (Stamp n) s out = call-wrote-or-refused class-room curve-layout _ s out (λ h end e. stamp-response-valid (h .curve) n)
-
-room-low : (call : Call) → room call ≤ longest-answer
-room-low Opposite = lit≤ tt
-room-low Double = lit≤ tt
-room-low Half = lit≤ tt
-room-low Sum = lit≤ tt
-room-low Call.Commit = lit≤ tt
-room-low Call.Undo = lit≤ tt
-room-low (Stamp n) = lit≤ tt
-
-pub call-decides : (call : Call) (s out : List ℕ) → AnswerDecides (room call) out (called call s out)
-call-decides call s out = answer-decides (room-low call) (wrote-or-refused call s out)
+pub call-decides : (call : Call) (s out : List ℕ) → AnswerDecides (room call) (lengths call) (numbers call) out (called call s out)
+call-decides call s out = answer-decides (lengths-low call .0) (lengths-low call .1) (wrote-or-refused call s out)
 
 -- ---- a call whose answer is a length: its record was read
 

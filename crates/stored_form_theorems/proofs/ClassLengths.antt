@@ -3,13 +3,13 @@
 -- `first-degree-length`: that of one of degree 1 has 19.
 -- `counted-length`: a count's field and the field of such a class together have 8, 24, 40 or 56.
 use Prim.Native.Nat.{ℕ, _+_, _*_}
-use mathlib.Core.{Path._≡_, Path.refl, Path.sym, Path.ap, Path.subst, Path._∙_, List.List, List.[], List._∷_, List._++_}
+use mathlib.Core.{Path._≡_, Path.refl, Path.sym, Path.ap, Path.subst, Path._∙_, List._++_}
 use native.Mathlib.Omega.{arith}
 use lib.ListN.{length, length-append}
 use Rattle.jacobian.specs.{Refusals.listed, Answer.refusal, declared.Curve.Curve, declared.Class.Class}
 use Rattle.stored_form.specs.{Fields.count-field, Classes.encode-class, Classes.class-field}
 use Rattle.stored_form.proofs.Lengths.{by-class-length, length-stored, length-count}
-use Rattle.stored_form_theorems.specs.Numbers.{OneOf}
+use Rattle.stored_form_theorems.specs.Numbers.{OneOf, class-field-lengths, register-field-lengths}
 use Rattle.stored_form_theorems.proofs.ClassRoundTrips.{length-encoded, body-allowed}
 
 module _ (c : Curve) (a : Class) (ok : refusal c a ≡ 0) (tag : ℕ) where
@@ -17,19 +17,19 @@ module _ (c : Curve) (a : Class) (ok : refusal c a ≡ 0) (tag : ℕ) where
   unfolding class-field
   field-long = length-stored tag (encode-class a)
 
-  pub class-field-length : OneOf (3 ∷ 19 ∷ 35 ∷ 51 ∷ []) (length (class-field tag a))
+  pub class-field-length : OneOf class-field-lengths (length (class-field tag a))
   unfolding listed
   class-field-length =
-      subst (OneOf (3 ∷ 19 ∷ 35 ∷ 51 ∷ [])) (sym field-long)
-      (by-class-length (λ n. OneOf (3 ∷ 19 ∷ 35 ∷ 51 ∷ []) (3 + n)) refl refl refl refl (length (encode-class a)) (body-allowed c a ok))
+      subst (OneOf class-field-lengths) (sym field-long)
+      (by-class-length (λ n. OneOf class-field-lengths (3 + n)) refl refl refl refl (length (encode-class a)) (body-allowed c a ok))
 
   pub first-degree-length : a .degree ≡ 1 → length (class-field tag a) ≡ 19
   first-degree-length e = omega (arith, field-long, length-encoded c a ok, e)
 
-  pub counted-length : (n : ℕ) → OneOf (8 ∷ 24 ∷ 40 ∷ 56 ∷ []) (length (count-field n ++ class-field tag a))
+  pub counted-length : (n : ℕ) → OneOf register-field-lengths (length (count-field n ++ class-field tag a))
   unfolding listed
   counted-length n =
       let long : length (count-field n ++ class-field tag a) ≡ 8 + length (encode-class a) =
       length-append (count-field n) (class-field tag a) ∙ omega (arith, length-count n, field-long) in
-      subst (OneOf (8 ∷ 24 ∷ 40 ∷ 56 ∷ [])) (sym long)
-      (by-class-length (λ n. OneOf (8 ∷ 24 ∷ 40 ∷ 56 ∷ []) (8 + n)) refl refl refl refl (length (encode-class a)) (body-allowed c a ok))
+      subst (OneOf register-field-lengths) (sym long)
+      (by-class-length (λ n. OneOf register-field-lengths (8 + n)) refl refl refl refl (length (encode-class a)) (body-allowed c a ok))

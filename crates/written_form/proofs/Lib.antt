@@ -2,4 +2,5 @@
 pub mod Appending
 pub mod Effects
 pub mod Buffers
+pub mod Checking
 pub mod WroteOrRefused

@@ -2,15 +2,16 @@
 use Prim.Native.Nat.{ℕ, _+_, _≤_, _<_}
 use mathlib.Core.Path.{_≡_}
 use mathlib.Core.Bool.{cond}
-use mathlib.Core.List.{List, [], _++_}
+use mathlib.Core.List.{List, [], _∷_, _++_}
 use lib.ListN.{length, take, drop}
 use lib.Dec.{leb, ltb}
-use Rattle.jacobian.specs.{Checks.unless, Refusals.IsRefusal, Answer.Verdict, Answer.Result, Answer.accepted, Answer.refused as said-no}
+use Rattle.jacobian.specs.{Checks.unless, Checks.Check, Checks.check, Checks.AllHold, Checks.FirstFails, Answer.Verdict, Answer.Result, Answer.accepted, Answer.refused as said-no}
 use Rattle.stored_form.specs.Reading.{Reading, found, refused, checked}
 use Rattle.stored_form.specs.Head.{count-length, class-room}
 use Rattle.stored_form.specs.Classes.{class-field}
 use Rattle.stored_form.specs.Reader.{read-record}
 use Rattle.stored_form.specs.declared.Record.{Record}
+use Rattle.stored_form_theorems.specs.{Checking.record-checks, Checking.record-values, Numbers.OneOf}
 use Rattle.written_form.specs.declared.effect.Output.{Output}
 
 -- ---- the answer and the output
@@ -104,23 +105,31 @@ room = register-room
 abbrev pub response-of : Output → Response
 response-of o = response (o .answer) (take (o .len) (o .bytes))
 
+-- ---- the checks of a call
+
+-- the checks of a call: the room of the output, the record, then those of its response to what the record says
+abbrev pub call-checks : ℕ → List ℕ → (Record → List Check) → List ℕ → List ℕ → List Check
+call-checks least tags last s out = check 101 (least ≤ length out) ∷ (record-checks tags s ++ last (record-values tags s))
+
+-- What a call with these checks, made in order, does: if all hold, it writes these bytes, whose length is one of these.
+-- Else it answers the number of the first that does not hold, and no byte changes.
+pub data EffectOf (checks : List Check) (lengths bytes out : List ℕ) (e : Effect) : Type 0 where
+  all-hold : AllHold checks → OneOf lengths (length bytes) → e ≡ write bytes out → EffectOf checks lengths bytes out e
+  first-fails : (n : ℕ) → FirstFails checks n → e ≡ refuse n out → EffectOf checks lengths bytes out e
+
 -- ---- a call wrote or refused
 
--- a response is at most `most` bytes with their length as the answer, or the number of a refusal alone
-pub data ValidResponse (most : ℕ) (o : Response) : Type 0 where
-  bytes : (xs : List ℕ) → length xs ≤ most → o ≡ bytes-response xs → ValidResponse most o
-  number : (n : ℕ) → IsRefusal n → o ≡ refusal-response n → ValidResponse most o
-
--- a call wrote at most `most` bytes, for which the lent output has room, or it refused and changed no byte
-pub data WroteOrRefused (most : ℕ) (out : List ℕ) (e : Effect) : Type 0 where
-  wrote : (xs : List ℕ) → length xs ≤ most → most ≤ length out → e ≡ write xs out → WroteOrRefused most out e
-  kept : (n : ℕ) → IsRefusal n → e ≡ refuse n out → WroteOrRefused most out e
+-- a call wrote bytes of one of these lengths, and the lent output has the room that is required;
+-- or it refused with one of these numbers and changed no byte
+pub data WroteOrRefused (least : ℕ) (lengths numbers out : List ℕ) (e : Effect) : Type 0 where
+  wrote : (xs : List ℕ) → OneOf lengths (length xs) → least ≤ length out → e ≡ write xs out → WroteOrRefused least lengths numbers out e
+  kept : (n : ℕ) → OneOf numbers n → e ≡ refuse n out → WroteOrRefused least lengths numbers out e
 
 -- the greatest answer that is a length; every refusal's number is above it
 abbrev pub longest-answer : ℕ
 longest-answer = 100
 
 -- the answer alone decides whether the call wrote or refused
-pub record AnswerDecides (most : ℕ) (out : List ℕ) (e : Effect) : Type 0 where
-  pub wrote : e .answer ≤ longest-answer → (xs : List ℕ) × (length xs ≤ most) × (most ≤ length out) × (e ≡ write xs out)
-  pub kept : longest-answer < e .answer → IsRefusal (e .answer) × (e .output ≡ out)
+pub record AnswerDecides (least : ℕ) (lengths numbers out : List ℕ) (e : Effect) : Type 0 where
+  pub wrote : e .answer ≤ longest-answer → (xs : List ℕ) × OneOf lengths (length xs) × (least ≤ length out) × (e ≡ write xs out)
+  pub kept : longest-answer < e .answer → OneOf numbers (e .answer) × (e .output ≡ out)
