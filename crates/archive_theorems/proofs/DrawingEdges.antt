@@ -11,17 +11,17 @@ use mathlib.Core.List.{List, [], _∷_}
 use lib.ListN.{length, getD}
 use borrow.Author.Tests.{le-leb, lt-leb}
 use Rattle.jacobian.specs.Checks.{unless}
-use Rattle.stored_form.specs.{Number.part, Reading.found, Reading.refused, Reading.checked, Reading.reading-refusal, Fields.printable, Fields.drawing-refusal}
+use Rattle.stored_form.specs.{Number.part, Reading.found, Reading.refused, Reading.checked, Fields.printable, Fields.drawing-refusal}
 use Rattle.stored_form.specs.{Head.drawing-limit, Head.body-length, Record.decode-drawing, Record.empty-record, Record.with-drawing, Tags.rules}
 use Rattle.stored_form.specs.{Reader.curve-layout, Reader.read-body, Reader.read-field, Reader.read-fields, declared.Record.Record}
-use Rattle.stored_form.proofs.{DrawingBytes.name-decoded, Heads.head-104, Heads.head-105, Heads.head-whole, Readings.then-found, Readings.then-refused, Readers.field-refused, Readers.fields-append}
-use Rattle.archive.specs.Archive.{read-archive, archive-refusal}
+use Rattle.stored_form.proofs.{DrawingBytes.name-decoded, Heads.head-104, Heads.head-105, Heads.head-whole, Readings.then-found, Readers.field-refused}
+use Rattle.archive.specs.Archive.{archive-refusal}
+use Rattle.archive_theorems.proofs.HeaderEdges.{header-refused}
 
 module _ (s : List ℕ) {h : Record} {at : ℕ} (first : read-fields curve-layout empty-record s 0 ≡ found h at) (fits : at + 3 ≤ length s) (expected : getD s at 0 ≡ 0x46) where
   -- the refusal of the drawing number is the archive's
   archive-refused : {n : ℕ} → read-field 0x46 h s at ≡ refused n → archive-refusal s ≡ n
-  unfolding archive-refusal read-archive read-fields
-  archive-refused e = ap reading-refusal (then-refused _ (fields-append curve-layout (0x46 ∷ 0x42 ∷ 0x43 ∷ []) empty-record s 0 ∙ then-found _ first ∙ then-refused _ e))
+  archive-refused e = header-refused s curve-layout 0x46 (0x42 ∷ 0x43 ∷ []) refl first e
 
   pub drawing-above-limit : drawing-limit < body-length s at → archive-refusal s ≡ 104
   unfolding rules

@@ -1,5 +1,5 @@
 -- Theorems on archives: bytes and values determine each other; an encoded archive is bytes; its length;
--- the drawing number at its limit; reading one part of the input at a time; the checks in order.
+-- the header at its limits; reading one part of the input at a time; the checks in order.
 pub mod Parts
 pub mod Shifted
 pub mod Tail
@@ -7,5 +7,6 @@ pub mod ArchiveRoundTrips
 pub mod ArchiveBytes
 pub mod ArchiveLength
 pub mod Windows
+pub mod HeaderEdges
 pub mod DrawingEdges
 pub mod Checking

@@ -8,6 +8,7 @@ pub mod ByteGroup
 pub mod ByteStamps
 pub mod Checking
 pub mod WroteOrRefused
+pub mod Edges
 pub mod Promises
 pub mod KeptFields
 pub mod ByteSteps

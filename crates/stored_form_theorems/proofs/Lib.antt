@@ -22,3 +22,4 @@ pub mod CheckedReadings
 pub mod Checking
 pub mod RefusalNumbers
 pub mod ClassLengths
+pub mod FieldEdges
