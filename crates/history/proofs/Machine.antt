@@ -2,3 +2,4 @@
 pub mod Run
 pub mod TakingBack
 pub mod Carried
+pub mod Accepted

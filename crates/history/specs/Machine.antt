@@ -41,6 +41,10 @@ module _ {State Call : Type 0} (M : Machine State Call) where
   unfoldable pub newest : State → List Call → List (Event State Call)
   newest s cs = reverse (accepted-of (run s cs))
 
+  -- the calls of the list that are accepted, in order
+  unfoldable pub accepted-calls : State → List Call → List Call
+  accepted-calls s cs = map (λ e. e .call) (accepted-of (run s cs))
+
 -- ---- taking back, where each call has a call that takes it back
 module _ {State Call : Type 0} (back : Call → Call) where
   -- the calls that take these back

@@ -3,6 +3,7 @@
 -- `decode-body`: the body of a class that no check refuses decodes to the class.
 -- `length-encoded`: that body has 16 bytes for each degree.
 -- `body-allowed`: the length of that body is allowed.
+-- `class-length-of`: 16 times a degree is allowed, up to 3.
 -- `class-short`: the field of such a class is no longer than `class-room`.
 use Prim.Native.Nat.{ℕ, zero, suc, _+_, _*_, _/_, _^_, _≤_}
 use mathlib.Core.Path.{_≡_, refl, sym, ap, ap₂, _∙_}
@@ -132,7 +133,7 @@ decode-encode-class a h =
       row-ahead n (a .v) (h .v-three) (h .low) (h .v-blank),
     )
 
-class-length-of : (n : ℕ) → n ≤ 3 → class-length (16 * n) ≡ true
+pub class-length-of : (n : ℕ) → n ≤ 3 → class-length (16 * n) ≡ true
 unfolding class-length
 class-length-of zero h = refl
 class-length-of (suc zero) h = refl

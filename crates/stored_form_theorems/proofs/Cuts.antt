@@ -1,6 +1,7 @@
 -- Bytes that begin with k encoded fields, cut after them.
 -- `take-cut`, `drop-cut`: the cut gives these fields, and the rest.
--- `curve-cut`: bytes that begin with the fields of degree and curve. `count-cut`: those that begin with a count.
+-- `curve-cut`: bytes that begin with the fields of degree and curve.
+-- `degree-cut`, `count-cut`: those that begin with a degree, and those that begin with a count.
 -- `cut-whole`: the two parts of a cut make the whole.
 use Prim.Native.Nat.{ℕ, suc, _+_, _^_, _<_}
 use mathlib.Core.Path.{_≡_, refl, sym, ap, _∙_, subst}
@@ -43,6 +44,10 @@ module _ (rest : List ℕ) where
   -- bytes at the start of the input
   front : (xs : List ℕ) → Field (xs ++ rest) 0 xs (length xs)
   front xs = let f = apart xs rest (whole (xs ++ rest)) in subst (Field (xs ++ rest) 0 xs) (f .1 .ends ∙ zero-add (length xs)) (f .1)
+
+  pub degree-cut : (d : ℕ) → FieldsAt (degree-field d ++ rest) 1 0 (length (degree-field d))
+  unfolding degree-field
+  degree-cut d = field 0x40 (encode-number degree-length d) (omega (arith, length-bytes degree-length d)) (front (degree-field d)) none
 
   pub count-cut : (n : ℕ) → FieldsAt (count-field n ++ rest) 1 0 (length (count-field n))
   unfolding count-field

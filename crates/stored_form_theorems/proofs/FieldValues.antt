@@ -46,7 +46,7 @@ decode-encode-curve : (c : Curve) → CurvePasses c → decode-curve (c .degree)
 unfolding decode-curve coefficients curve-with
 decode-encode-curve c ok = rw (elements-bytes (coefficients c) (curve-fits c ok))
 
-degree-passes : (c : Curve) → CurvePasses c → DegreePasses (c .degree)
+pub degree-passes : (c : Curve) → CurvePasses c → DegreePasses (c .degree)
 unfolding curve-refusal degree-refusal
 degree-passes c ok = test-passed _ (lit< tt) (then-zero _ _ ok .0)
 

@@ -4,3 +4,4 @@ pub mod Effects
 pub mod Buffers
 pub mod Checking
 pub mod WroteOrRefused
+pub mod Wrote

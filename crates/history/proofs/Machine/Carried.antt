@@ -8,12 +8,12 @@ use Rattle.lists.specs.{Lists.All, Lists.none, Lists.more, Walk.foldl}
 use Rattle.jacobian.specs.Answer.{Verdict, accepted, refused}
 use Rattle.history.specs.Machine.{Machine, Event, accepted-of, event, run, last, newest, carried, Agrees}
 
-map-onto : {X Y : Type 0} (f : X → Y) (l r : List X) → map f (reverseAux l r) ≡ reverseAux (map f l) (map f r)
+pub map-onto : {X Y : Type 0} (f : X → Y) (l r : List X) → map f (reverseAux l r) ≡ reverseAux (map f l) (map f r)
 map-onto f [] r = refl
 map-onto f (x ∷ l) r = map-onto f l (x ∷ r)
 
 module _ {State Call State' Call' : Type 0} (state : State → State') (call : Call → Call') (M : Machine State Call) (N : Machine State' Call') where
-  accepted-carried : (es : List (Event State Call)) → map (carried state call) (accepted-of es) ≡ accepted-of (map (carried state call) es)
+  pub accepted-carried : (es : List (Event State Call)) → map (carried state call) (accepted-of es) ≡ accepted-of (map (carried state call) es)
   unfolding accepted-of carried
   accepted-carried [] = refl
   accepted-carried (e ∷ es) = go (e .outcome) (accepted-carried es)
