@@ -1,5 +1,6 @@
 -- The laws of multiples and repeated halves by bytes (docs/SPECIFICATION.md, 7 and 11), for every record of one class
--- that is read, where outputs have room for a class field and n and k are within their limits.
+-- that is read, where outputs have room for a class field and n and k are within their limits. Byte doublings and byte
+-- halves are as many as there are outputs, k, one lent to each, whatever it holds.
 -- `zero-bytes`: 0 times writes the field of the neutral class.
 -- `once-bytes`: once writes the record's own class field.
 -- `product-bytes`: m n times writes what m times writes on the record rebuilt from n times.
@@ -12,24 +13,26 @@
 -- `only-halvings-bytes`: a record that k byte doublings take to t is the one rebuilt from k halvings of t.
 -- That no call of this library is refused there is `multiple-writes` and `halvings-write` of Written in the crate
 -- seal_licence; that no byte doubling is refused is `doublings-write` of ByteGroup in the crate seal.
-use Prim.Native.Nat.{ℕ, zero, suc, _+_, _*_, _^_, _≤_, _<_}
+use Prim.Native.Nat.{ℕ, suc, _+_, _*_, _^_, _≤_, _<_}
 use mathlib.Core.Path.{_≡_, refl, sym, ap, _∙_}
 use mathlib.Core.List.{List, _++_}
 use native.Mathlib.Omega.{arith}
 use lib.{Dec.lit<, ListN.length, Pow.pow-lt}
+use Rattle.lists.specs.{Lists.none, Lists.more, Walk.foldl}
 use Rattle.class_group.specs.Multiples.{repeat}
+use Rattle.class_group.proofs.Doublings.{repeat-inner}
 use Rattle.jacobian.specs.{Answer.Result, Answer.result, Answer.neutral-class, Answer.double-answer, Answer.half-answer, Group.doublings, declared.Curve.Curve, declared.Class.Class}
 use Rattle.stored_form.specs.{Number.Bytes, Reading.found, Head.class-room, Classes.class-field, Passing.ClassPasses, Reader.read-record, Reader.class-layout, declared.Record.Record}
 use Rattle.written_form.specs.Effect.{write}
 use Rattle.stored_form_theorems.proofs.Cuts.{cut-whole}
-use Rattle.seal.specs.{Records.class-record-bytes, Rebuilt.last-field, Rebuilt.class-rebuilt, Calls.half-call, Calls.sum-call, Group.sum-record-of}
+use Rattle.seal.specs.{Records.class-record-bytes, Rebuilt.last-field, Rebuilt.class-rebuilt, Calls.half-call, Calls.sum-call, Group.sum-record-of, Group.ClassRooms, Group.doubled-record}
 use Rattle.seal.specs.Calls as seal
 use Rattle.seal.proofs.{Passing.Given, Passing.double-given, Passing.half-given, ByteGroup.sum-record-writes, ByteGroup.sum-record-is}
-use Rattle.seal.proofs.ClassCalls.{class-call, rebuilt-write, first-is, last-is, stored-writes, stored-rebuilt, is-stored, follow-writes}
+use Rattle.seal.proofs.ClassCalls.{class-call, rebuilt-write, first-is, last-is, last-short, stored-writes, stored-rebuilt, is-stored, follow-writes}
 use Rattle.jacobian.proofs.Group.{doublings-accept}
 use Rattle.seal_licence.specs.{Multiples.multiple-limit, Multiples.halvings-limit, Multiples.multiple-answer, Multiples.halvings-answer, Multiples.halves, Calls.answered, Calls.multiple-call, Calls.halvings-call}
 use Rattle.seal_licence.proofs.Theorems.{multiple-of-sum, multiple-of-product, multiple-of-zero, multiple-of-one, halves-accept, doublings-are-multiple, halvings-are-halves, halvings-of-doublings, doublings-of-halvings}
-use Rattle.licence_theorems.specs.Rebuilt.{doubled-record, halved-record}
+use Rattle.licence_theorems.specs.Rebuilt.{halved-record}
 use Rattle.licence_theorems.proofs.Passing.{multiple-given, halvings-given}
 
 times : ℕ → Curve → Class → Result
@@ -40,29 +43,25 @@ halved k c a = halvings-answer c a k
 
 -- ---- the record of a class that passes
 
--- a call on such a record, repeated k times
-module _ {c : Curve} (f : Curve → Class → Result) (given : (b : Class) → ClassPasses c b → Given c (f c b)) (out : List ℕ) (room : class-room ≤ length out) where
-  kept : (k : ℕ) {a : Class} → ClassPasses c a → ClassPasses c (repeat (λ b. f c b .class) k a)
-  unfolding repeat
-  kept zero p = p
-  kept (suc k) p = given _ (kept k p) .passes
+-- a call on such a record, once for each output
+repeated : {c : Curve} (f : Curve → Class → Result) → ((b : Class) → ClassPasses c b → Given c (f c b)) → {outs : List (List ℕ)} → ClassRooms outs → {a : Class} → ClassPasses c a
+    → foldl (λ t out. class-rebuilt t (class-call f t out)) (class-record-bytes c a) outs ≡ class-record-bytes c (repeat (λ b. f c b .class) (length outs) a)
+unfolding foldl repeat
+repeated f given none p = refl
+repeated {c} f given (more {a = out} {l = outs} room rooms) {a} p =
+    ap (λ s. foldl (λ t out. class-rebuilt t (class-call f t out)) s outs) (stored-rebuilt refl p f (given a p) out room)
+    ∙ repeated f given rooms (given a p .passes)
+    ∙ ap (class-record-bytes c) (repeat-inner (λ b. f c b .class) (length outs) a)
 
-  repeated : (k : ℕ) {a : Class} → ClassPasses c a
-      → repeat (λ t. class-rebuilt t (class-call f t out)) k (class-record-bytes c a) ≡ class-record-bytes c (repeat (λ b. f c b .class) k a)
-  unfolding repeat
-  repeated zero p = refl
-  repeated (suc k) p =
-      ap (λ t. class-rebuilt t (class-call f t out)) (repeated k p) ∙ stored-rebuilt refl (kept k p) f (given _ (kept k p)) out room
-
-module _ {c : Curve} {a : Class} (p : ClassPasses c a) (out : List ℕ) (room : class-room ≤ length out) (k : ℕ) where
-  -- after k byte doublings, and after k byte halves
-  doubled-is : doubled-record out k (class-record-bytes c a) ≡ class-record-bytes c (doublings c k a)
+module _ {c : Curve} {a : Class} (p : ClassPasses c a) {outs : List (List ℕ)} (rooms : ClassRooms outs) where
+  -- after byte doublings, and after byte halves
+  doubled-is : doubled-record outs (class-record-bytes c a) ≡ class-record-bytes c (doublings c (length outs) a)
   unfolding seal.answered
-  doubled-is = repeated (λ x b. result (double-answer x b)) (λ b q. double-given q) out room k p
+  doubled-is = repeated (λ x b. result (double-answer x b)) (λ b q. double-given q) rooms p
 
-  halved-is : halved-record out k (class-record-bytes c a) ≡ class-record-bytes c (halves c k a)
+  halved-is : halved-record outs (class-record-bytes c a) ≡ class-record-bytes c (halves c (length outs) a)
   unfolding seal.answered
-  halved-is = repeated (λ x b. result (half-answer x b)) (λ b q. half-given q) out room k p
+  halved-is = repeated (λ x b. result (half-answer x b)) (λ b q. half-given q) rooms p
 
 -- ---- the laws, for every record that is read
 
@@ -125,51 +124,55 @@ module _ (s : List ℕ) (bytes : Bytes s) {h : Record} {end : ℕ} (read : read-
           (sum-record-writes (multiple-given passes m lm .passes) (multiple-given passes n ln .passes)
           (sum-record-is c _ _ (multiple-record m lm mid room') (multiple-record n ln last room'')) out room)
 
-      -- the record after k byte doublings, and after k byte halves
-      doubled-at : (k : ℕ) → doubled-record mid k s ≡ class-record-bytes c (doublings c k a)
-      doubled-at k = ap (doubled-record mid k) stored-bytes ∙ doubled-is passes mid room' k
+    -- with a doubling or a half for each of these outputs
+    module _ {outs : List (List ℕ)} (rooms : ClassRooms outs) where
+      abbrev k : ℕ
+      k = length outs
 
-      halved-at : (k : ℕ) → halved-record mid k s ≡ class-record-bytes c (halves c k a)
-      halved-at k = ap (halved-record mid k) stored-bytes ∙ halved-is passes mid room' k
+      doubled-at : doubled-record outs s ≡ class-record-bytes c (doublings c k a)
+      doubled-at = ap (doubled-record outs) stored-bytes ∙ doubled-is passes rooms
 
-      pub halves-write : (k : ℕ) → half-call (halved-record mid k s) mid ≡ write (class-field 0x43 (halves (h .curve) (suc k) (h .class))) mid
+      halved-at : halved-record outs s ≡ class-record-bytes c (halves c k a)
+      halved-at = ap (halved-record outs) stored-bytes ∙ halved-is passes rooms
+
+      pub halves-write : half-call (halved-record outs s) out ≡ write (class-field 0x43 (halves (h .curve) (suc (length outs)) (h .class))) out
       unfolding seal.answered repeat
-      halves-write k =
+      halves-write =
           let p = halves-accept passes k in
-          stored-writes (halved-at k) p (λ x b. result (half-answer x b)) (half-given p) mid room'
-          ∙ ap (λ (g : Record). write (class-field 0x43 (halves (g .curve) (suc k) (g .class))) mid) (sym (is-stored s bytes read .values))
+          stored-writes halved-at p (λ x b. result (half-answer x b)) (half-given p) out room
+          ∙ ap (λ (g : Record). write (class-field 0x43 (halves (g .curve) (suc k) (g .class))) out) (sym (is-stored s bytes read .values))
 
-      pub doublings-bytes : (k : ℕ) → k < 61 → class-rebuilt s (multiple-call (2 ^ k) s out) ≡ doubled-record mid k s
-      doublings-bytes k l =
+      pub doublings-bytes : length outs < 61 → class-rebuilt s (multiple-call (2 ^ length outs) s out) ≡ doubled-record outs s
+      doublings-bytes l =
           multiple-record (2 ^ k) (pow-lt l) out room
           ∙ ap (λ (r : Result). class-record-bytes c (r .class)) (doublings-are-multiple passes k l)
-          ∙ sym (doubled-at k)
+          ∙ sym doubled-at
 
-      pub halvings-bytes : (k : ℕ) → k ≤ halvings-limit → class-rebuilt s (halvings-call k s out) ≡ halved-record mid k s
-      halvings-bytes k l =
+      pub halvings-bytes : length outs ≤ halvings-limit → class-rebuilt s (halvings-call (length outs) s out) ≡ halved-record outs s
+      halvings-bytes l =
           halvings-record k l out room
           ∙ ap (λ (r : Result). class-record-bytes c (r .class)) (halvings-are-halves passes k l)
-          ∙ sym (halved-at k)
+          ∙ sym halved-at
 
-      pub halvings-of-doublings-bytes : (k : ℕ) → k ≤ halvings-limit → halvings-call k (doubled-record mid k s) out ≡ write (last-field s) out
+      pub halvings-of-doublings-bytes : length outs ≤ halvings-limit → halvings-call (length outs) (doubled-record outs s) out ≡ write (last-field s) out
       unfolding answered halved
-      halvings-of-doublings-bytes k l =
+      halvings-of-doublings-bytes l =
           let p = doublings-accept c passes k in
-          stored-writes (doubled-at k) p (halved k) (halvings-given p k l) out room
+          stored-writes doubled-at p (halved k) (halvings-given p k l) out room
           ∙ ap (λ (b : List ℕ). write b out) (own-field _ (ap (λ (r : Result). r .class) (halvings-of-doublings passes k l)))
 
-      pub doublings-of-halvings-bytes : (k : ℕ) → k ≤ halvings-limit → doubled-record mid k (class-rebuilt s (halvings-call k s out)) ≡ s
-      doublings-of-halvings-bytes k l =
-          ap (doubled-record mid k) (halvings-record k l out room)
-          ∙ doubled-is (halvings-given passes k l .passes) mid room' k
+      pub doublings-of-halvings-bytes : length outs ≤ halvings-limit → doubled-record outs (class-rebuilt s (halvings-call (length outs) s out)) ≡ s
+      doublings-of-halvings-bytes l =
+          ap (doubled-record outs) (halvings-record k l out room)
+          ∙ doubled-is (halvings-given passes k l .passes) rooms
           ∙ ap (class-record-bytes c) (doublings-of-halvings passes k l)
           ∙ sym stored-bytes
 
-      pub only-halvings-bytes : (k : ℕ) → k ≤ halvings-limit → (t : List ℕ) → doubled-record mid k s ≡ t → s ≡ class-rebuilt t (halvings-call k t out)
-      only-halvings-bytes k l t e =
+      pub only-halvings-bytes : length outs ≤ halvings-limit → (t : List ℕ) → doubled-record outs s ≡ t → s ≡ class-rebuilt t (halvings-call (length outs) t out)
+      only-halvings-bytes l t e =
           sym
           (ap (λ u. class-rebuilt u (halvings-call k u out)) (sym e)
-          ∙ ap (class-rebuilt (doubled-record mid k s)) (halvings-of-doublings-bytes k l)
-          ∙ rebuilt-write (doubled-record mid k s) (last-field s) out
-          ∙ ap (λ (f : List ℕ). f ++ last-field s) (first-is c (doublings c k a) (doubled-at k) ∙ sym (first-is c a stored-bytes))
+          ∙ ap (class-rebuilt (doubled-record outs s)) (halvings-of-doublings-bytes l)
+          ∙ rebuilt-write (doubled-record outs s) (last-field s) out (last-short stored-bytes passes)
+          ∙ ap (λ (f : List ℕ). f ++ last-field s) (first-is c (doublings c k a) doubled-at ∙ sym (first-is c a stored-bytes))
           ∙ cut-whole 2 s)

@@ -1,6 +1,7 @@
 -- The laws of the group by bytes (docs/SPECIFICATION.md, 11).
 -- For records of classes that are read and have the same fields of degree and curve, and outputs that have room:
--- `sum-writes`, `opposite-writes`, `doublings-write`: each call writes the field of what the call by value gives.
+-- `sum-writes`, `opposite-writes`: each call writes the field of what the call by value gives.
+-- `doublings-write`: so does a doubling after any number of doublings, each into an output of its own.
 -- `sum-read`, `opposite-read`, `double-read`, `doublings-read`, `neutral-read`: the rebuilt record is read again.
 -- `sum-field`: the class field of a sum's rebuilt record is the field of the sum.
 -- `sum-comm-bytes`: a sum in either order answers the same and leaves the same output.
@@ -10,12 +11,14 @@
 -- `byte-group`: these records are a commutative group, so all laws of groups in class_group hold of them.
 -- `byte-doubling`: doubling is one to one on them.
 -- `sum-record-parts`: every record of a sum that is read is made of two such records.
-use Prim.Native.Nat.{ℕ, zero, suc, _≤_}
+use Prim.Native.Nat.{ℕ, suc, _≤_}
 use mathlib.Core.Path.{_≡_, refl, sym, ap, _∙_, subst}
 use mathlib.Core.List.{List}
 use lib.Dec.{lit<}
 use lib.ListN.{length}
+use Rattle.lists.specs.{Lists.none, Lists.more, Walk.foldl}
 use Rattle.class_group.specs.{Group.CommutativeGroup, Group.Doubling, Multiples.repeat}
+use Rattle.class_group.proofs.Doublings.{repeat-inner}
 use Rattle.jacobian.specs.{Curves.curve-refusal, Answer.result, Answer.neutral-class, Answer.opposite-answer, Answer.double-answer}
 use Rattle.jacobian.specs.Group.{sum-of, opposite-of, double-of, doublings}
 use Rattle.jacobian.specs.declared.{Curve.Curve, Class.Class}
@@ -24,11 +27,11 @@ use Rattle.stored_form.specs.{Number.Bytes, Reading.found, Head.class-room, Pas
 use Rattle.stored_form.specs.Reader.{read-record, curve-layout, class-layout, sum-layout}
 use Rattle.stored_form.specs.declared.Record.{Record}
 use Rattle.stored_form.proofs.Readings.{same-found}
-use Rattle.stored_form_theorems.specs.Records.{none}
+use Rattle.stored_form_theorems.specs.Records as records
 use Rattle.stored_form_theorems.proofs.{RecordRoundTrips.record-read-back, FieldValues.curve-more, Written.bytes-append, Written.class-bytes, Written.first-bytes}
 use Rattle.written_form.specs.Effect.{write}
 use Rattle.seal.specs.{Records.class-values, Records.class-record-bytes, Records.sum-values, Records.sum-record-bytes, Records.SumStored, Rebuilt.last-field, Rebuilt.class-rebuilt, Calls.answered, Calls.opposite-call, Calls.double-call, Calls.sum-call}
-use Rattle.seal.specs.Group.{ReadWith, sum-record-of, record-sum, record-opposite, record-double, neutral-record}
+use Rattle.seal.specs.Group.{ReadWith, sum-record-of, record-sum, record-opposite, record-double, ClassRooms, doubled-record, neutral-record}
 use Rattle.seal.proofs.{Written.curve-passes, Written.sum-record-back, Written.sum-record-written, Passing.class-holds, Passing.opposite-given, Passing.double-given, Passing.sum-given}
 use Rattle.seal.proofs.ClassCalls.{class-written, first-is, last-is, rebuilt-bytes, stored-read, stored-writes, stored-rebuilt, is-stored}
 
@@ -39,9 +42,9 @@ same-curve : {c d : Curve} → curve-refusal c ≡ 0 → curve-refusal d ≡ 0 �
 same-curve {c} {d} p q e =
     ap (λ (h : Record). h .curve)
     (same-found
-    (sym (record-read-back curve-layout (curve-fields-bytes c) (curve-more c p none))
+    (sym (record-read-back curve-layout (curve-fields-bytes c) (curve-more c p records.none))
     ∙ ap (read-record curve-layout) e
-    ∙ record-read-back curve-layout (curve-fields-bytes d) (curve-more d q none)) .0)
+    ∙ record-read-back curve-layout (curve-fields-bytes d) (curve-more d q records.none)) .0)
 
 -- the record s of an accepted class, and the fields of degree and curve with which it begins
 pub record Holds (c : Curve) (a : Class) (fields s : List ℕ) : Type 0 where
@@ -88,13 +91,13 @@ sum-record-is c a b x y = rw (first-is c a x, last-is c a x, last-is c b y)
 
 -- ---- what the calls write, and the records rebuilt from it
 module _ {c : Curve} {fields : List ℕ} (out : List ℕ) (room : class-room ≤ length out) where
-  sum-written : {a b : Class} {s t : List ℕ} → Holds c a fields s → Holds c b fields t → sum-call (sum-record-of s t) out ≡ write (class-field 0x43 (sum-of c a b)) out
+  pub sum-written : {a b : Class} {s t : List ℕ} → Holds c a fields s → Holds c b fields t → sum-call (sum-record-of s t) out ≡ write (class-field 0x43 (sum-of c a b)) out
   sum-written x y = sum-record-writes (x .passes) (y .passes) (sum-record-is c _ _ (x .bytes) (y .bytes)) out room
 
   pub sum-holds : {a b : Class} {s t : List ℕ} → Holds c a fields s → Holds c b fields t → Holds c (sum-of c a b) fields (record-sum out s t)
   sum-holds {a} {b} {s} x y = record {
     passes = sum-given (x .passes) (y .passes) .passes;
-    bytes = ap (class-rebuilt s) (sum-written x y) ∙ rebuilt-bytes c a (x .bytes) (sum-of c a b) out;
+    bytes = ap (class-rebuilt s) (sum-written x y) ∙ rebuilt-bytes c a (x .bytes) (sum-given (x .passes) (y .passes) .passes) out;
     begins = x .begins;
   }
 
@@ -102,7 +105,7 @@ module _ {c : Curve} {fields : List ℕ} (out : List ℕ) (room : class-room ≤
   unfolding answered
   opposite-written x = stored-writes (x .bytes) (x .passes) (λ d a. result (opposite-answer d a)) (opposite-given (x .passes)) out room
 
-  opposite-holds : {a : Class} {s : List ℕ} → Holds c a fields s → Holds c (opposite-of c a) fields (record-opposite out s)
+  pub opposite-holds : {a : Class} {s : List ℕ} → Holds c a fields s → Holds c (opposite-of c a) fields (record-opposite out s)
   unfolding answered
   opposite-holds x = record {
     passes = opposite-given (x .passes) .passes;
@@ -187,7 +190,7 @@ same-bytes : {c : Curve} {a b : Class} {fields s t : List ℕ} → Holds c a fie
 same-bytes {c} x y e = x .bytes ∙ ap (class-record-bytes c) e ∙ sym (y .bytes)
 
 -- records with the same bytes have the same class
-same-class : {c : Curve} {a b : Class} {fields s t : List ℕ} → Holds c a fields s → Holds c b fields t → s ≡ t → a ≡ b
+pub same-class : {c : Curve} {a b : Class} {fields s t : List ℕ} → Holds c a fields s → Holds c b fields t → s ≡ t → a ≡ b
 same-class x y e =
     ap (λ (h : Record). h .class) (same-found (sym (stored-read (x .bytes) (x .passes)) ∙ ap (read-record class-layout) e ∙ stored-read (y .bytes) (y .passes)) .0)
 
@@ -228,20 +231,23 @@ module _ {fields w : List ℕ} (some : ReadWith fields w) (out : List ℕ) (room
         same-bytes p q (doubling d known .double-injective (p .passes) (q .passes) (same-class (double-holds out room p) (double-holds out room q) e));
   }
 
--- ---- k doublings, each on the record rebuilt from the last
-module _ {fields s : List ℕ} (x : ReadWith fields s) (out : List ℕ) (room : class-room ≤ length out) where
-  doublings-hold : (k : ℕ) → Holds (x .values .curve) (doublings (x .values .curve) k (x .values .class)) fields (repeat (record-double out) k s)
-  unfolding repeat
-  doublings-hold zero = own x
-  doublings-hold (suc k) = double-holds out room (doublings-hold k)
+-- ---- doublings, each on the record rebuilt from the last, into any outputs
+pub doubled-holds : {c : Curve} {a : Class} {fields s : List ℕ} {outs : List (List ℕ)} → ClassRooms outs → Holds c a fields s
+    → Holds c (doublings c (length outs) a) fields (doubled-record outs s)
+unfolding foldl repeat
+doubled-holds none x = x
+doubled-holds {c} {a} {fields} {s} (more {a = out} {l = outs} room rooms) x =
+    subst (λ (b : Class). Holds c b fields (doubled-record outs (record-double out s))) (repeat-inner (double-of c) (length outs) a) (doubled-holds rooms (double-holds out room x))
 
-  pub doublings-read : (k : ℕ) → ReadWith fields (repeat (record-double out) k s)
-  doublings-read k = read-again (doublings-hold k)
+module _ {fields s : List ℕ} (x : ReadWith fields s) {outs : List (List ℕ)} (rooms : ClassRooms outs) where
+  pub doublings-read : ReadWith fields (doubled-record outs s)
+  doublings-read = read-again (doubled-holds rooms (own x))
 
-  pub doublings-write : (k : ℕ) → double-call (repeat (record-double out) k s) out ≡ write (class-field 0x43 (doublings (x .values .curve) (suc k) (x .values .class))) out
+  pub doublings-write : (out : List ℕ) → class-room ≤ length out
+      → double-call (doubled-record outs s) out ≡ write (class-field 0x43 (doublings (x .values .curve) (suc (length outs)) (x .values .class))) out
   unfolding answered repeat
-  doublings-write k =
-      let h = doublings-hold k in
+  doublings-write out room =
+      let h = doubled-holds rooms (own x) in
       stored-writes (h .bytes) (h .passes) (λ d a. result (double-answer d a)) (double-given (h .passes)) out room
 
 -- ---- every record of a sum is made of two such records

@@ -7,14 +7,15 @@
 use Prim.Native.Nat.{ℕ, _≤_}
 use mathlib.Core.Path.{_≡_, sym, ap, _∙_}
 use mathlib.Core.List.{List, _++_}
+use native.Mathlib.Omega.{arith}
 use lib.ListN.{length}
 use Rattle.jacobian.specs.{Answer.Result, Answer.result, Answer.double-answer, Answer.half-answer, declared.Curve.Curve, declared.Class.Class}
 use Rattle.jacobian.proofs.Calls.{double-of-half, half-of-double}
 use Rattle.stored_form.specs.{Number.Bytes, Reading.found, Head.class-room, Classes.class-field, Reader.read-record, Reader.class-layout, declared.Record.Record}
-use Rattle.written_form.specs.Effect.{write}
-use Rattle.stored_form_theorems.proofs.Cuts.{cut-whole}
+use Rattle.written_form.specs.Effect.{Effect, write}
+use Rattle.stored_form_theorems.proofs.{ClassRoundTrips.class-short, Cuts.cut-whole}
 use Rattle.seal.specs.{Rebuilt.first-fields, Rebuilt.last-field, Rebuilt.class-rebuilt, Calls.answered, Calls.double-call, Calls.half-call}
-use Rattle.seal.proofs.{Passing.class-holds, Passing.double-given, Passing.half-given, ClassCalls.call-writes, ClassCalls.rebuilt-write, ClassCalls.is-stored, ClassCalls.taken-back}
+use Rattle.seal.proofs.{Passing.class-holds, Passing.double-given, Passing.half-given, ClassCalls.call-writes, ClassCalls.rebuilt-write, ClassCalls.last-short, ClassCalls.is-stored, ClassCalls.taken-back}
 
 doubled : Curve → Class → Result
 doubled c a = result (double-answer c a)
@@ -50,11 +51,16 @@ module _ (s : List ℕ) (bytes : Bytes s) {h : Record} {end : ℕ} (read : read-
       taken-back w out room last room' halved doubled (half-given p) (double-given (half-given p .passes)) (double-of-half _ p)
 
   pub only-half-bytes : (t : List ℕ) → first-fields t ≡ first-fields s → double-call s out ≡ write (last-field t) out → s ≡ class-rebuilt t (half-call t last)
+  unfolding write
   only-half-bytes t same double =
+      let w = is-stored s bytes read in
+      let twice = class-field 0x43 (double-answer (h .curve) (h .class) .class) in
+      let long : length twice ≡ length (last-field t) = ap (λ (e : Effect). e .answer) (sym (double-writes s out room read) ∙ double) in
+      let short : length twice ≤ class-room = class-short 0x43 (h .curve) _ (double-given (class-holds s read) .passes .none) in
       let back : class-rebuilt s (double-call s out) ≡ t =
-      ap (class-rebuilt s) double ∙ rebuilt-write s (last-field t) out ∙ ap (λ (l : List ℕ). l ++ last-field t) (sym same) ∙ cut-whole 2 t in
+      ap (class-rebuilt s) double ∙ rebuilt-write s (last-field t) out (omega arith) ∙ ap (λ (l : List ℕ). l ++ last-field t) (sym same) ∙ cut-whole 2 t in
       sym
       (ap (class-rebuilt t) (ap (λ (l : List ℕ). half-call l last) (sym back) ∙ half-of-double-bytes)
-      ∙ rebuilt-write t (last-field s) last
+      ∙ rebuilt-write t (last-field s) last (last-short (w .bytes) (w .passes))
       ∙ ap (λ (l : List ℕ). l ++ last-field s) same
       ∙ cut-whole 2 s)

@@ -10,7 +10,6 @@ use mathlib.Core.Path.{_≡_, refl, sym, ap, _∙_, subst}
 use mathlib.Core.List.{List}
 use native.Mathlib.Omega.{arith}
 use lib.ListN.{length, length-append}
-use lib.Seq.{take-append-seam}
 use Rattle.jacobian.specs.{Answer.accepted, Answer.refused, declared.Class.Class}
 use Rattle.jacobian.proofs.Representation.{accepts-both}
 use Rattle.history.specs.declared.{Register.Register, Step.Step, Step.the-variants.Commit, Step.the-variants.Undo}
@@ -22,7 +21,7 @@ use Rattle.written_form.specs.Effect.{Effect, refuse, write, put, register-room
 use Rattle.stored_form.specs.declared.Record.{Record}
 use Rattle.stored_form_theorems.proofs.ClassRoundTrips.{class-short}
 use Rattle.stored_form.proofs.Lengths.{length-count}
-use Rattle.written_form.proofs.{Effects.call-found, Effects.put-accepted, Effects.put-refused}
+use Rattle.written_form.proofs.{Effects.call-found, Effects.put-accepted, Effects.put-refused, Wrote.wrote-write}
 use Rattle.seal.specs.Records.{register-values, register-fields, register-record-bytes, RegisterStored}
 use Rattle.seal.specs.Rebuilt.{register-rebuilt}
 use Rattle.seal.specs.Calls.{register, register-response, answered, commit-call, undo-call, step-call}
@@ -107,9 +106,10 @@ module _ (g : Register) (a : Class) (out : List ℕ) (room : register-room ≤ l
 
 -- ---- taking back
 
-rebuilt-write : (g k : Register) (a : Class) (out : List ℕ) → k .curve ≡ g .curve → register-rebuilt g a (write (register-fields k) out) ≡ register-record-bytes k a
-unfolding register-rebuilt write register-record-bytes
-rebuilt-write g k a out same = rw (take-append-seam (register-fields k) _, same)
+rebuilt-write : (g k : Register) (a : Class) (out : List ℕ) → length (register-fields k) ≤ register-room → k .curve ≡ g .curve →
+    register-rebuilt g a (write (register-fields k) out) ≡ register-record-bytes k a
+unfolding register-rebuilt register-record-bytes
+rebuilt-write g k a out short same = rw (wrote-write (register-fields k) out (omega arith), same)
 
 module _ (s out last : List ℕ) (room : register-room ≤ length out) (room' : register-room ≤ length last) {h : Record} {end : ℕ}
     (read : read-record register-layout s ≡ found h end) where
@@ -124,7 +124,7 @@ module _ (s out last : List ℕ) (room : register-room ≤ length out) (room' : 
       let back = ap (λ (x : RegisterReply). step-answer (other k) (x .register) a) (sym is) ∙ step-taken-back g a k e in
       ap (λ (o : Effect). step-call (other k) (register-rebuilt g a o) last)
       (of-record s out room read k ∙ step-written k g a e out room ∙ ap (λ (x : RegisterReply). write (register-fields (x .register)) out) is)
-      ∙ ap (λ (l : List ℕ). step-call (other k) l last) (rebuilt-write g next a out (stepped-curve k g a))
+      ∙ ap (λ (l : List ℕ). step-call (other k) l last) (rebuilt-write g next a out (subst (λ (x : RegisterReply). length (register-fields (x .register)) ≤ register-room) is (follows-fits k g a e)) (stepped-curve k g a))
       ∙ step-accepts (other k) next a (ap (λ (x : RegisterReply). x .outcome) back) last room'
       ∙ ap (λ (x : RegisterReply). write (register-fields (x .register)) last) back
 

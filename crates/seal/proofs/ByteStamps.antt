@@ -4,20 +4,20 @@
 -- `stamp-refused`: a refused stamp's number is the answer.
 -- `too-large-bytes`: a stamp of 2^(d-3) or more is refused with 115, whatever its candidates.
 -- `rootless-bytes`: it is 116 exactly if the stamp is below that and none of its eight candidates has a root.
--- `stamps-apart`: two stamps for which a call on the same areas writes the same are one stamp, whatever the areas hold.
+-- `stamps-apart`: two stamps for which calls on one record write the same are one stamp, whatever outputs are lent.
 use Prim.Native.Nat.{ℕ, _+_, _-_, _*_, _^_, _≤_, _<_}
 use mathlib.Core.{Path._≡_, Path.refl, Path.sym, Path.ap, Path.subst, Path._∙_, Logic._↔_, List.List}
 use native.Mathlib.Omega.{arith}
-use lib.{ListN.length, ListN.drop, Seq.take-append-seam}
+use lib.ListN.{length, drop}
 use Rattle.jacobian.specs.{Refusals.IsRefusal, Refusals.refusals, Refusals.listed, Answer.Verdict, Answer.accepted, Answer.refused, Answer.refusal, declared.Curve.Curve, declared.Class.Class}
 use Rattle.jacobian.proofs.Refusals.{above-100}
 use Rattle.stamps.specs.Stamps.{stamp-answer, Rootless}
 use Rattle.stamps.proofs.Theorems.{stamp-accepts, stamp-refuses, stamp-too-large, stamp-rootless, stamp-injective}
 use Rattle.stored_form.specs.{Number.encode-number, Reading.found, Head.class-room, Head.encode-field, Head.head-bytes, Classes.decode-class, Classes.class-field, Reader.read-record, Reader.curve-layout, declared.Record.Record}
 use Rattle.stored_form_theorems.proofs.ClassRoundTrips.{decode-body, class-short}
-use Rattle.written_form.specs.Effect.{Effect, write, refuse, class-response, longest-answer}
-use Rattle.written_form.proofs.{Effects.answer-written, Effects.answer-refused, WroteOrRefused.never-both}
-use Rattle.seal.specs.{Calls.answered, Calls.stamp-call, Rebuilt.wrote}
+use Rattle.written_form.specs.{Effect.Effect, Effect.Response, Effect.write, Effect.refuse, Effect.class-response, Effect.longest-answer, Wrote.wrote, Wrote.response-given}
+use Rattle.written_form.proofs.{Effects.answer-written, Effects.answer-refused, WroteOrRefused.never-both, Wrote.wrote-write}
+use Rattle.seal.specs.Calls.{answered, stamp-call}
 use Rattle.seal.specs.declared.calls.Call.the-variants.{Stamp}
 use Rattle.seal.proofs.{Passing.curve-holds, WroteOrRefused.length-read}
 
@@ -65,20 +65,22 @@ said : (c : Curve) (a : Class) → refusal c a ≡ 0 → decode-class (drop 3 (c
 unfolding class-field encode-field head-bytes encode-number
 said c a e = decode-body c a e
 
-pub stamps-apart : (s out : List ℕ) (m n : ℕ) → stamp-call m s out .answer ≤ longest-answer → stamp-call m s out ≡ stamp-call n s out → m ≡ n
+pub stamps-apart : (s out out' : List ℕ) (m n : ℕ) → stamp-call m s out .answer ≤ longest-answer → class-room ≤ length out'
+    → response-given (stamp-call m s out) ≡ response-given (stamp-call n s out') → m ≡ n
 unfolding write
-stamps-apart s out m n low same =
+stamps-apart s out out' m n low room' same =
     let p = length-read (Stamp m) s out low in
-    let room = p .0 in
     let c = p .1 .0 .curve in
     let read = p .1 .2 in
-    let e = length-accepted s out room read m low in
-    let f = length-accepted s out room read n (subst (λ (x : Effect). x .answer ≤ longest-answer) same low) in
+    let e = length-accepted s out (p .0) read m low in
+    let f = length-accepted s out' room' read n (subst (λ (x : Response). x .answer ≤ longest-answer) same low) in
     let x = stamp-answer c m .class in
     let y = stamp-answer c n .class in
+    let first : length (class-field 0x43 x) ≤ class-room = class-short 0x43 c x (stamp-accepts c m e .0 .none) in
+    let second : length (class-field 0x43 y) ≤ class-room = class-short 0x43 c y (stamp-accepts c n f .0 .none) in
     let fields : class-field 0x43 x ≡ class-field 0x43 y =
-    sym (take-append-seam (class-field 0x43 x) _)
-    ∙ ap wrote (sym (stamp-writes s out room read m e) ∙ same ∙ stamp-writes s out room read n f)
-    ∙ take-append-seam (class-field 0x43 y) _ in
+    sym (ap wrote (stamp-writes s out (p .0) read m e) ∙ wrote-write (class-field 0x43 x) out (omega arith))
+    ∙ ap (λ (r : Response). r .bytes) same
+    ∙ (ap wrote (stamp-writes s out' room' read n f) ∙ wrote-write (class-field 0x43 y) out' (omega arith)) in
     stamp-injective c m n e f
     (sym (said c x (stamp-accepts c m e .0 .none)) ∙ ap (λ (b : List ℕ). decode-class (drop 3 b)) fields ∙ said c y (stamp-accepts c n f .0 .none))

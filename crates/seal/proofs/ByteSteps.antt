@@ -1,104 +1,94 @@
 -- Demand 3 for a list of byte commits and undos (docs/SPECIFICATION.md, 11).
--- The list starts from the stored form of any register that no check refuses; any bytes may be given as operations,
--- and calls may be refused. Each call gets the count and the seal that the last accepted call wrote.
--- The accepted calls are taken back, newest first, into any outputs that have room.
--- `taken-back-turned`: each call that takes one back is accepted and leads to what was kept just before it (`turned`).
--- `taken-back-accepted`: none of them is refused.
--- `taken-back-fields`: they write the count and the seal from before each accepted call.
+-- The list starts from the stored form of any register that no check refuses; any bytes may be given as operations, into
+-- any outputs, and calls may be refused. Each call gets the count and the seal that the last accepted call wrote.
+-- The accepted calls are taken back, newest first, by any calls with the other step and the same operation, each with an
+-- output of its own that has room, whatever it holds (`TakesBack`).
+-- `taken-back-accepted`: none of these calls is refused.
+-- `taken-back-kept`: each leads to what was kept just before the call that it takes back, so it writes that count and seal.
 -- `taken-back-all`: at the end everything kept is as at the start.
--- These are theorems on machines; `reversible`: the byte calls are such a machine.
-use Prim.Native.Nat.{ℕ, _≤_}
+-- `buffer-takes-back`: calls that reuse one buffer with room, each as the call before left it, are such calls.
+-- `any-outputs`, `any-outputs-last`: a list whose calls all have room does the same with other outputs that have room.
+-- `each-stored`: what is kept before every call of the list is in stored form.
+-- `last-stored`: so is what is kept after the list.
+use Prim.Native.Nat.{ℕ, _+_, _≤_}
 use mathlib.Core.Path.{_≡_, refl, sym, ap, ap₂, _∙_, subst}
-use mathlib.Core.Bool.{Bool, true, false, cond}
-use mathlib.Core.List.{List, _++_, map}
+use mathlib.Core.List.{List, [], _∷_, _++_, map, map-map}
 use native.Mathlib.Omega.{arith}
-use lib.Dec.{ltb}
-use lib.ListN.{length}
-use lib.Seq.{take-append-seam}
-use borrow.Author.Tests.{ltb-false, le-ltb}
-use Rattle.lists.specs.Lists.{All}
+use lib.Dec.{lit≤}
+use lib.ListN.{length, getD, drop, replicate, length-append, length-drop}
+use Rattle.lists.specs.{Lists.All, Lists.none, Lists.more, Walk.foldl}
 use Rattle.jacobian.specs.{Answer.Verdict, Answer.accepted, Answer.refused, declared.Class.Class}
-use Rattle.history.specs.Register.{RegisterReply, other, step-answer}
-use Rattle.history.specs.Machine.{Event, event, newest, last, backs, turned, taken-back, Reversible}
-use Rattle.history.specs.declared.Register.{Register}
+use Rattle.history.specs.Register.{RegisterReply, register-refusal, other, step-answer}
+use Rattle.history.specs.Machine.{Machine, Event, event, accepted-of, run, newest, last, accepted-calls, carried, Agrees, Reversible}
+use Rattle.history.specs.Machine as machine
+use Rattle.history.specs.declared.{Register.Register, Step.Step, Step.the-variants.Commit, Step.the-variants.Undo}
 use Rattle.history.specs.Calls.{answer}
-use Rattle.history.proofs.{Machine.Run.accepted-fit, OneStep.taken, OneStep.step-taken-back, OneCall.answer-curve, OneCall.accepted-passes}
-use Rattle.jacobian.proofs.Representation.{accepts-both}
-use Rattle.history.proofs.Machine.TakingBack as machine
-use Rattle.stored_form.specs.{Number.Bytes, Classes.curve-fields-bytes, Classes.class-field}
-use Rattle.written_form.specs.Effect.{Effect, write, register-room, longest-answer}
-use Rattle.stored_form.specs.declared.Record.{Record}
-use Rattle.seal.specs.{Records.register-fields, Records.register-record-bytes, Rebuilt.wrote, Calls.register, Calls.step-call}
-use Rattle.seal.specs.Steps.{Kept, ByteStep, step-effect, outcome, next, byte-steps, back, InStoredForm}
-use Rattle.seal.proofs.{KeptFields.before, KeptFields.Passes, KeptFields.Operation, KeptFields.operation, ByteRegister.follows-fits, ByteRegister.step-accepts, WroteOrRefused.accepted-room, WroteOrRefused.accepted-read}
+use Rattle.history.proofs.{OneStep.taken, OneStep.step-taken-back, OneCall.answer-curve, Preserved.accepted-step}
+use Rattle.history.proofs.Machine.{Run.accepted-fit, Carried.run-carried, Carried.last-carried, Accepted.accepted-newest, Accepted.accepted-last}
+use Rattle.history.proofs.Machine.TakingBack as law
+use Rattle.stored_form.specs.{Number.Bytes, Classes.curve-fields-bytes, Classes.class-field, declared.Record.Record}
+use Rattle.written_form.specs.{Effect.Effect, Effect.Response, Effect.WroteOrRefused, Effect.refuse, Effect.write, Effect.register-room, Effect.longest-answer, Wrote.outcome, Wrote.wrote}
+use Rattle.written_form.specs.Effect as effects
+use Rattle.written_form.proofs.Wrote.{outcome-low, accepted-low, wrote-write}
+use Rattle.seal.specs.{Records.register-fields, Records.register-record-bytes, Calls.register, Calls.step-call}
+use Rattle.seal.specs.declared.calls.Call.the-variants as Call
+use Rattle.seal.specs.Steps.{Kept, ByteStep, step-effect, next, byte-steps, RegisterRooms, Request, request, back, backs, TakesBack, with-buffer, kept, decode-kept, InStoredForm}
+use Rattle.seal.proofs.{KeptFields.before, KeptFields.passing, KeptFields.Operation, KeptFields.operation, ByteRegister.follows-fits, ByteRegister.step-accepts, Decoding.in-stored-form}
+use Rattle.seal.proofs.{WroteOrRefused.wrote-or-refused, WroteOrRefused.accepted-room, WroteOrRefused.accepted-read, AnyOutput.same-step}
 
--- ---- one call
+-- ---- what is kept after a call
 
-outcome-low : (n : ℕ) → n ≤ longest-answer → outcome n ≡ accepted
-unfolding outcome
-outcome-low n low = ap (λ (b : Bool). cond b (refused n) accepted) (le-ltb longest-answer n low)
-
-accepted-low : (n : ℕ) → outcome n ≡ accepted → n ≤ longest-answer
-unfolding outcome
-accepted-low n e = go (ltb longest-answer n) refl e
-  where
-    go : (b : Bool) → ltb longest-answer n ≡ b → cond b (refused n) accepted ≡ accepted → n ≤ longest-answer
-    go true is e = let z : _≡_ {A = ℕ} 0 1 = cc in absurd (omega arith)
-    go false is e = ltb-false longest-answer n is
+-- what is kept after a response
+abbrev left-by : Kept → Response → Kept
+left-by k r = elim (outcome (r .answer)) [ accepted ↦ record { curve = k .curve; register = r .bytes } | refused n ↦ k ]
 
 -- a refusal changes nothing that is kept
-pub refused-stays : (k : Kept) (e : Effect) (n : ℕ) → outcome (e .answer) ≡ refused n → next k e ≡ k
-unfolding outcome next
-refused-stays k e n = go (ltb longest-answer (e .answer))
-  where
-    go : (b : Bool) → cond b (refused (e .answer)) accepted ≡ refused n → cond b k (record { curve = k .curve; register = wrote e }) ≡ k
-    go true f = refl
-    go false f = let z : _≡_ {A = ℕ} 0 1 = cc in absurd (omega arith)
-
-abbrev with-register : Kept → List ℕ → Kept
-with-register k xs = record { curve = k .curve; register = xs }
-
-next-written : (k : Kept) (xs out : List ℕ) → length xs ≤ longest-answer → next k (write xs out) ≡ with-register k xs
-unfolding next write
-next-written k xs out low =
-    ap (λ (b : Bool). cond b k (with-register k (wrote (write xs out)))) (le-ltb longest-answer (length xs) low) ∙ ap (with-register k) (take-append-seam xs _)
+pub refused-stays : (k : Kept) (c : ByteStep) (n : ℕ) → byte-steps .outcome k c ≡ refused n → byte-steps .next k c ≡ k
+unfolding next
+refused-stays k c n e =
+    ap (λ (v : Verdict). elim v [ accepted ↦ record { curve = k .curve; register = wrote (step-effect k c) } | refused n ↦ k ]) e
 
 -- a call that writes is accepted, and what it wrote is kept
-write-event : (k : Kept) (c : ByteStep) (xs : List ℕ) → length xs ≤ register-room → step-effect k c ≡ write xs (c .output) →
-    event byte-steps k c ≡ record { before = k; call = c; outcome = accepted; left = with-register k xs }
-unfolding event write
-write-event k c xs short e =
-    ap₂ (λ (v : Verdict) (t : Kept). record { before = k; call = c; outcome = v; left = t })
-    (ap (λ (x : Effect). outcome (x .answer)) e ∙ outcome-low (length xs) (omega arith))
-    (ap (next k) e ∙ next-written k xs (c .output) (omega arith))
+write-leaves : (k : Kept) (xs out : List ℕ) → length xs ≤ register-room → (outcome (write xs out .answer) ≡ accepted) × (next k (write xs out) ≡ record { curve = k .curve; register = xs })
+unfolding next write
+write-leaves k xs out short =
+    let e = outcome-low (length xs) (omega arith) in (
+      e,
+      ap (λ (v : Verdict). elim v [ accepted ↦ record { curve = k .curve; register = wrote (write xs out) } | refused n ↦ k ]) e
+          ∙ ap (λ (ys : List ℕ). record { curve = k .curve; register = ys }) (wrote-write xs out (omega arith)),
+    )
 
--- What an accepted call did from the stored form of a register g: its operation was the field of a class
--- with which the register call is accepted, and it wrote the register after that call.
-pub record Done (k : Kept) (g : Register) (c : ByteStep) : Type 0 where
+-- ---- an accepted call
+
+-- What an accepted call did from the stored form of a register: its operation was the field of a class with which the
+-- register call is accepted, and it wrote the register after that call.
+pub record Done (k : Kept) (c : ByteStep) : Type 0 where
   pub class : Class
   pub field : c .operation ≡ class-field 0x44 class
-  pub taken-step : step-answer (c .step) g class .outcome ≡ accepted
-  pub happens : event byte-steps k c ≡ record { before = k; call = c; outcome = accepted; left = with-register k (register-fields (step-answer (c .step) g class .register)) }
+  pub taken-step : step-answer (c .step) (decode-kept k) class .outcome ≡ accepted
+  pub leaves : byte-steps .next k c ≡ kept (step-answer (c .step) (decode-kept k) class .register)
 
-module _ (k : Kept) (stored : InStoredForm k) (c : ByteStep) (bytes : Bytes (c .operation)) (ok : outcome (step-effect k c .answer) ≡ accepted) where
+-- a call with this request and this output
+abbrev into : List ℕ → Request → ByteStep
+into out q = record { step = q .step; operation = q .operation; output = out }
+
+module _ (k : Kept) (form : InStoredForm k) (c : ByteStep) (bytes : Bytes (c .operation)) (ok : byte-steps .outcome k c ≡ accepted) where
   abbrev g : Register
-  g = stored .register
-
-  passes : Passes g
-  passes = record { count = stored .count-passes; seal = stored .seal-passes }
+  g = decode-kept k
 
   kept-is : k .curve ++ k .register ≡ before g
-  kept-is = ap₂ (λ (xs ys : List ℕ). xs ++ ys) (stored .curve-bytes) (stored .register-bytes)
+  unfolding kept
+  kept-is = ap (λ (t : Kept). t .curve ++ t .register) (sym (form .stored))
 
-  step-effect-is : step-effect k c ≡ step-call (c .step) (before g ++ c .operation) (c .output)
-  step-effect-is = ap (λ (xs : List ℕ). step-call (c .step) (xs ++ c .operation) (c .output)) kept-is
+  effect-is : step-effect k c ≡ step-call (c .step) (before g ++ c .operation) (c .output)
+  effect-is = ap (λ (xs : List ℕ). step-call (c .step) (xs ++ c .operation) (c .output)) kept-is
 
   low : step-call (c .step) (before g ++ c .operation) (c .output) .answer ≤ longest-answer
-  low = subst (λ (e : Effect). e .answer ≤ longest-answer) step-effect-is (accepted-low _ ok)
+  low = subst (λ (e : Effect). e .answer ≤ longest-answer) effect-is (accepted-low _ ok)
 
   -- its operation is the field of a class, with which the register call is accepted
   carries : Operation g (c .operation) (accepted-read (c .step) (before g ++ c .operation) (c .output) low .0)
-  carries = operation g (c .operation) passes bytes (accepted-read (c .step) (before g ++ c .operation) (c .output) low .2)
+  carries = operation g (c .operation) (passing g (form .passes)) bytes (accepted-read (c .step) (before g ++ c .operation) (c .output) low .2)
 
   abbrev a : Class
   a = carries .class
@@ -108,90 +98,230 @@ module _ (k : Kept) (stored : InStoredForm k) (c : ByteStep) (bytes : Bytes (c .
       subst (λ (h : Record). step-answer (c .step) (register h) (h .operation) .outcome ≡ accepted) (carries .values)
       (accepted-read (c .step) (before g ++ c .operation) (c .output) low .3)
 
-  abbrev then-register : Register
-  then-register = step-answer (c .step) g a .register
+  abbrev after : Register
+  after = step-answer (c .step) g a .register
+
+  after-passes : register-refusal after ≡ 0
+  after-passes = accepted-step (c .step) g a taken-step .0
+
+  same-curve : k .curve ≡ curve-fields-bytes (after .curve)
+  unfolding answer kept
+  same-curve = ap (λ (t : Kept). t .curve) (sym (form .stored)) ∙ ap curve-fields-bytes (sym (answer-curve g (record { step = c .step; class = a })))
 
   -- it writes the register after that call
-  there : event byte-steps k c ≡ record { before = k; call = c; outcome = accepted; left = with-register k (register-fields then-register) }
-  unfolding register-record-bytes
-  there =
-      write-event k c (register-fields then-register) (follows-fits (c .step) g a taken-step)
-      (step-effect-is
+  leaves : byte-steps .next k c ≡ kept after
+  unfolding register-record-bytes kept
+  leaves =
+      ap (next k)
+      (effect-is
       ∙ ap (λ (xs : List ℕ). step-call (c .step) (before g ++ xs) (c .output)) (carries .field)
       ∙ step-accepts (c .step) g a taken-step (c .output) (accepted-room (c .step) (before g ++ c .operation) (c .output) low))
+      ∙ write-leaves k (register-fields after) (c .output) (follows-fits (c .step) g a taken-step) .1
+      ∙ ap (λ (xs : List ℕ). record { curve = xs; register = register-fields after }) same-curve
 
-  then-curve : k .curve ≡ curve-fields-bytes (then-register .curve)
-  unfolding answer
-  then-curve = stored .curve-bytes ∙ ap curve-fields-bytes (sym (answer-curve g (record { step = c .step; class = a })))
+  pub done : Done k c
+  done = record { class = a; field = carries .field; taken-step = taken-step; leaves = leaves }
 
-  left-stored : InStoredForm (with-register k (register-fields then-register))
-  unfolding answer
-  left-stored =
-      let p = accepted-passes g (record { step = c .step; class = a }) taken-step in
-      record {
-        register = then-register;
-        count-passes = p .count-passes;
-        seal-passes = accepts-both (then-register .curve) (then-register .seal) (p .curve-passes) (p .seal-passes);
-        curve-bytes = then-curve;
-        register-bytes = refl;
-      }
-
-  pub done : Done k (stored .register) c
-  done = record { class = a; field = carries .field; taken-step = taken-step; happens = there }
-
-  -- what is kept after it is in stored form
   pub kept-stored : InStoredForm (byte-steps .next k c)
-  unfolding event
-  kept-stored = subst InStoredForm (sym (ap (λ (x : Event Kept ByteStep). x .left) there)) left-stored
+  kept-stored = subst InStoredForm (sym leaves) (in-stored-form after after-passes)
+
+  pub room-was : register-room ≤ length (c .output)
+  room-was = accepted-room (c .step) (before g ++ c .operation) (c .output) low
 
   -- the other step brings back what was kept
-  module _ (lend : ByteStep → List ℕ) (room : register-room ≤ length (lend c)) where
-    taken-back-step : step-answer (other (c .step)) then-register a ≡ taken g
-    taken-back-step = step-taken-back g a (c .step) taken-step
+  module _ (out : List ℕ) (room : register-room ≤ length out) where
+    abbrev other-call : ByteStep
+    other-call = into out (back (request c))
 
-    back-taken : step-answer (other (c .step)) then-register a .outcome ≡ accepted
-    back-taken = ap (λ (x : RegisterReply). x .outcome) taken-back-step
+    back-step : step-answer (other (c .step)) after a ≡ taken g
+    back-step = step-taken-back g a (c .step) taken-step
 
-    back-made : step-effect (with-register k (register-fields then-register)) (back lend c) ≡ write (register-fields g) (lend c)
-    unfolding back register-record-bytes
-    back-made =
-        ap₂ (λ (xs ys : List ℕ). step-call (other (c .step)) (xs ++ register-fields then-register ++ ys) (lend c)) then-curve (carries .field)
-        ∙ step-accepts (other (c .step)) then-register a back-taken (lend c) room
-        ∙ ap (λ (x : RegisterReply). write (register-fields (x .register)) (lend c)) taken-back-step
+    back-effect : step-effect (kept after) other-call ≡ write (register-fields g) out
+    unfolding back kept register-record-bytes
+    back-effect =
+        ap (λ (xs : List ℕ). step-call (other (c .step)) (before after ++ xs) out) (carries .field)
+        ∙ step-accepts (other (c .step)) after a (ap (λ (x : RegisterReply). x .outcome) back-step) out room
+        ∙ ap (λ (x : RegisterReply). write (register-fields (x .register)) out) back-step
 
-    returned : event byte-steps (event byte-steps k c .left) (back lend c) ≡ turned (back lend) (event byte-steps k c)
-    unfolding turned back
-    returned =
-        ap (λ (x : Event Kept ByteStep). event byte-steps (x .left) (back lend c)) there
-        ∙ write-event (with-register k (register-fields then-register)) (back lend c) (register-fields g)
-        (subst (λ (x : RegisterReply). length (register-fields (x .register)) ≤ register-room) taken-back-step (follows-fits (other (c .step)) then-register a back-taken))
-        back-made
-        ∙ ap (λ (xs : List ℕ). record { before = with-register k (register-fields then-register); call = back lend c; outcome = accepted; left = with-register k xs }) (sym (stored .register-bytes))
-        ∙ sym (ap (turned (back lend)) there)
+    back-left : (outcome (write (register-fields g) out .answer) ≡ accepted) × (next (kept after) (write (register-fields g) out) ≡ k)
+    unfolding kept
+    back-left =
+        let p = write-leaves (kept after) (register-fields g) out
+        (subst (λ (x : RegisterReply). length (register-fields (x .register)) ≤ register-room) back-step (follows-fits (other (c .step)) after a (ap (λ (x : RegisterReply). x .outcome) back-step))) in
+        (p .0, p .1 ∙ ap (λ (xs : List ℕ). record { curve = xs; register = register-fields g }) (sym same-curve ∙ ap (λ (t : Kept). t .curve) (sym (form .stored))) ∙ form .stored)
+
+    returned : (byte-steps .outcome (byte-steps .next k c) other-call ≡ accepted) × (byte-steps .next (byte-steps .next k c) other-call ≡ k)
+    returned = (
+      ap (λ (t : Kept). byte-steps .outcome t other-call) leaves ∙ ap (λ (e : Effect). outcome (e .answer)) back-effect ∙ back-left .0,
+      ap (λ (t : Kept). byte-steps .next t other-call) leaves ∙ ap (next (kept after)) back-effect ∙ back-left .1,
+    )
+
+-- ---- the machine of requests, each made into one and the same output
+
+abbrev blank : List ℕ
+blank = replicate register-room 0
+
+blank-room : register-room ≤ length blank
+blank-room = lit≤ tt
+
+abbrev requests : Machine Kept Request
+requests = record { outcome = λ k q. byte-steps .outcome k (into blank q); next = λ k q. byte-steps .next k (into blank q) }
+
+-- a call without its output
+abbrev asked : Event Kept ByteStep → Event Kept Request
+asked = carried (λ t. t) request
+
+-- a call that has room does what its request does
+agrees : (k : Kept) (c : ByteStep) → register-room ≤ length (c .output) → Agrees (λ t. t) request requests (event byte-steps k c)
+unfolding Agrees carried event next
+agrees k c room =
+    let same = same-step (k .curve ++ k .register ++ c .operation) blank (c .output) (c .step) blank-room room in
+    ap (λ (r : Response). record { before = k; call = request c; outcome = outcome (r .answer); left = left-by k r }) same
+
+agree-all : (k : Kept) {cs : List ByteStep} → RegisterRooms cs → All (Agrees (λ t. t) request requests) (run byte-steps k cs)
+unfolding run
+agree-all k none = none
+agree-all k (more {a = c} room rooms) = more (agrees k c room) (agree-all (byte-steps .next k c) rooms)
+
+-- ---- any outputs
+
+module _ (k : Kept) {cs ds : List ByteStep} (same : map request cs ≡ map request ds) (rooms : RegisterRooms cs) (rooms' : RegisterRooms ds) where
+  pub any-outputs : map (carried (λ t. t) request) (run byte-steps k cs) ≡ map (carried (λ t. t) request) (run byte-steps k ds)
+  any-outputs =
+      run-carried (λ t. t) request byte-steps requests k cs (agree-all k rooms)
+      ∙ ap (run requests k) same
+      ∙ sym (run-carried (λ t. t) request byte-steps requests k ds (agree-all k rooms'))
+
+  pub any-outputs-last : last byte-steps k cs ≡ last byte-steps k ds
+  any-outputs-last =
+      last-carried (λ t. t) request byte-steps requests k cs (agree-all k rooms)
+      ∙ ap (last requests k) same
+      ∙ sym (last-carried (λ t. t) request byte-steps requests k ds (agree-all k rooms'))
 
 -- ---- a list of calls
 
-module _ (lend : ByteStep → List ℕ) (room : (c : ByteStep) → register-room ≤ length (lend c)) where
-  pub reversible : Reversible byte-steps (back lend) InStoredForm (λ c. Bytes (c .operation))
+reversible : Reversible requests back InStoredForm (λ q. Bytes (q .operation))
+unfolding event machine.turned
+reversible = record {
+  stays = λ k q n e. refused-stays k (into blank q) n e;
+  keeps = λ k q h f e. kept-stored k h (into blank q) f e;
+  returns = λ k q h f e.
+      let p = returned k h (into blank q) f e blank blank-room in
+      ap₂ (λ (v : Verdict) (t : Kept). record { before = byte-steps .next k (into blank q); call = back q; outcome = v; left = t }) (p .0) (p .1);
+}
+
+next-stored : (k : Kept) → InStoredForm k → (c : ByteStep) → Bytes (c .operation) → InStoredForm (byte-steps .next k c)
+next-stored k form c b = go (byte-steps .outcome k c) refl
+  where
+    go : (v : Verdict) → byte-steps .outcome k c ≡ v → InStoredForm (byte-steps .next k c)
+    go accepted e = kept-stored k form c b e
+    go (refused n) e = subst InStoredForm (sym (refused-stays k c n e)) form
+
+pub last-stored : (k : Kept) → InStoredForm k → {cs : List ByteStep} → All (λ c. Bytes (c .operation)) cs → InStoredForm (last byte-steps k cs)
+unfolding last foldl
+last-stored k form none = form
+last-stored k form (more {a = c} b bs) = last-stored (byte-steps .next k c) (next-stored k form c b) bs
+
+-- what holds of each call made in a stored form with an operation of bytes holds of each call of the list
+pub of-each : {P : Event Kept ByteStep → Type 0} → ((k : Kept) (c : ByteStep) → InStoredForm k → Bytes (c .operation) → P (event byte-steps k c))
+    → (k : Kept) → InStoredForm k → {cs : List ByteStep} → All (λ c. Bytes (c .operation)) cs → All P (run byte-steps k cs)
+unfolding run
+of-each p k form none = none
+of-each p k form (more {a = c} b bs) = more (p k c form b) (of-each p (byte-steps .next k c) (next-stored k form c b) bs)
+
+pub each-stored : (k : Kept) → InStoredForm k → {cs : List ByteStep} → All (λ c. Bytes (c .operation)) cs → All (λ e. InStoredForm (e .before)) (run byte-steps k cs)
+unfolding event
+each-stored k form bytes = of-each (λ t c h b. h) k form bytes
+
+module _ (k : Kept) (form : InStoredForm k) (cs : List ByteStep) (bytes : All (λ c. Bytes (c .operation)) cs) where
+  -- an accepted call had room, so it did what its request does
+  accepted-agree : All (λ e. e .outcome ≡ accepted → Agrees (λ t. t) request requests e) (run byte-steps k cs)
   unfolding event
-  reversible = record {
-    stays = λ k c n e. refused-stays k (step-effect k c) n e;
-    keeps = λ k c h f e. kept-stored k h c f e;
-    returns = λ k c h f e. returned k h c f e lend (room c);
-  }
+  accepted-agree = of-each (λ t c h b e. agrees t c (room-was t h c b e)) k form bytes
 
-  module _ (k : Kept) (stored : InStoredForm k) (cs : List ByteStep) (bytes : All (λ c. Bytes (c .operation)) cs) where
-    -- the calls that take the accepted ones back are these calls, turned back
-    pub taken-back-turned : taken-back byte-steps (back lend) k cs ≡ map (turned (back lend)) (newest byte-steps k cs)
-    taken-back-turned = machine.taken-back-turned byte-steps (back lend) reversible cs stored (accepted-fit byte-steps k bytes)
+  -- the requests of the accepted calls
+  abbrev qs : List Request
+  qs = map request (accepted-calls byte-steps k cs)
 
-    pub taken-back-accepted : All (λ e. e .outcome ≡ accepted) (taken-back byte-steps (back lend) k cs)
-    taken-back-accepted = machine.taken-back-accepted byte-steps (back lend) reversible cs stored (accepted-fit byte-steps k bytes)
+  newest-asked : map asked (newest byte-steps k cs) ≡ newest requests k qs
+  newest-asked = accepted-newest (λ t. t) request byte-steps requests refused-stays k cs accepted-agree
 
-    -- the fields of count and seal from just before the accepted calls come back, newest first
-    pub taken-back-fields : map (λ e. e .left .register) (taken-back byte-steps (back lend) k cs) ≡ map (λ e. e .before .register) (newest byte-steps k cs)
-    taken-back-fields = machine.taken-back-states byte-steps (back lend) reversible cs stored (accepted-fit byte-steps k bytes) (λ t. t .register)
+  last-asked : last byte-steps k cs ≡ last requests k qs
+  last-asked = accepted-last (λ t. t) request byte-steps requests refused-stays k cs accepted-agree
 
-    -- at the end everything kept is as at the start
-    pub taken-back-all : last byte-steps (last byte-steps k cs) (backs (back lend) (newest byte-steps k cs)) ≡ k
-    taken-back-all = machine.taken-back-all byte-steps (back lend) reversible cs stored (accepted-fit byte-steps k bytes)
+  all-fit : All (λ e. Bytes (e .call .operation)) (accepted-of (run requests k qs))
+  unfolding accepted-calls
+  all-fit = accepted-fit requests k (fit (accepted-fit byte-steps k bytes))
+    where
+      fit : {es : List (Event Kept ByteStep)} → All (λ e. Bytes (e .call .operation)) es → All (λ (q : Request). Bytes (q .operation)) (map request (map (λ e. e .call) es))
+      fit none = none
+      fit (more h hs) = more h (fit hs)
+
+  module _ (bs : List ByteStep) (takes : TakesBack bs (newest byte-steps k cs)) where
+    -- as requests, the calls that take back are the accepted calls turned back
+    asked-back : map asked (run byte-steps (last byte-steps k cs) bs) ≡ map (machine.turned back) (map asked (newest byte-steps k cs))
+    unfolding machine.taken-back machine.backs carried
+    asked-back =
+        run-carried (λ t. t) request byte-steps requests (last byte-steps k cs) bs (agree-all (last byte-steps k cs) (takes .rooms))
+        ∙ ap₂ (run requests) last-asked (takes .requests ∙ sym (map-map (λ e. back (e .call)) asked (newest byte-steps k cs)) ∙ ap (map (λ e. back (e .call))) newest-asked)
+        ∙ law.taken-back-turned requests back reversible qs form all-fit
+        ∙ ap (map (machine.turned back)) (sym newest-asked)
+
+    -- a function of an event that does not look at the output, along these calls
+    along : {X : Type 0} (f : Event Kept Request → X) → map (λ e. f (asked e)) (run byte-steps (last byte-steps k cs) bs) ≡ map (λ e. f (machine.turned back (asked e))) (newest byte-steps k cs)
+    along f =
+        sym (map-map f asked (run byte-steps (last byte-steps k cs) bs))
+        ∙ ap (map f) asked-back
+        ∙ map-map f (machine.turned back) (map asked (newest byte-steps k cs))
+        ∙ map-map (λ e. f (machine.turned back e)) asked (newest byte-steps k cs)
+
+    pub taken-back-accepted : All (λ e. e .outcome ≡ accepted) (run byte-steps (last byte-steps k cs) bs)
+    unfolding carried machine.turned
+    taken-back-accepted = all-of-map (run byte-steps (last byte-steps k cs) bs) (newest byte-steps k cs) (along (λ e. e .outcome))
+      where
+        all-of-map : (es fs : List (Event Kept ByteStep)) → map (λ e. e .outcome) es ≡ map (λ e. accepted) fs → All (λ e. e .outcome ≡ accepted) es
+        all-of-map [] fs e = none
+        all-of-map (x ∷ es) [] e = absurd (let n : length (map (λ (e : Event Kept ByteStep). e .outcome) (x ∷ es)) ≡ 0 = ap length e in omega arith)
+        all-of-map (x ∷ es) (y ∷ fs) e = more (ap (λ l. getD l 0 accepted) e) (all-of-map es fs (ap (drop 1) e))
+
+    pub taken-back-kept : map (λ e. e .left) (run byte-steps (last byte-steps k cs) bs) ≡ map (λ e. e .before) (newest byte-steps k cs)
+    unfolding carried machine.turned
+    taken-back-kept = along (λ e. e .left)
+
+    pub taken-back-all : last byte-steps (last byte-steps k cs) bs ≡ k
+    unfolding machine.backs carried
+    taken-back-all =
+        last-carried (λ t. t) request byte-steps requests (last byte-steps k cs) bs (agree-all (last byte-steps k cs) (takes .rooms))
+        ∙ ap₂ (last requests) last-asked (takes .requests ∙ sym (map-map (λ e. back (e .call)) asked (newest byte-steps k cs)) ∙ ap (map (λ e. back (e .call))) newest-asked)
+        ∙ law.taken-back-all requests back reversible qs form all-fit
+
+-- ---- one buffer for all calls
+
+-- a call leaves an output as long as it was
+output-length : (k : Step) (s out : List ℕ) → length (step-call k s out .output) ≡ length out
+unfolding write refuse
+output-length k s out = by (valid k)
+  where
+    valid : (j : Step) → WroteOrRefused register-room out (step-call j s out)
+    valid Commit = wrote-or-refused Call.Commit s out
+    valid Undo = wrote-or-refused Call.Undo s out
+
+    by : {e : Effect} → WroteOrRefused register-room out e → length (e .output) ≡ length out
+    by (effects.wrote xs short fits e) =
+        ap (λ (x : Effect). length (x .output)) e ∙ length-append xs (drop (length xs) out) ∙ omega (arith, length-drop (length xs) out)
+    by (effects.kept n i e) = ap (λ (x : Effect). length (x .output)) e
+
+buffer-requests : (k : Kept) (buffer : List ℕ) (qs : List Request) → map request (with-buffer k buffer qs) ≡ qs
+unfolding with-buffer
+buffer-requests k buffer [] = refl
+buffer-requests k buffer (q ∷ qs) = ap (λ l. q ∷ l) (buffer-requests (byte-steps .next k (into buffer q)) (step-effect k (into buffer q) .output) qs)
+
+buffer-rooms : (k : Kept) (buffer : List ℕ) → register-room ≤ length buffer → (qs : List Request) → RegisterRooms (with-buffer k buffer qs)
+unfolding with-buffer
+buffer-rooms k buffer room [] = none
+buffer-rooms k buffer room (q ∷ qs) =
+    let long : length (step-effect k (into buffer q) .output) ≡ length buffer = output-length (q .step) (k .curve ++ k .register ++ q .operation) buffer in
+    more room (buffer-rooms (byte-steps .next k (into buffer q)) (step-effect k (into buffer q) .output) (omega arith) qs)
+
+pub buffer-takes-back : (k : Kept) (buffer : List ℕ) → register-room ≤ length buffer → (es : List (Event Kept ByteStep)) → TakesBack (with-buffer k buffer (backs es)) es
+buffer-takes-back k buffer room es = record { requests = buffer-requests k buffer (backs es); rooms = buffer-rooms k buffer room (backs es) }

@@ -1,19 +1,22 @@
 -- Calls that answer a class, and calls on the record of one class, with an output that has room for a class field.
 -- `class-written`: a call that gives a valid class for its record writes the class's field.
 -- `call-writes`: the same for a call on the record of one class.
--- `rebuilt-bytes`: the record rebuilt from what was written is the record of that class.
+-- `rebuilt-write`: a record rebuilt from bytes that were written has these bytes for its class field.
+-- `rebuilt-bytes`: the record rebuilt from the field of a class is the record of that class.
+-- `last-short`: the class field of a class's record is no longer than `class-room`.
 -- `follow-writes`: a second call on the rebuilt record writes the field of its own answer for that class.
 -- `taken-back`: if the second answer takes the first back, it writes the class field of the first record.
 use Prim.Native.Nat.{ℕ, _≤_}
-use mathlib.Core.Path.{_≡_, refl, sym, ap, _∙_}
+use mathlib.Core.Path.{_≡_, refl, sym, ap, _∙_, subst}
 use mathlib.Core.List.{List, _++_}
-use lib.{ListN.length, Seq.take-append-seam}
+use native.Mathlib.Omega.{arith}
+use lib.ListN.{length}
 use Rattle.jacobian.specs.{Answer.Result, Answer.gives, declared.Curve.Curve, declared.Class.Class}
 use Rattle.stored_form.specs.{Number.Bytes, Reading.found, Head.class-room, Classes.curve-fields-bytes, Classes.class-field, Passing.ClassPasses, Reader.read-record, Reader.class-layout, declared.Record.Record}
 use Rattle.written_form.specs.Effect.{Effect, Response, write, class-response, byte-call}
 use Rattle.stored_form_theorems.proofs.{ClassRoundTrips.class-short, Cuts.take-cut, Cuts.drop-cut, Cuts.curve-cut}
-use Rattle.written_form.proofs.Effects.{answer-written}
-use Rattle.seal.specs.{Records.class-values, Records.class-record-bytes, Records.ClassStored, Rebuilt.first-fields, Rebuilt.last-field, Rebuilt.wrote, Rebuilt.class-rebuilt}
+use Rattle.written_form.proofs.{Effects.answer-written, Wrote.wrote-write}
+use Rattle.seal.specs.{Records.class-values, Records.class-record-bytes, Records.ClassStored, Rebuilt.first-fields, Rebuilt.last-field, Rebuilt.class-rebuilt}
 use Rattle.seal.proofs.{Written.class-record-written, Written.class-record-back, Passing.Given}
 
 pub class-written : (tags : List ℕ) (answer : Record → Response) (s out : List ℕ) → class-room ≤ length out → {h : Record} {end : ℕ} → read-record tags s ≡ found h end →
@@ -33,13 +36,9 @@ call-writes s out room {h} read f given = class-written class-layout _ s out roo
 
 -- ---- the record rebuilt from what was written
 
-pub wrote-write : (bytes out : List ℕ) → wrote (write bytes out) ≡ bytes
-unfolding write
-wrote-write bytes out = take-append-seam bytes _
-
-pub rebuilt-write : (s bytes out : List ℕ) → class-rebuilt s (write bytes out) ≡ first-fields s ++ bytes
+pub rebuilt-write : (s bytes out : List ℕ) → length bytes ≤ class-room → class-rebuilt s (write bytes out) ≡ first-fields s ++ bytes
 unfolding class-rebuilt
-rebuilt-write s bytes out = ap (λ (l : List ℕ). first-fields s ++ l) (wrote-write bytes out)
+rebuilt-write s bytes out short = ap (λ (l : List ℕ). first-fields s ++ l) (wrote-write bytes out (omega arith))
 
 module _ {s : List ℕ} (c : Curve) (a : Class) (bytes : s ≡ class-record-bytes c a) where
   pub first-is : first-fields s ≡ curve-fields-bytes c
@@ -50,12 +49,16 @@ module _ {s : List ℕ} (c : Curve) (a : Class) (bytes : s ≡ class-record-byte
   unfolding class-record-bytes
   last-is = ap (λ (l : List ℕ). last-field l) bytes ∙ drop-cut 2 (curve-fields-bytes c) (class-field 0x43 a) (curve-cut (class-field 0x43 a) c)
 
-  pub rebuilt-bytes : (x : Class) (out : List ℕ) → class-rebuilt s (write (class-field 0x43 x) out) ≡ class-record-bytes c x
+  pub rebuilt-bytes : {x : Class} → ClassPasses c x → (out : List ℕ) → class-rebuilt s (write (class-field 0x43 x) out) ≡ class-record-bytes c x
   unfolding class-record-bytes
-  rebuilt-bytes x out = rebuilt-write s (class-field 0x43 x) out ∙ ap (λ (l : List ℕ). l ++ class-field 0x43 x) first-is
+  rebuilt-bytes {x} p out = rebuilt-write s (class-field 0x43 x) out (class-short 0x43 c x (p .none)) ∙ ap (λ (l : List ℕ). l ++ class-field 0x43 x) first-is
 
 -- ---- the record of a class that no check refuses
 module _ {s : List ℕ} {c : Curve} {a : Class} (bytes : s ≡ class-record-bytes c a) (p : ClassPasses c a) where
+  -- its class field is short
+  pub last-short : length (last-field s) ≤ class-room
+  last-short = subst (λ (l : List ℕ). length l ≤ class-room) (sym (last-is c a bytes)) (class-short 0x43 c a (p .none))
+
   pub stored-read : read-record class-layout s ≡ found (class-values c a) (length s)
   stored-read = class-record-back (record { curve = c; class = a; values = refl; bytes = bytes; passes = p })
 
@@ -63,7 +66,7 @@ module _ {s : List ℕ} {c : Curve} {a : Class} (bytes : s ≡ class-record-byte
   stored-writes f given out room = call-writes s out room stored-read f given
 
   pub stored-rebuilt : (f : Curve → Class → Result) → Given c (f c a) → (out : List ℕ) → class-room ≤ length out → class-rebuilt s (class-call f s out) ≡ class-record-bytes c (f c a .class)
-  stored-rebuilt f given out room = ap (class-rebuilt s) (stored-writes f given out room) ∙ rebuilt-bytes c a bytes (f c a .class) out
+  stored-rebuilt f given out room = ap (class-rebuilt s) (stored-writes f given out room) ∙ rebuilt-bytes c a bytes (given .passes) out
 
 -- ---- a record that is read is such a record
 pub is-stored : (s : List ℕ) → Bytes s → {h : Record} {end : ℕ} → read-record class-layout s ≡ found h end → ClassStored s h

@@ -2,13 +2,15 @@
 -- `operation`: such a record, if read, gives that register, and what follows is the field of a class.
 -- `record-kept`: every register's record that is read begins so.
 use Prim.Native.Nat.{ℕ}
-use mathlib.Core.Path.{_≡_, refl, sym, ap, _∙_, subst}
+use mathlib.Core.Path.{_≡_, sym, ap, _∙_, subst}
 use mathlib.Core.List.{List, [], _∷_, _++_, append-assoc}
 use lib.Dec.{lit<}
 use lib.ListN.{length, drop}
 use lib.Seq.{drop-append-seam}
 use Rattle.jacobian.specs.declared.Class.{Class}
-use Rattle.history.specs.declared.Register.{Register}
+use Rattle.jacobian.proofs.Representation.{accepts-both, accepts-class}
+use Rattle.history.specs.{Register.register-refusal, declared.Register.Register}
+use Rattle.history.proofs.Registers.{register-passes, passes-register}
 use Rattle.stored_form.specs.{Number.Bytes, Reading.found, Head.count-length, Classes.curve-fields-bytes, Classes.class-field, Fields.count-field, Passing.CountPasses, Passing.ClassPasses}
 use Rattle.stored_form.specs.{Record.empty-record, Record.with-curve, Record.with-count, Record.with-class, Reader.read-fields, Reader.read-record, Reader.curve-layout, Reader.register-layout}
 use Rattle.stored_form.specs.declared.Record.{Record}
@@ -16,8 +18,8 @@ use Rattle.stored_form.proofs.Readings.{same-found}
 use Rattle.stored_form_theorems.specs.Records.{none, Stored}
 use Rattle.stored_form_theorems.proofs.Written.{bytes-append, number-bytes, field-bytes, class-bytes, first-bytes}
 use Rattle.stored_form_theorems.proofs.{Places.apart, Places.whole, RecordRoundTrips.begin-read-back, FieldLaws.more, FieldValues.count-law, FieldValues.class-law, FieldValues.curve-more}
-use Rattle.seal.specs.{Records.register-values, Records.register-fields, Records.register-record-bytes, Calls.register, Steps.Kept, Steps.InStoredForm}
-use Rattle.seal.proofs.{Written.curve-passes, Written.register-record-written}
+use Rattle.seal.specs.{Records.register-values, Records.register-fields, Records.register-record-bytes, Calls.register, Steps.Kept, Steps.kept, Steps.InStoredForm}
+use Rattle.seal.proofs.{Written.curve-passes, Written.register-record-written, Decoding.in-stored-form}
 
 -- the fields before the operation, and their tags
 abbrev before-tags : List ℕ
@@ -39,6 +41,11 @@ before-bytes g =
 pub record Passes (g : Register) : Type 0 where
   pub count : CountPasses (g .count)
   pub seal : ClassPasses (g .curve) (g .seal)
+
+pub passing : (g : Register) → register-refusal g ≡ 0 → Passes g
+passing g ok =
+    let p = register-passes g ok in
+    record { count = p .count-passes; seal = accepts-both (g .curve) (g .seal) (p .curve-passes) (p .seal-passes) }
 
 before-stored : (g : Register) → Passes g → Stored before-tags (before-values g) ((curve-fields-bytes (g .curve) ++ count-field (g .count)) ++ class-field 0x43 (g .seal))
 before-stored g p =
@@ -81,12 +88,9 @@ operation g op p bytes read =
 
 pub record-kept : (s : List ℕ) → Bytes s → {h : Record} {end : ℕ} → read-record register-layout s ≡ found h end →
     (k : Kept) × InStoredForm k × (op : List ℕ) × (s ≡ k .curve ++ k .register ++ op)
-unfolding register-record-bytes
+unfolding register-record-bytes kept
 record-kept s bytes read =
     let w = register-record-written bytes read .0 in
-    let g = w .register in (
-      record { curve = curve-fields-bytes (g .curve); register = register-fields g },
-      record { register = g; count-passes = w .count-passes; seal-passes = w .seal-passes; curve-bytes = refl; register-bytes = refl },
-      class-field 0x44 (w .class),
-      w .bytes,
-    )
+    let g = w .register in
+    let ok = passes-register g (record { curve-passes = curve-passes (w .seal-passes); count-passes = w .count-passes; seal-passes = accepts-class (w .seal-passes) }) in
+    (kept g, in-stored-form g ok, class-field 0x44 (w .class), w .bytes)

@@ -9,7 +9,11 @@ pub mod ByteStamps
 pub mod Checking
 pub mod WroteOrRefused
 pub mod Edges
+pub mod AnyOutput
 pub mod Promises
+pub mod Decoding
 pub mod KeptFields
 pub mod ByteSteps
+pub mod ByteCarried
+pub mod ByteFailing
 pub mod ByteDisplacement

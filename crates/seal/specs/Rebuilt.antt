@@ -1,9 +1,8 @@
 -- A record rebuilt from what a call wrote for it (docs/SPECIFICATION.md, 11).
 use Prim.Native.Nat.{ℕ}
 use mathlib.Core.List.{List, _++_}
-use lib.ListN.{take}
 use Rattle.stored_form.specs.{Cuts.take-fields, Cuts.drop-fields, Classes.curve-fields-bytes, Classes.class-field}
-use Rattle.written_form.specs.Effect.{Effect}
+use Rattle.written_form.specs.{Effect.Effect, Wrote.wrote}
 use Rattle.history.specs.declared.Register.{Register}
 use Rattle.jacobian.specs.declared.Class.{Class}
 
@@ -14,10 +13,6 @@ first-fields s = take-fields 2 s
 -- the class field of a class's record
 abbrev pub last-field : List ℕ → List ℕ
 last-field s = drop-fields 2 s
-
--- the bytes that a call wrote
-abbrev pub wrote : Effect → List ℕ
-wrote e = take (e .answer) (e .output)
 
 -- a class's record with what a call wrote in place of its class field
 unfoldable pub class-rebuilt : List ℕ → Effect → List ℕ

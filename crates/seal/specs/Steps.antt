@@ -1,15 +1,17 @@
--- Lists of byte commits and undos, and one changed operation in them (docs/SPECIFICATION.md, 11).
+-- Lists of byte commits and undos, and the lists of register calls that they are (docs/SPECIFICATION.md, 11).
 -- Each call gets the count and the seal that the last accepted call wrote.
-use Prim.Native.Nat.{ℕ}
-use mathlib.Core.{Path._≡_, Bool.cond, List.List, List._∷_, List._++_, List.map, List.reverse}
-use lib.Dec.{ltb}
-use lib.ListN.{drop}
-use Rattle.lists.specs.Lists.{All, ChangedAt}
-use Rattle.jacobian.specs.Answer.{Verdict, accepted, refused}
-use Rattle.history.specs.{Machine.Machine, Machine.Event, Register.other, declared.Register.Register, declared.Step.Step, declared.Step.the-variants.Commit}
-use Rattle.stored_form.specs.{Cuts.drop-fields, Passing.CountPasses, Passing.ClassPasses, Classes.curve-fields-bytes}
-use Rattle.written_form.specs.Effect.{Effect, longest-answer}
-use Rattle.seal.specs.{Records.register-fields, Rebuilt.wrote, Calls.step-call}
+use Prim.Native.Nat.{ℕ, _≤_}
+use mathlib.Core.{Path._≡_, List.List, List.[], List._∷_, List._++_, List.map}
+use lib.ListN.{length, drop}
+use Rattle.lists.specs.Lists.{All}
+use Rattle.jacobian.specs.{Answer.accepted, Answer.refused, declared.Class.Class}
+use Rattle.history.specs.{Machine.Machine, Machine.Event, Machine.carried, Register.other, Register.register-refusal, Calls.Call, declared.Register.Register, declared.Step.Step}
+use Rattle.history.specs.Calls as history
+use Rattle.history.specs.Machine.{last, newest, accepted-calls}
+use Rattle.stored_form.specs.{Number.decode-number, Reading.refused as unread, Cuts.take-fields, Cuts.drop-fields, Classes.curve-fields-bytes, Classes.decode-curve, Classes.decode-class}
+use Rattle.stored_form.specs.{Record.empty-record, Reader.curve-layout, Reader.read-fields}
+use Rattle.written_form.specs.{Effect.Effect, Effect.register-room, Wrote.outcome, Wrote.wrote}
+use Rattle.seal.specs.{Records.register-fields, Calls.step-call}
 
 -- what is kept between calls: the fields of degree and curve, and the fields of count and seal
 pub record Kept : Type 0 where
@@ -28,53 +30,102 @@ step-effect k c = step-call (c .step) (k .curve ++ k .register ++ c .operation) 
 
 -- ---- the machine
 
--- the outcome that an answer stands for: a length is an acceptance
-unfoldable pub outcome : ℕ → Verdict
-outcome n = cond (ltb longest-answer n) (refused n) accepted
-
--- what is kept after a call: an accepted call's output replaces count and seal, a refusal changes nothing
+-- what is kept after a call: what an accepted call wrote replaces count and seal, a refusal changes nothing
 unfoldable pub next : Kept → Effect → Kept
-next k e = cond (ltb longest-answer (e .answer)) k (record { curve = k .curve; register = wrote e })
+next k e = elim (outcome (e .answer)) [ accepted ↦ record { curve = k .curve; register = wrote e } | refused n ↦ k ]
 
 -- the machine of byte commits and undos
 abbrev pub byte-steps : Machine Kept ByteStep
 byte-steps = record { outcome = λ k c. outcome (step-effect k c .answer); next = λ k c. next k (step-effect k c) }
 
--- the call that takes a call back: the other step with the same operation, into any output
-unfoldable pub back : (ByteStep → List ℕ) → ByteStep → ByteStep
-back lend c = record { step = other (c .step); operation = c .operation; output = lend c }
+-- ---- what is asked for, whatever the outputs
 
--- what is kept is the stored form of a register that no check refuses
+-- every one of these calls has an output with room for a register's fields
+abbrev pub RegisterRooms : List ByteStep → Type 0
+RegisterRooms cs = All (λ c. register-room ≤ length (c .output)) cs
+
+-- a call without its output: the step, and the bytes given as the field of the operation's class
+pub record Request : Type 0 where
+  pub step : Step
+  pub operation : List ℕ
+
+-- what a call asks for
+abbrev pub request : ByteStep → Request
+request c = record { step = c .step; operation = c .operation }
+
+-- the request that takes a request back: the other step with the same operation
+unfoldable pub back : Request → Request
+back q = record { step = other (q .step); operation = q .operation }
+
+-- the requests that take these calls back
+abbrev pub backs : List (Event Kept ByteStep) → List Request
+backs es = map (λ e. back (request (e .call))) es
+
+-- the calls bs take the calls es back, in this order, into any outputs that have room
+pub record TakesBack (bs : List ByteStep) (es : List (Event Kept ByteStep)) : Type 0 where
+  pub requests : map request bs ≡ backs es
+  pub rooms : RegisterRooms bs
+
+-- the calls for these requests with one buffer as every output, which each call gets as the call before it left it
+unfoldable pub with-buffer : Kept → List ℕ → List Request → List ByteStep
+with-buffer k buffer [] = []
+with-buffer k buffer (q ∷ qs) =
+    let c : ByteStep = record { step = q .step; operation = q .operation; output = buffer } in
+    c ∷ with-buffer (byte-steps .next k c) (step-effect k c .output) qs
+
+-- ---- the registers and the register calls
+
+-- the stored form of a register, as it is kept
+unfoldable pub kept : Register → Kept
+kept g = record { curve = curve-fields-bytes (g .curve); register = register-fields g }
+
+-- the class that a field's body decodes to
+unfoldable pub field-class : List ℕ → Class
+field-class field = decode-class (drop 3 field)
+
+-- the register that the kept fields decode to
+unfoldable pub decode-kept : Kept → Register
+decode-kept k = record {
+  curve = decode-curve (decode-number (drop 3 (take-fields 1 (k .curve)))) (drop 3 (drop-fields 1 (k .curve)));
+  count = decode-number (drop 3 (take-fields 1 (k .register)));
+  seal = field-class (drop-fields 1 (k .register));
+}
+
+-- the register call that a byte call decodes to: the same step with the class of its operation
+unfoldable pub decode-step : ByteStep → Call
+decode-step c = record { step = c .step; class = field-class (c .operation) }
+
+-- a byte call that was made, as a call on registers
+abbrev pub decoded : Event Kept ByteStep → history.Event
+decoded = carried decode-kept decode-step
+
+-- the accepted byte calls of a list as calls on registers, newest first
+unfoldable pub newest-decoded : Kept → List ByteStep → List history.Event
+newest-decoded k cs = map decoded (newest byte-steps k cs)
+
+-- the register that is kept after a list of byte calls
+unfoldable pub last-decoded : Kept → List ByteStep → Register
+last-decoded k cs = decode-kept (last byte-steps k cs)
+
+-- the register calls of the accepted byte calls, in order
+unfoldable pub decoded-calls : Kept → List ByteStep → List Call
+decoded-calls k cs = map decode-step (accepted-calls byte-steps k cs)
+
+-- what is kept is the stored form of the register that it decodes to
+abbrev pub Stored : Kept → Type 0
+Stored k = kept (decode-kept k) ≡ k
+
+-- so it is, and no check refuses that register
 pub record InStoredForm (k : Kept) : Type 0 where
-  pub register : Register
-  pub count-passes : CountPasses (register .count)
-  pub seal-passes : ClassPasses (register .curve) (register .seal)
-  pub curve-bytes : k .curve ≡ curve-fields-bytes (register .curve)
-  pub register-bytes : k .register ≡ register-fields register
+  pub stored : Stored k
+  pub passes : register-refusal (decode-kept k) ≡ 0
 
--- ---- one changed operation
+-- the kept fields are refused with n when they are read, whatever follows them
+abbrev pub Fails : Kept → ℕ → Type 0
+Fails k n = (rest : List ℕ) → read-fields (curve-layout ++ 0x42 ∷ 0x43 ∷ []) empty-record (k .curve ++ k .register ++ rest) 0 ≡ unread n
+
+-- ---- the seal's record
 
 -- the record of the seal that is kept: degree and curve, then the class field after the count's
 abbrev pub seal-record : Kept → List ℕ
 seal-record k = k .curve ++ drop-fields 1 (k .register)
-
--- the record of an operation's class: its field with the tag of a class
-abbrev pub operation-record : List ℕ → List ℕ → List ℕ
-operation-record fields op = fields ++ (0x43 ∷ drop 1 op)
-
--- all of these calls are commits
-abbrev pub OnlyCommits : List (Event Kept ByteStep) → Type 0
-OnlyCommits es = All (λ e. e .call .step ≡ Commit) es
-
--- the fields of the operations of these calls, oldest first; the calls are given newest first
-abbrev pub operations : List (Event Kept ByteStep) → List (List ℕ)
-operations es = map (λ e. e .call .operation) (reverse es)
-
--- Two lists of calls on one curve from the same seal; es and fs are their accepted calls, newest first, all commits.
--- Only operation j, counted from the oldest as 1, differs: d in one list and e in the other.
-pub record ByteVariants (j : ℕ) (d e : List ℕ) (k t : Kept) (es fs : List (Event Kept ByteStep)) : Type 0 where
-  pub same-curve : t .curve ≡ k .curve
-  pub same-seal : seal-record t ≡ seal-record k
-  pub commits : OnlyCommits es
-  pub changed-commits : OnlyCommits fs
-  pub changed : ChangedAt j d e (operations es) (operations fs)
