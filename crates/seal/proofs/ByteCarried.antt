@@ -4,22 +4,23 @@
 -- `newest-carried`: the accepted byte calls, decoded, are the accepted calls of these register calls.
 -- `last-carried`: what is kept after the list decodes to the register after these register calls.
 -- `operations-stored`: the operation of each accepted byte call is the field of the class that it decodes to.
+-- `seals-stored`: the seal fields that were kept are the fields of the seals that they decode to.
 -- So the theorems of the crate history on lists of calls hold of byte calls. That what is kept is the stored form of the
 -- register that it decodes to is `each-stored` and `last-stored` of ByteSteps.
-use mathlib.Core.Path.{_≡_, sym, ap, ap₂, _∙_}
-use mathlib.Core.List.{List}
-use Rattle.lists.specs.Lists.{All}
+use mathlib.Core.Path.{_≡_, refl, sym, ap, ap₂, _∙_}
+use mathlib.Core.List.{List, _∷_, map, map-map}
+use Rattle.lists.specs.Lists.{All, none, more}
 use Rattle.lists.proofs.Lists.{all-reverse}
 use Rattle.jacobian.specs.{Answer.Verdict, Answer.accepted, Answer.Accepts}
-use Rattle.history.specs.{Register.RegisterReply, Register.step-answer, Machine.event, Machine.newest, Machine.run, Machine.carried, Machine.Agrees}
+use Rattle.history.specs.{Register.RegisterReply, Register.step-answer, Machine.Event, Machine.event, Machine.last, Machine.newest, Machine.run, Machine.carried, Machine.Agrees}
 use Rattle.history.specs.Calls as history
 use Rattle.history.specs.Calls.{answer, registers}
 use Rattle.history.specs.declared.Register.{Register}
 use Rattle.history.proofs.Preserved.{accepted-class, accepted-step}
 use Rattle.history.proofs.Machine.{Run.all-accepted, Accepted.accepted-newest, Accepted.accepted-last}
 use Rattle.stored_form.specs.{Number.Bytes, Classes.class-field}
-use Rattle.seal.specs.Steps.{Kept, ByteStep, byte-steps, field-class, decode-kept, decode-step, newest-decoded, last-decoded, decoded-calls, InStoredForm}
-use Rattle.seal.proofs.{ByteSteps.Done, ByteSteps.done, ByteSteps.refused-stays, ByteSteps.of-each, Decoding.class-decoded, Decoding.decode-stored}
+use Rattle.seal.specs.Steps.{Kept, ByteStep, byte-steps, field-class, seal-field, seal-fields, decode-kept, decode-step, decoded, newest-decoded, last-decoded, decoded-calls, InStoredForm}
+use Rattle.seal.proofs.{ByteSteps.Done, ByteSteps.done, ByteSteps.refused-stays, ByteSteps.of-each, ByteSteps.last-stored, Decoding.seal-stored, Decoding.class-decoded, Decoding.decode-stored}
 
 -- ---- an accepted call
 
@@ -71,3 +72,18 @@ module _ (k : Kept) (form : InStoredForm k) (cs : List ByteStep) (bytes : All (�
   pub operations-stored : All (λ e. e .call .operation ≡ class-field 0x44 (decode-step (e .call) .class)) (newest byte-steps k cs)
   unfolding newest event
   operations-stored = all-reverse (all-accepted (of-each (λ t c h b e. operation-stored t h c b e) k form bytes))
+
+  before-stored : All (λ e. seal-field (e .before) ≡ class-field 0x43 (decode-kept (e .before) .seal)) (newest byte-steps k cs)
+  unfolding newest event
+  before-stored = all-reverse (all-accepted (of-each (λ t c h b e. seal-stored t (h .stored)) k form bytes))
+
+  pub seals-stored : seal-fields k cs ≡ map (class-field 0x43) (last-decoded k cs .seal ∷ map (λ e. e .before .seal) (newest-decoded k cs))
+  unfolding seal-fields newest-decoded last-decoded carried
+  seals-stored =
+      ap₂ _∷_ (seal-stored (last byte-steps k cs) (last-stored k form bytes .stored))
+      (same before-stored ∙ sym (ap (map (class-field 0x43)) (map-map (λ e. e .before .seal) decoded (newest byte-steps k cs)) ∙ map-map (class-field 0x43) (λ e. decode-kept (e .before) .seal) (newest byte-steps k cs)))
+    where
+      same : {es : List (Event Kept ByteStep)} → All (λ e. seal-field (e .before) ≡ class-field 0x43 (decode-kept (e .before) .seal)) es
+          → map (λ e. seal-field (e .before)) es ≡ map (λ e. class-field 0x43 (decode-kept (e .before) .seal)) es
+      same none = refl
+      same (more h hs) = ap₂ _∷_ h (same hs)

@@ -23,7 +23,7 @@ use Rattle.written_form.specs.Effect.{write}
 use Rattle.seal.specs.{Records.class-record-bytes, Rebuilt.last-field, Calls.sum-call}
 use Rattle.seal.specs.Group.{ReadWith, sum-record-of, record-sum, record-difference, ClassRooms, doubled-record}
 use Rattle.seal.specs.Steps.{Kept, ByteStep, byte-steps, kept, decode-kept, decoded, newest-decoded, last-decoded, decoded-calls, InStoredForm, seal-record}
-use Rattle.seal.proofs.{Decoding.seal-field, ClassCalls.last-is, ByteSteps.last-stored, ByteCarried.newest-carried, ByteCarried.last-carried}
+use Rattle.seal.proofs.{Decoding.seal-stored, ClassCalls.last-is, ByteSteps.last-stored, ByteCarried.newest-carried, ByteCarried.last-carried}
 use Rattle.seal.proofs.ByteGroup.{Holds, read-again, sum-written, sum-holds, opposite-holds, doubled-holds, same-class}
 
 -- ---- the record of a seal that is kept
@@ -35,7 +35,7 @@ seal-holds k form {c} same =
     subst (λ (x : Curve). Holds x (g .seal) (curve-fields-bytes x) (seal-record k)) same
     (record {
       passes = accepts-both (g .curve) (g .seal) (p .curve-passes) (p .seal-passes);
-      bytes = ap seal-record (sym (form .stored)) ∙ ap (λ (xs : List ℕ). curve-fields-bytes (g .curve) ++ xs) (seal-field g);
+      bytes = ap₂ (λ (xs ys : List ℕ). xs ++ ys) (ap (λ (t : Kept). t .curve) (sym (form .stored))) (seal-stored k (form .stored));
       begins = refl;
     })
 

@@ -1,5 +1,6 @@
 -- What kept fields decode to, and what they encode.
 -- `body-of`: the body of a field is what follows its head.
+-- `seal-at`: the field after a register's count is its seal's. `seal-stored`: so it is in what is kept in stored form.
 -- `kept-decoded`: the stored form of any register decodes to what its bodies decode to.
 -- `decode-stored`: the stored form of a register that no check refuses decodes to that register.
 -- `in-stored-form`: so it is in stored form.
@@ -17,7 +18,7 @@ use Rattle.stored_form.specs.{Number.decode-number, Number.encode-number, Head.
 use Rattle.stored_form.specs.{Fields.degree-field, Fields.count-field, Fields.count-limit, Classes.decode-curve, Classes.curve-field, Classes.curve-fields-bytes, Classes.decode-class, Classes.encode-class, Classes.class-field}
 use Rattle.stored_form.specs.{Cuts.take-fields, Cuts.drop-fields, Passing.CurvePasses, Passing.CountPasses, Passing.ClassPasses, Record.curve-of-degree, Record.with-curve, Record.empty-record, Tags.rules, declared.Record.Record}
 use Rattle.stored_form_theorems.proofs.{Numbers.number-bytes-small, ClassRoundTrips.decode-body, Cuts.take-cut, Cuts.drop-cut, Cuts.degree-cut, Cuts.count-cut, FieldValues.curve-law, FieldValues.degree-law, FieldValues.degree-passes}
-use Rattle.seal.specs.{Records.register-fields, Steps.kept, Steps.field-class, Steps.decode-kept, Steps.InStoredForm}
+use Rattle.seal.specs.{Records.register-fields, Steps.Kept, Steps.kept, Steps.field-class, Steps.decode-kept, Steps.Stored, Steps.InStoredForm, Steps.seal-field}
 
 pub body-of : (tag : ℕ) (body : List ℕ) → drop 3 (encode-field tag body) ≡ body
 unfolding encode-field head-bytes encode-number
@@ -46,12 +47,12 @@ module _ (g : Register) where
       ap (drop 3) (take-cut 1 (count-field (g .count)) (class-field 0x43 (g .seal)) (count-cut (class-field 0x43 (g .seal)) (g .count)))
       ∙ body-of 0x42 (encode-number count-length (g .count))
 
-  pub seal-field : drop-fields 1 (register-fields g) ≡ class-field 0x43 (g .seal)
-  seal-field = drop-cut 1 (count-field (g .count)) (class-field 0x43 (g .seal)) (count-cut (class-field 0x43 (g .seal)) (g .count))
+  pub seal-at : drop-fields 1 (register-fields g) ≡ class-field 0x43 (g .seal)
+  seal-at = drop-cut 1 (count-field (g .count)) (class-field 0x43 (g .seal)) (count-cut (class-field 0x43 (g .seal)) (g .count))
 
   seal-body : drop 3 (drop-fields 1 (register-fields g)) ≡ encode-class (g .seal)
   unfolding class-field
-  seal-body = ap (drop 3) seal-field ∙ body-of 0x43 (encode-class (g .seal))
+  seal-body = ap (drop 3) seal-at ∙ body-of 0x43 (encode-class (g .seal))
 
   -- what the bodies of its fields decode to
   abbrev pub of-bodies : Register
@@ -97,3 +98,7 @@ module _ (g : Register) (ok : register-refusal g ≡ 0) where
 
   pub in-stored-form : InStoredForm (kept g)
   in-stored-form = record { stored = ap kept decode-stored; passes = ap register-refusal decode-stored ∙ ok }
+
+pub seal-stored : (k : Kept) → Stored k → seal-field k ≡ class-field 0x43 (decode-kept k .seal)
+unfolding kept
+seal-stored k stored = ap (λ (t : Kept). seal-field t) (sym stored) ∙ seal-at (decode-kept k)

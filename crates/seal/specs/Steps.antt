@@ -73,6 +73,20 @@ with-buffer k buffer (q ∷ qs) =
     let c : ByteStep = record { step = q .step; operation = q .operation; output = buffer } in
     c ∷ with-buffer (byte-steps .next k c) (step-effect k c .output) qs
 
+-- ---- the seals
+
+-- the field of the seal that is kept, which follows the count's
+abbrev pub seal-field : Kept → List ℕ
+seal-field k = drop-fields 1 (k .register)
+
+-- the record of the seal that is kept: degree and curve, then its field
+abbrev pub seal-record : Kept → List ℕ
+seal-record k = k .curve ++ seal-field k
+
+-- the seal field that was last written, then those that were kept just before the accepted calls, newest first
+unfoldable pub seal-fields : Kept → List ByteStep → List (List ℕ)
+seal-fields k cs = seal-field (last byte-steps k cs) ∷ map (λ e. seal-field (e .before)) (newest byte-steps k cs)
+
 -- ---- the registers and the register calls
 
 -- the stored form of a register, as it is kept
@@ -88,7 +102,7 @@ unfoldable pub decode-kept : Kept → Register
 decode-kept k = record {
   curve = decode-curve (decode-number (drop 3 (take-fields 1 (k .curve)))) (drop 3 (drop-fields 1 (k .curve)));
   count = decode-number (drop 3 (take-fields 1 (k .register)));
-  seal = field-class (drop-fields 1 (k .register));
+  seal = field-class (seal-field k);
 }
 
 -- the register call that a byte call decodes to: the same step with the class of its operation
@@ -123,9 +137,3 @@ pub record InStoredForm (k : Kept) : Type 0 where
 -- the kept fields are refused with n when they are read, whatever follows them
 abbrev pub Fails : Kept → ℕ → Type 0
 Fails k n = (rest : List ℕ) → read-fields (curve-layout ++ 0x42 ∷ 0x43 ∷ []) empty-record (k .curve ++ k .register ++ rest) 0 ≡ unread n
-
--- ---- the seal's record
-
--- the record of the seal that is kept: degree and curve, then the class field after the count's
-abbrev pub seal-record : Kept → List ℕ
-seal-record k = k .curve ++ drop-fields 1 (k .register)

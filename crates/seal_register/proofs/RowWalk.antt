@@ -3,6 +3,7 @@
 -- `row-answered`: where no check fails, the walk answers its end.
 -- `row-walk-meets`: the walk from the last seal over the k newest classes is not refused and answers the seal just
 -- before the k-th newest commit, for k = 0 the last seal.
+-- `row-walk-by-value`: the same of a list of calls by value.
 -- `row-walk-first`: the walk over all classes answers the first seal.
 -- `row-walk-answers`: the code's walk over the k newest classes answers 0 and that seal.
 -- `row-walk-first-answers`: the code's walk over all classes answers 0 and the first seal.
@@ -64,9 +65,9 @@ module _ (r : Register) (cs : List Call) where
         let f : length (newest r cs) ≤ count-limit = accepted-few r cs only in
         omega arith
 
-    by-value : (k : ℕ) → k ≤ length (newest r cs)
+    pub row-walk-by-value : (k : ℕ) → k ≤ length (newest r cs)
         → row-walk-answer (r .curve) (last r cs .seal) (take k (classes (newest r cs))) ≡ record { outcome = accepted; class = getD (seals-back r cs) k (last r cs .seal) }
-    by-value k h =
+    row-walk-by-value k h =
         row-answered (r .curve) (last r cs .seal) (take k (classes (newest r cs)))
         (subst (λ c. curve-refusal c ≡ 0) (last-curve r cs) (passes .curve-passes))
         (subst (λ c. class-refusal c (last r cs .seal) ≡ 0) (last-curve r cs) (passes .seal-passes))
@@ -79,7 +80,7 @@ module _ (r : Register) (cs : List Call) where
     by-value-first =
         let n = length (newest r cs) in
         let all : take n (classes (newest r cs)) ≡ classes (newest r cs) = ap (λ k. take k (classes (newest r cs))) (sym (length-map (newest r cs) (λ e. e .call .class))) ∙ take-length (classes (newest r cs)) in
-        ap (row-walk-answer (r .curve) (last r cs .seal)) (sym all) ∙ by-value n (omega arith) ∙ ap (λ a. record { outcome = accepted; class = a }) first-seal
+        ap (row-walk-answer (r .curve) (last r cs .seal)) (sym all) ∙ row-walk-by-value n (omega arith) ∙ ap (λ a. record { outcome = accepted; class = a }) first-seal
 
 -- ---- with each call by value or in place
 -- the number and the seal of an answer
@@ -94,7 +95,7 @@ module _ (r : Register) (ms : List RecordedCall) (s : Session r ms) (only : Only
   row-walk-meets =
       as-by-value r ms s
       (λ es t. (k : ℕ) → k ≤ length es → row-walk-answer (r .curve) (t .seal) (take k (classes es)) ≡ record { outcome = accepted; class = getD (t .seal ∷ map (λ e. e .before .seal) es) k (t .seal) })
-      (by-value r (calls ms) (rw (newest-is r ms s) at only) ok)
+      (row-walk-by-value r (calls ms) (rw (newest-is r ms s) at only) ok)
 
   pub row-walk-first : row-walk-answer (r .curve) (left-by r ms .seal) (classes (newest-recorded r ms)) ≡ record { outcome = accepted; class = r .seal }
   row-walk-first =

@@ -1,0 +1,122 @@
+-- Demand 3 for lists of byte calls whose accepted calls are all commits (docs/SPECIFICATION.md, 11).
+-- The list starts from the stored form of any register that no check refuses; any bytes may be given as operations, into
+-- any outputs, and calls may be refused. A walk starts from the seal field last written, over the operations given.
+-- `row-walk-bytes`: the walk over a lent row of the i newest classes is not refused and answers the seal whose field was
+-- kept just before the i-th newest commit, for i = 0 the one last written.
+-- `archive-seals-bytes`: the walk's seals of every accepted archive that keeps this have the seal fields that were kept.
+-- `archive-seal-bytes`: so with i operations undone the seal's field is the one kept just before the i-th newest commit.
+-- `archive-exists-bytes`: for every allowed drawing number such an archive exists.
+-- `archive-is-fields`: its bytes are the fields that were kept, written and given, one after the other.
+-- `archive-reads-bytes`: these fields are read as that archive.
+use Prim.Native.Nat.{ℕ, _≤_}
+use mathlib.Core.Path.{_≡_, refl, sym, ap, ap₂, _∙_, subst}
+use mathlib.Core.Bool.{true}
+use mathlib.Core.List.{List, [], _∷_, _++_, map, flatten}
+use lib.ListN.{length, getD, take, length-map, List·getD-map}
+use Rattle.lists.specs.Lists.{All, none, more}
+use Rattle.jacobian.specs.{Answer.accepted, Answer.Result}
+use Rattle.history.specs.{Machine.Event, Machine.last, Machine.newest, Machine.carried, Calls.OnlyCommits, Calls.classes, Calls.seals-back, declared.Register.Register}
+use Rattle.history.specs.Calls as history
+use Rattle.stored_form.specs.{Number.Bytes, Reading.found, Head.drawing-limit, Fields.printable, Fields.drawing-field, Fields.count-field, Classes.class-field, Classes.curve-fields-bytes, Classes.operation-fields}
+use Rattle.seal.specs.Steps.{Kept, ByteStep, byte-steps, seal-field, seal-fields, kept, decode-kept, decode-step, decoded, newest-decoded, last-decoded, decoded-calls, InStoredForm}
+use Rattle.seal.proofs.{ByteCarried.newest-carried, ByteCarried.last-carried, ByteCarried.operations-stored, ByteCarried.seals-stored, ByteSteps.last-stored, Decoding.seal-stored}
+use Rattle.seal_register.specs.RowWalk.{row-walk-answer}
+use Rattle.seal_register.proofs.RowWalk.{row-walk-by-value}
+use Rattle.archive.specs.Archive.{Archive, read-archive}
+use Rattle.archive_theorems.specs.Written.{archive-bytes}
+use Rattle.walk_report.specs.Walk.{seals}
+use Rattle.report_theorems.specs.Demand3.{Keeps, kept-archive, Encodes}
+use Rattle.report_theorems.proofs.Demand3.{archive-seals, archive-exists}
+use Rattle.byte_theorems.specs.Demand3.{archive-of-fields}
+
+module _ (k : Kept) (form : InStoredForm k) (cs : List ByteStep) (bytes : All (λ c. Bytes (c .operation)) cs) where
+  abbrev r : Register
+  r = decode-kept k
+
+  abbrev xs : List history.Call
+  xs = decoded-calls k cs
+
+  -- what holds of the accepted calls and the last register by value holds of the decoded ones
+  by-value : (P : List history.Event → Register → Type 0) → P (history.newest r xs) (history.last r xs) → P (newest-decoded k cs) (last-decoded k cs)
+  by-value P h = rw (newest-carried k form cs bytes, last-carried k form cs bytes) h
+
+  many : length (newest-decoded k cs) ≡ length (newest byte-steps k cs)
+  unfolding newest-decoded
+  many = length-map (newest byte-steps k cs) decoded
+
+  -- ---- the archive made of the fields
+  first-fields : curve-fields-bytes (r .curve) ≡ k .curve
+  unfolding kept
+  first-fields = ap (λ (t : Kept). t .curve) (form .stored)
+
+  -- the fields of the operations, as they were given
+  as-given : {es : List (Event Kept ByteStep)} → All (λ e. e .call .operation ≡ class-field 0x44 (decode-step (e .call) .class)) es
+      → operation-fields (classes (map decoded es)) ≡ flatten (map (λ e. e .call .operation) es)
+  unfolding operation-fields classes flatten carried
+  as-given none = refl
+  as-given (more h hs) = ap₂ (λ (ys zs : List ℕ). ys ++ zs) (sym h) (as-given hs)
+
+  operations-given : operation-fields (classes (newest-decoded k cs)) ≡ flatten (map (λ e. e .call .operation) (newest byte-steps k cs))
+  unfolding newest-decoded
+  operations-given = as-given (operations-stored k form cs bytes)
+
+  last-field : class-field 0x43 (last-decoded k cs .seal) ≡ seal-field (last byte-steps k cs)
+  unfolding last-decoded
+  last-field = sym (seal-stored (last byte-steps k cs) (last-stored k form bytes .stored))
+
+  pub archive-is-fields : (drawing : List ℕ) → archive-bytes (kept-archive (decode-kept k) (last-decoded k cs) (newest-decoded k cs) drawing) ≡ archive-of-fields k cs drawing
+  unfolding archive-bytes kept-archive archive-of-fields classes
+  archive-is-fields drawing =
+      ap₂ (λ (f : List ℕ) (n : ℕ). f ++ drawing-field drawing ++ count-field n ++ class-field 0x43 (last-decoded k cs .seal) ++ operation-fields (classes (newest-decoded k cs))) first-fields
+      (length-map (newest-decoded k cs) (λ e. e .call .class) ∙ many)
+      ∙ ap₂ (λ (f o : List ℕ). k .curve ++ drawing-field drawing ++ count-field (length (newest byte-steps k cs)) ++ f ++ o) last-field operations-given
+
+  module _ (only : OnlyCommits (newest-decoded k cs)) where
+    only-by-value : OnlyCommits (history.newest r xs)
+    only-by-value = rw (newest-carried k form cs bytes) at only
+
+    -- ---- the walk over a lent row
+    walked : (i : ℕ) → i ≤ length (newest-decoded k cs) → row-walk-answer (r .curve) (last-decoded k cs .seal) (take i (classes (newest-decoded k cs)))
+        ≡ record { outcome = accepted; class = getD (last-decoded k cs .seal ∷ map (λ e. e .before .seal) (newest-decoded k cs)) i (last-decoded k cs .seal) }
+    unfolding seals-back
+    walked =
+        by-value
+        (λ es t. (i : ℕ) → i ≤ length es → row-walk-answer (r .curve) (t .seal) (take i (classes es)) ≡ record { outcome = accepted; class = getD (t .seal ∷ map (λ e. e .before .seal) es) i (t .seal) })
+        (row-walk-by-value r xs only-by-value (form .passes))
+
+    pub row-walk-bytes : (i : ℕ) → i ≤ length (newest byte-steps k cs) →
+        let walk = row-walk-answer (decode-kept k .curve) (last-decoded k cs .seal) (take i (classes (newest-decoded k cs))) in
+        (walk .outcome ≡ accepted) × (class-field 0x43 (walk .class) ≡ getD (seal-fields k cs) i (seal-field (last byte-steps k cs)))
+    row-walk-bytes i h =
+        let e = walked i (subst (λ (n : ℕ). i ≤ n) (sym many) h) in
+        let all = last-decoded k cs .seal ∷ map (λ e. e .before .seal) (newest-decoded k cs) in (
+          ap (λ (x : Result). x .outcome) e,
+          ap (λ (x : Result). class-field 0x43 (x .class)) e
+              ∙ sym (List·getD-map (class-field 0x43) all i (last-decoded k cs .seal))
+              ∙ ap₂ (λ l f. getD l i f) (sym (seals-stored k form cs bytes)) last-field,
+        )
+
+    -- ---- the walk of an archive
+    module _ (s : List ℕ) {a : Archive} {end : ℕ} (reads : read-archive s ≡ found a end) (keeps : Keeps a (decode-kept k) (last-decoded k cs) (newest-decoded k cs)) where
+      pub archive-seals-bytes : map (class-field 0x43) (seals (a .curve) (a .seal) (a .operations)) ≡ seal-fields k cs
+      unfolding seals-back
+      archive-seals-bytes =
+          ap (map (class-field 0x43))
+          (archive-seals r xs only-by-value s reads (rw (newest-carried k form cs bytes, last-carried k form cs bytes) at keeps)
+          ∙ by-value (λ es t. history.last r xs .seal ∷ map (λ e. e .before .seal) (history.newest r xs) ≡ t .seal ∷ map (λ e. e .before .seal) es) refl)
+          ∙ sym (seals-stored k form cs bytes)
+
+      pub archive-seal-bytes : (i : ℕ) → class-field 0x43 (getD (seals (a .curve) (a .seal) (a .operations)) i (a .seal)) ≡ getD (seal-fields k cs) i (class-field 0x43 (a .seal))
+      archive-seal-bytes i = sym (List·getD-map (class-field 0x43) (seals (a .curve) (a .seal) (a .operations)) i (a .seal)) ∙ ap (λ l. getD l i (class-field 0x43 (a .seal))) archive-seals-bytes
+
+    pub archive-exists-bytes : (drawing : List ℕ) → printable drawing ≡ true → length drawing ≤ drawing-limit →
+        Encodes (decode-kept k) (last-decoded k cs) (newest-decoded k cs) drawing (kept-archive (decode-kept k) (last-decoded k cs) (newest-decoded k cs) drawing)
+    archive-exists-bytes drawing =
+        by-value (λ es t. printable drawing ≡ true → length drawing ≤ drawing-limit → Encodes r t es drawing (kept-archive r t es drawing))
+        (archive-exists r xs only-by-value (form .passes) drawing)
+
+    pub archive-reads-bytes : (drawing : List ℕ) → printable drawing ≡ true → length drawing ≤ drawing-limit →
+        read-archive (archive-of-fields k cs drawing) ≡ found (kept-archive (decode-kept k) (last-decoded k cs) (newest-decoded k cs) drawing) (length (archive-of-fields k cs drawing))
+    archive-reads-bytes drawing clean short =
+        subst (λ (l : List ℕ). read-archive l ≡ found (kept-archive r (last-decoded k cs) (newest-decoded k cs) drawing) (length l)) (archive-is-fields drawing)
+        (archive-exists-bytes drawing clean short .reads)
