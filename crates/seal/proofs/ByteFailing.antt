@@ -15,42 +15,36 @@ use Rattle.jacobian.proofs.ByValue.Checks.{first-due, next-due}
 use Rattle.history.specs.{Register.register-refusal, Machine.event, Machine.run, Machine.last, declared.Register.Register, declared.Step.Step, declared.Step.the-variants.Commit, declared.Step.the-variants.Undo}
 use Rattle.stored_form.specs.{Number.encode-number, Reading.Reading, Reading.found, Reading.refused as unread, Reading.checked, Reading._then_, Head.degree-length, Head.count-length, Head.class-length, Head.encode-field, Elements.encode-elements}
 use Rattle.stored_form.specs.{Fields.degree-field, Fields.count-field, Fields.count-refusal, Classes.curve-field, Classes.curve-fields-bytes, Classes.decode-class, Classes.decode-row, Classes.encode-row, Classes.encode-class, Classes.class-field, Classes.decode-curve}
-use Rattle.stored_form.specs.{Record.empty-record, Record.curve-of-degree, Tags.rules, Reader.read-field, Reader.read-fields, Reader.read-record, Reader.curve-layout, Reader.register-layout, declared.Record.Record}
-use Rattle.stored_form.proofs.{Digits.length-bytes, ElementBytes.length-encode-elements, Lengths.allows-short, Readings.found-not-refused, Readings.then-found, Readings.then-refused, Valid.ValidReading, Valid.record-valid}
+use Rattle.stored_form.specs.{Record.empty-record, Record.curve-of-degree, Tags.rules, Reader.read-field, Reader.read-fields, Reader.read-record, Reader.register-layout, declared.Record.Record}
+use Rattle.stored_form.proofs.{Digits.length-bytes, ElementBytes.length-encode-elements, Lengths.allows-short, Readings.then-found, Readings.then-refused, Readings.then-same, Readings.then-assoc, Valid.ValidReading, Valid.record-valid}
 use Rattle.stored_form_theorems.specs.Fields.{Field}
 use Rattle.stored_form_theorems.proofs.{Bodies.body-read, Places.apart, Places.whole, ClassRoundTrips.class-length-of}
 use Rattle.written_form.specs.{Effect.Effect, Effect.refuse, Effect.register-room, Wrote.outcome}
 use Rattle.written_form.proofs.{Effects.call-refused, Wrote.outcome-refusal}
 use Rattle.seal.specs.{Records.register-fields, Calls.answered, Calls.step-call}
 use Rattle.seal.specs.Steps.{Kept, ByteStep, step-effect, next, byte-steps, RegisterRooms, kept, decode-kept, Stored, Fails}
-use Rattle.seal.proofs.{Decoding.of-bodies, Decoding.kept-decoded, ByteSteps.refused-stays}
+use Rattle.seal.proofs.{Decoding.of-bodies, Decoding.kept-decoded, KeptFields.before-tags, ByteSteps.refused-stays}
 
 -- ---- calls on fields that are refused
 
--- the fields before the operation
-abbrev before-tags : List ℕ
-before-tags = curve-layout ++ 0x42 ∷ 0x43 ∷ []
-
--- fields that are refused are so if more fields are to follow
-longer : (s tags rest : List ℕ) (h : Record) (at : ℕ) {n : ℕ} → read-fields tags h s at ≡ unread n → read-fields (tags ++ rest) h s at ≡ unread n
+-- fields that are read in two parts
+pub fields-split : (s tags rest : List ℕ) (h : Record) (at : ℕ) → read-fields (tags ++ rest) h s at ≡ (read-fields tags h s at then λ m a. read-fields rest m s a)
 unfolding read-fields _then_
-longer s [] rest h at e = absurd (found-not-refused (sym e))
-longer s (tag ∷ tags) rest h at {n} e = go (read-field tag h s at) e (λ m a. longer s tags rest m a)
-  where
-    go : (x : Reading Record) → (x then λ m a. read-fields tags m s a) ≡ unread n → ((m : Record) (a : ℕ) → read-fields tags m s a ≡ unread n → read-fields (tags ++ rest) m s a ≡ unread n)
-        → (x then λ m a. read-fields (tags ++ rest) m s a) ≡ unread n
-    go (found m a) f on = on m a f
-    go (unread j) f on = f
+fields-split s [] rest h at = refl
+fields-split s (tag ∷ tags) rest h at =
+    then-same _ (read-field tag h s at) (λ m a. fields-split s tags rest m a)
+    ∙ sym (then-assoc (read-field tag h s at) (λ m a. read-fields tags m s a) (λ m a. read-fields rest m s a))
+
+-- a call on a record that is not read
+pub call-unread : (s : List ℕ) {n : ℕ} → read-record register-layout s ≡ unread n → (k : Step) (out : List ℕ) → register-room ≤ length out → step-call k s out ≡ refuse n out
+unfolding answered
+call-unread s e Commit out room = call-refused register-room register-layout _ s out room e
+call-unread s e Undo out room = call-refused register-room register-layout _ s out room e
 
 module _ (s : List ℕ) {n : ℕ} (fails : read-fields before-tags empty-record s 0 ≡ unread n) where
   record-fails : read-record register-layout s ≡ unread n
   unfolding read-record
-  record-fails = then-refused _ (longer s before-tags (0x44 ∷ []) empty-record 0 fails)
-
-  call-fails : (k : Step) (out : List ℕ) → register-room ≤ length out → step-call k s out ≡ refuse n out
-  unfolding answered
-  call-fails Commit out room = call-refused register-room register-layout _ s out room record-fails
-  call-fails Undo out room = call-refused register-room register-layout _ s out room record-fails
+  record-fails = then-refused _ (fields-split s before-tags (0x44 ∷ []) empty-record 0 ∙ then-refused _ fails)
 
   is-refusal : IsRefusal n
   unfolding ValidReading
@@ -58,7 +52,7 @@ module _ (s : List ℕ) {n : ℕ} (fails : read-fields before-tags empty-record 
 
 module _ (k : Kept) {n : ℕ} (fails : Fails k n) where
   pub failing-effect : (c : ByteStep) → register-room ≤ length (c .output) → step-effect k c ≡ refuse n (c .output)
-  failing-effect c room = call-fails (k .curve ++ k .register ++ c .operation) (fails (c .operation)) (c .step) (c .output) room
+  failing-effect c room = let s = k .curve ++ k .register ++ c .operation in call-unread s (record-fails s (fails (c .operation))) (c .step) (c .output) room
 
   failing-outcome : (c : ByteStep) → register-room ≤ length (c .output) → byte-steps .outcome k c ≡ refused n
   unfolding refuse
@@ -83,7 +77,7 @@ module _ (k : Kept) {n : ℕ} (fails : Fails k n) where
 -- ---- the stored form of a register that fails a check by value
 
 -- a field as it is read: its check, then the record with it
-field-read : (tag : ℕ) (h : Record) (s : List ℕ) (at : ℕ) (body : List ℕ) {next : ℕ} → rules tag .allows h (length body) ≡ true → Field s at (encode-field tag body) next
+pub field-read : (tag : ℕ) (h : Record) (s : List ℕ) (at : ℕ) (body : List ℕ) {next : ℕ} → rules tag .allows h (length body) ≡ true → Field s at (encode-field tag body) next
     → read-field tag h s at ≡ checked (rules tag .check (length body) (rules tag .with-field body h)) (found (rules tag .with-field body h) next)
 unfolding read-field
 field-read tag h s at body allowed f =
@@ -114,7 +108,7 @@ row-length : (n : ℕ) (r : List ℕ) → length r ≡ 3 → length (encode-row 
 unfolding encode-row
 row-length n r long = length-reverse (take n r) ∙ length-take n r ∙ ap (min n) long
 
-class-allowed : (a : Class) → decode-class (encode-class a) ≡ a → class-length (length (encode-class a)) ≡ true
+pub class-allowed : (a : Class) → decode-class (encode-class a) ≡ a → class-length (length (encode-class a)) ≡ true
 unfolding decode-class
 class-allowed a e =
     let n = a .degree in

@@ -49,7 +49,7 @@ refused-stays k c n e =
     ap (λ (v : Verdict). elim v [ accepted ↦ record { curve = k .curve; register = wrote (step-effect k c) } | refused n ↦ k ]) e
 
 -- a call that writes is accepted, and what it wrote is kept
-write-leaves : (k : Kept) (xs out : List ℕ) → length xs ≤ register-room → (outcome (write xs out .answer) ≡ accepted) × (next k (write xs out) ≡ record { curve = k .curve; register = xs })
+pub write-leaves : (k : Kept) (xs out : List ℕ) → length xs ≤ register-room → (outcome (write xs out .answer) ≡ accepted) × (next k (write xs out) ≡ record { curve = k .curve; register = xs })
 unfolding next write
 write-leaves k xs out short =
     let e = outcome-low (length xs) (omega arith) in (

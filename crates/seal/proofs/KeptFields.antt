@@ -1,4 +1,5 @@
 -- Records that begin with the stored form of a register.
+-- `before-read`: the fields of a register that passes are read, and what follows stands after them.
 -- `operation`: such a record, if read, gives that register, and what follows is the field of a class.
 -- `record-kept`: every register's record that is read begins so.
 use Prim.Native.Nat.{ℕ}
@@ -15,20 +16,20 @@ use Rattle.stored_form.specs.{Number.Bytes, Reading.found, Head.count-length, C
 use Rattle.stored_form.specs.{Record.empty-record, Record.with-curve, Record.with-count, Record.with-class, Reader.read-fields, Reader.read-record, Reader.curve-layout, Reader.register-layout}
 use Rattle.stored_form.specs.declared.Record.{Record}
 use Rattle.stored_form.proofs.Readings.{same-found}
-use Rattle.stored_form_theorems.specs.Records.{none, Stored}
+use Rattle.stored_form_theorems.specs.{Fields.Field, Records.none, Records.Stored}
 use Rattle.stored_form_theorems.proofs.Written.{bytes-append, number-bytes, field-bytes, class-bytes, first-bytes}
 use Rattle.stored_form_theorems.proofs.{Places.apart, Places.whole, RecordRoundTrips.begin-read-back, FieldLaws.more, FieldValues.count-law, FieldValues.class-law, FieldValues.curve-more}
 use Rattle.seal.specs.{Records.register-values, Records.register-fields, Records.register-record-bytes, Calls.register, Steps.Kept, Steps.kept, Steps.InStoredForm}
 use Rattle.seal.proofs.{Written.curve-passes, Written.register-record-written, Decoding.in-stored-form}
 
 -- the fields before the operation, and their tags
-abbrev before-tags : List ℕ
+abbrev pub before-tags : List ℕ
 before-tags = curve-layout ++ 0x42 ∷ 0x43 ∷ []
 
 abbrev pub before : Register → List ℕ
 before g = curve-fields-bytes (g .curve) ++ register-fields g
 
-abbrev before-values : Register → Record
+abbrev pub before-values : Register → Record
 before-values g = with-class (g .seal) (with-count (g .count) (with-curve (g .curve) empty-record))
 
 before-bytes : (g : Register) → Bytes (before g)
@@ -53,11 +54,13 @@ before-stored g p =
     curve-more (g .curve) (curve-passes (p .seal))
     (more (count-law begun) (g .count) (p .count) (more (class-law (with-count (g .count) begun)) (g .seal) (p .seal) none))
 
-before-read : (g : Register) (rest : List ℕ) → Passes g → (at : ℕ) × (read-fields before-tags empty-record (before g ++ rest) 0 ≡ found (before-values g) at)
+-- such a record's fields before the operation are read, and what follows stands after them
+pub before-read : (g : Register) (rest : List ℕ) → Passes g
+    → (at : ℕ) × (read-fields before-tags empty-record (before g ++ rest) 0 ≡ found (before-values g) at) × Field (before g ++ rest) at rest (length (before g ++ rest))
 before-read g rest p =
     let f = apart (before g) rest (whole (before g ++ rest)) in
     let stored = subst (Stored _ (before-values g)) (append-assoc (curve-fields-bytes (g .curve)) (count-field (g .count)) (class-field 0x43 (g .seal))) (before-stored g p) in
-    (f .0, begin-read-back (before g ++ rest) stored (f .1))
+    (f .0, begin-read-back (before g ++ rest) stored (f .1), f .2)
 
 -- two records that begin so and have the same bytes have the same register
 same-register : (g k : Register) (xs ys : List ℕ) → Passes g → Passes k → before g ++ xs ≡ before k ++ ys → g ≡ k

@@ -16,4 +16,5 @@ pub mod KeptFields
 pub mod ByteSteps
 pub mod ByteCarried
 pub mod ByteFailing
+pub mod ByteStored
 pub mod ByteDisplacement

@@ -8,7 +8,7 @@ use Rattle.jacobian.specs.{Answer.accepted, Answer.refused, declared.Class.Clas
 use Rattle.history.specs.{Machine.Machine, Machine.Event, Machine.carried, Register.other, Register.register-refusal, Calls.Call, declared.Register.Register, declared.Step.Step}
 use Rattle.history.specs.Calls as history
 use Rattle.history.specs.Machine.{last, newest, accepted-calls}
-use Rattle.stored_form.specs.{Number.decode-number, Reading.refused as unread, Cuts.take-fields, Cuts.drop-fields, Classes.curve-fields-bytes, Classes.decode-curve, Classes.decode-class}
+use Rattle.stored_form.specs.{Number.decode-number, Reading.refused as unread, Cuts.take-fields, Cuts.drop-fields, Classes.curve-fields-bytes, Classes.decode-curve, Classes.decode-class, Classes.class-field}
 use Rattle.stored_form.specs.{Record.empty-record, Reader.curve-layout, Reader.read-fields}
 use Rattle.written_form.specs.{Effect.Effect, Effect.register-room, Wrote.outcome, Wrote.wrote}
 use Rattle.seal.specs.{Records.register-fields, Calls.step-call}
@@ -133,6 +133,10 @@ Stored k = kept (decode-kept k) ≡ k
 pub record InStoredForm (k : Kept) : Type 0 where
   pub stored : Stored k
   pub passes : register-refusal (decode-kept k) ≡ 0
+
+-- every operation given to these calls is the field of the class that it decodes to, whatever class that is
+abbrev pub StoredOperations : List ByteStep → Type 0
+StoredOperations cs = All (λ c. class-field 0x44 (field-class (c .operation)) ≡ c .operation) cs
 
 -- the kept fields are refused with n when they are read, whatever follows them
 abbrev pub Fails : Kept → ℕ → Type 0
