@@ -1,10 +1,10 @@
 -- Demand 3 for lists of byte calls whose accepted calls are all commits (docs/SPECIFICATION.md, 11).
--- The list starts from the stored form of any register that no check refuses; any bytes may be given as operations, into
--- any outputs, and calls may be refused. A walk starts from the seal field last written, over the operations given.
--- `row-walk-bytes`: the walk over a lent row of the i newest classes is not refused and answers the seal whose field was
--- kept just before the i-th newest commit, for i = 0 the one last written.
--- `archive-seals-bytes`: the walk's seals of every accepted archive that keeps this have the seal fields that were kept.
--- `archive-seal-bytes`: so with i operations undone the seal's field is the one kept just before the i-th newest commit.
+-- The list starts from the stored form of any register that no check refuses; any bytes may be given as operations,
+-- into any outputs, and calls may be refused. Walks start from the seal field last written.
+-- `row-walk-bytes`: the walk over a lent row of the i newest classes is not refused, and answers the seal whose field
+-- was kept just before the i-th newest commit, for i = 0 the one last written.
+-- `archive-seals-bytes`: the seals of the walk of every accepted archive that keeps this have the fields kept.
+-- `archive-seal-bytes`: with i operations undone the seal's field is the one kept just before the i-th newest commit.
 -- `archive-exists-bytes`: for every allowed drawing number such an archive exists.
 -- `archive-is-fields`: its bytes are the fields that were kept, written and given, one after the other.
 -- `archive-reads-bytes`: these fields are read as that archive.

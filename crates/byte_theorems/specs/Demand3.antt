@@ -6,8 +6,8 @@ use Rattle.history.specs.Machine.{last, newest}
 use Rattle.stored_form.specs.Fields.{drawing-field, count-field}
 use Rattle.seal.specs.Steps.{Kept, ByteStep, byte-steps, seal-field}
 
--- The kept fields of degree and curve, a drawing number, the count of the accepted calls, the seal field last written, and
--- the operations of the accepted calls as they were given, newest first.
+-- The kept fields of degree and curve, a drawing number, the count of the accepted calls, the seal field last written,
+-- and the operations of the accepted calls as they were given, newest first.
 unfoldable pub archive-of-fields : Kept → List ByteStep → List ℕ → List ℕ
 archive-of-fields k cs drawing =
     k .curve

@@ -1,12 +1,12 @@
 -- A list of byte commits and undos is a list of calls on a register (docs/SPECIFICATION.md, 11).
--- The list starts from the stored form of any register that no check refuses; any bytes may be given as operations, into
--- any outputs, and calls may be refused. The register calls are the accepted byte calls, decoded (`decoded-calls`).
+-- The list starts from the stored form of any register that no check refuses; any bytes may be given as operations,
+-- into any outputs, and calls may be refused. The register calls are the accepted ones, decoded (`decoded-calls`).
 -- `newest-carried`: the accepted byte calls, decoded, are the accepted calls of these register calls.
 -- `last-carried`: what is kept after the list decodes to the register after these register calls.
 -- `operations-stored`: the operation of each accepted byte call is the field of the class that it decodes to.
 -- `seals-stored`: the seal fields that were kept are the fields of the seals that they decode to.
--- So the theorems of the crate history on lists of calls hold of byte calls. That what is kept is the stored form of the
--- register that it decodes to is `each-stored` and `last-stored` of ByteSteps.
+-- So the theorems of the crate history on lists of calls hold of byte calls. What is kept is the stored form of the
+-- register that it decodes to (`each-stored` and `last-stored` of ByteSteps).
 use mathlib.Core.Path.{_≡_, refl, sym, ap, ap₂, _∙_}
 use mathlib.Core.List.{List, _∷_, map, map-map}
 use Rattle.lists.specs.Lists.{All, none, more}

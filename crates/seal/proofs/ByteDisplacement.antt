@@ -1,6 +1,6 @@
 -- How far one changed operation moves the seal of a list of byte commits (docs/SPECIFICATION.md, 11).
--- The lists start from the stored form of any registers that no check refuses; any bytes may be given as operations, into
--- any outputs, and calls may be refused. Of the n accepted calls, all commits, only operation j differs: d, and e.
+-- The lists start from the stored form of any registers that no check refuses; any bytes may be given as operations,
+-- into any outputs, and calls may be refused. Of the n accepted calls, all commits, only operation j differs: d, and e.
 -- Opposite, sum and doublings are byte calls, each into an output of its own that has room, whatever it holds.
 -- `displacement-bytes`: the last seal's record plus n - j doublings of the record of e - d is the other last record.
 -- `displacement-writes`: the last of these sums writes the class field of the other list's last seal.

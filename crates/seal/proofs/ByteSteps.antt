@@ -1,10 +1,10 @@
 -- Demand 3 for a list of byte commits and undos (docs/SPECIFICATION.md, 11).
--- The list starts from the stored form of any register that no check refuses; any bytes may be given as operations, into
--- any outputs, and calls may be refused. Each call gets the count and the seal that the last accepted call wrote.
--- The accepted calls are taken back, newest first, by any calls with the other step and the same operation, each with an
--- output of its own that has room, whatever it holds (`TakesBack`).
+-- The list starts from the stored form of any register that no check refuses; any bytes may be given as operations,
+-- into any outputs, and calls may be refused. Each call gets the count and the seal that the last accepted call wrote.
+-- The accepted calls are taken back, newest first, by any calls with the other step and the same operation, each with
+-- an output of its own that has room, whatever it holds (`TakesBack`).
 -- `taken-back-accepted`: none of these calls is refused.
--- `taken-back-kept`: each leads to what was kept just before the call that it takes back, so it writes that count and seal.
+-- `taken-back-kept`: each leads to what was kept just before the call that it takes back: that count and that seal.
 -- `taken-back-all`: at the end everything kept is as at the start.
 -- `buffer-takes-back`: calls that reuse one buffer with room, each as the call before left it, are such calls.
 -- `any-outputs`, `any-outputs-last`: a list whose calls all have room does the same with other outputs that have room.

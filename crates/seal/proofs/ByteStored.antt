@@ -1,6 +1,6 @@
 -- Byte commits and undos on records in stored form, whatever values they hold (docs/SPECIFICATION.md, 11).
 -- The register and the operation's class are those that the record's fields decode to; any check may refuse them.
--- `stored-answers`: with room, the call writes what the register call answers for these values, or refuses with its number.
+-- `stored-answers`: with room, the call writes what the register call answers for these values, or refuses as it does.
 -- `stored-run`: a list of such calls happens as the register calls happen, refused ones with the same numbers.
 -- `stored-last`: what is kept after it decodes to the register after the register calls.
 use Prim.Native.Nat.{ℕ, zero, suc, _≤_}
