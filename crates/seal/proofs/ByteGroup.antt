@@ -8,7 +8,8 @@
 -- `sum-assoc-bytes`: so do sums in either grouping.
 -- `sum-neutral-bytes`: the sum with the neutral class writes the class's own field.
 -- `sum-opposite-bytes`: the sum of a class and its opposite writes the field of the neutral class.
--- `byte-group`: these records are a commutative group, so all laws of groups in class_group hold of them.
+-- `byte-group`: these records are a commutative group, so all laws of groups in class_group hold of them. What a call
+-- writes is the same in every output that has room (`same-rebuilt` of AnyOutput), so one output stands for all.
 -- `byte-doubling`: doubling is one to one on them.
 -- `sum-record-parts`: every record of a sum that is read is made of two such records.
 use Prim.Native.Nat.{ℕ, suc, _≤_}
@@ -194,18 +195,18 @@ pub same-class : {c : Curve} {a b : Class} {fields s t : List ℕ} → Holds c a
 same-class x y e =
     ap (λ (h : Record). h .class) (same-found (sym (stored-read (x .bytes) (x .passes)) ∙ ap (read-record class-layout) e ∙ stored-read (y .bytes) (y .passes)) .0)
 
-module _ {fields w : List ℕ} (some : ReadWith fields w) (out : List ℕ) (room : class-room ≤ length out) where
+module _ {fields w : List ℕ} (some : ReadWith fields w) (out mid : List ℕ) (room : class-room ≤ length out) (room' : class-room ≤ length mid) where
   abbrev d : Curve
   d = some .values .curve
 
   known : curve-refusal d ≡ 0
   known = curve-passes (own some .passes)
 
-  pub byte-group : CommutativeGroup (ReadWith fields) (record-sum out) (neutral-record fields) (record-opposite out)
+  pub byte-group : CommutativeGroup (ReadWith fields) (record-sum out) (neutral-record fields) (record-opposite mid)
   byte-group = record {
     sum-closed = λ x y. sum-read x y out room;
     neutral-closed = neutral-read some;
-    opposite-closed = λ x. opposite-read x out room;
+    opposite-closed = λ x. opposite-read x mid room';
     comm = λ x y.
         let p = beside some x in
         let q = beside some y in
@@ -218,17 +219,17 @@ module _ {fields w : List ℕ} (some : ReadWith fields w) (out : List ℕ) (room
     sum-neutral = λ x. let p = beside some x in same-bytes (sum-holds out room p (neutral-holds p)) p (group d known .sum-neutral (p .passes));
     sum-opposite = λ x.
         let p = beside some x in
-        same-bytes (sum-holds out room p (opposite-holds out room p)) (neutral-holds p) (group d known .sum-opposite (p .passes));
+        same-bytes (sum-holds out room p (opposite-holds mid room' p)) (neutral-holds p) (group d known .sum-opposite (p .passes));
   }
 
-  pub byte-doubling : Doubling (ReadWith fields) (record-sum out) (neutral-record fields) (record-opposite out) (record-double out)
-  byte-doubling = record {
+  pub byte-doubling : (last : List ℕ) → class-room ≤ length last → Doubling (ReadWith fields) (record-sum out) (neutral-record fields) (record-opposite mid) (record-double last)
+  byte-doubling last room'' = record {
     group = byte-group;
-    double-sum = λ x. let p = beside some x in same-bytes (double-holds out room p) (sum-holds out room p p) (doubling d known .double-sum (p .passes));
+    double-sum = λ x. let p = beside some x in same-bytes (double-holds last room'' p) (sum-holds out room p p) (doubling d known .double-sum (p .passes));
     double-injective = λ x y e.
         let p = beside some x in
         let q = beside some y in
-        same-bytes p q (doubling d known .double-injective (p .passes) (q .passes) (same-class (double-holds out room p) (double-holds out room q) e));
+        same-bytes p q (doubling d known .double-injective (p .passes) (q .passes) (same-class (double-holds last room'' p) (double-holds last room'' q) e));
   }
 
 -- ---- doublings, each on the record rebuilt from the last, into any outputs
