@@ -11,7 +11,7 @@
 use Prim.Native.Nat.{ℕ, _≤_}
 use mathlib.Core.Path.{_≡_, refl, sym, ap, ap₂, _∙_, subst}
 use mathlib.Core.Bool.{true}
-use mathlib.Core.List.{List, [], _∷_, _++_, map, flatten}
+use mathlib.Core.List.{List, _∷_, _++_, map, flatten}
 use lib.ListN.{length, getD, take, length-map, List·getD-map}
 use Rattle.lists.specs.Lists.{All, none, more}
 use Rattle.jacobian.specs.{Answer.accepted, Answer.Result}

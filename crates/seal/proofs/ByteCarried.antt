@@ -20,7 +20,7 @@ use Rattle.history.proofs.Preserved.{accepted-class, accepted-step}
 use Rattle.history.proofs.Machine.{Run.all-accepted, Accepted.accepted-newest, Accepted.accepted-last}
 use Rattle.stored_form.specs.{Number.Bytes, Classes.class-field}
 use Rattle.seal.specs.Steps.{Kept, ByteStep, byte-steps, field-class, seal-field, seal-fields, decode-kept, decode-step, decoded, newest-decoded, last-decoded, decoded-calls, InStoredForm}
-use Rattle.seal.proofs.{ByteSteps.Done, ByteSteps.done, ByteSteps.refused-stays, ByteSteps.of-each, ByteSteps.last-stored, Decoding.seal-stored, Decoding.class-decoded, Decoding.decode-stored}
+use Rattle.seal.proofs.{OneByteStep.Done, OneByteStep.done, OneByteStep.refused-stays, ByteSteps.of-each, ByteSteps.last-stored, Decoding.seal-stored, Decoding.class-decoded, Decoding.decode-stored}
 
 -- ---- an accepted call
 

@@ -3,7 +3,6 @@
 -- `sum-writes`, `opposite-writes`: each call writes the field of what the call by value gives.
 -- `doublings-write`: so does a doubling after any number of doublings, each into an output of its own.
 -- `sum-read`, `opposite-read`, `double-read`, `doublings-read`, `neutral-read`: the rebuilt record is read again.
--- `sum-field`: the class field of a sum's rebuilt record is the field of the sum.
 -- `sum-comm-bytes`: a sum in either order answers the same and leaves the same output.
 -- `sum-assoc-bytes`: so do sums in either grouping.
 -- `sum-neutral-bytes`: the sum with the neutral class writes the class's own field.
@@ -162,9 +161,6 @@ module _ {fields s : List ℕ} (x : ReadWith fields s) where
   module _ {t : List ℕ} (y : ReadWith fields t) (out : List ℕ) (room : class-room ≤ length out) where
     pub sum-writes : sum-call (sum-record-of s t) out ≡ write (class-field 0x43 (sum-of (x .values .curve) (x .values .class) (y .values .class))) out
     sum-writes = sum-written out room (own x) (beside x y)
-
-    pub sum-field : last-field (record-sum out s t) ≡ class-field 0x43 (sum-of (x .values .curve) (x .values .class) (y .values .class))
-    sum-field = last-is c _ (sum-holds out room (own x) (beside x y) .bytes)
 
     pub sum-read : ReadWith fields (record-sum out s t)
     sum-read = read-again (sum-holds out room (own x) (beside x y))

@@ -13,8 +13,10 @@ pub mod AnyOutput
 pub mod Promises
 pub mod Decoding
 pub mod KeptFields
+pub mod OneByteStep
 pub mod ByteSteps
 pub mod ByteCarried
+pub mod StoredFields
 pub mod ByteFailing
 pub mod ByteStored
 pub mod ByteDisplacement

@@ -125,11 +125,11 @@ last-decoded k cs = decode-kept (last byte-steps k cs)
 unfoldable pub decoded-calls : Kept → List ByteStep → List Call
 decoded-calls k cs = map decode-step (accepted-calls byte-steps k cs)
 
--- what is kept is the stored form of the register that it decodes to
+-- what is kept is the stored form of the register that it decodes to, whatever register that is
 abbrev pub Stored : Kept → Type 0
 Stored k = kept (decode-kept k) ≡ k
 
--- so it is, and no check refuses that register
+-- what is kept is the stored form of a register that no check refuses
 pub record InStoredForm (k : Kept) : Type 0 where
   pub stored : Stored k
   pub passes : register-refusal (decode-kept k) ≡ 0
