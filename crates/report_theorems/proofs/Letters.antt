@@ -4,6 +4,7 @@
 -- `operation-line`: the line with k + 1 operations undone has the letter of operation k; the newest is operation 0.
 -- `operation-letter`: that letter is M exactly where operation k is neutral; else R exactly where there is a next older
 --   operation and operation k is its opposite; else -. The line says its number, that letter and the walk's seal.
+-- `letter-only`: an operation has one letter and no other.
 -- `letter-moves`: which letters changed when M came to be tested before R (docs/changes/05.md).
 use Prim.Native.Nat.{ℕ, zero, suc, _+_, _<_}
 use mathlib.Core.Path.{_≡_, refl, sym, ap, ap₂, _∙_}
@@ -103,6 +104,18 @@ module _ {c : Curve} (ops : List Class) (all : All (Accepts c) ops) (k : ℕ) (w
       go true r e f = letters-of.neutral (decides-neutral (accepted-at k within) .0 e)
       go false true e f = letters-of.reversal (λ h. true≢false (sym (decides-neutral (accepted-at k within) .1 h) ∙ e)) (older-reverses f)
       go false false e f = letters-of.other (λ h. true≢false (sym (decides-neutral (accepted-at k within) .1 h) ∙ e)) (λ h. true≢false (sym (reverses-older h) ∙ f))
+
+-- the three conditions exclude each other
+pub letter-only : {c : Curve} {ops : List Class} {k m n : ℕ} → Letter c ops k m → Letter c ops k n → m ≡ n
+letter-only (letters-of.neutral e) (letters-of.neutral f) = refl
+letter-only (letters-of.neutral e) (letters-of.reversal h r) = absurd (h e)
+letter-only (letters-of.neutral e) (letters-of.other h r) = absurd (h e)
+letter-only (letters-of.reversal h r) (letters-of.neutral e) = absurd (h e)
+letter-only (letters-of.reversal h r) (letters-of.reversal g q) = refl
+letter-only (letters-of.reversal h r) (letters-of.other g q) = absurd (q r)
+letter-only (letters-of.other h r) (letters-of.neutral e) = absurd (h e)
+letter-only (letters-of.other h r) (letters-of.reversal g q) = absurd (r q)
+letter-only (letters-of.other h r) (letters-of.other g q) = refl
 
 -- the line of operation k
 pub operation-letter : (s : List ℕ) {x : Archive} {end : ℕ} → read-archive s ≡ found x end → (k : ℕ) → k < length (x .operations) →
