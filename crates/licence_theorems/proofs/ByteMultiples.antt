@@ -126,53 +126,53 @@ module _ (s : List ℕ) (bytes : Bytes s) {h : Record} {end : ℕ} (read : read-
 
     -- with a doubling or a half for each of these outputs
     module _ {outs : List (List ℕ)} (rooms : ClassRooms outs) where
-      abbrev k : ℕ
-      k = length outs
+      abbrev many : ℕ
+      many = length outs
 
-      doubled-at : doubled-record outs s ≡ class-record-bytes c (doublings c k a)
+      doubled-at : doubled-record outs s ≡ class-record-bytes c (doublings c many a)
       doubled-at = ap (doubled-record outs) stored-bytes ∙ doubled-is passes rooms
 
-      halved-at : halved-record outs s ≡ class-record-bytes c (halves c k a)
+      halved-at : halved-record outs s ≡ class-record-bytes c (halves c many a)
       halved-at = ap (halved-record outs) stored-bytes ∙ halved-is passes rooms
 
       pub halves-write : half-call (halved-record outs s) out ≡ write (class-field 0x43 (halves (h .curve) (suc (length outs)) (h .class))) out
       unfolding seal.answered repeat
       halves-write =
-          let p = halves-accept passes k in
+          let p = halves-accept passes many in
           stored-writes halved-at p (λ x b. result (half-answer x b)) (half-given p) out room
-          ∙ ap (λ (g : Record). write (class-field 0x43 (halves (g .curve) (suc k) (g .class))) out) (sym (is-stored s bytes read .values))
+          ∙ ap (λ (g : Record). write (class-field 0x43 (halves (g .curve) (suc many) (g .class))) out) (sym (is-stored s bytes read .values))
 
       pub doublings-bytes : length outs < 61 → class-rebuilt s (multiple-call (2 ^ length outs) s out) ≡ doubled-record outs s
       doublings-bytes l =
-          multiple-record (2 ^ k) (pow-lt l) out room
-          ∙ ap (λ (r : Result). class-record-bytes c (r .class)) (doublings-are-multiple passes k l)
+          multiple-record (2 ^ many) (pow-lt l) out room
+          ∙ ap (λ (r : Result). class-record-bytes c (r .class)) (doublings-are-multiple passes many l)
           ∙ sym doubled-at
 
       pub halvings-bytes : length outs ≤ halvings-limit → class-rebuilt s (halvings-call (length outs) s out) ≡ halved-record outs s
       halvings-bytes l =
-          halvings-record k l out room
-          ∙ ap (λ (r : Result). class-record-bytes c (r .class)) (halvings-are-halves passes k l)
+          halvings-record many l out room
+          ∙ ap (λ (r : Result). class-record-bytes c (r .class)) (halvings-are-halves passes many l)
           ∙ sym halved-at
 
       pub halvings-of-doublings-bytes : length outs ≤ halvings-limit → halvings-call (length outs) (doubled-record outs s) out ≡ write (last-field s) out
       unfolding answered halved
       halvings-of-doublings-bytes l =
-          let p = doublings-accept c passes k in
-          stored-writes doubled-at p (halved k) (halvings-given p k l) out room
-          ∙ ap (λ (b : List ℕ). write b out) (own-field _ (ap (λ (r : Result). r .class) (halvings-of-doublings passes k l)))
+          let p = doublings-accept c passes many in
+          stored-writes doubled-at p (halved many) (halvings-given p many l) out room
+          ∙ ap (λ (b : List ℕ). write b out) (own-field _ (ap (λ (r : Result). r .class) (halvings-of-doublings passes many l)))
 
       pub doublings-of-halvings-bytes : length outs ≤ halvings-limit → doubled-record outs (class-rebuilt s (halvings-call (length outs) s out)) ≡ s
       doublings-of-halvings-bytes l =
-          ap (doubled-record outs) (halvings-record k l out room)
-          ∙ doubled-is (halvings-given passes k l .passes) rooms
-          ∙ ap (class-record-bytes c) (doublings-of-halvings passes k l)
+          ap (doubled-record outs) (halvings-record many l out room)
+          ∙ doubled-is (halvings-given passes many l .passes) rooms
+          ∙ ap (class-record-bytes c) (doublings-of-halvings passes many l)
           ∙ sym stored-bytes
 
       pub only-halvings-bytes : length outs ≤ halvings-limit → (t : List ℕ) → doubled-record outs s ≡ t → s ≡ class-rebuilt t (halvings-call (length outs) t out)
       only-halvings-bytes l t e =
           sym
-          (ap (λ u. class-rebuilt u (halvings-call k u out)) (sym e)
+          (ap (λ u. class-rebuilt u (halvings-call many u out)) (sym e)
           ∙ ap (class-rebuilt (doubled-record outs s)) (halvings-of-doublings-bytes l)
           ∙ rebuilt-write (doubled-record outs s) (last-field s) out (last-short stored-bytes passes)
-          ∙ ap (λ (f : List ℕ). f ++ last-field s) (first-is c (doublings c k a) doubled-at ∙ sym (first-is c a stored-bytes))
+          ∙ ap (λ (f : List ℕ). f ++ last-field s) (first-is c (doublings c many a) doubled-at ∙ sym (first-is c a stored-bytes))
           ∙ cut-whole 2 s)

@@ -51,8 +51,8 @@ module _ (k : Kept) (form : InStoredForm k) (cs : List ByteStep) (bytes : All (�
 -- ---- two lists of calls
 module _ (k t : Kept) (form : InStoredForm k) (form' : InStoredForm t) (cs ds : List ByteStep) (bytes : All (λ c. Bytes (c .operation)) cs) (bytes' : All (λ c. Bytes (c .operation)) ds)
     {j : ℕ} {d e : Class} (v : Variants j d e (decode-kept k) (decode-kept t) (newest-decoded k cs) (newest-decoded t ds)) where
-  abbrev c : Curve
-  c = decode-kept k .curve
+  abbrev own : Curve
+  own = decode-kept k .curve
 
   -- as lists of register calls
   by-value : Variants j d e (decode-kept k) (decode-kept t) (history.newest (decode-kept k) (decoded-calls k cs)) (history.newest (decode-kept t) (decoded-calls t ds))
@@ -64,24 +64,24 @@ module _ (k t : Kept) (form : InStoredForm k) (form' : InStoredForm t) (cs ds : 
   unfolding newest-decoded
   many = ap length (sym (newest-carried k form cs bytes)) ∙ length-map (newest byte-steps k cs) decoded
 
-  begins : k .curve ≡ curve-fields-bytes c
+  begins : k .curve ≡ curve-fields-bytes own
   unfolding kept
   begins = ap (λ (s : Kept). s .curve) (sym (form .stored))
 
   -- the record of a class on the curve
-  class-holds : {a : Class} → Accepts c a → Holds c a (curve-fields-bytes c) (class-record-bytes c a)
+  class-holds : {a : Class} → Accepts own a → Holds own a (curve-fields-bytes own) (class-record-bytes own a)
   class-holds p = record { passes = p; bytes = refl; begins = refl }
 
-  both-hold : Holds c d (curve-fields-bytes c) (class-record-bytes c d) × Holds c e (curve-fields-bytes c) (class-record-bytes c e)
+  both-hold : Holds own d (curve-fields-bytes own) (class-record-bytes own d) × Holds own e (curve-fields-bytes own) (class-record-bytes own e)
   both-hold = let p = both-accept _ _ _ _ by-value in (class-holds (p .0), class-holds (p .1))
 
-  was : Holds c (last-decoded k cs .seal) (curve-fields-bytes c) (seal-record (last byte-steps k cs))
+  was : Holds own (last-decoded k cs .seal) (curve-fields-bytes own) (seal-record (last byte-steps k cs))
   was = last-holds k form cs bytes refl
 
-  is : Holds c (last-decoded t ds .seal) (curve-fields-bytes c) (seal-record (last byte-steps t ds))
+  is : Holds own (last-decoded t ds .seal) (curve-fields-bytes own) (seal-record (last byte-steps t ds))
   is = last-holds t form' ds bytes' (v .same-curve)
 
-  read : {a : Class} {s : List ℕ} → Holds c a (curve-fields-bytes c) s → ReadWith (k .curve) s
+  read : {a : Class} {s : List ℕ} → Holds own a (curve-fields-bytes own) s → ReadWith (k .curve) s
   read {s = s} h = subst (λ (f : List ℕ). ReadWith f s) (sym begins) (read-again h)
 
   pub last-read : ReadWith (k .curve) (seal-record (last byte-steps k cs))
@@ -99,20 +99,20 @@ module _ (k t : Kept) (form : InStoredForm k) (form' : InStoredForm t) (cs ds : 
       (ap (λ (g : Register). g .seal) (sym (last-carried k form cs bytes)) ∙ same-class was is same ∙ ap (λ (g : Register). g .seal) (last-carried t form' ds bytes'))
 
   module _ (mid out : List ℕ) (room : class-room ≤ length mid) (room' : class-room ≤ length out) where
-    difference-holds : Holds c (difference c e d) (curve-fields-bytes c) (record-difference mid out (class-record-bytes c e) (class-record-bytes c d))
+    difference-holds : Holds own (difference own e d) (curve-fields-bytes own) (record-difference mid out (class-record-bytes own e) (class-record-bytes own d))
     difference-holds = sum-holds out room' (both-hold .1) (opposite-holds mid room (both-hold .0))
 
     pub difference-read : ReadWith (k .curve) (record-difference mid out (class-record-bytes (decode-kept k .curve) e) (class-record-bytes (decode-kept k .curve) d))
     difference-read = read difference-holds
 
     module _ {outs : List (List ℕ)} (rooms : ClassRooms outs) (doubles : length outs ≡ length (newest byte-steps k cs) - j) (end : List ℕ) (room'' : class-room ≤ length end) where
-      doubled-difference : Holds c (doublings c (length outs) (difference c e d)) (curve-fields-bytes c) (doubled-record outs (record-difference mid out (class-record-bytes c e) (class-record-bytes c d)))
+      doubled-difference : Holds own (doublings own (length outs) (difference own e d)) (curve-fields-bytes own) (doubled-record outs (record-difference mid out (class-record-bytes own e) (class-record-bytes own d)))
       doubled-difference = doubled-holds rooms difference-holds
 
       -- the sum by value is the other list's last seal
-      sum-is : sum-of c (last-decoded k cs .seal) (doublings c (length outs) (difference c e d)) ≡ last-decoded t ds .seal
+      sum-is : sum-of own (last-decoded k cs .seal) (doublings own (length outs) (difference own e d)) ≡ last-decoded t ds .seal
       sum-is =
-          ap₂ (λ (g : Register) (n : ℕ). sum-of c (g .seal) (doublings c n (difference c e d))) (last-carried k form cs bytes) (doubles ∙ ap (λ (n : ℕ). n - j) (sym many))
+          ap₂ (λ (g : Register) (n : ℕ). sum-of own (g .seal) (doublings own n (difference own e d))) (last-carried k form cs bytes) (doubles ∙ ap (λ (n : ℕ). n - j) (sym many))
           ∙ ap (λ (r : Result). r .class) (displacement _ _ _ _ by-value)
           ∙ ap (λ (g : Register). g .seal) (sym (last-carried t form' ds bytes'))
 
@@ -120,7 +120,7 @@ module _ (k t : Kept) (form : InStoredForm k) (form' : InStoredForm t) (cs ds : 
           record-sum end (seal-record (last byte-steps k cs))
           (doubled-record outs (record-difference mid out (class-record-bytes (decode-kept k .curve) e) (class-record-bytes (decode-kept k .curve) d)))
           ≡ seal-record (last byte-steps t ds)
-      displacement-bytes = sum-holds end room'' was doubled-difference .bytes ∙ ap (class-record-bytes c) sum-is ∙ sym (is .bytes)
+      displacement-bytes = sum-holds end room'' was doubled-difference .bytes ∙ ap (class-record-bytes own) sum-is ∙ sym (is .bytes)
 
       pub displacement-writes :
           sum-call
@@ -129,4 +129,4 @@ module _ (k t : Kept) (form : InStoredForm k) (form' : InStoredForm t) (cs ds : 
           ≡ write (last-field (seal-record (last byte-steps t ds))) end
       displacement-writes =
           sum-written end room'' was doubled-difference
-          ∙ ap (λ (b : List ℕ). write b end) (ap (class-field 0x43) sum-is ∙ sym (last-is c _ (is .bytes)))
+          ∙ ap (λ (b : List ℕ). write b end) (ap (class-field 0x43) sum-is ∙ sym (last-is own _ (is .bytes)))
