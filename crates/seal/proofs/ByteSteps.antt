@@ -7,6 +7,7 @@
 -- `taken-back-kept`: each leads to what was kept just before the call that it takes back: that count and that seal.
 -- `taken-back-all`: at the end everything kept is as at the start.
 -- `buffer-takes-back`: calls that reuse one buffer with room, each as the call before left it, are such calls.
+-- `buffer-reused`: their outputs are the buffer, and then what each of them left of it, in order.
 -- `any-outputs`, `any-outputs-last`: a list whose calls all have room does the same with other outputs that have room.
 -- `each-stored`: what is kept before every call of the list is in stored form.
 -- `last-stored`: so is what is kept after the list.
@@ -15,7 +16,7 @@ use mathlib.Core.Path.{_≡_, refl, sym, ap, ap₂, _∙_, subst}
 use mathlib.Core.List.{List, [], _∷_, _++_, map, map-map}
 use native.Mathlib.Omega.{arith}
 use lib.Dec.{lit≤}
-use lib.ListN.{length, getD, drop, replicate, length-append, length-drop}
+use lib.ListN.{length, getD, take, drop, replicate, length-append, length-drop}
 use Rattle.lists.specs.{Lists.All, Lists.none, Lists.more, Walk.foldl}
 use Rattle.jacobian.specs.{Answer.Verdict, Answer.accepted, Answer.refused}
 use Rattle.history.specs.Machine.{Machine, Event, event, accepted-of, run, newest, last, accepted-calls, carried, Agrees, Reversible}
@@ -207,3 +208,9 @@ buffer-rooms k buffer room (q ∷ qs) =
 
 pub buffer-takes-back : (k : Kept) (buffer : List ℕ) → register-room ≤ length buffer → (es : List (Event Kept ByteStep)) → TakesBack (with-buffer k buffer (backs es)) es
 buffer-takes-back k buffer room es = record { requests = buffer-requests k buffer (backs es); rooms = buffer-rooms k buffer room (backs es) }
+
+pub buffer-reused : (k : Kept) (buffer : List ℕ) (qs : List Request) → let es = run byte-steps k (with-buffer k buffer qs) in
+    map (λ e. e .call .output) es ≡ take (length es) (buffer ∷ map (λ e. step-effect (e .before) (e .call) .output) es)
+unfolding run event with-buffer
+buffer-reused k buffer [] = refl
+buffer-reused k buffer (q ∷ qs) = ap (λ l. buffer ∷ l) (buffer-reused (byte-steps .next k (into buffer q)) (step-effect k (into buffer q) .output) qs)
