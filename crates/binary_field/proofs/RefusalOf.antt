@@ -5,9 +5,10 @@
 -- `refusal-held`: the refusal is 0 where all checks hold.
 -- `held-refusal`: all checks hold where the refusal is 0.
 -- `refusal-number`: the refusal is the number of the first check that does not hold.
--- `refusal-listed`: where the numbers of all checks are in a list, so is the refusal.
+-- `fails-among`: where the numbers of all checks are in a list, so is that of the first check that does not hold.
+-- `refusal-among`: the refusal is then 0 or in the list.
 use Prim.Native.Nat.{ℕ, zero, suc}
-use mathlib.Core.{Path._≡_, Path.refl, Path.sym, Path._∙_, Path.subst, Bool.Bool, Bool.true, Bool.false, Bool.true≢false, List.List, List.[], List._∷_, List._++_, Logic._↔_, Logic._⊎_, Logic.inl, Logic.inr}
+use mathlib.Core.{Path._≡_, Path.refl, Path.sym, Path._∙_, Path.subst, Bool.Bool, Bool.true, Bool.false, Bool.true≢false, Bool._&&_, List.List, List.[], List._∷_, List._++_, Logic._↔_, Logic._⊎_, Logic.inl, Logic.inr}
 use native.Mathlib.Omega.{arith}
 use Rattle.binary_field.specs.Checks.{unless, _or-else_, listed, Check, check, AllHold, FirstFails, RefusalOf, all-hold, first-fails}
 
@@ -72,16 +73,21 @@ refusal-number {cs} {m} n (first-fails z h) k = one-number cs m n h k
 
 -- ---- the numbers
 
--- the numbers of these checks are all in the list
-abbrev pub Numbered : List ℕ → List Check → Type 0
-Numbered ns [] = Unit {0}
-Numbered ns (c ∷ cs) = (listed (c .number) ns ≡ true) × Numbered ns cs
+-- whether the number of every check is one of these
+abbrev pub among : List Check → List ℕ → Bool
+among [] ns = true
+among (c ∷ cs) ns = listed (c .number) ns && among cs ns
 
-fails-listed : (ns : List ℕ) (cs : List Check) (n : ℕ) → Numbered ns cs → FirstFails cs n → listed n ns ≡ true
-fails-listed ns [] n h f = absurd f
-fails-listed ns (c ∷ cs) n h (inl f) = subst (λ m. listed m ns ≡ true) (sym (f .1)) (h .0)
-fails-listed ns (c ∷ cs) n h (inr f) = fails-listed ns cs n (h .1) (f .1)
+pub fails-among : (cs : List Check) (ns : List ℕ) (n : ℕ) → among cs ns ≡ true → FirstFails cs n → listed n ns ≡ true
+fails-among [] ns n e h = absurd h
+fails-among (c ∷ cs) ns n e h = by (listed (c .number) ns) refl e h (fails-among cs ns n)
+  where
+    by : (b : Bool) → listed (c .number) ns ≡ b → (b && among cs ns) ≡ true → FirstFails (c ∷ cs) n
+        → (among cs ns ≡ true → FirstFails cs n → listed n ns ≡ true) → listed n ns ≡ true
+    by true is e (inl h) rest = subst (λ m. listed m ns ≡ true) (sym (h .1)) is
+    by true is e (inr h) rest = rest e (h .1)
+    by false is e h rest = absurd (true≢false (sym e))
 
-pub refusal-listed : (ns : List ℕ) {cs : List Check} {n : ℕ} → Numbered ns cs → RefusalOf cs n → ¬ (n ≡ 0) → listed n ns ≡ true
-refusal-listed ns h (all-hold z held) k = absurd (k z)
-refusal-listed ns {cs} {n} h (first-fails z fails) k = fails-listed ns cs n h fails
+pub refusal-among : {cs : List Check} {n : ℕ} (ns : List ℕ) → among cs ns ≡ true → RefusalOf cs n → (n ≡ 0) ⊎ (listed n ns ≡ true)
+refusal-among ns e (all-hold z h) = inl z
+refusal-among {cs} {n} ns e (first-fails z h) = inr (fails-among cs ns n e h)

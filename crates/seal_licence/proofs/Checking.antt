@@ -3,17 +3,18 @@
 -- `halvings-checked`: that of k halvings is that of the curve, then that of the class, then 119 of k.
 -- `multiple-result`: n times answers the class where every check holds, else that refusal with the neutral class.
 -- `halvings-result`: k halvings answer the class where every check holds, else that refusal with the neutral class.
+-- `multiple-numbers-are`, `halvings-numbers-are`: the checks' numbers are the six that are listed, in this order.
 -- `multiple-valid`: every answer of n times is a class or a refusal with one of its six numbers.
 -- `halvings-valid`: every answer of k halvings is a class or a refusal with one of its six numbers.
 -- `multiple-never-117`, `halvings-never-117`: no answer refuses with 117.
 use Prim.Native.Nat.{ℕ, zero, suc}
-use mathlib.Core.{Path._≡_, Path.refl, Path.sym, Path.ap, Path._∙_, Bool.true, Bool.false, Bool.true≢false, List.List, List.[], List._∷_}
+use mathlib.Core.{Path._≡_, Path.refl, Path.sym, Path.ap, Path._∙_, Bool.true, Bool.false, Bool.true≢false, List.List, List.[], List._∷_, List.map, Logic._⊎_, Logic.inl, Logic.inr}
 use native.Mathlib.Omega.{arith}
 use lib.Dec.{ltb, leb}
 use borrow.Author.Tests.{ltb-true, lt-ltb, leb-true, le-leb}
 use Rattle.jacobian.specs.Checks as checks
 use Rattle.jacobian.specs.{Checks.unless, Checks.Check, Checks.check, Checks.RefusalOf, Checking.checks-of-one, Refusals.listed, Answer.Verdict, Answer.accepted, Answer.refused, Answer.Result, Answer.refusal, declared.Curve.Curve, declared.Class.Class}
-use Rattle.jacobian.proofs.Checking.{refusal-unless, refusal-or-else, Numbered, refusal-listed, one-checked}
+use Rattle.jacobian.proofs.Checking.{refusal-unless, refusal-or-else, refusal-among, one-checked}
 use Rattle.seal_licence.specs.Multiples.{multiple-limit, halvings-limit, given, multiple-class, halved-class, multiple-refusal, halvings-refusal, multiple-answer, halvings-answer}
 use Rattle.seal_licence.specs.{Checking.multiple-checks, Checking.halvings-checks, Checking.ResultOf, Checking.multiple-numbers, Checking.halvings-numbers, Valid.ValidResult}
 use Rattle.seal_licence.specs.Checking as checking
@@ -51,27 +52,28 @@ module _ (c : Curve) (a : Class) (n : ℕ) where
 
 -- ---- the numbers
 
-given-valid : (ns : List ℕ) (m : ℕ) (x : Class) → (¬ (m ≡ 0) → listed m ns ≡ true) → ValidResult ns (given m x)
+given-valid : (ns : List ℕ) (m : ℕ) (x : Class) → (m ≡ 0) ⊎ (listed m ns ≡ true) → ValidResult ns (given m x)
 unfolding given
 given-valid ns zero x t = valid.ValidResult.acceptance x
-given-valid ns (suc m) x t = valid.ValidResult.refusal (suc m) (t (λ e. omega arith))
+given-valid ns (suc m) x (inl e) = absurd (omega arith)
+given-valid ns (suc m) x (inr i) = valid.ValidResult.refusal (suc m) i
 
 module _ (c : Curve) (a : Class) (n : ℕ) where
-  multiple-numbered : Numbered multiple-numbers (multiple-checks c a n)
-  unfolding multiple-numbers listed
-  multiple-numbered = (refl, (refl, (refl, (refl, (refl, (refl, tt))))))
+  pub multiple-numbers-are : map (λ (x : Check). x .number) (multiple-checks c a n) ≡ multiple-numbers
+  unfolding multiple-numbers
+  multiple-numbers-are = refl
 
-  halvings-numbered : Numbered halvings-numbers (halvings-checks c a n)
-  unfolding halvings-numbers listed
-  halvings-numbered = (refl, (refl, (refl, (refl, (refl, (refl, tt))))))
+  pub halvings-numbers-are : map (λ (x : Check). x .number) (halvings-checks c a n) ≡ halvings-numbers
+  unfolding halvings-numbers
+  halvings-numbers-are = refl
 
   pub multiple-valid : ValidResult multiple-numbers (multiple-answer c a n)
-  unfolding multiple-answer
-  multiple-valid = given-valid multiple-numbers _ _ (refusal-listed multiple-numbers multiple-numbered (multiple-checked c a n))
+  unfolding multiple-answer multiple-numbers listed
+  multiple-valid = given-valid multiple-numbers _ _ (refusal-among multiple-numbers refl (multiple-checked c a n))
 
   pub halvings-valid : ValidResult halvings-numbers (halvings-answer c a n)
-  unfolding halvings-answer
-  halvings-valid = given-valid halvings-numbers _ _ (refusal-listed halvings-numbers halvings-numbered (halvings-checked c a n))
+  unfolding halvings-answer halvings-numbers listed
+  halvings-valid = given-valid halvings-numbers _ _ (refusal-among halvings-numbers refl (halvings-checked c a n))
 
 number : Verdict → ℕ
 number accepted = 0

@@ -18,10 +18,10 @@ pub data ResultOf (cs : List Check) (a : Class) (r : Result) : Type 0 where
   all-hold : AllHold cs → r ≡ gives a → ResultOf cs a r
   first-fails : (n : ℕ) → FirstFails cs n → r ≡ refuses n → ResultOf cs a r
 
--- the numbers with which n times a class can refuse
+-- the numbers with which n times a class can refuse, in checking order
 unfoldable pub multiple-numbers : List ℕ
-multiple-numbers = 104 ∷ 106 ∷ 107 ∷ 110 ∷ 111 ∷ 118 ∷ []
+multiple-numbers = 106 ∷ 107 ∷ 104 ∷ 110 ∷ 111 ∷ 118 ∷ []
 
--- the numbers with which k halvings of a class can refuse
+-- the numbers with which k halvings of a class can refuse, in checking order
 unfoldable pub halvings-numbers : List ℕ
-halvings-numbers = 104 ∷ 106 ∷ 107 ∷ 110 ∷ 111 ∷ 119 ∷ []
+halvings-numbers = 106 ∷ 107 ∷ 104 ∷ 110 ∷ 111 ∷ 119 ∷ []
