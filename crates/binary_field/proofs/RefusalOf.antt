@@ -2,11 +2,15 @@
 -- `refusal-unless`: one check, by a test that is true exactly where the condition holds.
 -- `refusal-or-else`: the checks of one list, then those of another, which may rest on the first.
 -- `refusal-none`: no check refuses with 0.
+-- `not-both`: where all checks hold, none is the first that does not.
+-- `one-number`: the first check that does not hold has one number.
 -- `refusal-held`: the refusal is 0 where all checks hold.
 -- `held-refusal`: all checks hold where the refusal is 0.
 -- `refusal-number`: the refusal is the number of the first check that does not hold.
 -- `fails-among`: where the numbers of all checks are in a list, so is that of the first check that does not hold.
 -- `refusal-among`: the refusal is then 0 or in the list.
+-- `refusal-listed`: a refusal other than 0 is then in the list.
+-- `among-append`: the numbers of two lists of checks, one after the other.
 use Prim.Native.Nat.{ℕ, zero, suc}
 use mathlib.Core.{Path._≡_, Path.refl, Path.sym, Path._∙_, Path.subst, Bool.Bool, Bool.true, Bool.false, Bool.true≢false, Bool._&&_, List.List, List.[], List._∷_, List._++_, Logic._↔_, Logic._⊎_, Logic.inl, Logic.inr}
 use native.Mathlib.Omega.{arith}
@@ -47,12 +51,12 @@ refusal-or-else cs ds (suc m) n (first-fails z h) k = first-fails z (fails-appen
 
 -- ---- what the refusal says
 
-not-both : (cs : List Check) (n : ℕ) → AllHold cs → FirstFails cs n → ⊥
+pub not-both : (cs : List Check) (n : ℕ) → AllHold cs → FirstFails cs n → ⊥
 not-both [] n h k = k
 not-both (c ∷ cs) n h (inl k) = k .0 (h .0)
 not-both (c ∷ cs) n h (inr k) = not-both cs n (h .1) (k .1)
 
-one-number : (cs : List Check) (m n : ℕ) → FirstFails cs m → FirstFails cs n → m ≡ n
+pub one-number : (cs : List Check) (m n : ℕ) → FirstFails cs m → FirstFails cs n → m ≡ n
 one-number [] m n h k = absurd h
 one-number (c ∷ cs) m n (inl h) (inl k) = h .1 ∙ sym (k .1)
 one-number (c ∷ cs) m n (inl h) (inr k) = absurd (h .0 (k .0))
@@ -91,3 +95,15 @@ fails-among (c ∷ cs) ns n e h = by (listed (c .number) ns) refl e h (fails-amo
 pub refusal-among : {cs : List Check} {n : ℕ} (ns : List ℕ) → among cs ns ≡ true → RefusalOf cs n → (n ≡ 0) ⊎ (listed n ns ≡ true)
 refusal-among ns e (all-hold z h) = inl z
 refusal-among {cs} {n} ns e (first-fails z h) = inr (fails-among cs ns n e h)
+
+pub refusal-listed : {cs : List Check} {n : ℕ} (ns : List ℕ) → among cs ns ≡ true → RefusalOf cs n → ¬ (n ≡ 0) → listed n ns ≡ true
+refusal-listed ns e (all-hold z h) k = absurd (k z)
+refusal-listed {cs} {n} ns e (first-fails z h) k = fails-among cs ns n e h
+
+pub among-append : (cs ds : List Check) (ns : List ℕ) → among cs ns ≡ true → among ds ns ≡ true → among (cs ++ ds) ns ≡ true
+among-append [] ds ns e f = f
+among-append (c ∷ cs) ds ns e f = by (listed (c .number) ns) e (among-append cs ds ns)
+  where
+    by : (b : Bool) → (b && among cs ns) ≡ true → (among cs ns ≡ true → among ds ns ≡ true → among (cs ++ ds) ns ≡ true) → (b && among (cs ++ ds) ns) ≡ true
+    by true e rest = rest e f
+    by false e rest = e

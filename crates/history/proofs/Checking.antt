@@ -3,7 +3,6 @@
 -- `step-checked`: that of a step is the register's, then that of the class, then 114 of a commit or 113 of an undo.
 -- `answer-checked`: the number of the code's answer is that refusal, and a refused call returns the register given.
 -- `listed-within`: a number of one list is in another that has all of them.
--- `refusal-listed`: where all numbers of checks are listed, so is their refusal.
 -- `step-listed`: a step refuses with one of its own numbers.
 -- `step-numbers-checked`: each of these numbers is that of a check of the step.
 use Prim.Native.Nat.{ℕ}
@@ -12,7 +11,7 @@ use lib.Dec.{eqb}
 use borrow.Author.Tests.{eq-eqb, eqb-true}
 use Rattle.jacobian.specs.{Checks.Check, Checks.check, Checks.FirstFails, Checks.RefusalOf, Refusals.listed, Curves.curve-refusal, Classes.class-refusal, Checking.curve-checks, Checking.class-checks, Answer.outcome-refusal, declared.Class.Class}
 use Rattle.jacobian.specs.Checks as checks
-use Rattle.jacobian.proofs.{ByValue.Checks.then-zero, ByValue.Checks.both, ByValue.Answers.outcome-refusal-is, Checking.curve-checked, Checking.class-checked, Checking.refusal-or-else, Checking.refusal-held}
+use Rattle.jacobian.proofs.{ByValue.Checks.then-zero, ByValue.Checks.both, ByValue.Answers.outcome-refusal-is, Checking.curve-checked, Checking.class-checked, Checking.refusal-or-else, Checking.refusal-held, Checking.among, Checking.refusal-listed}
 use Rattle.count_limit.specs.{Limit.count-refusal, Checking.count-check}
 use Rattle.count_limit.proofs.Checking.{count-checked}
 use Rattle.history.specs.Register.{RegisterReply, register-reply, register-refusal, edge, edge-refusal, step-refusal, stepped, step-answer}
@@ -75,29 +74,14 @@ listed-within (m ∷ ms) ns n h e =
     go true is e rest = subst (λ (i : ℕ). listed i ns ≡ true) (sym (eqb-true n m is)) (both (listed m ns) (all-listed ms ns) h .0)
     go false is e rest = rest e
 
--- the number of the first check that fails is one of the checks' numbers
-fails-numbered : (cs : List Check) (n : ℕ) → FirstFails cs n → listed n (check-numbers cs) ≡ true
-unfolding check-numbers listed
-fails-numbered [] n f = absurd f
-fails-numbered (c ∷ cs) n (inl f) = rw (eq-eqb n (c .number) (f .1))
-fails-numbered (c ∷ cs) n (inr f) = or-right (eqb n (c .number)) (fails-numbered cs n (f .1))
-  where
-    or-right : (x : Bool) {y : Bool} → y ≡ true → (x || y) ≡ true
-    or-right true e = refl
-    or-right false e = e
-
-pub refusal-listed : (ns : List ℕ) {cs : List Check} {n : ℕ} → all-listed (check-numbers cs) ns ≡ true → RefusalOf cs n → ¬ (n ≡ 0) → listed n ns ≡ true
-refusal-listed ns h (checks.RefusalOf.all-hold z held) k = absurd (k z)
-refusal-listed ns {cs} {n} h (checks.RefusalOf.first-fails z fails) k = listed-within (check-numbers cs) ns n h (fails-numbered cs n fails)
-
-numbered : (k : Step) (r : Register) (a : Class) → (all-listed (check-numbers (step-checks k r a)) (step-numbers k) && all-listed (step-numbers k) (check-numbers (step-checks k r a))) ≡ true
+numbered : (k : Step) (r : Register) (a : Class) → (among (step-checks k r a) (step-numbers k) && all-listed (step-numbers k) (check-numbers (step-checks k r a))) ≡ true
 unfolding step-numbers check-numbers all-listed listed
 numbered Commit r a = refl
 numbered Undo r a = refl
 
 module _ (k : Step) (r : Register) (a : Class) where
-  same-numbers : (all-listed (check-numbers (step-checks k r a)) (step-numbers k) ≡ true) × (all-listed (step-numbers k) (check-numbers (step-checks k r a)) ≡ true)
-  same-numbers = both (all-listed (check-numbers (step-checks k r a)) (step-numbers k)) (all-listed (step-numbers k) (check-numbers (step-checks k r a))) (numbered k r a)
+  same-numbers : (among (step-checks k r a) (step-numbers k) ≡ true) × (all-listed (step-numbers k) (check-numbers (step-checks k r a)) ≡ true)
+  same-numbers = both (among (step-checks k r a) (step-numbers k)) (all-listed (step-numbers k) (check-numbers (step-checks k r a))) (numbered k r a)
 
   pub step-listed : ¬ (step-refusal k r a ≡ 0) → listed (step-refusal k r a) (step-numbers k) ≡ true
   step-listed = refusal-listed (step-numbers k) (same-numbers .0) (step-checked k r a)

@@ -16,7 +16,7 @@ use lib.{Dec.eqb, Dec.leb, ListN.length, ListN.drop}
 use borrow.Author.Tests.{le-leb, leb-true, eq-eqb, eqb-true}
 use Rattle.binary_field.specs.Answer.{below}
 use Rattle.binary_field.proofs.Checking.{degree-checked, below-decides}
-pub use Rattle.binary_field.proofs.RefusalOf.{refusal-none, refusal-unless, refusal-or-else, refusal-held, held-refusal, refusal-number, among, fails-among, refusal-among}
+pub use Rattle.binary_field.proofs.RefusalOf.{refusal-none, refusal-unless, refusal-or-else, not-both, one-number, refusal-held, held-refusal, refusal-number, among, fails-among, refusal-among, refusal-listed, among-append}
 use Rattle.char2_algebra.specs.Divides.{Divides}
 use Rattle.char2_algebra.proofs.{Degree.len-zero, Degree.len-of-zero, Lead.monic-nonzero, Division.rem-of-divides, Division.divides-of-rem}
 use Rattle.class_group.specs.{Mumford.value, Reduction.Counted}

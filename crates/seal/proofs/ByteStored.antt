@@ -12,11 +12,11 @@ use Rattle.lists.specs.Lists.{All, none, more}
 use Rattle.jacobian.specs.{Refusals.IsRefusal, Classes.class-refusal, Answer.Verdict, Answer.accepted, Answer.refused, Answer.refusal, declared.Class.Class}
 use Rattle.jacobian.proofs.{ByValue.Checks.first-due, ByValue.Checks.next-due, Representation.accepts-both}
 use Rattle.history.specs.Register as register
-use Rattle.history.specs.{Register.RegisterReply, Register.ValidRegisterReply, Register.register-refusal, Register.step-refusal, Register.stepped, Register.follows, Register.step-answer, Machine.event, Machine.run, Machine.last, Machine.carried, Machine.Agrees}
+use Rattle.history.specs.{Register.RegisterReply, Register.register-refusal, Register.step-refusal, Register.stepped, Register.follows, Register.step-answer, Machine.event, Machine.run, Machine.last, Machine.carried, Machine.Agrees}
 use Rattle.history.specs.Calls as history
 use Rattle.history.specs.Calls.{answer, registers}
 use Rattle.history.specs.declared.{Register.Register, Step.Step}
-use Rattle.history.proofs.{Valid.step-valid, Registers.register-passes, Registers.follows-refused, OneCall.answer-curve, OneCall.refused-stays, Preserved.accepted-step}
+use Rattle.history.proofs.{Registers.register-passes, Registers.follows-refused, OneCall.answer-curve, OneCall.refused-stays, Preserved.accepted-step}
 use Rattle.history.proofs.Machine.Carried.{run-carried, last-carried}
 use Rattle.stored_form.specs.{Reading.refused as unread, Classes.curve-fields-bytes, Classes.decode-class, Classes.encode-class, Classes.class-field, Record.empty-record, Tags.rules, Reader.read-fields, Reader.read-record, Reader.register-layout}
 use Rattle.stored_form.proofs.Readings.{then-found, then-refused, checked-some}
@@ -101,10 +101,6 @@ stored-answers k stored c field room =
 
 -- ---- a list of calls
 
-valid-number : {given : Register} {x : RegisterReply} → ValidRegisterReply given x → (n : ℕ) → x .outcome ≡ refused n → IsRefusal n
-valid-number (register.ValidRegisterReply.acceptance next) n e = let z : _≡_ {A = ℕ} 0 1 = cc in absurd (omega arith)
-valid-number (register.ValidRegisterReply.refusal m i) n e = subst IsRefusal (ap (λ (v : Verdict). elim v [ accepted ↦ 0 | refused j ↦ j ]) e) i
-
 module _ (k : Kept) (stored : Stored k) (c : ByteStep) (field : class-field 0x44 (field-class (c .operation)) ≡ c .operation) (room : register-room ≤ length (c .output)) where
   abbrev g : Register
   g = decode-kept k
@@ -138,7 +134,7 @@ module _ (k : Kept) (stored : Stored k) (c : ByteStep) (field : class-field 0x44
           }
       go (refused n) e =
           let effect : step-effect k c ≡ refuse n (c .output) = stored-answers k stored c field room ∙ unwritten (c .output) x e in
-          let no : byte-steps .outcome k c ≡ refused n = ap (λ (y : Effect). outcome (y .answer)) effect ∙ outcome-refusal n (valid-number (step-valid (c .step) g (decode-step c .class)) n e) in
+          let no : byte-steps .outcome k c ≡ refused n = ap (λ (y : Effect). outcome (y .answer)) effect ∙ outcome-refusal n (step-refuses (c .step) g (decode-step c .class) n e) in
           let left = stays k c n no in
           record {
             outcome-is = no ∙ sym e;

@@ -18,7 +18,8 @@ use Rattle.history.proofs.Edges.{commit-below-limit, commit-at-limit, undo-at-z
 use Rattle.stored_form.specs.{Reading.found, Reading.refused as unread, Head.BytesAt, Fields.count-limit, Fields.count-field, Fields.ended, Classes.class-field, Record.empty-record, Reader.read-fields, Reader.read-record, Reader.curve-layout, Reader.register-layout, declared.Record.Record}
 use Rattle.stored_form.proofs.{Readings.then-found, Readings.then-refused, Readers.fields-append}
 use Rattle.stored_form_theorems.specs.{Checking.record-checks, Checking.record-values, Numbers.OneOf}
-use Rattle.stored_form_theorems.proofs.{RefusalNumbers.among, RefusalNumbers.fails-among, FieldEdges.count-of-1025}
+use Rattle.jacobian.proofs.Checking.{among, fails-among}
+use Rattle.stored_form_theorems.proofs.FieldEdges.{count-of-1025}
 use Rattle.written_form.specs.Effect.{Effect, refuse, write, EffectOf, all-hold, first-fails}
 use Rattle.written_form.proofs.{Effects.call-short, Effects.call-refused, Checking.every, Checking.every-one}
 use Rattle.seal.specs.Records.{register-fields}

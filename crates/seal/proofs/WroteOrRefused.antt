@@ -19,7 +19,7 @@ use Rattle.history.specs.declared.{Register.Register, Step.Step, Step.the-varia
 use Rattle.stored_form.specs.{Reading.Reading, Reading.found, Reading.refused as unread, Reader.read-record, Reader.class-layout, Reader.register-layout, declared.Record.Record}
 use Rattle.written_form.specs.Effect.{Effect, refuse, register-room, WroteOrRefused, AnswerDecides, longest-answer}
 use Rattle.stored_form_theorems.specs.Numbers.{ZeroOrOneOf, class-numbers}
-use Rattle.stored_form_theorems.proofs.RefusalNumbers.{refusal-among}
+use Rattle.jacobian.proofs.Checking.{refusal-among}
 use Rattle.stored_form.proofs.{Valid.ValidReading, Valid.record-valid, Valid.reading-valid, Valid.reading-found, Valid.found-reading}
 use Rattle.written_form.proofs.{Checking.every, WroteOrRefused.answer-decides, WroteOrRefused.never-both, Effects.call-refused}
 use Rattle.written_form.proofs.WroteOrRefused as told
@@ -52,7 +52,7 @@ module _ (s : List ℕ) where
 
 -- ---- the calls
 
-step-refuses : (k : Step) (g : Register) (a : Class) (n : ℕ) → step-answer k g a .outcome ≡ refused n → IsRefusal n
+pub step-refuses : (k : Step) (g : Register) (a : Class) (n : ℕ) → step-answer k g a .outcome ≡ refused n → IsRefusal n
 unfolding step-answer
 step-refuses k g a n e = refused-valid (step-refusal k g a) n (step-refusal-valid k g a) (sym (follows-verdict (step-refusal k g a) g (stepped k g a)) ∙ e)
 
@@ -66,7 +66,7 @@ wrote-or-refused Call.Commit s out = told.wrote-or-refused (numbers Call.Commit)
 wrote-or-refused Call.Undo s out = told.wrote-or-refused (numbers Call.Undo) refl (call-checked Call.Undo s out)
 wrote-or-refused (Stamp n) s out = told.wrote-or-refused (numbers (Stamp n)) refl (call-checked (Stamp n) s out)
 
-lengths-low : (call : Call) → (every (λ n. leb n longest-answer) (lengths call) ≡ true) × (every (λ n. ltb longest-answer n) (numbers call) ≡ true)
+pub lengths-low : (call : Call) → (every (λ n. leb n longest-answer) (lengths call) ≡ true) × (every (λ n. ltb longest-answer n) (numbers call) ≡ true)
 lengths-low Opposite = (refl, refl)
 lengths-low Double = (refl, refl)
 lengths-low Half = (refl, refl)

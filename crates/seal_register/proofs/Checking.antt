@@ -12,11 +12,11 @@ use Prim.Native.Nat.{ℕ}
 use mathlib.Core.{Path._≡_, Path.refl, Path.sym, Path._∙_, Path.ap, Path.subst, Bool.true, List.List, List.[], List._∷_, List._++_}
 use lib.ListN.{length}
 use Rattle.jacobian.specs.{Checks.RefusalOf, Refusals.listed, Curves.curve-refusal, Classes.class-refusal, Checking.curve-checks, Checking.class-checks, Answer.neutral-class, Answer.Result, declared.Curve.Curve, declared.Class.Class}
-use Rattle.jacobian.proofs.Checking.{curve-checked, class-checked, refusal-none, refusal-or-else, refusal-held}
+use Rattle.jacobian.proofs.Checking.{curve-checked, class-checked, refusal-none, refusal-or-else, refusal-held, among, refusal-listed}
 use Rattle.count_limit.specs.{Limit.count-refusal, Checking.count-check}
 use Rattle.count_limit.proofs.Checking.{count-checked}
 use Rattle.history.specs.{Register.RegisterReply, Register.stepped, Register.step-refusal, Register.step-answer, Calls.Call, Calls.answer, Calls.walk-back, Checking.step-checks, Checking.check-numbers, Checking.step-numbers, Checking.CheckedAnswer, declared.Register.Register}
-use Rattle.history.proofs.{Registers.follows-outcome, Registers.follows-refused, Answers.sealed-outcome, Checking.step-checked, Checking.step-listed, Checking.all-listed, Checking.listed-within, Checking.refusal-listed}
+use Rattle.history.proofs.{Registers.follows-outcome, Registers.follows-refused, Answers.sealed-outcome, Checking.step-checked, Checking.step-listed, Checking.all-listed, Checking.listed-within}
 use Rattle.seal_register.specs.{InPlace.in-place, RowWalk.classes-refusal, RowWalk.row-refusal, RowWalk.reached, RowWalk.row-walk-answer, Checking.classes-checks, Checking.row-checks, Checking.row-numbers, declared.walk.RowWalk.RowWalk}
 use Rattle.seal_register.proofs.{Answer.verdict-number, RowSteps.refused-is}
 
@@ -43,7 +43,7 @@ module _ (c : Curve) where
   classes-checked ok [] = refusal-none
   classes-checked ok (a ∷ ops) = refusal-or-else (class-checks c a) (classes-checks c ops) (class-refusal c a) _ (class-checked c a ok) (λ h. classes-checked ok ops)
 
-  classes-numbered : (ops : List Class) → all-listed (check-numbers (classes-checks c ops)) row-numbers ≡ true
+  classes-numbered : (ops : List Class) → among (classes-checks c ops) row-numbers ≡ true
   unfolding all-listed check-numbers row-numbers listed
   classes-numbered [] = refl
   classes-numbered (a ∷ ops) = classes-numbered ops

@@ -20,6 +20,5 @@ pub mod Operations
 -- The checks of a record, each under its condition; which numbers they refuse with; the lengths that are written.
 pub mod CheckedReadings
 pub mod Checking
-pub mod RefusalNumbers
 pub mod ClassLengths
 pub mod FieldEdges

@@ -2,21 +2,19 @@
 -- `outcome-low`, `accepted-low`: an answer is an acceptance exactly if it is not above `longest-answer`.
 -- `outcome-refusal`: the number of a refusal stands for that refusal.
 -- `wrote-write`, `wrote-refuse`: writing wrote its bytes, and a refusal wrote none.
--- `given-whatever-output`: a call with room gives the response for its record, whatever the lent output holds.
-use Prim.Native.Nat.{ℕ, _≤_}
+-- `same-given`: a call that makes the same checks on two outputs with room gives the same response, whatever they hold.
+use Prim.Native.Nat.{ℕ, _≤_, _<_}
 use mathlib.Core.Path.{_≡_, refl, sym, ap, _∙_}
 use mathlib.Core.Bool.{Bool, true, false, cond}
-use mathlib.Core.List.{List, []}
+use mathlib.Core.{List.List, List.[], List._∷_, Logic._⊎_, Logic.inl, Logic.inr}
 use native.Mathlib.Omega.{arith}
-use lib.{Dec.ltb, ListN.length, ListN.take, Seq.take-append-seam}
-use borrow.Author.Tests.{ltb-false, le-ltb, lt-ltb}
-use Rattle.jacobian.specs.{Refusals.IsRefusal, Answer.Verdict, Answer.accepted, Answer.refused as said-no}
-use Rattle.jacobian.proofs.Refusals.{above-100}
-use Rattle.stored_form.specs.{Reading.Reading, Reading.found, Reading.refused, Reader.read-record, declared.Record.Record}
-use Rattle.stored_form.proofs.Valid.{ValidReading, record-valid}
-use Rattle.written_form.specs.Effect.{Response, response, refuse, write, refusal-response, on-reading, put, byte-call, ValidResponse, bytes, number, longest-answer}
+use lib.{Dec.ltb, Dec.leb, ListN.length, ListN.take, Seq.take-append-seam}
+use borrow.Author.Tests.{ltb-true, ltb-false, le-ltb, lt-ltb, leb-true}
+use Rattle.jacobian.specs.{Checks.Check, Checks.check, Checks.AllHold, Checks.FirstFails, Refusals.IsRefusal, Answer.Verdict, Answer.accepted, Answer.refused as said-no}
+use Rattle.jacobian.proofs.{Refusals.above-100, Checking.not-both, Checking.one-number, Checking.among, Checking.fails-among}
+use Rattle.written_form.specs.Effect.{Effect, response, refuse, write, bytes-response, refusal-response, EffectOf, all-hold, first-fails, longest-answer}
 use Rattle.written_form.specs.Wrote.{outcome, wrote, response-given}
-use Rattle.written_form.proofs.Effects.{put-written, put-refusal, call-refused, call-found}
+use Rattle.written_form.proofs.Checking.{every, every-one}
 
 -- ---- the outcome
 
@@ -32,9 +30,12 @@ accepted-low n e = go (ltb longest-answer n) refl e
     go true is e = let z : _≡_ {A = ℕ} 0 1 = cc in absurd (omega arith)
     go false is e = ltb-false longest-answer n is
 
-pub outcome-refusal : (n : ℕ) → IsRefusal n → outcome n ≡ said-no n
+outcome-high : (n : ℕ) → longest-answer < n → outcome n ≡ said-no n
 unfolding outcome
-outcome-refusal n i = ap (λ (b : Bool). cond b (said-no n) accepted) (lt-ltb longest-answer n (above-100 n i))
+outcome-high n high = ap (λ (b : Bool). cond b (said-no n) accepted) (lt-ltb longest-answer n high)
+
+pub outcome-refusal : (n : ℕ) → IsRefusal n → outcome n ≡ said-no n
+outcome-refusal n i = outcome-high n (above-100 n i)
 
 -- ---- the bytes
 
@@ -43,35 +44,38 @@ unfolding wrote write
 wrote-write xs out low =
     ap (λ (v : Verdict). elim v [ accepted ↦ take (length xs) (write xs out .output) | said-no n ↦ [] ]) (outcome-low (length xs) low) ∙ take-append-seam xs _
 
-pub wrote-refuse : (n : ℕ) (out : List ℕ) → IsRefusal n → wrote (refuse n out) ≡ []
+pub wrote-refuse : (n : ℕ) (out : List ℕ) → longest-answer < n → wrote (refuse n out) ≡ []
 unfolding wrote refuse
-wrote-refuse n out i = ap (λ (v : Verdict). elim v [ accepted ↦ take n out | said-no m ↦ [] ]) (outcome-refusal n i)
+wrote-refuse n out high = ap (λ (v : Verdict). elim v [ accepted ↦ take n out | said-no m ↦ [] ]) (outcome-high n high)
 
 given-write : (xs out : List ℕ) → length xs ≤ longest-answer → response-given (write xs out) ≡ response (length xs) xs
 unfolding write
 given-write xs out low = ap (response (length xs)) (wrote-write xs out low)
 
-given-refuse : (n : ℕ) (out : List ℕ) → IsRefusal n → response-given (refuse n out) ≡ refusal-response n
+given-refuse : (n : ℕ) (out : List ℕ) → longest-answer < n → response-given (refuse n out) ≡ refusal-response n
 unfolding refuse
-given-refuse n out i = ap (response n) (wrote-refuse n out i)
+given-refuse n out high = ap (response n) (wrote-refuse n out high)
 
--- ---- a call
+-- ---- two outputs
 
--- a valid response that is written is what the call gave
-given-put : {most : ℕ} (o : Response) (out : List ℕ) → most ≤ longest-answer → most ≤ length out → ValidResponse most o → response-given (put o out) ≡ o
-given-put o out low fits (bytes xs short e) =
-    ap (λ (x : Response). response-given (put x out)) e ∙ ap response-given (put-written xs out (omega arith)) ∙ given-write xs out (omega arith) ∙ sym e
-given-put o out low fits (number n i e) =
-    ap (λ (x : Response). response-given (put x out)) e ∙ ap response-given (put-refusal n out) ∙ given-refuse n out i ∙ sym e
+-- what a call with room gives, by its checks after that of the room
+given-of : {P : Type 0} (cs : List Check) (lengths numbers bytes out : List ℕ) {e : Effect} → every (λ n. leb n longest-answer) lengths ≡ true → every (λ n. ltb longest-answer n) numbers ≡ true →
+    among cs numbers ≡ true → P → EffectOf (check 101 P ∷ cs) lengths bytes out e →
+    (AllHold cs × (response-given e ≡ bytes-response bytes)) ⊎ ((n : ℕ) × FirstFails cs n × (response-given e ≡ refusal-response n))
+given-of cs lengths numbers bytes out low high told p (all-hold held one is) =
+    inl (held .1, ap response-given is ∙ given-write bytes out (leb-true (length bytes) longest-answer (every-one (λ n. leb n longest-answer) lengths (length bytes) low one)))
+given-of cs lengths numbers bytes out low high told p (first-fails n (inl f) is) = absurd (f .0 p)
+given-of cs lengths numbers bytes out low high told p (first-fails n (inr f) is) =
+    inr (n, f .1, ap response-given is ∙ given-refuse n out (ltb-true longest-answer n (every-one (λ m. ltb longest-answer m) numbers n high (fails-among cs numbers n told (f .1)))))
 
-pub given-whatever-output : {most : ℕ} (tags : List ℕ) (answer : Record → Response) (s out : List ℕ) → most ≤ longest-answer
-    → ((h : Record) (end : ℕ) → read-record tags s ≡ found h end → ValidResponse most (answer h)) → most ≤ length out
-    → response-given (byte-call most tags answer s out) ≡ on-reading (read-record tags s) answer
-unfolding ValidReading on-reading
-given-whatever-output {most} tags answer s out low valid fits = go (read-record tags s) refl (record-valid tags s)
+pub same-given : {P P' : Type 0} (cs : List Check) (lengths numbers bytes out out' : List ℕ) {e e' : Effect} → every (λ n. leb n longest-answer) lengths ≡ true → every (λ n. ltb longest-answer n) numbers ≡ true →
+    among cs numbers ≡ true → P → P' → EffectOf (check 101 P ∷ cs) lengths bytes out e → EffectOf (check 101 P' ∷ cs) lengths bytes out' e' → response-given e ≡ response-given e'
+same-given cs lengths numbers bytes out out' {e} {e'} low high told p p' does does' =
+    by (given-of cs lengths numbers bytes out low high told p does) (given-of cs lengths numbers bytes out' low high told p' does')
   where
-    go : (x : Reading Record) → read-record tags s ≡ x → ValidReading x → response-given (byte-call most tags answer s out) ≡ on-reading (read-record tags s) answer
-    go (found h end) e t =
-        ap response-given (call-found most tags answer s out fits e) ∙ given-put (answer h) out low fits (valid h end e) ∙ ap (λ (x : Reading Record). on-reading x answer) (sym e)
-    go (refused n) e t =
-        ap response-given (call-refused most tags answer s out fits e) ∙ given-refuse n out t ∙ ap (λ (x : Reading Record). on-reading x answer) (sym e)
+    by : (AllHold cs × (response-given e ≡ bytes-response bytes)) ⊎ ((n : ℕ) × FirstFails cs n × (response-given e ≡ refusal-response n)) →
+        (AllHold cs × (response-given e' ≡ bytes-response bytes)) ⊎ ((n : ℕ) × FirstFails cs n × (response-given e' ≡ refusal-response n)) → response-given e ≡ response-given e'
+    by (inl h) (inl k) = h .1 ∙ sym (k .1)
+    by (inl h) (inr k) = absurd (not-both cs (k .0) (h .0) (k .1))
+    by (inr h) (inl k) = absurd (not-both cs (h .0) (k .0) (h .1))
+    by (inr h) (inr k) = h .2 ∙ ap refusal-response (one-number cs (h .0) (k .0) (h .1) (k .1)) ∙ sym (k .2)

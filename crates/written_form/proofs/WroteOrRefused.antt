@@ -11,7 +11,7 @@ use borrow.Author.Tests.{leb-true, ltb-true}
 use Rattle.jacobian.specs.{Checks.Check, Checks.check, Refusals.IsRefusal, Refusals.listed}
 use Rattle.jacobian.proofs.Refusals.{above-100}
 use Rattle.stored_form_theorems.specs.Numbers.{OneOf}
-use Rattle.stored_form_theorems.proofs.RefusalNumbers.{among, fails-among}
+use Rattle.jacobian.proofs.Checking.{among, fails-among}
 use Rattle.written_form.specs.Effect.{Effect, write, refuse, EffectOf, all-hold, first-fails, WroteOrRefused, wrote, kept, AnswerDecides, longest-answer}
 use Rattle.written_form.proofs.Checking.{every, every-one}
 
