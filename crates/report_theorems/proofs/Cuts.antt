@@ -1,8 +1,10 @@
 -- Texts cut at a byte, and bytes that a text is without.
--- `before-at`, `after-at`, `before-all`, `after-all`: what stands before and after the first of a byte, and where there is none.
+-- `before-at`, `after-at`: what stands before and after the first of a byte.
+-- `before-all`, `after-all`: the same where there is none.
 -- `printable-without`: printable bytes are without 0x0A.
 -- `end`, `blank`, `comma`, `colon`: no digit is one of these.
--- `decimal-without`, `hexadecimal-without`, `row-without`, `class-without`: so the texts of numbers, rows and classes are without them.
+-- `decimal-without`, `hexadecimal-without`, `row-without`, `class-without`: so the texts of numbers, rows and classes
+--   are without them.
 use Prim.Native.Nat.{ℕ, zero, suc, _+_, _/_, _%_, _≤_, _<_}
 use mathlib.Core.Path.{_≡_, refl, ap}
 use mathlib.Core.Bool.{Bool, true, false, cond, _&&_}

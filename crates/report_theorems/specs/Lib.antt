@@ -1,4 +1,4 @@
--- Archives that keep what a list of calls leaves, what the report's lines and letters say, and lines with shifted offsets.
+-- Archives that keep what a list of calls leaves, what the report's lines and letters say, lines with shifted offsets.
 pub mod Demand3
 pub mod Letters
 pub mod Numerals

@@ -1,5 +1,5 @@
 -- `main` is safe and ends: each turn leaves fewer lines to write.
--- At every turn the lines made so far, and then those to come, are the report of the bytes read; none is left at the end.
+-- At every turn the lines made so far, and then those to come, are the report of the bytes read.
 use mathlib.Core.Path.{sym, subst, _∙_}
 use Prim.Native.Nat.{_<_}
 use borrow.Author.Needs.{needs}
