@@ -13,9 +13,10 @@
 -- `last-stored`: so is what is kept after the list.
 use Prim.Native.Nat.{ℕ, _≤_}
 use mathlib.Core.Path.{_≡_, refl, sym, ap, ap₂, _∙_, subst}
-use mathlib.Core.List.{List, [], _∷_, _++_, map, map-map}
+use mathlib.Core.{Bool.true, List.List, List.[], List._∷_, List._++_, List.map, List.map-map}
 use native.Mathlib.Omega.{arith}
-use lib.Dec.{lit≤}
+use lib.Dec.{leb, lit≤}
+use borrow.Author.Tests.{leb-true}
 use lib.ListN.{length, getD, take, drop, replicate, length-append, length-drop}
 use Rattle.lists.specs.{Lists.All, Lists.none, Lists.more, Walk.foldl}
 use Rattle.jacobian.specs.{Answer.Verdict, Answer.accepted, Answer.refused}
@@ -27,6 +28,7 @@ use Rattle.history.proofs.Machine.TakingBack as law
 use Rattle.stored_form.specs.Number.{Bytes}
 use Rattle.written_form.specs.{Effect.Effect, Effect.Response, Effect.WroteOrRefused, Effect.refuse, Effect.write, Effect.register-room, Wrote.outcome}
 use Rattle.written_form.specs.Effect as effects
+use Rattle.written_form.proofs.Checking.{every, every-one}
 use Rattle.seal.specs.Calls.{step-call}
 use Rattle.seal.specs.declared.calls.Call.the-variants as Call
 use Rattle.seal.specs.Steps.{Kept, ByteStep, step-effect, next, byte-steps, RegisterRooms, Request, request, back, backs, TakesBack, with-buffer, InStoredForm}
@@ -180,19 +182,17 @@ module _ (k : Kept) (form : InStoredForm k) (cs : List ByteStep) (bytes : All (�
 
 -- ---- one buffer for all calls
 
+wrote-length : {least : ℕ} {lengths numbers out : List ℕ} {e : Effect} → every (λ n. leb n least) lengths ≡ true → WroteOrRefused least lengths numbers out e → length (e .output) ≡ length out
+unfolding write refuse
+wrote-length {least} {lengths} {out = out} low (effects.wrote xs one fits e) =
+    let short = leb-true (length xs) least (every-one (λ n. leb n least) lengths (length xs) low one) in
+    ap (λ (x : Effect). length (x .output)) e ∙ length-append xs (drop (length xs) out) ∙ omega (arith, length-drop (length xs) out)
+wrote-length low (effects.kept n i e) = ap (λ (x : Effect). length (x .output)) e
+
 -- a call leaves an output as long as it was
 output-length : (k : Step) (s out : List ℕ) → length (step-call k s out .output) ≡ length out
-unfolding write refuse
-output-length k s out = by (valid k)
-  where
-    valid : (j : Step) → WroteOrRefused register-room out (step-call j s out)
-    valid Commit = wrote-or-refused Call.Commit s out
-    valid Undo = wrote-or-refused Call.Undo s out
-
-    by : {e : Effect} → WroteOrRefused register-room out e → length (e .output) ≡ length out
-    by (effects.wrote xs short fits e) =
-        ap (λ (x : Effect). length (x .output)) e ∙ length-append xs (drop (length xs) out) ∙ omega (arith, length-drop (length xs) out)
-    by (effects.kept n i e) = ap (λ (x : Effect). length (x .output)) e
+output-length Commit s out = wrote-length refl (wrote-or-refused Call.Commit s out)
+output-length Undo s out = wrote-length refl (wrote-or-refused Call.Undo s out)
 
 buffer-requests : (k : Kept) (buffer : List ℕ) (qs : List Request) → map request (with-buffer k buffer qs) ≡ qs
 unfolding with-buffer

@@ -24,7 +24,7 @@ use Rattle.written_form.specs.{Effect.Effect, Effect.write, Effect.refuse, Effe
 use Rattle.written_form.proofs.Wrote.{outcome-refusal}
 use Rattle.seal.specs.{Records.register-fields, Records.register-record-bytes, Records.RegisterStored, Records.register-values, Calls.register-response, Calls.step-call}
 use Rattle.seal.specs.Steps.{Kept, ByteStep, step-effect, next, byte-steps, RegisterRooms, kept, field-class, decode-kept, decode-step, decoded, Stored, StoredOperations}
-use Rattle.seal.proofs.{Written.register-record-back, Decoding.body-of, Decoding.of-bodies, Decoding.kept-decoded, Decoding.decode-stored, Decoding.in-stored-form, KeptFields.before, KeptFields.before-tags, KeptFields.before-values, KeptFields.before-read, KeptFields.passing}
+use Rattle.seal.proofs.{WroteOrRefused.step-refuses, Written.register-record-back, Decoding.body-of, Decoding.of-bodies, Decoding.kept-decoded, Decoding.decode-stored, Decoding.in-stored-form, KeptFields.before, KeptFields.before-tags, KeptFields.before-values, KeptFields.before-read, KeptFields.passing}
 use Rattle.seal.proofs.{ByteRegister.of-record, ByteRegister.unwritten, ByteRegister.step-written, ByteRegister.follows-fits, StoredFields.fields-split, StoredFields.field-read, StoredFields.class-allowed, ByteFailing.call-unread, ByteFailing.register-fails, ByteFailing.failing-effect, OneByteStep.write-leaves, OneByteStep.refused-stays as stays}
 
 -- ---- one call
