@@ -23,7 +23,7 @@ use Rattle.stored_form.specs.{Reading.found, Reading.refused as unread, Head.cl
 use Rattle.stored_form_theorems.specs.{Checking.record-checks, Checking.record-values, Numbers.class-field-lengths}
 use Rattle.stored_form_theorems.proofs.Checking.{record-found}
 use Rattle.written_form.specs.Effect.{refuse, class-response, EffectOf, WroteOrRefused, AnswerDecides}
-use Rattle.written_form.proofs.{Effects.call-refused, Effects.answer-refused, Checking.ResponseOf, Checking.class-responds, Checking.call-checked, WroteOrRefused.wrote-or-refused, WroteOrRefused.answer-decides}
+use Rattle.written_form.proofs.{Effects.call-refused, Effects.answer-refused, Checking.ResponseOf, Checking.class-responds, Checking.call-checked, WroteOrRefused.call-wrote-or-refused, WroteOrRefused.answer-decides}
 use Rattle.seal.proofs.{Passing.class-holds, ClassCalls.class-call}
 use Rattle.seal_licence.specs.Multiples.{multiple-limit, halvings-limit, refuses, given, multiple-refusal, halvings-refusal, multiple-answer, halvings-answer}
 use Rattle.seal_licence.specs.Calls.{answered, multiple-call, halvings-call}
@@ -83,11 +83,11 @@ halvings-checked k s out = call-checked class-room class-layout (λ h. class-res
 
 pub multiple-wrote-or-refused : (n : ℕ) (s out : List ℕ) → WroteOrRefused class-room class-field-lengths multiple-numbers out (multiple-call n s out)
 unfolding listed
-multiple-wrote-or-refused n s out = wrote-or-refused multiple-numbers refl (multiple-checked n s out)
+multiple-wrote-or-refused n s out = call-wrote-or-refused multiple-numbers refl (multiple-checked n s out)
 
 pub halvings-wrote-or-refused : (k : ℕ) (s out : List ℕ) → WroteOrRefused class-room class-field-lengths halvings-numbers out (halvings-call k s out)
 unfolding listed
-halvings-wrote-or-refused k s out = wrote-or-refused halvings-numbers refl (halvings-checked k s out)
+halvings-wrote-or-refused k s out = call-wrote-or-refused halvings-numbers refl (halvings-checked k s out)
 
 pub multiple-decides : (n : ℕ) (s out : List ℕ) → AnswerDecides class-room class-field-lengths multiple-numbers out (multiple-call n s out)
 multiple-decides n s out = answer-decides refl refl (multiple-wrote-or-refused n s out)

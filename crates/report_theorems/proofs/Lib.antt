@@ -1,4 +1,5 @@
--- The report that the loop makes, what its lines say and how they end; an archive's walk; demand 3 for archives.
+-- The report that the loop makes, what its lines say and how they end; the report of a refused archive; an archive's
+-- walk; demand 3 for archives.
 pub mod Digits
 pub mod Cuts
 pub mod Parse
@@ -11,6 +12,7 @@ pub mod Printed
 pub mod Letters
 pub mod ReportSays
 pub mod Through
+pub mod RefusedReport
 pub mod Kept
 pub mod Demand3
 pub mod Displacement

@@ -21,8 +21,7 @@ use Rattle.written_form.specs.Effect.{Effect, refuse, register-room, WroteOrRef
 use Rattle.stored_form_theorems.specs.Numbers.{ZeroOrOneOf, class-numbers}
 use Rattle.jacobian.proofs.Checking.{refusal-among}
 use Rattle.stored_form.proofs.{Valid.ValidReading, Valid.record-valid, Valid.reading-valid, Valid.reading-found, Valid.found-reading}
-use Rattle.written_form.proofs.{Checking.every, WroteOrRefused.answer-decides, WroteOrRefused.never-both, Effects.call-refused}
-use Rattle.written_form.proofs.WroteOrRefused as told
+use Rattle.written_form.proofs.{Checking.every, WroteOrRefused.call-wrote-or-refused, WroteOrRefused.answer-decides, WroteOrRefused.never-both, Effects.call-refused}
 use Rattle.seal.specs.Calls.{register, membership-call, tags, room, called, step-call}
 use Rattle.seal.specs.Checking.{numbers, lengths}
 use Rattle.seal.specs.declared.calls.Call.{Call}
@@ -58,13 +57,13 @@ step-refuses k g a n e = refused-valid (step-refusal k g a) n (step-refusal-vali
 
 pub wrote-or-refused : (call : Call) (s out : List ℕ) → WroteOrRefused (room call) (lengths call) (numbers call) out (called call s out)
 unfolding listed
-wrote-or-refused Opposite s out = told.wrote-or-refused (numbers Opposite) refl (call-checked Opposite s out)
-wrote-or-refused Double s out = told.wrote-or-refused (numbers Double) refl (call-checked Double s out)
-wrote-or-refused Half s out = told.wrote-or-refused (numbers Half) refl (call-checked Half s out)
-wrote-or-refused Sum s out = told.wrote-or-refused (numbers Sum) refl (call-checked Sum s out)
-wrote-or-refused Call.Commit s out = told.wrote-or-refused (numbers Call.Commit) refl (call-checked Call.Commit s out)
-wrote-or-refused Call.Undo s out = told.wrote-or-refused (numbers Call.Undo) refl (call-checked Call.Undo s out)
-wrote-or-refused (Stamp n) s out = told.wrote-or-refused (numbers (Stamp n)) refl (call-checked (Stamp n) s out)
+wrote-or-refused Opposite s out = call-wrote-or-refused (numbers Opposite) refl (call-checked Opposite s out)
+wrote-or-refused Double s out = call-wrote-or-refused (numbers Double) refl (call-checked Double s out)
+wrote-or-refused Half s out = call-wrote-or-refused (numbers Half) refl (call-checked Half s out)
+wrote-or-refused Sum s out = call-wrote-or-refused (numbers Sum) refl (call-checked Sum s out)
+wrote-or-refused Call.Commit s out = call-wrote-or-refused (numbers Call.Commit) refl (call-checked Call.Commit s out)
+wrote-or-refused Call.Undo s out = call-wrote-or-refused (numbers Call.Undo) refl (call-checked Call.Undo s out)
+wrote-or-refused (Stamp n) s out = call-wrote-or-refused (numbers (Stamp n)) refl (call-checked (Stamp n) s out)
 
 pub lengths-low : (call : Call) → (every (λ n. leb n longest-answer) (lengths call) ≡ true) × (every (λ n. ltb longest-answer n) (numbers call) ≡ true)
 lengths-low Opposite = (refl, refl)

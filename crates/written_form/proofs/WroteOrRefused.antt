@@ -1,5 +1,5 @@
 -- A call on byte areas wrote or refused (docs/SPECIFICATION.md, 6 and 7).
--- `wrote-or-refused`: a call with these checks wrote bytes of one of its lengths, or refused with one of its numbers.
+-- `call-wrote-or-refused`: a call with these checks wrote bytes of one of its lengths, or refused with one of its numbers.
 -- `answer-decides`: then the answer alone decides which of the two.
 -- `never-both`: no length that a call writes is the number of a refusal.
 -- `answer-never-117`: a call among whose numbers 117 is not does not answer it.
@@ -15,10 +15,10 @@ use Rattle.jacobian.proofs.Checking.{among, fails-among}
 use Rattle.written_form.specs.Effect.{Effect, write, refuse, EffectOf, all-hold, first-fails, WroteOrRefused, wrote, kept, AnswerDecides, longest-answer}
 use Rattle.written_form.proofs.Checking.{every, every-one}
 
-pub wrote-or-refused : {least : ℕ} {checks : List Check} {lengths bytes out : List ℕ} {e : Effect} (numbers : List ℕ) → among (check 101 (least ≤ length out) ∷ checks) numbers ≡ true →
+pub call-wrote-or-refused : {least : ℕ} {checks : List Check} {lengths bytes out : List ℕ} {e : Effect} (numbers : List ℕ) → among (check 101 (least ≤ length out) ∷ checks) numbers ≡ true →
     EffectOf (check 101 (least ≤ length out) ∷ checks) lengths bytes out e → WroteOrRefused least lengths numbers out e
-wrote-or-refused {bytes = bytes} numbers told (all-hold held one is) = wrote bytes one (held .0) is
-wrote-or-refused {least} {checks} {out = out} numbers told (first-fails n fails is) = kept n (fails-among (check 101 (least ≤ length out) ∷ checks) numbers n told fails) is
+call-wrote-or-refused {bytes = bytes} numbers told (all-hold held one is) = wrote bytes one (held .0) is
+call-wrote-or-refused {least} {checks} {out = out} numbers told (first-fails n fails is) = kept n (fails-among (check 101 (least ≤ length out) ∷ checks) numbers n told fails) is
 
 pub answer-decides : {least : ℕ} {lengths numbers out : List ℕ} {e : Effect} → every (λ n. leb n longest-answer) lengths ≡ true → every (λ n. ltb longest-answer n) numbers ≡ true →
     WroteOrRefused least lengths numbers out e → AnswerDecides least lengths numbers out e
