@@ -11,7 +11,7 @@ use Rattle.stored_form.specs.{Reading.Reading, Reading.found, Reading.refused, 
 use Rattle.stored_form.specs.{Reader.read-field, Reader.read-fields, Reader.read-operations, Reader.header-layout, declared.Record.Record}
 use Rattle.stored_form.proofs.{Readings.then-assoc, Readings.same-found, Readings.found-refusal, Readings.same-refusal, Readers.fields-append}
 use Rattle.stored_form_theorems.specs.{Checking.fields-checks, Checking.with-field-at, Checking.after-field, Numbers.ZeroOrOneOf}
-use Rattle.stored_form_theorems.proofs.{CheckedReadings.Reads, CheckedReadings.then-reads, Checking.first-read, Checking.end-reads}
+use Rattle.stored_form_theorems.proofs.{CheckedReadings.then-reads, Checking.first-read, Checking.end-reads}
 use Rattle.jacobian.proofs.Checking.{among, among-append, refusal-among}
 use Rattle.archive.specs.Archive.{Tail, read-tail, archive-of, read-archive, archive-refusal}
 use Rattle.archive_theorems.specs.Checking.{count-said, archive-layout, operations-end, tail-checks, archive-checks, archive-numbers}

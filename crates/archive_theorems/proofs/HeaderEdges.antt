@@ -6,8 +6,8 @@ use Prim.Native.Nat.{ℕ, _+_, _≤_}
 use mathlib.Core.Path.{_≡_, refl, ap, sym, _∙_}
 use mathlib.Core.List.{List, [], _∷_, _++_}
 use lib.ListN.{length, getD}
-use Rattle.stored_form.specs.{Reading.found, Reading.refused, Reading._then_, Reading.reading-refusal, Head.BytesAt, Head.body-length, Record.empty-record}
-use Rattle.stored_form.specs.{Reader.curve-layout, Reader.header-layout, Reader.read-field, Reader.read-fields, declared.Record.Record}
+use Rattle.stored_form.specs.{Reading.found, Reading.refused, Reading.reading-refusal, Head.BytesAt, Head.body-length, Record.empty-record}
+use Rattle.stored_form.specs.{Reader.header-layout, Reader.read-field, Reader.read-fields, declared.Record.Record}
 use Rattle.stored_form.proofs.{Readings.then-found, Readings.then-refused, Readers.fields-append}
 use Rattle.stored_form_theorems.proofs.FieldEdges.{count-of-1025, drawing-of-39}
 use Rattle.archive.specs.Archive.{read-archive, archive-refusal}

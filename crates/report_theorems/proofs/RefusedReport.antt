@@ -2,7 +2,7 @@
 -- `refused-report`: it is one line, that of the archive's refusal.
 -- `refused-number`: whose number is one of 102 to 112.
 use Prim.Native.Nat.{ℕ}
-use mathlib.Core.{Path._≡_, Path.refl, Path.ap, List.List, List.[], List._∷_, Logic.inl, Logic.inr}
+use mathlib.Core.{Path._≡_, Path.refl, List.List, List.[], List._∷_, Logic.inl, Logic.inr}
 use Rattle.stored_form.specs.Reading.{Reading, found, refused, reading-refusal}
 use Rattle.stored_form_theorems.specs.Numbers.{OneOf}
 use Rattle.archive.specs.Archive.{Archive, read-archive, archive-refusal}

@@ -3,11 +3,11 @@
 -- `call-checked`: every other call refuses with 101 of the output, then as its record does, then with 113 to 116 of its
 -- values, and no byte changes; where no check fails, it writes its bytes, whose length is one of its lengths.
 use Prim.Native.Nat.{ℕ, zero, suc, _+_, _-_, _*_, _^_, _≤_, _<_}
-use mathlib.Core.{Path._≡_, Path.refl, Path.sym, Path.ap, Path.subst, Path._∙_, Bool.Bool, Bool.true, Bool.false, Bool.cond, Bool.false≢true, List.List, List.[], List._∷_, Logic._↔_, Logic._⊎_, Logic.inl, Logic.inr, Option.Option, Option.none, Option.some}
+use mathlib.Core.{Path._≡_, Path.refl, Path.sym, Path.ap, Path.subst, Bool.Bool, Bool.true, Bool.false, Bool.cond, Bool.false≢true, List.List, List.[], List._∷_, Logic._↔_, Logic._⊎_, Logic.inl, Logic.inr, Option.Option, Option.none, Option.some}
 use native.Mathlib.Omega.{arith}
 use lib.{Dec.eqb, Dec.ltb, Dec.leb, ListN.length}
 use borrow.Author.Tests.{eqb-true, eqb-false, ltb-true, ltb-false, lt-ltb}
-use Rattle.jacobian.specs.{Checks.Check, Checks.check, Checks.unless, Checks._or-else_, Checks.AllHold, Checks.RefusalOf, Refusals.listed, Curves.f-row, Curves.curve-refusal, Answer.Result, Answer.Verdict, Answer.accepted, Answer.refused, Answer.result, Answer.verdict-of, declared.Curve.Curve, declared.Class.Class}
+use Rattle.jacobian.specs.{Checks.Check, Checks.check, Checks.unless, Checks._or-else_, Checks.AllHold, Checks.RefusalOf, Refusals.listed, Curves.f-row, Curves.curve-refusal, Answer.Result, Answer.accepted, Answer.refused, Answer.result, Answer.verdict-of, declared.Curve.Curve, declared.Class.Class}
 use Rattle.jacobian.proofs.{Checking.refusal-none, Checking.refusal-unless, Checking.refusal-or-else, Representation.accepts-curve, Representation.accepts-class, Representation.accepts-both}
 use Rattle.count_limit.proofs.Limit.{within-limit}
 use Rattle.history.specs.Register.{register-refusal, edge, edge-refusal, step-refusal, stepped, RegisterReply, follows, step-answer}
@@ -15,7 +15,7 @@ use Rattle.history.specs.declared.{Register.Register, Step.Step, Step.the-varia
 use Rattle.history.proofs.{Registers.step-passes, Registers.follows-zero, OneStep.stepped-passes}
 use Rattle.stamps.specs.Stamps.{first-class, stamp-refusal, stamped, stamp-answer, Rootless}
 use Rattle.stamps.proofs.Theorems.{stamp-gives, stamp-accepts, stamp-too-large, stamp-rootless}
-use Rattle.stored_form.specs.{Fields.count-limit, Classes.class-field, Reader.read-record, Reader.curve-layout, Reader.class-layout, Reader.sum-layout, Reader.register-layout, Reading.reading-refusal, Passing.CountPasses, Passing.ClassPasses, declared.Record.Record}
+use Rattle.stored_form.specs.{Fields.count-limit, Reader.curve-layout, Reader.class-layout, Reader.sum-layout, Reader.register-layout, Passing.CountPasses, Passing.ClassPasses, declared.Record.Record}
 use Rattle.stored_form_theorems.specs.{Checking.record-checks, Checking.record-values, Numbers.OneOf, Numbers.class-field-lengths, Numbers.register-field-lengths}
 use Rattle.stored_form_theorems.proofs.{Checking.record-checked, Checking.record-found, ClassLengths.first-degree-length, ClassLengths.counted-length}
 use Rattle.written_form.specs.Effect.{class-response, call-checks, EffectOf}

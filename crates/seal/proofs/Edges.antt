@@ -6,14 +6,14 @@
 -- `undo-at-0`: an undo at count 0 is refused with 113.
 -- `step-at-1025`: a commit or an undo at count 1,025 is refused with 109, whatever follows.
 use Prim.Native.Nat.{ℕ, _+_, _≤_, _<_}
-use mathlib.Core.{Path._≡_, Path.refl, Path.sym, Path.ap, Path.subst, Path._∙_, Bool.true, Bool.false, Bool.true≢false, List.List, List.[], List._∷_, List._++_, Logic.inl, Logic.inr}
+use mathlib.Core.{Path._≡_, Path.refl, Path.sym, Path.ap, Path.subst, Path._∙_, Bool.true, Bool.true≢false, List.List, List.[], List._∷_, List._++_, Logic.inl, Logic.inr}
 use native.Mathlib.Omega.{arith}
 use lib.{Dec.leb, ListN.length}
 use borrow.Author.Tests.{leb-true}
-use Rattle.jacobian.specs.{Refusals.listed, Checks._or-else_, Answer.refusal-of-two, Answer.accepted, declared.Class.Class}
+use Rattle.jacobian.specs.{Refusals.listed, Checks._or-else_, Answer.refusal-of-two, Answer.accepted}
 use Rattle.jacobian.proofs.Representation.{accepts-class}
-use Rattle.history.specs.Register.{commit-seal, with-count-and-seal, stepped, RegisterReply, step-answer, commit-answer, undo-answer}
-use Rattle.history.specs.declared.{Register.Register, Step.Step, Step.the-variants.Commit, Step.the-variants.Undo}
+use Rattle.history.specs.Register.{commit-seal, with-count-and-seal, stepped, RegisterReply, commit-answer, undo-answer}
+use Rattle.history.specs.declared.{Step.Step, Step.the-variants.Commit, Step.the-variants.Undo}
 use Rattle.history.proofs.Edges.{commit-below-limit, commit-at-limit, undo-at-zero}
 use Rattle.stored_form.specs.{Reading.found, Reading.refused as unread, Head.BytesAt, Fields.count-limit, Fields.count-field, Fields.ended, Classes.class-field, Record.empty-record, Reader.read-fields, Reader.read-record, Reader.curve-layout, Reader.register-layout, declared.Record.Record}
 use Rattle.stored_form.proofs.{Readings.then-found, Readings.then-refused, Readers.fields-append}
@@ -21,9 +21,9 @@ use Rattle.stored_form_theorems.specs.{Checking.record-checks, Checking.record-
 use Rattle.jacobian.proofs.Checking.{among, fails-among}
 use Rattle.stored_form_theorems.proofs.FieldEdges.{count-of-1025}
 use Rattle.written_form.specs.Effect.{Effect, refuse, write, EffectOf, all-hold, first-fails}
-use Rattle.written_form.proofs.{Effects.call-short, Effects.call-refused, Checking.every, Checking.every-one}
+use Rattle.written_form.proofs.{Effects.call-refused, Checking.every, Checking.every-one}
 use Rattle.seal.specs.Records.{register-fields}
-use Rattle.seal.specs.Calls.{register, answered, tags, room, called, commit-call, undo-call, step-call}
+use Rattle.seal.specs.Calls.{register, answered, tags, called, commit-call, undo-call, step-call}
 use Rattle.seal.specs.Checking.{least-output, last-checks, checks, lengths}
 use Rattle.seal.specs.declared.calls.Call.{Call}
 use Rattle.seal.specs.declared.calls.Call.the-variants.{Opposite, Double, Half, Sum, Stamp}

@@ -3,16 +3,16 @@
 -- `record-checked`: the refusal of a record is that of its fields' checks, field by field, then 112.
 -- `record-found`: where every check holds, the record that is read is what its bytes say.
 use Prim.Native.Nat.{ℕ, _+_, _≤_, _<_, _/_, _^_}
-use mathlib.Core.{Path._≡_, Path.refl, Path.sym, Path.ap, Path.subst, Path._∙_, Bool.Bool, Bool.true, Bool.false, Bool.cond, Bool.not, Bool._&&_, Bool._||_, Bool.true≢false, List.List, List.[], List._∷_, List._++_, Logic._↔_, Logic._⊎_, Logic.inl, Logic.inr}
+use mathlib.Core.{Path._≡_, Path.refl, Path.sym, Path.ap, Path.subst, Path._∙_, Bool.Bool, Bool.true, Bool.false, Bool.cond, Bool.not, Bool._&&_, Bool.true≢false, List.List, List.[], List._∷_, Logic._↔_, Logic._⊎_, Logic.inl, Logic.inr}
 use native.Mathlib.Omega.{arith}
 use lib.{Dec.eqb, Dec.ltb, Dec.leb, Pow.pow-pos, ListN.length, ListN.getD, ListN.take, ListN.drop, ListN.length-take, ListN.length-drop}
 use borrow.Author.Tests.{ltb-true, ltb-false, le-ltb, leb-true, le-leb, eqb-true, eq-eqb, not-false}
-use Rattle.lists.specs.Lists.{All, none, more}
+use Rattle.lists.specs.Lists.{none, more}
 use Rattle.binary_field.specs.Checks.{all-hold, first-fails}
 use Rattle.binary_field.proofs.Checking.{degree-checked}
-use Rattle.jacobian.specs.{Checks.Check, Checks.check, Checks.AllHold, Checks.RefusalOf, Checks.unless, Checks._or-else_, Checks.blank, Checking.Below, Checking.Padded, Checking.class-checks, Checking.degree-check}
-use Rattle.jacobian.specs.{Curves.coefficients, Curves.curve-with, Curves.blank-curve, Curves.curve-refusal, Curves.degree-refusal, Answer.refusal, Classes.class-refusal, declared.Curve.Curve, declared.Class.Class}
-use Rattle.jacobian.proofs.Checking.{refusal-none, refusal-unless, refusal-or-else, refusal-held, held-refusal, curve-checked, class-checked}
+use Rattle.jacobian.specs.{Checks.Check, Checks.check, Checks.AllHold, Checks.RefusalOf, Checks.unless, Checks._or-else_, Checks.blank, Checking.Padded}
+use Rattle.jacobian.specs.{Curves.coefficients, Curves.curve-with, Curves.blank-curve, Curves.curve-refusal, Answer.refusal, Classes.class-refusal}
+use Rattle.jacobian.proofs.Checking.{refusal-none, refusal-unless, refusal-held, held-refusal, curve-checked, class-checked}
 use Rattle.jacobian.proofs.ByValue.Checks.{both, blank-past}
 use Rattle.stored_form.specs.{Number.part, Reading.found, Reading.reading-refusal}
 use Rattle.stored_form.specs.{Head.body-length, Head.class-length, Fields.printable, Fields.drawing-refusal, Fields.count-limit, Fields.count-refusal, Fields.end-refusal, Fields.ended, Passing.CurvePasses}

@@ -2,8 +2,8 @@
 -- `class-field-length`: the field of a class that no check refuses has 3, 19, 35 or 51 bytes.
 -- `first-degree-length`: that of one of degree 1 has 19.
 -- `counted-length`: a count's field and the field of such a class together have 8, 24, 40 or 56.
-use Prim.Native.Nat.{ℕ, _+_, _*_}
-use mathlib.Core.{Path._≡_, Path.refl, Path.sym, Path.ap, Path.subst, Path._∙_, List._++_}
+use Prim.Native.Nat.{ℕ, _+_}
+use mathlib.Core.{Path._≡_, Path.refl, Path.sym, Path.subst, Path._∙_, List._++_}
 use native.Mathlib.Omega.{arith}
 use lib.ListN.{length, length-append}
 use Rattle.jacobian.specs.{Refusals.listed, Answer.refusal, declared.Curve.Curve, declared.Class.Class}

@@ -6,11 +6,11 @@
 use Prim.Native.Nat.{ℕ, _+_, _^_, _≤_, _<_}
 use mathlib.Core.{Path._≡_, Path.refl, Path.sym, Path.subst, Path._∙_, Bool.true, Bool.false, List.List, List.[], List._∷_, List._++_}
 use native.Mathlib.Omega.{arith}
-use lib.{Dec.lit<, Dec.leb, ListN.length, ListN.getD, ListN.replicate}
+use lib.{Dec.lit<, ListN.length, ListN.getD, ListN.replicate}
 use Rattle.binary_field.specs.Answer.{below}
-use Rattle.jacobian.specs.{Checks.unless, Checks._or-else_, Curves.coefficients, Curves.curve-with, Curves.degree-refusal, Curves.coefficient-refusal, Curves.curve-refusal, declared.Curve.Curve}
+use Rattle.jacobian.specs.{Checks.unless, Checks._or-else_, Curves.coefficients, Curves.curve-with, Curves.degree-refusal, Curves.coefficient-refusal, Curves.curve-refusal}
 use Rattle.stored_form.specs.{Number.decode-number, Number.encode-number, Reading.found, Reading.refused, Reading.checked, Head.BytesAt, Head.body-length, Head.encode-field, Head.head-bytes}
-use Rattle.stored_form.specs.{Fields.printable, Fields.drawing-refusal, Fields.count-limit, Fields.count-refusal, Elements.decode-elements, Classes.decode-curve, Record.with-curve, Record.with-count, Record.with-drawing, Record.decode-drawing, Tags.rules, Reader.read-body, Reader.read-field, declared.Record.Record}
+use Rattle.stored_form.specs.{Fields.printable, Fields.drawing-refusal, Fields.count-limit, Fields.count-refusal, Elements.decode-elements, Classes.decode-curve, Record.with-curve, Record.with-count, Record.with-drawing, Record.decode-drawing, Tags.rules, Reader.read-field, declared.Record.Record}
 use Rattle.stored_form.proofs.{Readings.then-found, Heads.head-104, Readers.field-refused, DrawingBytes.name-decoded}
 use Rattle.stored_form_theorems.proofs.Bodies.{body-read}
 

@@ -3,11 +3,11 @@
 -- `on-response`, `class-responds`: a response that depends on a verdict, and one with a class.
 -- `call-checked`: then the call refuses with 101 of the output, then as its record does, then as its response does, and
 -- no byte changes; else it writes the bytes of the response.
-use Prim.Native.Nat.{ℕ, zero, suc, _≤_, _<_}
+use Prim.Native.Nat.{ℕ, zero, suc, _≤_}
 use mathlib.Core.{Path._≡_, Path.refl, Path.sym, Path.ap, Path.subst, Path._∙_, Bool.Bool, Bool.true, Bool.false, Bool.false≢true, Bool._&&_, Bool._||_, List.List, List.[], List._∷_, List._++_}
 use native.Mathlib.Omega.{arith}
 use lib.{Dec.leb, Dec.eqb, ListN.length}
-use borrow.Author.Tests.{leb-true, leb-false, le-leb, eqb-true}
+use borrow.Author.Tests.{leb-true, leb-false, eqb-true}
 use Rattle.jacobian.specs.{Checks.Check, Checks.check, Checks.unless, Checks._or-else_, Checks.AllHold, Checks.RefusalOf, Refusals.listed, Answer.Verdict, Answer.verdict-of, Answer.refusal, Answer.Result, declared.Curve.Curve}
 use Rattle.jacobian.specs.Checks as checks
 use Rattle.jacobian.proofs.ByValue.Checks.{both}

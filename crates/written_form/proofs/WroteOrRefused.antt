@@ -3,7 +3,7 @@
 -- `answer-decides`: then the answer alone decides which of the two.
 -- `never-both`: no length that a call writes is the number of a refusal.
 -- `answer-never-117`: a call among whose numbers 117 is not does not answer it.
-use Prim.Native.Nat.{ℕ, _≤_, _<_}
+use Prim.Native.Nat.{ℕ, _≤_}
 use mathlib.Core.{Path._≡_, Path.sym, Path.ap, Path.subst, Path._∙_, Bool.true, Bool.false, Bool.true≢false, List.List, List._∷_}
 use native.Mathlib.Omega.{arith}
 use lib.{Dec.leb, Dec.ltb, ListN.length}
