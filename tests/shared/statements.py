@@ -80,11 +80,21 @@ def place(full, kind):
     return None, None
 
 
+def bound(said):
+    """The names that a statement binds itself: its parameters, and what stands after a λ or a `let`."""
+    binders = re.findall(r"[({]([^(){}:,]+?) :\s", said) + re.findall(r"λ ([^(){}:,.]+)\.", said)
+    binders += re.findall(r"\blet (\S+) (?::[^=]*)?=", said)
+    return {n for b in binders for n in b.split()}
+
+
 def hidden(name, text):
     """The words of the statement of a theorem that lead to a declaration under proofs/: imported from there, or
-    another one of its own file."""
+    another one of its own file. A name that the statement binds leads nowhere."""
     names, own, found = imports(text), declarations(text), set()
+    binds = bound(own[name][0])
     for word in words(own[name][0]):
+        if word.split(".")[0] in binds:
+            continue
         for w in (word, word.split(".")[0], f"_{word}_"):
             if (w in own and w != name) or (w in names and place(names[w], "proofs")[0]):
                 found.add(word)
