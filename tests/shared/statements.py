@@ -114,16 +114,38 @@ def definitions_from_proofs(text):
     return found
 
 
+def fields_of(record, held):
+    """The fields of a record that a file declares, as text."""
+    fields = re.search(rf"^pub record {re.escape(record)}\b.*?where\n((?:  .*\n?|\n)+)", held, re.M)
+    return re.sub(r"--.*", "", fields[1]) if fields else ""
+
+
 def is_conditional(record, held):
     """Has a record that a file declares an arrow in a field?"""
-    fields = re.search(rf"^pub record {re.escape(record)}\b.*?where\n((?:  .*\n?|\n)+)", held, re.M)
-    return bool(fields) and "→" in re.sub(r"--.*", "", fields[1])
+    return "→" in fields_of(record, held)
 
 
-def meaning(name, held):
-    """What a type that a file defines stands for; nothing where it is a record, or no type."""
-    m = re.search(rf"^(?:abbrev|unfoldable) pub {re.escape(name)} : .*Type 0\n(?:unfolding .*\n)?{re.escape(name)}\b.*? = (.*)", held, re.M)
-    return m[1] if m else ""
+def cases(name, held):
+    """What a type that a file defines stands for, in each of its cases; nothing where it is a record, or no type."""
+    if not re.search(rf"^(?:abbrev|unfoldable) pub {re.escape(name)} : .*Type 0$", held, re.M):
+        return []
+    return re.findall(rf"^{re.escape(name)}\b.*? = (.*)", held, re.M)
+
+
+def is_equation(said, names, held=""):
+    """Is what is said an equation, or a record of specs/ whose first field is one, or a type that is so in each case?"""
+    if " ≡ " in said and "→" not in said:
+        return True
+    name = said.split(" ")[0]
+    if name in names:
+        path, name = place(names[name], "specs")
+        if not path:
+            return False
+        held = read(path)
+    first = fields_of(name, held).strip().split("\n")[0]
+    if " ≡ " in first and "→" not in first:
+        return True
+    return bool(cases(name, held)) and all(is_equation(c, {}, held) for c in cases(name, held))
 
 
 def conditions(ensures, text):
@@ -134,5 +156,5 @@ def conditions(ensures, text):
     for word in words(ensures):
         path, name = place(names.get(word, ""), "specs")
         held = read(path) if path else ""
-        found |= {w for w in {name} | words(meaning(name, held)) if is_conditional(w, held)} if path else set()
+        found |= {w for w in {name}.union(*map(words, cases(name, held))) if is_conditional(w, held)} if path else set()
     return found
