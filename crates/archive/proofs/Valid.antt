@@ -1,12 +1,12 @@
 -- The refusal of an archive (docs/SPECIFICATION.md, 6).
 -- `archive-valid`: it is 0 or a listed number.
--- `archive-found`, `found-archive`: it is 0 exactly if `read-archive` finds an archive.
+-- `archive-found`: where it is 0, `read-archive` finds an archive.
 use Prim.Native.Nat.{ℕ}
 use mathlib.Core.Path.{_≡_}
 use mathlib.Core.List.{List}
 use Rattle.jacobian.specs.Refusals.{ValidRefusal}
 use Rattle.stored_form.specs.{Reading.found, Record.empty-record, Reader.read-fields, Reader.read-operations, Reader.header-layout}
-use Rattle.stored_form.proofs.Valid.{ValidReading, found-valid, then-valid, fields-valid, operations-valid, reading-valid, reading-found, found-reading}
+use Rattle.stored_form.proofs.Valid.{ValidReading, found-valid, then-valid, fields-valid, operations-valid, reading-valid, reading-found}
 use Rattle.archive.proofs.Tail.{tail-tells}
 use Rattle.archive.specs.Archive.{Archive, read-tail, read-archive, archive-refusal}
 
@@ -26,7 +26,3 @@ module _ (s : List ℕ) where
   pub archive-found : archive-refusal s ≡ 0 → (a : Archive) × (end : ℕ) × (read-archive s ≡ found a end)
   unfolding archive-refusal
   archive-found e = reading-found _ (archive-reading-valid s) e
-
-  pub found-archive : {a : Archive} {end : ℕ} → read-archive s ≡ found a end → archive-refusal s ≡ 0
-  unfolding archive-refusal
-  found-archive e = found-reading _ e

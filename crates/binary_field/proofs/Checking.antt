@@ -3,12 +3,12 @@
 -- `element-checked`: the refusal of a call on elements is that of the degree, then of the numbers' range.
 -- `inverse-checked`: the refusal of an inverse is these, then 117 for 0.
 -- `below-decides`: the test of a range is true exactly where every number is below the bound.
-use Prim.Native.Nat.{ℕ, zero, suc, _<_, _^_}
+use Prim.Native.Nat.{ℕ, zero, suc, _^_}
 use mathlib.Core.{Path._≡_, Path.refl, Path.sym, Bool.Bool, Bool.true, Bool.false, Bool._&&_, Bool.true≢false, List.List, List.[], List._∷_, Logic._↔_, Logic._⊎_, Logic.inl, Logic.inr}
 use native.Mathlib.Omega.{arith}
 use lib.Dec.{eqb, ltb}
-use borrow.Author.Tests.{lt-ltb, ltb-true, eq-eqb, eqb-true}
-use Rattle.lists.specs.Lists.{All, none, more}
+use borrow.Author.Tests.{lt-ltb, ltb-true, eqb-true}
+use Rattle.lists.specs.Lists.{none, more}
 use Rattle.binary_field_theory.specs.Element.{is-degree}
 use Rattle.binary_field.specs.{Checks.unless, Checks.check, Checks.RefusalOf, Answer.below, Answer.degree-refusal, Answer.element-refusal, Answer.inverse-refusal}
 use Rattle.binary_field.specs.Checking.{Below, degree-check, element-checks, inverse-checks}

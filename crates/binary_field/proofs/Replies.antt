@@ -4,14 +4,13 @@
 -- field's operation.
 -- `root-means`: a square root's answer is the only element whose square is a, or the refusal.
 -- `inverse-means`: an inverse's answer is the only element whose product with a is 1, or the refusal.
--- `inverse-zero-refused`: the inverse of 0 is refused with 117 in each field.
 -- `quadratic-means`: the answer is the root of y² + y = a with lowest bit 0, that there is no root, or the refusal.
 -- `quadratic-in-field`: a root of y² + y = a is one in the field.
 -- `found-is`, `none-found`, `found-root`: what a caller that matches on the answer knows.
 use mathlib.Core.{Path._≡_, Path.refl, Path.ap, Path.sym, Path._∙_, Bool.Bool, Bool.true, Bool.false, Bool._&&_, List.[], List._∷_, Option.Option, Option.none, Option.some}
 use Prim.Native.Nat.{ℕ, zero, suc, _-_, _%_, _^_, _<_}
 use native.Mathlib.Omega.{arith}
-use lib.{Dec.T, Dec.ltb, Dec.ltb→lt, Pow.pow-pos}
+use lib.{Dec.T, Dec.ltb, Dec.ltb→lt}
 use borrow.Author.Tests.{lt-ltb}
 use Rattle.binary_field.specs.{declared.Answer.Answer, declared.Answer.the-variants.Element, declared.Answer.the-variants.Refused, Field.element as at}
 use Rattle.binary_field.specs.declared.{Solution.Solution, Solution.the-variants.Root, Solution.the-variants.NoRoot}
@@ -19,7 +18,7 @@ use Rattle.binary_field.specs.declared.Solution.the-variants as solution
 use Rattle.binary_field_theory.specs.{Carryless._⊕_, Element.is-degree, Element.Accepted, Element.product, Element.square, Element.power, Element.root, Element.inverse, Quadratic.even-root, Quadratic.trace, Quadratic.half-trace}
 use Rattle.binary_field_theory.specs.Quadratic as equation
 use Rattle.binary_field_theory.proofs.{Linear.both, Elements.element-path, Theorems.one-root, Theorems.one-inverse, Theorems.even-root-found, Theorems.even-root-none, Theorems.even-root-by-trace, Theorems.none-by-trace}
-use Rattle.binary_field.specs.{Field.field, Answer.element, Answer.refusal, Answer.reply, Answer.below, Answer.degree-refusal, Answer.element-refusal, Answer.inverse-refusal, Answer.answered, Answer.sum-reply, Answer.product-reply, Answer.square-reply, Answer.root-reply, Answer.inverse-reply, Answer.InverseMeans, Answer.RootMeans, Answer.QuadraticReply, Answer.found, Answer.no-root, Answer.refused, Answer.solution-reply, Answer.solved, Answer.quadratic-reply, Answer.QuadraticMeans, Checks.unless, Checks._or-else_}
+use Rattle.binary_field.specs.{Field.field, Answer.element, Answer.refusal, Answer.reply, Answer.below, Answer.degree-refusal, Answer.element-refusal, Answer.inverse-refusal, Answer.answered, Answer.sum-reply, Answer.product-reply, Answer.square-reply, Answer.root-reply, Answer.inverse-reply, Answer.InverseMeans, Answer.RootMeans, Answer.found, Answer.no-root, Answer.refused, Answer.solution-reply, Answer.solved, Answer.quadratic-reply, Answer.QuadraticMeans, Checks.unless, Checks._or-else_}
 use Rattle.field_laws.specs.Division.{inverse-of}
 use Rattle.binary_field.proofs.Field.{add-number, mul-number, zero-number, root-number, inverse-number, element-small}
 use Rattle.binary_field.proofs.Checks.{then-zero}
@@ -136,15 +135,6 @@ inverse-answers d (suc n) e h f = replies e h f
 
 inverse-replies : (d a : ℕ) → Accepted d → a < 2 ^ d → (ne : ¬ (a ≡ 0)) → inverse-reply d a ≡ element (inverse d a ne)
 inverse-replies d a hd ha ne = sym (inverse-answers d a (sym (none-inverse d a hd ha ne)) refl refl)
-
--- 0 is refused with 117 in each field
-pub zero-refusal : (d : ℕ) → Accepted d → inverse-refusal d 0 ≡ 117
-unfolding inverse-refusal unless _or-else_
-zero-refusal d hd = rw (none-one d 0 hd (pow-pos d))
-
-pub inverse-zero-refused : (d : ℕ) → Accepted d → inverse-reply d 0 ≡ refusal 117
-unfolding inverse-reply
-inverse-zero-refused d hd = ap refusal (zero-refusal d hd)
 
 -- each case of the answer says what is true
 pub inverse-means : (d a : ℕ) → InverseMeans d a (inverse-reply d a)

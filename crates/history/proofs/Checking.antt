@@ -6,10 +6,10 @@
 -- `step-listed`: a step refuses with one of its own numbers.
 -- `step-numbers-checked`: each of these numbers is that of a check of the step.
 use Prim.Native.Nat.{ℕ}
-use mathlib.Core.{Path._≡_, Path.refl, Path.sym, Path._∙_, Path.ap, Path.subst, Bool.Bool, Bool.true, Bool.false, Bool.true≢false, Bool._&&_, Bool._||_, Bool.cond, List.List, List.[], List._∷_, List._++_, Logic._↔_, Logic.inl, Logic.inr}
+use mathlib.Core.{Path._≡_, Path.refl, Path.sym, Path._∙_, Path.ap, Path.subst, Bool.Bool, Bool.true, Bool.false, Bool.true≢false, Bool._&&_, Bool._||_, Bool.cond, List.List, List.[], List._∷_, List._++_, Logic._↔_, Logic.inl}
 use lib.Dec.{eqb}
 use borrow.Author.Tests.{eq-eqb, eqb-true}
-use Rattle.jacobian.specs.{Checks.Check, Checks.check, Checks.FirstFails, Checks.RefusalOf, Refusals.listed, Curves.curve-refusal, Classes.class-refusal, Checking.curve-checks, Checking.class-checks, Answer.outcome-refusal, declared.Class.Class}
+use Rattle.jacobian.specs.{Checks.check, Checks.RefusalOf, Refusals.listed, Curves.curve-refusal, Classes.class-refusal, Checking.curve-checks, Checking.class-checks, Answer.outcome-refusal, declared.Class.Class}
 use Rattle.jacobian.specs.Checks as checks
 use Rattle.jacobian.proofs.{ByValue.Checks.then-zero, ByValue.Checks.both, ByValue.Answers.outcome-refusal-is, Checking.curve-checked, Checking.class-checked, Checking.refusal-or-else, Checking.refusal-held, Checking.among, Checking.refusal-listed}
 use Rattle.count_limit.specs.{Limit.count-refusal, Checking.count-check}

@@ -9,7 +9,6 @@
 -- `both-accept`: d and e are accepted.
 -- `displacement`: the last seal plus n - k doublings of e - d is the changed last seal; the sum is not refused.
 -- `displacement-times`: it is also the last seal plus 2^(n - k) times e - d, as a sum of so many terms.
--- `newest-displacement`: for k = n it is the last seal plus e - d.
 -- `moves`: the last seal changes where d and e differ.
 -- `not-one-more`: where they differ, n - k + 1 doublings of e - d do not lead to the changed last seal.
 -- `not-turned`: where they differ, n - k doublings of d - e do not lead to the changed last seal.
@@ -22,7 +21,7 @@ use mathlib.Core.List.{List, [], _∷_, _++_, reverse, reverse-reverse}
 use native.Mathlib.Omega.{arith}
 use lib.ListN.{length, length-append, length-map, length-reverse}
 use Rattle.lists.specs.{Lists.All, Lists.none, Lists.more, Lists.ChangedAt, Walk.foldl}
-use Rattle.class_group.specs.{Group.Doubling, Multiples.repeat, Multiples.multiple, Multiples.forward}
+use Rattle.class_group.specs.{Group.Doubling, Multiples.multiple, Multiples.forward}
 use Rattle.lists.proofs.{Lists.all-reverse, Lists.changed-members, Walk.foldl-agrees, Walk.foldl-state}
 use Rattle.class_group.proofs.Displacement as group
 use Rattle.jacobian.specs.{Answer.Verdict, Answer.accepted, Answer.refused, Answer.Accepts, Answer.result, Answer.gives, Answer.neutral-class, Answer.sum-answer}
@@ -161,12 +160,6 @@ module _ (r t : Register) (cs ds : List Call) {k : ℕ} {d e : Class} (v : Varia
   displacement-times =
       let apart = difference-accepts (r .curve) (both-accept .1) (both-accept .0) in
       ap (λ x. result (sum-answer (r .curve) (last r cs .seal) x)) (sym (doublings-sum (r .curve) apart (length (newest r cs) - k))) ∙ displacement
-
-  pub newest-displacement : k ≡ length (newest r cs) → result (sum-answer (r .curve) (last r cs .seal) (difference (r .curve) e d)) ≡ gives (last t ds .seal)
-  unfolding repeat
-  newest-displacement newest-one =
-      let no-more : 0 ≡ length (newest r cs) - k = omega (arith, newest-one) in
-      ap (λ n. displaced (r .curve) n d e (last r cs .seal)) no-more ∙ displacement
 
   pub moves : ¬ (d ≡ e) → ¬ (last r cs .seal ≡ last t ds .seal)
   moves n h =

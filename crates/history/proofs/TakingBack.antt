@@ -1,14 +1,12 @@
 -- Demand 3 on a list of calls (docs/SPECIFICATION.md, 11): from any register, with any classes, refused calls included.
 -- `curve-kept`: no call of a list changes degree or curve.
 -- `last-curve`: the register after a list has the degree and the curve of the first.
--- `taken-back-curve`: no call that takes a call back changes degree or curve.
 -- `taken-back-turned`: taking the accepted calls back, newest first, does to each call what `turned` says.
 -- `taken-back-accepted`: no call that takes a call back is refused.
 -- `taken-back-registers`: the calls that take back return the registers just before the accepted calls, newest first.
--- `taken-back-seals`: so they return the seals just before the accepted calls.
 -- `taken-back-counts`: so they return the counts just before the accepted calls.
 -- `taken-back-all`: after all of them the register is the first one.
-use mathlib.Core.Path.{_≡_, refl, _∙_, subst}
+use mathlib.Core.Path.{_≡_, refl, _∙_}
 use mathlib.Core.List.{List, map}
 use Rattle.lists.specs.Lists.{All}
 use Rattle.jacobian.specs.Answer.{accepted}
@@ -29,11 +27,6 @@ curve-kept r cs =
 pub last-curve : (r : Register) (cs : List Call) → last r cs .curve ≡ r .curve
 last-curve r cs = last-holds registers (λ t. t .curve ≡ r .curve) (λ t c h. answer-curve t c ∙ h) cs refl
 
-pub taken-back-curve : (r : Register) (cs : List Call) → All (λ e. e .left .curve ≡ r .curve) (taken-back r cs)
-unfolding definition.taken-back
-taken-back-curve r cs =
-    subst (λ d. All (λ e. e .left .curve ≡ d) (taken-back r cs)) (last-curve r cs) (curve-kept (last r cs) (backs (newest r cs)))
-
 module _ (r : Register) (cs : List Call) where
   all-calls : All (λ e. Unit {0}) (accepted-of (run r cs))
   all-calls = every (λ e. tt) (accepted-of (run r cs))
@@ -46,9 +39,6 @@ module _ (r : Register) (cs : List Call) where
 
   pub taken-back-registers : map (λ e. e .left) (taken-back r cs) ≡ map (λ e. e .before) (newest r cs)
   taken-back-registers = machine.taken-back-states registers back reversible cs tt all-calls (λ t. t)
-
-  pub taken-back-seals : map (λ e. e .left .seal) (taken-back r cs) ≡ map (λ e. e .before .seal) (newest r cs)
-  taken-back-seals = machine.taken-back-states registers back reversible cs tt all-calls (λ t. t .seal)
 
   pub taken-back-counts : map (λ e. e .left .count) (taken-back r cs) ≡ map (λ e. e .before .count) (newest r cs)
   taken-back-counts = machine.taken-back-states registers back reversible cs tt all-calls (λ t. t .count)

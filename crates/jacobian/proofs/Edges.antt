@@ -1,10 +1,9 @@
 -- The edges of degree and coefficients, as numbers (docs/SPECIFICATION.md, 6).
 -- `bench-within`: over the bench field a curve with every coefficient 31 is accepted.
--- `bench-f3`, `bench-f1`, `bench-f0`: one with 32 there is refused with 107, whatever the others are.
+-- `bench-f3`: one with 32 as f3 is refused with 107, whatever the others are.
 -- `wide-within`: over the field of degree 61 a curve with every coefficient 2305843009213693951 is accepted.
--- `wide-f3`, `wide-f1`, `wide-f0`: one with 2305843009213693952 there is refused with 107.
--- `degree-4`, `degree-6`, `degree-60`, `degree-62`: a curve of this degree is refused with 106, whatever its
--- coefficients are.
+-- `wide-f3`: one with 2305843009213693952 as f3 is refused with 107, whatever the others are.
+-- `degree-62`: a curve of degree 62 is refused with 106, whatever its coefficients are.
 use Prim.Native.Nat.{ℕ, _<_, _^_}
 use mathlib.Core.{Path._≡_, Path.refl, Path.ap, List.[], List._∷_, Logic._⊎_, Logic.inl, Logic.inr}
 use native.Mathlib.Omega.{arith}
@@ -33,12 +32,6 @@ bench-within = curve-accepted-iff _ .1 (inl refl, omega arith, omega arith, omeg
 pub bench-f3 : (f1 f0 : ℕ) → curve-answer (record { degree = 5; f3 = 32; f1 = f1; f0 = f0 }) ≡ refused 107
 bench-f3 f1 f0 = too-large _ (inl refl) (λ h. omega (arith, three-below h .0))
 
-pub bench-f1 : (f3 f0 : ℕ) → curve-answer (record { degree = 5; f3 = f3; f1 = 32; f0 = f0 }) ≡ refused 107
-bench-f1 f3 f0 = too-large _ (inl refl) (λ h. omega (arith, three-below h .1))
-
-pub bench-f0 : (f3 f1 : ℕ) → curve-answer (record { degree = 5; f3 = f3; f1 = f1; f0 = 32 }) ≡ refused 107
-bench-f0 f3 f1 = too-large _ (inl refl) (λ h. omega (arith, three-below h .2))
-
 -- ---- the field of degree 61
 
 pub wide-within : curve-answer (record { degree = 61; f3 = 2305843009213693951; f1 = 2305843009213693951; f0 = 2305843009213693951 }) ≡ accepted
@@ -46,12 +39,6 @@ wide-within = curve-accepted-iff _ .1 (inr refl, omega arith, omega arith, omega
 
 pub wide-f3 : (f1 f0 : ℕ) → curve-answer (record { degree = 61; f3 = 2305843009213693952; f1 = f1; f0 = f0 }) ≡ refused 107
 wide-f3 f1 f0 = too-large _ (inr refl) (λ h. omega (arith, three-below h .0))
-
-pub wide-f1 : (f3 f0 : ℕ) → curve-answer (record { degree = 61; f3 = f3; f1 = 2305843009213693952; f0 = f0 }) ≡ refused 107
-wide-f1 f3 f0 = too-large _ (inr refl) (λ h. omega (arith, three-below h .1))
-
-pub wide-f0 : (f3 f1 : ℕ) → curve-answer (record { degree = 61; f3 = f3; f1 = f1; f0 = 2305843009213693952 }) ≡ refused 107
-wide-f0 f3 f1 = too-large _ (inr refl) (λ h. omega (arith, three-below h .2))
 
 -- ---- other degrees
 
@@ -64,14 +51,5 @@ other-degree c h k = curve-refused c 106 (inl (neither, refl))
     neither (inr e) = k e
 
 module _ (f3 f1 f0 : ℕ) where
-  pub degree-4 : curve-answer (record { degree = 4; f3 = f3; f1 = f1; f0 = f0 }) ≡ refused 106
-  degree-4 = other-degree _ (λ e. omega arith) (λ e. omega arith)
-
-  pub degree-6 : curve-answer (record { degree = 6; f3 = f3; f1 = f1; f0 = f0 }) ≡ refused 106
-  degree-6 = other-degree _ (λ e. omega arith) (λ e. omega arith)
-
-  pub degree-60 : curve-answer (record { degree = 60; f3 = f3; f1 = f1; f0 = f0 }) ≡ refused 106
-  degree-60 = other-degree _ (λ e. omega arith) (λ e. omega arith)
-
   pub degree-62 : curve-answer (record { degree = 62; f3 = f3; f1 = f1; f0 = f0 }) ≡ refused 106
   degree-62 = other-degree _ (λ e. omega arith) (λ e. omega arith)

@@ -1,7 +1,7 @@
 -- The calls by value as a group (docs/SPECIFICATION.md, 11). Calls.antt has the laws one by one, between answers.
 -- `group`: the accepted classes of an accepted curve are a commutative group under what the calls answer.
 -- `doubling`: doubling in it is one to one, so that class_group's laws of such groups hold of the calls.
--- `sum-given`, `opposite-given`, `difference-given`: these calls on accepted classes are not refused.
+-- `sum-given`, `opposite-given`: these calls on accepted classes are not refused.
 -- `difference-accepts`: a difference of accepted classes is accepted.
 -- `doublings-give`, `doublings-accept`: none of k doublings is refused, and their class is accepted.
 -- `doublings-sum`: k doublings are the 2^k-fold sum.
@@ -58,9 +58,6 @@ module _ (c : Curve) where
 
   pub sum-given : {a b : Class} → Accepts c a → Accepts c b → result (sum-answer c a b) ≡ gives (sum-of c a b)
   sum-given h k = gives-own (sum-gives c h k)
-
-  pub difference-given : {a b : Class} → Accepts c a → Accepts c b → result (sum-answer c a (opposite-of c b)) ≡ gives (difference c a b)
-  difference-given h k = sum-given h (opposite-accepts c k)
 
   pub difference-accepts : {a b : Class} → Accepts c a → Accepts c b → Accepts c (difference c a b)
   difference-accepts h k = sum-accepts c h (opposite-accepts c k)

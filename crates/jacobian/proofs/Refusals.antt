@@ -1,11 +1,11 @@
 -- Refusals: 0 or a listed number, and never 117.
--- `valid-none`, `valid-unless`, `valid-or-else`: no refusal, one check, and one check after another are valid refusals.
+-- `valid-unless`, `valid-or-else`: one check, and one check after another, give valid refusals.
 -- `refused-valid`: a verdict of a valid refusal refuses with a listed number.
 -- `above-100`: every listed number is above 100, so that no length up to 100 is one.
 -- `never-117`: no valid refusal is 117.
 -- `verdict-never-117`, `reply-never-117`: no valid verdict and no valid reply refuses with 117.
 use Prim.Native.Nat.{ℕ, zero, suc, _<_}
-use mathlib.Core.{Path._≡_, Path.refl, Path.sym, Path.ap, Path.subst, Bool.Bool, Bool.true, Bool.false, Bool.true≢false, Bool.false≢true, Bool._||_, Bool._&&_, List.List, List.[], List._∷_, Logic._⊎_, Logic.inl, Logic.inr}
+use mathlib.Core.{Path._≡_, Path.refl, Path.sym, Path.ap, Path.subst, Bool.Bool, Bool.true, Bool.false, Bool.true≢false, Bool.false≢true, Bool._||_, Bool._&&_, List.List, List.[], List._∷_, Logic.inl, Logic.inr}
 use native.Mathlib.Omega.{arith}
 use lib.Dec.{eqb, ltb}
 use borrow.Author.Tests.{ltb-true, eqb-true}
@@ -48,10 +48,6 @@ never-117 n (inl z) e = omega arith
 never-117 n (inr r) e = not-listed (subst IsRefusal e r)
 
 -- ---- checks
-pub valid-none : ValidRefusal 0
-unfolding ValidRefusal
-valid-none = inl refl
-
 pub valid-unless : (b : Bool) (n : ℕ) → IsRefusal n → ValidRefusal (unless b n)
 unfolding ValidRefusal unless
 valid-unless true n r = inl refl

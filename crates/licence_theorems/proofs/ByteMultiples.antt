@@ -5,17 +5,15 @@
 -- `once-bytes`: once writes the record's own class field.
 -- `product-bytes`: m n times writes what m times writes on the record rebuilt from n times.
 -- `sum-bytes`: (m + n) times writes what the byte sum of m times and n times writes.
--- `halves-write`: after k byte halves the next one is not refused: it writes the field of the class after k + 1 halves.
 -- `doublings-bytes`: the record rebuilt from 2^k times is the record after k byte doublings, for k below 61.
 -- `halvings-bytes`: the record rebuilt from k halvings is the record after k byte halves.
 -- `halvings-of-doublings-bytes`: k halvings of the record after k byte doublings write the record's own class field.
 -- `doublings-of-halvings-bytes`: k byte doublings of the record rebuilt from k halvings give the record, to the byte.
--- `only-halvings-bytes`: a record that k byte doublings take to t is the one rebuilt from k halvings of t.
 -- That no call of this library is refused there is `multiple-writes` and `halvings-write` of Written in the crate
 -- seal_licence; that no byte doubling is refused is `doublings-write` of ByteGroup in the crate seal.
-use Prim.Native.Nat.{ℕ, suc, _+_, _*_, _^_, _≤_, _<_}
+use Prim.Native.Nat.{ℕ, _+_, _*_, _^_, _≤_, _<_}
 use mathlib.Core.Path.{_≡_, refl, sym, ap, _∙_}
-use mathlib.Core.List.{List, _++_}
+use mathlib.Core.List.{List}
 use native.Mathlib.Omega.{arith}
 use lib.{Dec.lit<, ListN.length, Pow.pow-lt}
 use Rattle.lists.specs.{Lists.none, Lists.more, Walk.foldl}
@@ -24,14 +22,13 @@ use Rattle.class_group.proofs.Doublings.{repeat-inner}
 use Rattle.jacobian.specs.{Answer.Result, Answer.result, Answer.neutral-class, Answer.double-answer, Answer.half-answer, Group.doublings, declared.Curve.Curve, declared.Class.Class}
 use Rattle.stored_form.specs.{Number.Bytes, Reading.found, Head.class-room, Classes.class-field, Passing.ClassPasses, Reader.read-record, Reader.class-layout, declared.Record.Record}
 use Rattle.written_form.specs.Effect.{write}
-use Rattle.stored_form_theorems.proofs.Cuts.{cut-whole}
-use Rattle.seal.specs.{Records.class-record-bytes, Rebuilt.last-field, Rebuilt.class-rebuilt, Calls.half-call, Calls.sum-call, Group.sum-record-of, Group.ClassRooms, Group.doubled-record}
+use Rattle.seal.specs.{Records.class-record-bytes, Rebuilt.last-field, Rebuilt.class-rebuilt, Calls.sum-call, Group.sum-record-of, Group.ClassRooms, Group.doubled-record}
 use Rattle.seal.specs.Calls as seal
 use Rattle.seal.proofs.{Passing.Given, Passing.double-given, Passing.half-given, ByteGroup.sum-record-writes, ByteGroup.sum-record-is}
-use Rattle.seal.proofs.ClassCalls.{class-call, rebuilt-write, first-is, last-is, last-short, stored-writes, stored-rebuilt, is-stored, follow-writes}
+use Rattle.seal.proofs.ClassCalls.{class-call, last-is, stored-writes, stored-rebuilt, is-stored, follow-writes}
 use Rattle.jacobian.proofs.Group.{doublings-accept}
 use Rattle.seal_licence.specs.{Multiples.multiple-limit, Multiples.halvings-limit, Multiples.multiple-answer, Multiples.halvings-answer, Multiples.halves, Calls.answered, Calls.multiple-call, Calls.halvings-call}
-use Rattle.seal_licence.proofs.Theorems.{multiple-of-sum, multiple-of-product, multiple-of-zero, multiple-of-one, halves-accept, doublings-are-multiple, halvings-are-halves, halvings-of-doublings, doublings-of-halvings}
+use Rattle.seal_licence.proofs.Theorems.{multiple-of-sum, multiple-of-product, multiple-of-zero, multiple-of-one, doublings-are-multiple, halvings-are-halves, halvings-of-doublings, doublings-of-halvings}
 use Rattle.licence_theorems.specs.Rebuilt.{halved-record}
 use Rattle.licence_theorems.proofs.Passing.{multiple-given, halvings-given}
 
@@ -135,13 +132,6 @@ module _ (s : List ℕ) (bytes : Bytes s) {h : Record} {end : ℕ} (read : read-
       halved-at : halved-record outs s ≡ class-record-bytes c (halves c many a)
       halved-at = ap (halved-record outs) stored-bytes ∙ halved-is passes rooms
 
-      pub halves-write : half-call (halved-record outs s) out ≡ write (class-field 0x43 (halves (h .curve) (suc (length outs)) (h .class))) out
-      unfolding seal.answered repeat
-      halves-write =
-          let p = halves-accept passes many in
-          stored-writes halved-at p (λ x b. result (half-answer x b)) (half-given p) out room
-          ∙ ap (λ (g : Record). write (class-field 0x43 (halves (g .curve) (suc many) (g .class))) out) (sym (is-stored s bytes read .values))
-
       pub doublings-bytes : length outs < 61 → class-rebuilt s (multiple-call (2 ^ length outs) s out) ≡ doubled-record outs s
       doublings-bytes l =
           multiple-record (2 ^ many) (pow-lt l) out room
@@ -167,12 +157,3 @@ module _ (s : List ℕ) (bytes : Bytes s) {h : Record} {end : ℕ} (read : read-
           ∙ doubled-is (halvings-given passes many l .passes) rooms
           ∙ ap (class-record-bytes c) (doublings-of-halvings passes many l)
           ∙ sym stored-bytes
-
-      pub only-halvings-bytes : length outs ≤ halvings-limit → (t : List ℕ) → doubled-record outs s ≡ t → s ≡ class-rebuilt t (halvings-call (length outs) t out)
-      only-halvings-bytes l t e =
-          sym
-          (ap (λ u. class-rebuilt u (halvings-call many u out)) (sym e)
-          ∙ ap (class-rebuilt (doubled-record outs s)) (halvings-of-doublings-bytes l)
-          ∙ rebuilt-write (doubled-record outs s) (last-field s) out (last-short stored-bytes passes)
-          ∙ ap (λ (f : List ℕ). f ++ last-field s) (first-is c (doublings c many a) doubled-at ∙ sym (first-is c a stored-bytes))
-          ∙ cut-whole 2 s)

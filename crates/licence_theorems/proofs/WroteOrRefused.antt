@@ -2,16 +2,13 @@
 -- `multiple-checked`: n times refuses with 101 of the output, then as its record does, then with 118 of n, and no byte
 -- changes; where no check fails, it writes a class's field.
 -- `halvings-checked`: the same of k halvings, with 119 of k.
--- `multiple-wrote-or-refused`: on every input and output, n times writes 3, 19, 35 or 51 bytes and answers their number,
--- or answers one of 101 to 107, 110 to 112 and 118 and leaves the output as it was.
+-- `multiple-wrote-or-refused`: on every input and output, n times writes 3, 19, 35 or 51 bytes and answers their
+-- number, or answers one of 101 to 107, 110 to 112 and 118 and leaves the output as it was.
 -- `halvings-wrote-or-refused`: the same of k halvings, with 119 in place of 118.
 -- `multiple-decides`: the answer alone of n times says which of the two it was.
 -- `halvings-decides`: the answer alone of k halvings says which of the two it was.
 -- Where the output has room for a class field:
--- `multiple-unread`: a record that is not read is refused with its own number, whatever n is.
--- `halvings-unread`: a record that is not read is refused with its own number, whatever k is.
 -- `too-large-bytes`: a record that is read is refused with 118 for n of 2^61 or more.
--- `too-many-bytes`: a record that is read is refused with 119 for k above 64.
 use Prim.Native.Nat.{ℕ, zero, suc, _^_, _≤_, _<_}
 use mathlib.Core.{Path._≡_, Path.refl, Path.sym, Path.ap, Path.subst, List.List, List.[], List._∷_}
 use native.Mathlib.Omega.{arith}
@@ -19,15 +16,15 @@ use lib.{Dec.ltb, Dec.leb, ListN.length}
 use borrow.Author.Tests.{ltb-true, lt-ltb, leb-true, le-leb}
 use Rattle.jacobian.specs.{Checks.check, Checks.unless, Checks._or-else_, Checks.AllHold, Checks.RefusalOf, Refusals.listed, Answer.Result, Answer.refusal, Answer.verdict-of, declared.Curve.Curve, declared.Class.Class}
 use Rattle.jacobian.proofs.Checking.{refusal-unless}
-use Rattle.stored_form.specs.{Reading.found, Reading.refused as unread, Head.class-room, Passing.ClassPasses, Reader.read-record, Reader.class-layout, declared.Record.Record}
+use Rattle.stored_form.specs.{Reading.found, Head.class-room, Passing.ClassPasses, Reader.read-record, Reader.class-layout, declared.Record.Record}
 use Rattle.stored_form_theorems.specs.{Checking.record-checks, Checking.record-values, Numbers.class-field-lengths}
 use Rattle.stored_form_theorems.proofs.Checking.{record-found}
 use Rattle.written_form.specs.Effect.{refuse, class-response, EffectOf, WroteOrRefused, AnswerDecides}
-use Rattle.written_form.proofs.{Effects.call-refused, Effects.answer-refused, Checking.ResponseOf, Checking.class-responds, Checking.call-checked, WroteOrRefused.call-wrote-or-refused, WroteOrRefused.answer-decides}
+use Rattle.written_form.proofs.{Effects.answer-refused, Checking.ResponseOf, Checking.class-responds, Checking.call-checked, WroteOrRefused.call-wrote-or-refused, WroteOrRefused.answer-decides}
 use Rattle.seal.proofs.{Passing.class-holds, ClassCalls.class-call}
 use Rattle.seal_licence.specs.Multiples.{multiple-limit, halvings-limit, refuses, given, multiple-refusal, halvings-refusal, multiple-answer, halvings-answer}
 use Rattle.seal_licence.specs.Calls.{answered, multiple-call, halvings-call}
-use Rattle.seal_licence.proofs.{Theorems.multiple-too-large, Theorems.halvings-too-many, Answers.multiple-passes, Answers.halvings-passes}
+use Rattle.seal_licence.proofs.{Theorems.multiple-too-large, Answers.multiple-passes, Answers.halvings-passes}
 use Rattle.licence_theorems.specs.Checking.{multiple-checks, halvings-checks, multiple-numbers, halvings-numbers}
 use Rattle.licence_theorems.proofs.Passing.{multiple-given, halvings-given}
 
@@ -97,12 +94,6 @@ halvings-decides k s out = answer-decides refl refl (halvings-wrote-or-refused k
 
 -- ---- refusals, where the output has room
 module _ (s out : List ℕ) (room : class-room ≤ length out) where
-  pub multiple-unread : (n : ℕ) {m : ℕ} → read-record class-layout s ≡ unread m → multiple-call n s out ≡ refuse m out
-  multiple-unread n e = call-refused class-room class-layout _ s out room e
-
-  pub halvings-unread : (k : ℕ) {m : ℕ} → read-record class-layout s ≡ unread m → halvings-call k s out ≡ refuse m out
-  halvings-unread k e = call-refused class-room class-layout _ s out room e
-
   module _ {h : Record} {end : ℕ} (read : read-record class-layout s ≡ found h end) where
     refused-call : {m : ℕ} (f : Curve → Class → Result) → f (h .curve) (h .class) ≡ refuses m → class-call f s out ≡ refuse m out
     unfolding class-response
@@ -111,7 +102,3 @@ module _ (s out : List ℕ) (room : class-room ≤ length out) where
     pub too-large-bytes : (n : ℕ) → multiple-limit ≤ n → multiple-call n s out ≡ refuse 118 out
     unfolding answered
     too-large-bytes n l = refused-call (λ c a. multiple-answer c a n) (multiple-too-large (h .curve) (h .class) n (class-holds s read) l)
-
-    pub too-many-bytes : (k : ℕ) → halvings-limit < k → halvings-call k s out ≡ refuse 119 out
-    unfolding answered
-    too-many-bytes k l = refused-call (λ c a. halvings-answer c a k) (halvings-too-many (h .curve) (h .class) k (class-holds s read) l)

@@ -10,11 +10,10 @@
 -- `all-split`: both parts of a joined list have it.
 -- `all-at`: the element at an index below the length has it.
 -- `changed-members`: both elements at the position where two lists differ have it.
--- `changed-map`: if two lists differ at a position, so do their images under f.
 use Prim.Native.Nat.{ℕ, zero, suc, _<_}
-use mathlib.Core.Path.{sym, _∙_, ap, subst}
-use mathlib.Core.List.{List, [], _∷_, _++_, map, map-append, reverse, reverseAux}
-use lib.ListN.{length, length-map, take, drop, getD}
+use mathlib.Core.Path.{subst}
+use mathlib.Core.List.{List, [], _∷_, _++_, map, reverse, reverseAux}
+use lib.ListN.{length, take, drop, getD}
 use native.Mathlib.Omega.{arith}
 use Rattle.lists.specs.Lists.{All, none, more, ChangedAt}
 
@@ -67,12 +66,3 @@ module _ {X : Type 0} {Member : X → Type 0} where
   pub changed-members : {k : ℕ} {d e : X} {l m : List X} → ChangedAt k d e l m → All Member l → All Member m → Member d × Member e
   changed-members at h r =
       (all-head (all-split (at .before) (subst (All Member) (at .was) h) .1) .0, all-head (all-split (at .before) (subst (All Member) (at .is) r) .1) .0)
-
-pub changed-map : {X Y : Type 0} (f : X → Y) {k : ℕ} {d e : X} {l m : List X} → ChangedAt k d e l m → ChangedAt k (f d) (f e) (map f l) (map f m)
-changed-map f at = record {
-  before = map f (at .before);
-  behind = map f (at .behind);
-  place = at .place ∙ ap suc (sym (length-map (at .before) f));
-  was = ap (map f) (at .was) ∙ map-append f (at .before) _;
-  is = ap (map f) (at .is) ∙ map-append f (at .before) _;
-}

@@ -1,17 +1,16 @@
 -- What a call answers and writes does not depend on what the lent output holds (docs/SPECIFICATION.md, 6 and 11).
 -- `same-response`: on every input, two outputs that have room get the same answer and the same bytes.
 -- `same-step`: the same of the two calls of a step.
--- `same-rebuilt`: so the records rebuilt from what was written are the same.
 use Prim.Native.Nat.{ℕ, _≤_}
-use mathlib.Core.{Path._≡_, Path.refl, Path.ap, Bool.true, List.List, List._++_}
+use mathlib.Core.{Path._≡_, Path.refl, Bool.true, List.List, List._++_}
 use lib.ListN.{length}
 use Rattle.jacobian.specs.Refusals.{listed}
 use Rattle.jacobian.proofs.Checking.{among}
 use Rattle.history.specs.declared.{Step.Step, Step.the-variants.Commit, Step.the-variants.Undo}
 use Rattle.stored_form_theorems.specs.Checking.{record-checks, record-values}
-use Rattle.written_form.specs.{Effect.Response, Effect.register-room, Wrote.response-given}
+use Rattle.written_form.specs.{Effect.register-room, Wrote.response-given}
 use Rattle.written_form.proofs.Wrote.{same-given}
-use Rattle.seal.specs.{Rebuilt.first-fields, Rebuilt.class-rebuilt, Calls.answered, Calls.tags, Calls.room, Calls.called, Calls.step-call, Checking.least-output, Checking.last-checks, Checking.numbers, Checking.lengths}
+use Rattle.seal.specs.{Calls.answered, Calls.tags, Calls.room, Calls.called, Calls.step-call, Checking.least-output, Checking.last-checks, Checking.numbers, Checking.lengths}
 use Rattle.seal.specs.declared.calls.Call.{Call}
 use Rattle.seal.specs.declared.calls.Call.the-variants.{Opposite, Double, Half, Sum, Stamp}
 use Rattle.seal.specs.declared.calls.Call.the-variants as Call
@@ -47,7 +46,3 @@ module _ (s out out' : List ℕ) where
   pub same-step : (k : Step) → register-room ≤ length out → register-room ≤ length out' → response-given (step-call k s out) ≡ response-given (step-call k s out')
   same-step Commit r r' = same-response Call.Commit r r'
   same-step Undo r r' = same-response Call.Undo r r'
-
-  pub same-rebuilt : (call : Call) → room call ≤ length out → room call ≤ length out' → (t : List ℕ) → class-rebuilt t (called call s out) ≡ class-rebuilt t (called call s out')
-  unfolding class-rebuilt
-  same-rebuilt call r r' t = ap (λ (x : Response). first-fields t ++ x .bytes) (same-response call r r')

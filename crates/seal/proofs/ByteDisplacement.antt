@@ -5,9 +5,8 @@
 -- `displacement-bytes`: the last seal's record plus n - j doublings of the record of e - d is the other last record.
 -- `displacement-writes`: the last of these sums writes the class field of the other list's last seal.
 -- `moves-bytes`: the last seals' records differ if d and e differ.
--- `last-read`, `changed-read`, `operations-read`, `difference-read`: the records of the two last seals, of the two
--- operations and of their difference are read, so no call on them is refused (`opposite-writes`, `sum-writes`,
--- `doublings-write` of ByteGroup).
+-- `operations-read`: the records of the two operations are read, so no call on them is refused (`opposite-writes`,
+-- `sum-writes`, `doublings-write` of ByteGroup).
 use Prim.Native.Nat.{ℕ, _-_, _≤_}
 use mathlib.Core.Path.{_≡_, refl, sym, ap, ap₂, _∙_, subst}
 use mathlib.Core.List.{List, _++_}
@@ -84,12 +83,6 @@ module _ (k t : Kept) (form : InStoredForm k) (form' : InStoredForm t) (cs ds : 
   read : {a : Class} {s : List ℕ} → Holds own a (curve-fields-bytes own) s → ReadWith (k .curve) s
   read {s = s} h = subst (λ (f : List ℕ). ReadWith f s) (sym begins) (read-again h)
 
-  pub last-read : ReadWith (k .curve) (seal-record (last byte-steps k cs))
-  last-read = read was
-
-  pub changed-read : ReadWith (k .curve) (seal-record (last byte-steps t ds))
-  changed-read = read is
-
   pub operations-read : ReadWith (k .curve) (class-record-bytes (decode-kept k .curve) d) × ReadWith (k .curve) (class-record-bytes (decode-kept k .curve) e)
   operations-read = (read (both-hold .0), read (both-hold .1))
 
@@ -101,9 +94,6 @@ module _ (k t : Kept) (form : InStoredForm k) (form' : InStoredForm t) (cs ds : 
   module _ (mid out : List ℕ) (room : class-room ≤ length mid) (room' : class-room ≤ length out) where
     difference-holds : Holds own (difference own e d) (curve-fields-bytes own) (record-difference mid out (class-record-bytes own e) (class-record-bytes own d))
     difference-holds = sum-holds out room' (both-hold .1) (opposite-holds mid room (both-hold .0))
-
-    pub difference-read : ReadWith (k .curve) (record-difference mid out (class-record-bytes (decode-kept k .curve) e) (class-record-bytes (decode-kept k .curve) d))
-    difference-read = read difference-holds
 
     module _ {outs : List (List ℕ)} (rooms : ClassRooms outs) (doubles : length outs ≡ length (newest byte-steps k cs) - j) (end : List ℕ) (room'' : class-room ≤ length end) where
       doubled-difference : Holds own (doublings own (length outs) (difference own e d)) (curve-fields-bytes own) (doubled-record outs (record-difference mid out (class-record-bytes own e) (class-record-bytes own d)))

@@ -2,7 +2,7 @@
 -- For records of classes that are read and have the same fields of degree and curve, and outputs that have room:
 -- `sum-writes`, `opposite-writes`: each call writes the field of what the call by value gives.
 -- `doublings-write`: so does a doubling after any number of doublings, each into an output of its own.
--- `sum-read`, `opposite-read`, `double-read`, `doublings-read`, `neutral-read`: the rebuilt record is read again.
+-- `sum-read`, `opposite-read`, `neutral-read`: the rebuilt record is read again.
 -- `sum-comm-bytes`: a sum in either order answers the same and leaves the same output.
 -- `sum-assoc-bytes`: so do sums in either grouping.
 -- `sum-neutral-bytes`: the sum with the neutral class writes the class's own field.
@@ -143,9 +143,6 @@ module _ {fields s : List ℕ} (x : ReadWith fields s) where
     pub opposite-read : ReadWith fields (record-opposite out s)
     opposite-read = read-again (opposite-holds out room (own x))
 
-    pub double-read : ReadWith fields (record-double out s)
-    double-read = read-again (double-holds out room (own x))
-
     -- ---- the neutral class and the opposite
     pub sum-neutral-bytes : sum-call (sum-record-of s (neutral-record fields)) out ≡ write (last-field s) out
     sum-neutral-bytes =
@@ -237,9 +234,6 @@ doubled-holds {c} {a} {fields} {s} (more {a = out} {l = outs} room rooms) x =
     subst (λ (b : Class). Holds c b fields (doubled-record outs (record-double out s))) (repeat-inner (double-of c) (length outs) a) (doubled-holds rooms (double-holds out room x))
 
 module _ {fields s : List ℕ} (x : ReadWith fields s) {outs : List (List ℕ)} (rooms : ClassRooms outs) where
-  pub doublings-read : ReadWith fields (doubled-record outs s)
-  doublings-read = read-again (doubled-holds rooms (own x))
-
   pub doublings-write : (out : List ℕ) → class-room ≤ length out
       → double-call (doubled-record outs s) out ≡ write (class-field 0x43 (doublings (x .values .curve) (suc (length outs)) (x .values .class))) out
   unfolding answered repeat

@@ -2,7 +2,7 @@
 -- Every output has the room that the calls require.
 -- `commit-of-record`, `undo-of-record`: on a record that is read, the response is the register call's for its values.
 -- `written`, `unwritten`: an accepted answer writes its count and seal; a refused one is a refusal.
--- `step-accepts`, `commit-accepts`, `undo-accepts`: it is accepted if the register call accepts the encoded values.
+-- `step-accepts`: it is accepted if the register call accepts the encoded values.
 -- `undo-of-commit-bytes`: undo on the record rebuilt from a commit's output writes the record's count and seal.
 -- `commit-of-undo-bytes`: commit on the record rebuilt from an undo's output does the same.
 use Prim.Native.Nat.{ℕ, _≤_}
@@ -94,15 +94,6 @@ module _ (k : Step) (g : Register) (a : Class) (e : step-answer k g a .outcome �
 
   pub step-accepts : (out : List ℕ) → register-room ≤ length out → step-call k (register-record-bytes g a) out ≡ write (register-fields (step-answer k g a .register)) out
   step-accepts out room = of-record (register-record-bytes g a) out room (register-record-back stored) k ∙ step-written out room
-
-module _ (g : Register) (a : Class) (out : List ℕ) (room : register-room ≤ length out) where
-  pub commit-accepts : commit-answer g a .outcome ≡ accepted → commit-call (register-record-bytes g a) out ≡ write (register-fields (commit-answer g a .register)) out
-  unfolding answered
-  commit-accepts e = step-accepts Commit g a e out room
-
-  pub undo-accepts : undo-answer g a .outcome ≡ accepted → undo-call (register-record-bytes g a) out ≡ write (register-fields (undo-answer g a .register)) out
-  unfolding answered
-  undo-accepts e = step-accepts Undo g a e out room
 
 -- ---- taking back
 

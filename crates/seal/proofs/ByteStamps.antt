@@ -3,16 +3,15 @@
 -- `stamp-writes`: an accepted stamp's class field is written.
 -- `stamp-refused`: a refused stamp's number is the answer.
 -- `too-large-bytes`: a stamp of 2^(d-3) or more is refused with 115, whatever its candidates.
--- `rootless-bytes`: it is 116 exactly if the stamp is below that and none of its eight candidates has a root.
 -- `stamps-apart`: two stamps for which calls on one record write the same are one stamp, whatever outputs are lent.
-use Prim.Native.Nat.{ℕ, _+_, _-_, _*_, _^_, _≤_, _<_}
-use mathlib.Core.{Path._≡_, Path.refl, Path.sym, Path.ap, Path.subst, Path._∙_, Logic._↔_, List.List}
+use Prim.Native.Nat.{ℕ, _-_, _^_, _≤_}
+use mathlib.Core.{Path._≡_, Path.refl, Path.sym, Path.ap, Path.subst, Path._∙_, List.List}
 use native.Mathlib.Omega.{arith}
 use lib.ListN.{length, drop}
-use Rattle.jacobian.specs.{Refusals.IsRefusal, Refusals.refusals, Refusals.listed, Answer.Verdict, Answer.accepted, Answer.refused, Answer.refusal, declared.Curve.Curve, declared.Class.Class}
+use Rattle.jacobian.specs.{Refusals.IsRefusal, Answer.Verdict, Answer.accepted, Answer.refused, Answer.refusal, declared.Curve.Curve, declared.Class.Class}
 use Rattle.jacobian.proofs.Refusals.{above-100}
-use Rattle.stamps.specs.Stamps.{stamp-answer, Rootless}
-use Rattle.stamps.proofs.Theorems.{stamp-accepts, stamp-refuses, stamp-too-large, stamp-rootless, stamp-injective}
+use Rattle.stamps.specs.Stamps.{stamp-answer}
+use Rattle.stamps.proofs.Theorems.{stamp-accepts, stamp-refuses, stamp-too-large, stamp-injective}
 use Rattle.stored_form.specs.{Number.encode-number, Reading.found, Head.class-room, Head.encode-field, Head.head-bytes, Classes.decode-class, Classes.class-field, Reader.read-record, Reader.curve-layout, declared.Record.Record}
 use Rattle.stored_form_theorems.proofs.ClassRoundTrips.{decode-body, class-short}
 use Rattle.written_form.specs.{Effect.Effect, Effect.Response, Effect.write, Effect.refuse, Effect.class-response, Effect.longest-answer, Wrote.wrote, Wrote.response-given}
@@ -41,13 +40,6 @@ module _ (s out : List ℕ) (room : class-room ≤ length out) {h : Record} {end
       let same : length (class-field 0x43 (stamp-answer (h .curve) n .class)) ≡ k = ap (λ (x : Effect). x .answer) (sym (stamp-writes e) ∙ is) in
       absurd (omega (arith, above-100 k i))
   answers (refused m) k e i is = ap refused (ap (λ (x : Effect). x .answer) (sym (stamp-refused e) ∙ is))
-
-  pub rootless-bytes : (stamp-call n s out ≡ refuse 116 out) ↔ ((n < 2 ^ (h .curve .degree - 3)) × ((i : ℕ) → i < 8 → Rootless (h .curve) (8 * n + i)))
-  unfolding IsRefusal refusals listed
-  rootless-bytes = (
-    λ is. let p = stamp-rootless (h .curve) n .0 (answers _ 116 refl refl is) in (p .1, p .2),
-    λ p. stamp-refused (stamp-rootless (h .curve) n .1 (curve-holds s read, p .0, p .1)),
-  )
 
   -- an answer that is a length means that the stamp was accepted
   length-accepted : stamp-call n s out .answer ≤ longest-answer → stamp-answer (h .curve) n .outcome ≡ accepted

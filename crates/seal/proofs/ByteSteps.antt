@@ -9,7 +9,6 @@
 -- `buffer-takes-back`: calls that reuse one buffer with room, each as the call before left it, are such calls.
 -- `buffer-reused`: their outputs are the buffer, and then what each of them left of it, in order.
 -- `any-outputs`, `any-outputs-last`: a list whose calls all have room does the same with other outputs that have room.
--- `each-stored`: what is kept before every call of the list is in stored form.
 -- `last-stored`: so is what is kept after the list.
 use Prim.Native.Nat.{ℕ, _≤_}
 use mathlib.Core.Path.{_≡_, refl, sym, ap, ap₂, _∙_, subst}
@@ -113,10 +112,6 @@ pub of-each : {P : Event Kept ByteStep → Type 0} → ((k : Kept) (c : ByteStep
 unfolding run
 of-each p k form none = none
 of-each p k form (more {a = c} b bs) = more (p k c form b) (of-each p (byte-steps .next k c) (next-stored k form c b) bs)
-
-pub each-stored : (k : Kept) → InStoredForm k → {cs : List ByteStep} → All (λ c. Bytes (c .operation)) cs → All (λ e. InStoredForm (e .before)) (run byte-steps k cs)
-unfolding event
-each-stored k form bytes = of-each (λ t c h b. h) k form bytes
 
 module _ (k : Kept) (form : InStoredForm k) (cs : List ByteStep) (bytes : All (λ c. Bytes (c .operation)) cs) where
   -- an accepted call had room, so it did what its request does

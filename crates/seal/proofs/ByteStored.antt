@@ -9,7 +9,7 @@ use mathlib.Core.List.{List, [], _∷_, _++_, map}
 use native.Mathlib.Omega.{arith}
 use lib.ListN.{length}
 use Rattle.lists.specs.Lists.{All, none, more}
-use Rattle.jacobian.specs.{Refusals.IsRefusal, Classes.class-refusal, Answer.Verdict, Answer.accepted, Answer.refused, Answer.refusal, declared.Class.Class}
+use Rattle.jacobian.specs.{Classes.class-refusal, Answer.Verdict, Answer.accepted, Answer.refused, Answer.refusal, declared.Class.Class}
 use Rattle.jacobian.proofs.{ByValue.Checks.first-due, ByValue.Checks.next-due, Representation.accepts-both}
 use Rattle.history.specs.Register as register
 use Rattle.history.specs.{Register.RegisterReply, Register.register-refusal, Register.step-refusal, Register.stepped, Register.follows, Register.step-answer, Machine.event, Machine.run, Machine.last, Machine.carried, Machine.Agrees}

@@ -4,7 +4,6 @@
 -- `call-decides`: the answer alone decides which: up to 100 it is a length, above that the number of a refusal.
 -- `membership-valid`: membership answers 0 or the number of a refusal.
 -- `membership-answers`: it answers 0 or one of its numbers.
--- `membership-found`, `found-membership`: it answers 0 exactly if the record is read.
 -- `length-read`: a call whose answer is a length had the room, and its record was read.
 -- `accepted-room`, `accepted-read`: so had a commit or an undo, and the register call accepts its values.
 use Prim.Native.Nat.{ℕ, _≤_}
@@ -20,7 +19,7 @@ use Rattle.stored_form.specs.{Reading.Reading, Reading.found, Reading.refused a
 use Rattle.written_form.specs.Effect.{Effect, refuse, register-room, WroteOrRefused, AnswerDecides, longest-answer}
 use Rattle.stored_form_theorems.specs.Numbers.{ZeroOrOneOf, class-numbers}
 use Rattle.jacobian.proofs.Checking.{refusal-among}
-use Rattle.stored_form.proofs.{Valid.ValidReading, Valid.record-valid, Valid.reading-valid, Valid.reading-found, Valid.found-reading}
+use Rattle.stored_form.proofs.{Valid.ValidReading, Valid.record-valid, Valid.reading-valid}
 use Rattle.written_form.proofs.{Checking.every, WroteOrRefused.call-wrote-or-refused, WroteOrRefused.answer-decides, WroteOrRefused.never-both, Effects.call-refused}
 use Rattle.seal.specs.Calls.{register, membership-call, tags, room, called, step-call}
 use Rattle.seal.specs.Checking.{numbers, lengths}
@@ -40,14 +39,6 @@ module _ (s : List ℕ) where
   pub membership-answers : ZeroOrOneOf class-numbers (membership-call s)
   unfolding listed
   membership-answers = refusal-among class-numbers refl (membership-checked s)
-
-  pub membership-found : membership-call s ≡ 0 → (h : Record) × (end : ℕ) × (read-record class-layout s ≡ found h end)
-  unfolding membership-call
-  membership-found e = reading-found _ (record-valid class-layout s) e
-
-  pub found-membership : {h : Record} {end : ℕ} → read-record class-layout s ≡ found h end → membership-call s ≡ 0
-  unfolding membership-call
-  found-membership e = found-reading _ e
 
 -- ---- the calls
 

@@ -30,7 +30,7 @@ use Rattle.class_group.specs.{Mumford.neutral, Operations.sum, Operations.doubl
 use Rattle.class_group.proofs.{Closed.sum-reduced, Closed.double-reduced, Group.classes, Group.class-doubling, Halving.class-halving}
 use Rattle.class_group.proofs.{Multiples.multiple-one, Multiples.multiple-add, Multiples.multiple-mul, Doublings.doublings-multiple, Doublings.halvings-doublings, Doublings.doublings-halvings}
 use Rattle.jacobian.specs.{Checks.unless, Checks._or-else_, Curves.curve, Classes.pair}
-use Rattle.jacobian.specs.Answer.{Result, result, gives, refused, refusal, Accepts, Only, neutral-class, half-answer, sum-answer}
+use Rattle.jacobian.specs.Answer.{Result, result, gives, Accepts, Only, neutral-class, half-answer, sum-answer}
 use Rattle.jacobian.specs.Group.{doublings}
 use Rattle.jacobian.specs.declared.{Curve.Curve, Class.Class}
 use Rattle.jacobian.proofs.{Calls.reduced, Calls.class-pair, Calls.sum-gives, Calls.sum-accepts, Calls.double-gives, Calls.half-gives, Group.class-is, Group.gives-own, Group.doublings-accept}

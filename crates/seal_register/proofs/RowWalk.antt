@@ -4,13 +4,11 @@
 -- `row-walk-meets`: the walk from the last seal over the k newest classes is not refused and answers the seal just
 -- before the k-th newest commit, for k = 0 the last seal.
 -- `row-walk-by-value`: the same of a list of calls by value.
--- `row-walk-first`: the walk over all classes answers the first seal.
 -- `row-walk-answers`: the code's walk over the k newest classes answers 0 and that seal.
--- `row-walk-first-answers`: the code's walk over all classes answers 0 and the first seal.
 use Prim.Native.Nat.{ℕ, zero, suc, _≤_}
 use mathlib.Core.{Path._≡_, Path.refl, Path.sym, Path._∙_, Path.ap, Path.ap₂, Path.subst, List.List, List.[], List._∷_, List.map, List.map-map}
 use native.Mathlib.Omega.{arith}
-use lib.{ListN.length, ListN.take, ListN.getD, ListN.length-map, Seq.length-take-le, Seq.take-length}
+use lib.{ListN.length, ListN.take, ListN.getD, ListN.length-map, Seq.length-take-le}
 use Rattle.lists.specs.{Lists.All, Lists.none, Lists.more, Walk.foldl}
 use Rattle.jacobian.specs.{Checks._or-else_, Curves.curve-refusal, Classes.class-refusal, Answer.accepted, Answer.verdict-of, Answer.Result, declared.Curve.Curve, declared.Class.Class}
 use Rattle.history.specs.Machine as machine
@@ -75,13 +73,6 @@ module _ (r : Register) (cs : List Call) where
         (unrefused (r .curve) (newest r cs) k (accepted-classes r cs))
         ∙ ap (λ a. record { outcome = accepted; class = a }) (walk-ends r cs only k h)
 
-    by-value-first : row-walk-answer (r .curve) (last r cs .seal) (classes (newest r cs)) ≡ record { outcome = accepted; class = r .seal }
-    unfolding classes
-    by-value-first =
-        let n = length (newest r cs) in
-        let all : take n (classes (newest r cs)) ≡ classes (newest r cs) = ap (λ k. take k (classes (newest r cs))) (sym (length-map (newest r cs) (λ e. e .call .class))) ∙ take-length (classes (newest r cs)) in
-        ap (row-walk-answer (r .curve) (last r cs .seal)) (sym all) ∙ row-walk-by-value n (omega arith) ∙ ap (λ a. record { outcome = accepted; class = a }) first-seal
-
 -- ---- with each call by value or in place
 -- the number and the seal of an answer
 found : (w : RowWalk) (s : Class) → reached w ≡ record { outcome = accepted; class = s } → (w .refusal ≡ 0) × (w .seal ≡ s)
@@ -97,14 +88,6 @@ module _ (r : Register) (ms : List RecordedCall) (s : Session r ms) (only : Only
       (λ es t. (k : ℕ) → k ≤ length es → row-walk-answer (r .curve) (t .seal) (take k (classes es)) ≡ record { outcome = accepted; class = getD (t .seal ∷ map (λ e. e .before .seal) es) k (t .seal) })
       (row-walk-by-value r (calls ms) (rw (newest-is r ms s) at only) ok)
 
-  pub row-walk-first : row-walk-answer (r .curve) (left-by r ms .seal) (classes (newest-recorded r ms)) ≡ record { outcome = accepted; class = r .seal }
-  row-walk-first =
-      as-by-value r ms s (λ es t. row-walk-answer (r .curve) (t .seal) (classes es) ≡ record { outcome = accepted; class = r .seal })
-      (by-value-first r (calls ms) (rw (newest-is r ms s) at only) ok)
-
   pub row-walk-answers : (k : ℕ) → k ≤ length (newest-recorded r ms) → (w : RowWalk) → reached w ≡ row-walk-answer (r .curve) (left-by r ms .seal) (take k (classes (newest-recorded r ms)))
       → (w .refusal ≡ 0) × (w .seal ≡ getD (seals-recorded r ms) k (left-by r ms .seal))
   row-walk-answers k h w e = found w _ (e ∙ row-walk-meets k h)
-
-  pub row-walk-first-answers : (w : RowWalk) → reached w ≡ row-walk-answer (r .curve) (left-by r ms .seal) (classes (newest-recorded r ms)) → (w .refusal ≡ 0) × (w .seal ≡ r .seal)
-  row-walk-first-answers w e = found w _ (e ∙ row-walk-first)

@@ -7,15 +7,15 @@ use mathlib.Core.{Path._≡_, Path.refl, Path.sym, Path.ap, Path.ap₂, Path.sub
 use native.Mathlib.Omega.{arith}
 use lib.ListN.{getD}
 use Rattle.field_laws.specs.{Ring.Ring2, Field.Field2}
-use Rattle.char2_algebra.specs.{Polynomials.Polynomials, Divides.Divides}
+use Rattle.char2_algebra.specs.{Polynomials.Polynomials}
 use Rattle.char2_algebra.proofs.{Ring.ring2, Ring.⊞-𝟘, Degree.coeff-zero, Degree.con-of-zero, Degree.con-one, Degree.con-mul, Degree.coeff-con-add-x-mul, Degree.coeff-con-add-x-mul-suc}
 use Rattle.binary_field_theory.specs.{Element.Accepted, Quadratic.Root}
 use Rattle.binary_field.proofs.Replies.{quadratic-in-field}
 use Rattle.class_group.specs.{Mumford.value, NonSingular.evaluate}
 use Rattle.row_theory.specs.{Field.degree-of, Field.accepted, Field.K, Field.F, Field.Poly, Field.𝔸, Field.el, Field.poly, Row.InRange}
 use Rattle.row_theory.proofs.{Rows.Elements.degree-is, Rows.Elements.el-of, Rows.Elements.el-zero, Rows.Elements.el-one, Rows.Elements.zero-lt, Rows.Coefficients.coeff-poly, Rows.Coefficients.poly-is}
-use Rattle.jacobian.specs.{Curves.f-row, Curves.curve, Curves.curve-refusal, Classes.u-row, Classes.pair, Answer.Accepts, declared.Curve.Curve, declared.Class.Class}
-use Rattle.jacobian.proofs.{ByValue.Checks.ShapePasses, ByValue.Checks.curve-passes, ByValue.Passing.f-is, Representation.Form.Formed, Representation.formed-accepted, Representation.accepts-both}
+use Rattle.jacobian.specs.{Curves.f-row, Curves.curve-refusal, Classes.u-row, Classes.pair, Answer.Accepts, declared.Curve.Curve}
+use Rattle.jacobian.proofs.{ByValue.Checks.curve-passes, ByValue.Passing.f-is, Representation.Form.Formed, Representation.formed-accepted, Representation.accepts-both}
 use Rattle.stamps.specs.Stamps.{value-at, point-class}
 
 -- ---- over any polynomials

@@ -6,7 +6,6 @@ use Prim.Native.Nat.{ℕ, zero, suc, _-_, _^_, _≤_, _<_}
 use mathlib.Core.{Path._≡_, Path.refl, Path.sym, Path.ap, Path.ap₂, Path.subst, Path._∙_, List.List, List.[], List._∷_, List._++_, List.map}
 use native.Mathlib.Omega.{arith}
 use lib.ListN.{length, getD, drop, replicate}
-use Rattle.field_laws.specs.Ring.{Ring2}
 use Rattle.char2_algebra.proofs.Ring.{𝟘-⊞, ⊞-𝟘, ·-𝟘}
 use Rattle.binary_field_theory.specs.Element.{Accepted}
 use Rattle.class_group.specs.NonSingular.{evaluate}

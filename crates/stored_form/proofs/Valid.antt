@@ -2,9 +2,9 @@
 -- `drawing-refusal-valid` and its like: every check gives a valid refusal, which is 0 or a listed number.
 -- `record-valid`, `fields-valid`, `operations-valid`: every reading of a record, of fields, of operations is valid.
 -- `reading-valid`: its number is then a valid refusal.
--- `reading-found`, `found-reading`: the number is 0 exactly if the reading finds a value.
+-- `reading-found`: where the number is 0, the reading finds a value.
 use Prim.Native.Nat.{ℕ, zero, suc, _+_}
-use mathlib.Core.Path.{_≡_, refl, ap}
+use mathlib.Core.Path.{_≡_, refl}
 use mathlib.Core.{Bool.Bool, Bool.true, Bool.false, Bool.cond, Bool.not, List.List, List.[], List._∷_, Logic.inl, Logic.inr}
 use native.Mathlib.Omega.{arith}
 use lib.{Dec.eqb, Dec.ltb, ListN.length, ListN.getD}
@@ -84,9 +84,6 @@ module _ {A : Type 0} where
   unfolding ValidReading
   reading-found (found a next) t e = (a, next, refl)
   reading-found (refused n) t e = let l = above-100 n t in absurd (omega arith)
-
-  pub found-reading : (x : Reading A) {a : A} {next : ℕ} → x ≡ found a next → reading-refusal x ≡ 0
-  found-reading x e = ap reading-refusal e
 
   pub end-tells : (s : List ℕ) (a : A) (at : ℕ) → ValidReading (ended s a at)
   unfolding ended

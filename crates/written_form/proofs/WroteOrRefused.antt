@@ -1,5 +1,5 @@
 -- A call on byte areas wrote or refused (docs/SPECIFICATION.md, 6 and 7).
--- `call-wrote-or-refused`: a call with these checks wrote bytes of one of its lengths, or refused with one of its numbers.
+-- `call-wrote-or-refused`: a call with these checks wrote one of its lengths, or refused with one of its numbers.
 -- `answer-decides`: then the answer alone decides which of the two.
 -- `never-both`: no length that a call writes is the number of a refusal.
 -- `answer-never-117`: a call among whose numbers 117 is not does not answer it.
