@@ -9,6 +9,7 @@
 -- and no step.
 -- `reply-number`: an answer by checks is refused with the number of the first that fails.
 -- `reply-fails`: where it is refused with a number, the first check that fails has it.
+-- `curve-numbered`, `membership-numbered`, `unary-numbered`, `binary-numbered`: each call refuses with its own numbers.
 use Prim.Native.Nat.{ℕ, zero, suc, _^_, _≤_}
 use mathlib.Core.{Path._≡_, Path.refl, Path.sym, Path.ap, Path.subst, Path._∙_, Bool.Bool, Bool.true, Bool._&&_, List.List, List.[], List._∷_, Logic._↔_}
 use native.Mathlib.Omega.{arith}
@@ -22,9 +23,9 @@ use Rattle.char2_algebra.proofs.{Degree.len-zero, Degree.len-of-zero, Lead.moni
 use Rattle.class_group.specs.{Mumford.value, Reduction.Counted}
 use Rattle.row_theory.specs.Field.{Poly, 𝔸}
 use Rattle.class_rows.specs.{Operations.unary, Operations.binary, declared.Unary.Unary, declared.Binary.Binary}
-use Rattle.jacobian.specs.{Checks.Check, Checks.check, Checks.FirstFails, Checks.blank, Checks.RefusalOf, Checks.all-hold, Checks.first-fails, Curves.coefficients, Curves.degree-refusal, Curves.coefficient-refusal, Curves.curve-refusal, Curves.curve}
+use Rattle.jacobian.specs.{Checks.Check, Checks.check, Checks.FirstFails, Checks.blank, Checks.RefusalOf, Checks.all-hold, Checks.first-fails, Curves.coefficients, Curves.degree-refusal, Curves.coefficient-refusal, Curves.curve-refusal, Curves.curve, Refusals.listed}
 use Rattle.jacobian.specs.{Classes.pair, Classes.padded, Classes.shape-refusal, Classes.range-refusal, Classes.class-refusal, Answer.refusal, Answer.refusal-of-two, declared.Curve.Curve, declared.Class.Class}
-use Rattle.jacobian.specs.Checking.{Below, degree-check, curve-checks, Padded, class-checks, checks-of-one, checks-of-two, VerdictOf, ReplyOf}
+use Rattle.jacobian.specs.Checking.{Below, degree-check, curve-checks, Padded, class-checks, checks-of-one, checks-of-two, curve-numbers, class-call-numbers, VerdictOf, ReplyOf}
 use Rattle.jacobian.specs.Checking as checking
 use Rattle.jacobian.specs.Answer.{Verdict, accepted, refused, Reply, verdict-of, answered, curve-answer, membership-answer, unary-answer, binary-answer}
 use Rattle.jacobian.proofs.ByValue.{Checks.then-zero, Checks.both, Checks.blank-past, Checks.curve-passes, Checks.shape-passes, Checks.range-passes, Below.from-blank}
@@ -137,3 +138,26 @@ unary-answered op c a = reply-by (checks-of-one c a) (refusal c a) (c .degree) (
 
 pub binary-answered : (op : Binary) (c : Curve) (a b : Class) → ReplyOf (checks-of-two c a b) (binary-answer op c a b)
 binary-answered op c a b = reply-by (checks-of-two c a b) (refusal-of-two c a b) (c .degree) (binary op (curve c) (pair (c .degree) a) (pair (c .degree) b)) (two-checked c a b)
+
+-- ---- the numbers
+
+verdict-fails : {cs : List Check} {v : Verdict} {n : ℕ} → VerdictOf cs v → v ≡ refused n → FirstFails cs n
+verdict-fails (checking.VerdictOf.accepts e h) is = absurd (accepted-not-refused (sym e ∙ is))
+verdict-fails {cs} (checking.VerdictOf.refuses m e f) is = subst (FirstFails cs) (refused-number (sym e ∙ is)) f
+
+pub curve-numbered : (c : Curve) (n : ℕ) → curve-answer c ≡ refused n → listed n curve-numbers ≡ true
+unfolding curve-numbers listed
+curve-numbered c n e = fails-among (curve-checks c) curve-numbers n refl (verdict-fails (curve-answered c) e)
+
+module _ (c : Curve) (a : Class) (n : ℕ) where
+  pub membership-numbered : membership-answer c a ≡ refused n → listed n class-call-numbers ≡ true
+  unfolding class-call-numbers listed
+  membership-numbered e = fails-among (checks-of-one c a) class-call-numbers n refl (verdict-fails (membership-answered c a) e)
+
+  pub unary-numbered : (op : Unary) → unary-answer op c a .outcome ≡ refused n → listed n class-call-numbers ≡ true
+  unfolding class-call-numbers listed
+  unary-numbered op e = fails-among (checks-of-one c a) class-call-numbers n refl (reply-fails (unary-answered op c a) e)
+
+  pub binary-numbered : (op : Binary) (b : Class) → binary-answer op c a b .outcome ≡ refused n → listed n class-call-numbers ≡ true
+  unfolding class-call-numbers listed
+  binary-numbered op b e = fails-among (checks-of-two c a b) class-call-numbers n refl (reply-fails (binary-answered op c a b) e)

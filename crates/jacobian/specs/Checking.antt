@@ -36,6 +36,14 @@ checks-of-one c a = curve-checks c ++ class-checks c a
 abbrev pub checks-of-two : Curve → Class → Class → List Check
 checks-of-two c a b = checks-of-one c a ++ class-checks c b
 
+-- the numbers with which a curve is refused, in checking order
+unfoldable pub curve-numbers : List ℕ
+curve-numbers = 106 ∷ 107 ∷ []
+
+-- the numbers with which a call on classes is refused, in checking order
+unfoldable pub class-call-numbers : List ℕ
+class-call-numbers = 106 ∷ 107 ∷ 104 ∷ 110 ∷ 111 ∷ []
+
 -- ---- what a call answers by its checks
 
 -- the outcome of checks made in order: accepted where all hold, else refused with the number of the first that fails

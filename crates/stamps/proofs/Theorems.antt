@@ -4,12 +4,13 @@
 -- `stamp-gives`: an accepted stamp's class is that of its first candidate with a root.
 -- `stamp-accepts`: it is accepted on the curve and has degree 1.
 -- `stamp-checked`: each refusal under its condition and in its order: those of the curve, then 115, then 116.
+-- `stamp-numbered`: a stamp is refused with one of 106, 107, 115 and 116.
 -- `stamp-too-large`: on an accepted curve a stamp of 2^(d-3) or more is refused with 115.
 -- `stamp-rootless`: a stamp is refused with 116 exactly where the curve is accepted, the stamp is below 2^(d-3) and
 -- none of its eight candidates has a root.
 -- `stamp-injective`: two accepted stamps of a curve with the same class are equal.
 use Prim.Native.Nat.{ℕ, zero, suc, _+_, _-_, _*_, _/_, _^_, _≤_, _<_}
-use mathlib.Core.{Path._≡_, Path.refl, Path.sym, Path.ap, Path.subst, Path._∙_, List.List, List.[], List._∷_, List._++_, Logic._↔_, Logic.inl, Logic.inr, Option.Option, Option.none, Option.some, Option.map-eq-none-iff, Option.map-eq-some-iff}
+use mathlib.Core.{Path._≡_, Path.refl, Path.sym, Path.ap, Path.subst, Path._∙_, Bool.true, List.List, List.[], List._∷_, List._++_, Logic._↔_, Logic.inl, Logic.inr, Option.Option, Option.none, Option.some, Option.map-eq-none-iff, Option.map-eq-some-iff}
 use native.Mathlib.Omega.{arith}
 use lib.{Dec.ltb, ListN.getD}
 use borrow.Author.Tests.{lt-ltb, ltb-true}
@@ -19,9 +20,9 @@ use Rattle.jacobian.specs.{Checks.Check, Checks.check, Checks.RefusalOf, Checks
 use Rattle.jacobian.specs.Checking as checking
 use Rattle.jacobian.specs.{Checks.unless, Checks._or-else_, Refusals.IsRefusal, Refusals.refusals, Refusals.listed, Refusals.ValidRefusal, Valid.ValidReply, Curves.f-row, Curves.curve-refusal, Answer.Reply, Answer.Verdict, Answer.accepted, Answer.refused, Answer.Accepts, declared.Curve.Curve, declared.Class.Class}
 use Rattle.jacobian.specs.Valid as valid
-use Rattle.jacobian.proofs.Checking.{refusal-unless, refusal-or-else, refusal-held, held-refusal, curve-checked, reply-number, reply-fails}
+use Rattle.jacobian.proofs.Checking.{refusal-unless, refusal-or-else, refusal-held, held-refusal, fails-among, curve-checked, reply-number, reply-fails}
 use Rattle.jacobian.proofs.{Refusals.valid-unless, Refusals.valid-or-else, Valid.curve-refusal-valid, ByValue.Checks.curve-passes}
-use Rattle.stamps.specs.Stamps.{value-at, point-class, class-at, first-class, stamp-refusal, stamped, stamp-answer, SomeRoot, stamp-checks, Rootless, FirstClass}
+use Rattle.stamps.specs.Stamps.{value-at, point-class, class-at, first-class, stamp-refusal, stamped, stamp-answer, SomeRoot, stamp-checks, stamp-numbers, Rootless, FirstClass}
 use Rattle.stamps.proofs.{Values.value-lt, Search.candidate-lt, Search.found-means, Search.none-means, Search.passed, Points.point-accepts}
 
 -- ---- every answer is valid
@@ -151,6 +152,10 @@ module _ (c : Curve) (s : ℕ) where
       reply-by (stamp-checks c s) (stamp-refusal c s) (first-class (c .degree) (f-row c) s)
       (refusal-or-else (curve-checks c ++ check 115 (s < 2 ^ (c .degree - 3)) ∷ []) (check 116 (SomeRoot c s) ∷ []) (stamp-refusal c s) _ refusal-checked
       (λ h. search-checked (refusal-held (curve-checked c) (h .0, (h .1 .0, tt)))))
+
+  pub stamp-numbered : (n : ℕ) → stamp-answer c s .outcome ≡ refused n → listed n stamp-numbers ≡ true
+  unfolding stamp-numbers listed
+  stamp-numbered n e = fails-among (stamp-checks c s) stamp-numbers n refl (reply-fails stamp-checked e)
 
   pub stamp-too-large : curve-refusal c ≡ 0 → 2 ^ (c .degree - 3) ≤ s → stamp-answer c s .outcome ≡ refused 115
   stamp-too-large ok h =

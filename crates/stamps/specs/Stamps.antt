@@ -47,6 +47,10 @@ SomeRoot c s = (i : ℕ) × (i < 8) × ((y : ℕ) × Root (c .degree) (value-at 
 abbrev pub stamp-checks : Curve → ℕ → List Check
 stamp-checks c s = curve-checks c ++ check 115 (s < 2 ^ (c .degree - 3)) ∷ check 116 (SomeRoot c s) ∷ []
 
+-- the numbers with which a stamp is refused, in checking order
+unfoldable pub stamp-numbers : List ℕ
+stamp-numbers = 106 ∷ 107 ∷ 115 ∷ 116 ∷ []
+
 -- y² + y = f(x) has no root
 abbrev pub Rootless : Curve → ℕ → Type 0
 Rootless c x = (y : ℕ) → Root (c .degree) (value-at (c .degree) (f-row c) x) y → ⊥
