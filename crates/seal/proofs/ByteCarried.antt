@@ -6,7 +6,7 @@
 -- `operations-stored`: the operation of each accepted byte call is the field of the class that it decodes to.
 -- `seals-stored`: the seal fields that were kept are the fields of the seals that they decode to.
 -- So the theorems of the crate history on lists of calls hold of byte calls. What is kept is the stored form of the
--- register that it decodes to (`each-stored` and `last-stored` of ByteSteps).
+-- register that it decodes to (`last-stored` of ByteSteps).
 use mathlib.Core.Path.{_≡_, refl, sym, ap, ap₂, _∙_}
 use mathlib.Core.List.{List, _∷_, map, map-map}
 use Rattle.lists.specs.Lists.{All, none, more}

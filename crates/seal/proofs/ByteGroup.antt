@@ -8,7 +8,7 @@
 -- `sum-neutral-bytes`: the sum with the neutral class writes the class's own field.
 -- `sum-opposite-bytes`: the sum of a class and its opposite writes the field of the neutral class.
 -- `byte-group`: these records are a commutative group, so all laws of groups in class_group hold of them. What a call
--- writes is the same in every output that has room (`same-rebuilt` of AnyOutput), so one output stands for all.
+-- writes is the same in every output that has room (`same-response` of AnyOutput), so one output stands for all.
 -- `byte-doubling`: doubling is one to one on them.
 -- `sum-record-parts`: every record of a sum that is read is made of two such records.
 use Prim.Native.Nat.{ℕ, suc, _≤_}

@@ -9,7 +9,7 @@
 -- `buffer-takes-back`: calls that reuse one buffer with room, each as the call before left it, are such calls.
 -- `buffer-reused`: their outputs are the buffer, and then what each of them left of it, in order.
 -- `any-outputs`, `any-outputs-last`: a list whose calls all have room does the same with other outputs that have room.
--- `last-stored`: so is what is kept after the list.
+-- `last-stored`: what is kept after the list is the stored form of a register that no check refuses.
 use Prim.Native.Nat.{ℕ, _≤_}
 use mathlib.Core.Path.{_≡_, refl, sym, ap, ap₂, _∙_, subst}
 use mathlib.Core.{Bool.true, List.List, List.[], List._∷_, List._++_, List.map, List.map-map}
