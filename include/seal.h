@@ -5,22 +5,23 @@
  *     rt staticlib seal
  *     cc -Iinclude model.c target/staticlib/libseal.a
  *
- * Stored form. A field is a one-byte tag, a two-byte length and a body, high byte first. An element takes eight
- * bytes, high byte first.
+ * Stored form. A field has a tag of one byte, its body's length in two bytes, and the body. Numbers are stored high
+ * byte first, an element in eight bytes.
  *
  *     tag    body                                                       lengths allowed
  *     0x40   degree d of the field, 5 or 61                             1
  *     0x41   f3, f1, f0 of the curve y^2 + y = x^7 + f3 x^3 + f1 x + f0 24
  *     0x42   count of operations, at most 1,024                         2
- *     0x43   a class: u below its leading term, highest power first,    0, 16, 32, 48
- *            then v likewise; the neutral class has length 0
- *     0x44   an operation's class, as 0x43                              0, 16, 32, 48
+ *     0x43   a class: the coefficients of u without the leading 1, from 0, 16, 32, 48
+ *            the highest power on, then those of v; neutral: length 0
+ *     0x44   the class of an operation, stored like 0x43                0, 16, 32, 48
  *
  * Answers. A call that is accepted writes at the start of the output and answers how many bytes it wrote, at most 56;
  * seal_membership writes nothing and answers 0. A call that is refused answers the refusal's number, 101 or more
  * (seal_refusals.h), and has changed no byte. No call changes the input, nor a byte of the output after those it
- * wrote. The input's fields are read in order, and each goes through its checks of 102 to 111 before the next is begun;
- * 108 is of archives, which no call for C reads.
+ * wrote. 101 comes before any byte of the input is looked at. A field must pass its checks of 102 to 111 before the one
+ * after it is looked at; 112 comes after the last field, and 113 to 116 come last. 108 is of archives, which no call
+ * for C reads.
  *
  * Areas. The input may hold anything: nothing has to be checked before a call. The one duty of the caller is to hand
  * over areas that are his, as long as said, with the output apart from the input: where they overlap, nothing is
@@ -57,8 +58,8 @@ uint32_t seal_membership(const uint8_t *in, size_t in_len);
  * Reads 0x40, 0x41, 0x43; writes 0x43. Refusals: 101 to 107, 110 to 112. */
 uint32_t seal_opposite(const uint8_t *in, size_t in_len, uint8_t *out, size_t out_len);
 
-/* The sum of two classes, those of a commutative group: sums in either order and in either grouping write the same
- * bytes, with the neutral class the other class's field is written, and with its opposite that of the neutral class.
+/* The sum of two classes, as in a commutative group: neither order nor grouping changes the bytes that sums write; with
+ * the neutral class the other class's field is written, and with its opposite that of the neutral class.
  * Reads 0x40, 0x41, 0x43, 0x43; writes 0x43. Refusals: 101 to 107, 110 to 112. */
 uint32_t seal_sum(const uint8_t *in, size_t in_len, uint8_t *out, size_t out_len);
 
@@ -72,7 +73,7 @@ uint32_t seal_half(const uint8_t *in, size_t in_len, uint8_t *out, size_t out_le
 
 /* The register after an operation: twice the seal plus the operation's class, and the count one higher.
  * Where one of the commits from a seal on has class E in place of D, the last seal moves by E - D, doubled once for
- * each commit that follows; it moves whenever D and E differ (examples/compare_variants.c).
+ * each commit that follows; where D and E differ, so do the last seals (examples/compare_variants.c).
  * Reads 0x40, 0x41, 0x42, 0x43 (the seal), 0x44; writes 0x42, 0x43. Refusals: 101 to 107, 109 to 112, 114. */
 uint32_t seal_commit(const uint8_t *in, size_t in_len, uint8_t *out, size_t out_len);
 
@@ -81,8 +82,8 @@ uint32_t seal_commit(const uint8_t *in, size_t in_len, uint8_t *out, size_t out_
 uint32_t seal_undo(const uint8_t *in, size_t in_len, uint8_t *out, size_t out_len);
 
 /* The class of an operation's stamp, a number below 2^(d-3). Of the eight numbers x from 8 stamp on it takes the first
- * for which y^2 + y = f(x) has a root y, and of the two roots the one whose lowest bit is 0: the class is [X + x, y].
- * Two stamps that are accepted have different classes. A few stamps have none, which is 116: the caller takes another
+ * at which y^2 + y = f(x) has roots, and as y the root with lowest bit 0. The class is [X + x, y]. On one curve, two
+ * stamps that are accepted have different classes. A few stamps have none, which is 116: the caller takes another
  * stamp, as examples/stamped_model.c does, since the same stamp on the same curve is always answered alike.
  * Reads 0x40, 0x41; writes 0x43, 19 bytes. Refusals: 101 to 107, 112, 115, 116. */
 uint32_t seal_stamp(const uint8_t *in, size_t in_len, uint64_t stamp, uint8_t *out, size_t out_len);

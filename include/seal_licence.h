@@ -8,14 +8,15 @@
  *
  * It may be linked together with the libraries of seal.h and seal_register.h.
  *
- * The record. Both calls read the fields 0x40, 0x41 and 0x43, in this order and with nothing after them. A field is a
- * one-byte tag, a two-byte length and a body, high byte first. An element takes eight bytes, high byte first.
+ * The record. Both calls read the fields 0x40, 0x41 and 0x43, in this order and with nothing after them. A field has a
+ * tag of one byte, its body's length in two bytes, and the body. Numbers are stored high byte first, an element in
+ * eight bytes.
  *
  *     tag    body                                                       lengths allowed
  *     0x40   degree d of the field, 5 or 61                             1
  *     0x41   f3, f1, f0 of the curve y^2 + y = x^7 + f3 x^3 + f1 x + f0 24
- *     0x43   a class: u below its leading term, highest power first,    0, 16, 32, 48
- *            then v likewise; the neutral class has length 0
+ *     0x43   a class: the coefficients of u without the leading 1, from 0, 16, 32, 48
+ *            the highest power on, then those of v; neutral: length 0
  *
  * The number n or k is handed over beside the record. The output gets one field 0x43; with the first 31 bytes of the
  * record before it, it is the record of a further call.
@@ -23,8 +24,8 @@
  * Answers. A call that is accepted writes at the start of the output and answers how many bytes it wrote: 3, 19, 35 or
  * 51. A call that is refused answers the refusal's number, 101 or more (seal_refusals.h), and has changed no byte. No
  * call changes the input, nor a byte of the output after those it wrote. 101 comes before any byte of the input is
- * looked at; the fields are read in order, and each goes through its checks, 102 to 107, 110 and 111, before the next
- * is begun; then comes 112, and 118 or 119 last.
+ * looked at. A field must pass its checks of 102 to 107, 110 and 111 before the one after it is looked at; 112 comes
+ * after the last field, and 118 or 119 comes last.
  *
  * Areas. The input may hold anything: nothing has to be checked before a call. The one duty of the caller is to hand
  * over areas that are his, as long as said, with the output apart from the input: where they overlap, nothing is

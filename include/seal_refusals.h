@@ -22,25 +22,25 @@
 
 /* The refusals, in checking order (docs/SPECIFICATION.md, section 6). 117 is not among them: it is of calls on elements
  * alone, and no call for C answers it. */
-#define SEAL_OUTPUT_TOO_SHORT 101    /* the output has fewer than 51 bytes, or 56 for commit and undo */
-#define SEAL_HEAD_CUT 102            /* the input ends before the three bytes of a field's head */
-#define SEAL_WRONG_TAG 103           /* the tag is not the one due there */
-#define SEAL_WRONG_LENGTH 104        /* the length is not allowed for the tag */
-#define SEAL_WRONG_SHAPE 104         /* the same by value: a degree above 3, or a number not 0 at or past the degree */
-#define SEAL_BODY_CUT 105            /* the input ends before the body does */
-#define SEAL_WRONG_DEGREE 106        /* the degree is neither 5 nor 61 */
-#define SEAL_CURVE_COEFFICIENT 107   /* a curve coefficient is 2^d or more */
-#define SEAL_DRAWING_NUMBER 108      /* a drawing number byte lies outside 0x20 to 0x7E; of archives, no call for C */
-#define SEAL_COUNT_TOO_HIGH 109      /* the count, or the number of classes in a row, exceeds 1,024 */
-#define SEAL_CLASS_COEFFICIENT 110   /* a class coefficient is 2^d or more */
-#define SEAL_NOT_A_CLASS 111         /* u does not divide v^2 + v + f */
-#define SEAL_BYTES_REMAIN 112        /* bytes remain after the last field */
-#define SEAL_UNDO_AT_ZERO 113        /* an undo is called at count 0 */
-#define SEAL_COMMIT_AT_LIMIT 114     /* a commit is called at count 1,024 */
-#define SEAL_STAMP_TOO_LARGE 115     /* the stamp is 2^(d-3) or more */
-#define SEAL_STAMP_WITHOUT_CLASS 116 /* none of the stamp's eight candidates has a root: take another stamp */
-#define SEAL_MULTIPLE_TOO_LARGE 118  /* n is 2^61 or more */
-#define SEAL_TOO_MANY_HALVINGS 119   /* k exceeds 64 */
+#define SEAL_OUTPUT_TOO_SHORT 101    /* the output is shorter than 51 bytes; for commit and undo, than 56 */
+#define SEAL_HEAD_CUT 102            /* fewer than three bytes are left where a field's head is due */
+#define SEAL_WRONG_TAG 103           /* a field has another tag than the one due */
+#define SEAL_WRONG_LENGTH 104        /* the tag does not allow the body's length */
+#define SEAL_WRONG_SHAPE 104         /* by value: a class's degree is above 3, or a number at or past it is not 0 */
+#define SEAL_BODY_CUT 105            /* fewer bytes are left than the body's length says */
+#define SEAL_WRONG_DEGREE 106        /* the degree is another number than 5 and 61 */
+#define SEAL_CURVE_COEFFICIENT 107   /* f3, f1 or f0 is not below 2^d */
+#define SEAL_DRAWING_NUMBER 108      /* a drawing number has a byte outside 0x20 to 0x7E; of archives, no call for C */
+#define SEAL_COUNT_TOO_HIGH 109      /* the count, or the number of classes in a row, is above 1,024 */
+#define SEAL_CLASS_COEFFICIENT 110   /* a coefficient of a class is not below 2^d */
+#define SEAL_NOT_A_CLASS 111         /* v^2 + v + f is no multiple of u */
+#define SEAL_BYTES_REMAIN 112        /* something follows the last field */
+#define SEAL_UNDO_AT_ZERO 113        /* of an undo: the count is 0 */
+#define SEAL_COMMIT_AT_LIMIT 114     /* of a commit: the count is 1,024 */
+#define SEAL_STAMP_TOO_LARGE 115     /* the stamp is not below 2^(d-3) */
+#define SEAL_STAMP_WITHOUT_CLASS 116 /* there is no root for any of the stamp's eight candidates: take another stamp */
+#define SEAL_MULTIPLE_TOO_LARGE 118  /* n is not below 2^61 */
+#define SEAL_TOO_MANY_HALVINGS 119   /* k is above 64 */
 
 /* Is an answer a refusal? An accepted call answers at most 56, so that no answer is both. */
 #define SEAL_IS_REFUSAL(answer) ((answer) >= SEAL_OUTPUT_TOO_SHORT)
