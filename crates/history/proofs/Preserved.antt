@@ -2,7 +2,7 @@
 -- `last-passes`: a register that passes its checks still does so after a list of calls.
 -- `accepted-class`: where a call is accepted, the register passes its checks and the class is accepted.
 -- `accepted-step`: an accepted step leaves a register that passes its checks, and the other step returns the one given.
--- `accepted-class-reduced`: the class of an accepted call is reduced.
+-- `accepted-class-reduced`: the class of an accepted call stands for a reduced class of the register's curve.
 -- `accepted-classes`: no check refuses a class of the accepted calls of a list.
 -- `classes-accept`: on an accepted curve these classes are accepted.
 -- `first-passes`: where a call of a list is accepted, the first register passes its checks.
@@ -12,9 +12,8 @@ use mathlib.Core.List.{List, [], _∷_}
 use native.Mathlib.Omega.{arith}
 use lib.ListN.{length}
 use Rattle.lists.specs.Lists.{All, none, more}
-use Rattle.class_group.specs.Mumford.{Reduced}
-use Rattle.jacobian.specs.{Curves.curve-refusal, Curves.curve, Classes.pair, Classes.class-refusal, Answer.Verdict, Answer.accepted, Answer.refused, Answer.Accepts, declared.Curve.Curve, declared.Class.Class}
-use Rattle.jacobian.proofs.Representation.{accepts-both, accepted-reduced}
+use Rattle.jacobian.specs.{Curves.curve-refusal, Membership.ClassOn, Classes.class-refusal, Answer.Verdict, Answer.accepted, Answer.refused, Answer.Accepts, declared.Curve.Curve, declared.Class.Class}
+use Rattle.jacobian.proofs.{Representation.accepts-both, Acceptance.membership-iff, Acceptance.of-accepts}
 use Rattle.history.specs.Register.{register-refusal, other, step-answer}
 use Rattle.history.specs.Machine as definition
 use Rattle.history.specs.Calls.{Call, answer, registers, Event, run, last, newest, classes}
@@ -46,8 +45,8 @@ unfolding answer
 accepted-step k r a e =
     (passes-register _ (call.accepted-passes r (record { step = k; class = a }) e), step-taken-back r a k e)
 
-pub accepted-class-reduced : (r : Register) (c : Call) → answer r c .outcome ≡ accepted → Reduced (curve (r .curve)) (pair (r .curve .degree) (c .class))
-accepted-class-reduced r c e = accepted-reduced (r .curve) (c .class) (accepted-class r c e .1)
+pub accepted-class-reduced : (r : Register) (c : Call) → answer r c .outcome ≡ accepted → ClassOn (r .curve) (c .class)
+accepted-class-reduced r c e = membership-iff (r .curve) (c .class) .0 (of-accepts (r .curve) (c .class) (accepted-class r c e .1)) .1
 
 pub accepted-classes : (r : Register) (cs : List Call) → All (λ e. class-refusal (r .curve) (e .call .class) ≡ 0) (newest r cs)
 unfolding definition.newest definition.event

@@ -1,6 +1,7 @@
 -- Which curves and classes are accepted (docs/SPECIFICATION.md, 2, 3 and 6).
 -- `curve-accepted-iff`: a curve is accepted exactly where its degree is 5 or 61 and f3, f1 and f0 are below 2^d.
 -- `curve-polynomial`: the polynomial of an accepted curve is x^7 + f3 x^3 + f1 x + f0.
+-- `of-accepts`: membership is answered for a class that no check refuses.
 -- `membership-iff`: a class is accepted exactly where the curve is and the class stands for a reduced class of it.
 use Prim.Native.Nat.{ℕ, zero, suc, _^_, _≤_, _<_}
 use mathlib.Core.{Path._≡_, Path.refl, Path.sym, Path.ap, Path.subst, Path._∙_, List.[], List._∷_, Logic._↔_, Logic._⊎_}
@@ -151,7 +152,7 @@ module _ (c : Curve) (a : Class) where
   unfolding membership-answer
   accepts-of e = record { none = verdict-zero (refusal c a) e }
 
-  of-accepts : Accepts c a → membership-answer c a ≡ accepted
+  pub of-accepts : Accepts c a → membership-answer c a ≡ accepted
   unfolding membership-answer
   of-accepts h = zero-verdict (refusal c a) (h .none)
 

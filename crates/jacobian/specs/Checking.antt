@@ -18,15 +18,17 @@ pub record Padded (n : ℕ) (r : List ℕ) : Type 0 where
   pub three : length r ≡ 3
   pub zeros : (i : ℕ) → n ≤ i → getD r i 0 ≡ 0
 
--- the checks of a class: its form, then the range of its numbers, then that u divides v² + v + f
-abbrev pub class-checks : Curve → Class → List Check
-class-checks c a =
+-- the checks of a class in the right form: the range of its numbers, then that u divides v² + v + f
+abbrev pub formed-checks : Curve → Class → List Check
+formed-checks c a =
     let d = c .degree in
-    let n = a .degree in
-    check 104 ((n ≤ 3) × Padded n (a .u) × Padded n (a .v))
-    ∷ check 110 (Below (2 ^ d) (a .u) × Below (2 ^ d) (a .v))
+    check 110 (Below (2 ^ d) (a .u) × Below (2 ^ d) (a .v))
     ∷ check 111 (Divides (𝔸 d .ring) (pair d a .u) (value (curve c) (pair d a .v)))
     ∷ []
+
+-- the checks of a class: its form, then those of a class in the right form
+abbrev pub class-checks : Curve → Class → List Check
+class-checks c a = let n = a .degree in check 104 ((n ≤ 3) × Padded n (a .u) × Padded n (a .v)) ∷ formed-checks c a
 
 -- the checks of a call on one class
 abbrev pub checks-of-one : Curve → Class → List Check

@@ -2,7 +2,7 @@
 -- `membership-checked`: membership refuses as its record does.
 -- `call-checked`: every other call refuses with 101 of the output, then as its record does, then with 113 to 116 of its
 -- values, and no byte changes; where no check fails, it writes its bytes, whose length is one of its lengths.
-use Prim.Native.Nat.{ℕ, zero, suc, _+_, _-_, _*_, _^_, _≤_, _<_}
+use Prim.Native.Nat.{ℕ, zero, suc, _-_, _^_, _≤_, _<_}
 use mathlib.Core.{Path._≡_, Path.refl, Path.sym, Path.ap, Path.subst, Bool.Bool, Bool.true, Bool.false, Bool.cond, Bool.false≢true, List.List, List.[], List._∷_, Logic._↔_, Logic._⊎_, Logic.inl, Logic.inr, Option.Option, Option.none, Option.some}
 use native.Mathlib.Omega.{arith}
 use lib.{Dec.eqb, Dec.ltb, Dec.leb, ListN.length}
@@ -13,7 +13,7 @@ use Rattle.count_limit.proofs.Limit.{within-limit}
 use Rattle.history.specs.Register.{register-refusal, edge, edge-refusal, step-refusal, stepped, RegisterReply, follows, step-answer}
 use Rattle.history.specs.declared.{Register.Register, Step.Step, Step.the-variants.Commit, Step.the-variants.Undo}
 use Rattle.history.proofs.{Registers.step-passes, Registers.follows-zero, OneStep.stepped-passes}
-use Rattle.stamps.specs.Stamps.{first-class, stamp-refusal, stamped, stamp-answer, Rootless}
+use Rattle.stamps.specs.Stamps.{first-class, stamp-refusal, stamped, stamp-answer, SomeRoot}
 use Rattle.stamps.proofs.Theorems.{stamp-gives, stamp-accepts, stamp-too-large, stamp-rootless}
 use Rattle.stored_form.specs.{Fields.count-limit, Reader.curve-layout, Reader.class-layout, Reader.sum-layout, Reader.register-layout, Passing.CountPasses, Passing.ClassPasses, declared.Record.Record}
 use Rattle.stored_form_theorems.specs.{Checking.record-checks, Checking.record-values, Numbers.OneOf, Numbers.class-field-lengths, Numbers.register-field-lengths}
@@ -90,7 +90,7 @@ module _ (h : Record) (s : ℕ) (ok : curve-refusal (h .curve) ≡ 0) where
       refusal-or-else (check 115 _ ∷ []) (check 116 _ ∷ []) 115 0 (refusal-unless false 115 (λ z. omega arith) (λ f. absurd (false≢true f), λ m. absurd (omega arith)))
       (λ p. absurd (omega (arith, p .0)))
 
-  within : s < 2 ^ (h .curve .degree - 3) → (b : Bool) → ((b ≡ true) ↔ ¬ ((i : ℕ) → i < 8 → Rootless (h .curve) (8 * s + i))) → RefusalOf (last-checks (Stamp s) h) (unless b 116)
+  within : s < 2 ^ (h .curve .degree - 3) → (b : Bool) → ((b ≡ true) ↔ SomeRoot (h .curve) s) → RefusalOf (last-checks (Stamp s) h) (unless b 116)
   unfolding unless _or-else_
   within l b i =
       refusal-or-else (check 115 _ ∷ []) (check 116 _ ∷ []) 0 (unless b 116) (refusal-unless true 115 (λ z. omega arith) (λ f. l, λ m. refl))
@@ -114,10 +114,10 @@ module _ (h : Record) (s : ℕ) (ok : curve-refusal (h .curve) ≡ 0) where
           elim (stamp-outcome (h .curve) s ok l) [
             | inl e ↦
                 let g = stamp-gives (h .curve) s e in
-                numbered 0 (within l true (λ z all. all (g .0) (g .1 .place) (g .1 .y) (g .1 .root .root), λ z. refl)) e (λ z. e)
+                numbered 0 (within l true (λ z. (g .0, g .1 .place, (g .1 .y, g .1 .root .root)), λ z. refl)) e (λ z. e)
             | inr e ↦
                 let all = stamp-rootless (h .curve) s .0 e .2 in
-                numbered 116 (within l false (λ z. absurd (false≢true z), λ some. absurd (some all))) e (λ z. absurd (omega arith))
+                numbered 116 (within l false (λ z. absurd (false≢true z), λ some. absurd (all (some .0) (some .1) (some .2 .0) (some .2 .1)))) e (λ z. absurd (omega arith))
           ]
       by false f =
           let l = ltb-false s (2 ^ (h .curve .degree - 3)) f in

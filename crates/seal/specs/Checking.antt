@@ -1,10 +1,10 @@
 -- What the checks of each byte call require, in checking order, and which numbers and lengths it answers
 -- (docs/SPECIFICATION.md, 6 and 7).
-use Prim.Native.Nat.{ℕ, _+_, _-_, _*_, _^_, _≤_, _<_}
+use Prim.Native.Nat.{ℕ, _+_, _-_, _^_, _≤_, _<_}
 use mathlib.Core.{Path._≡_, List.List, List.[], List._∷_, List._++_}
 use lib.ListN.{length}
 use Rattle.jacobian.specs.Checks.{Check, check}
-use Rattle.stamps.specs.Stamps.{Rootless}
+use Rattle.stamps.specs.Stamps.{SomeRoot}
 use Rattle.stored_form.specs.declared.Record.{Record}
 use Rattle.stored_form_theorems.specs.{Checking.record-checks, Checking.record-values, Numbers.class-numbers, Numbers.class-field-lengths, Numbers.register-field-lengths}
 use Rattle.seal.specs.Calls.{tags}
@@ -31,7 +31,7 @@ last-checks Commit h = check 114 (¬ (h .count ≡ 1024)) ∷ []
 last-checks Undo h = check 113 (¬ (h .count ≡ 0)) ∷ []
 last-checks (Stamp s) h =
     check 115 (s < 2 ^ (h .curve .degree - 3))
-    ∷ check 116 (¬ ((i : ℕ) → i < 8 → Rootless (h .curve) (8 * s + i)))
+    ∷ check 116 (SomeRoot (h .curve) s)
     ∷ []
 
 -- the checks of a call: the length of its output, its record, then its values

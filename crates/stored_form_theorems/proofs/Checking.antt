@@ -10,7 +10,7 @@ use borrow.Author.Tests.{ltb-true, ltb-false, le-ltb, leb-true, le-leb, eqb-true
 use Rattle.lists.specs.Lists.{none, more}
 use Rattle.binary_field.specs.Checks.{all-hold, first-fails}
 use Rattle.binary_field.proofs.Checking.{degree-checked}
-use Rattle.jacobian.specs.{Checks.Check, Checks.check, Checks.AllHold, Checks.RefusalOf, Checks.unless, Checks._or-else_, Checks.blank, Checking.Padded}
+use Rattle.jacobian.specs.{Checks.Check, Checks.check, Checks.AllHold, Checks.RefusalOf, Checks.unless, Checks._or-else_, Checks.blank, Checking.formed-checks, Checking.Padded}
 use Rattle.jacobian.specs.{Curves.coefficients, Curves.curve-with, Curves.blank-curve, Curves.curve-refusal, Answer.refusal, Classes.class-refusal}
 use Rattle.jacobian.proofs.Checking.{refusal-none, refusal-unless, refusal-held, held-refusal, curve-checked, class-checked}
 use Rattle.jacobian.proofs.ByValue.Checks.{both, blank-past}
@@ -18,7 +18,7 @@ use Rattle.stored_form.specs.{Number.part, Reading.found, Reading.reading-refus
 use Rattle.stored_form.specs.{Head.body-length, Head.class-length, Fields.printable, Fields.drawing-refusal, Fields.count-limit, Fields.count-refusal, Fields.end-refusal, Fields.ended, Passing.CurvePasses}
 use Rattle.stored_form.specs.{Cuts.fields-end, Elements.decode-elements, Classes.decode-curve, Classes.decode-row, Classes.decode-class, Record.empty-record, Record.curve-of-degree, Tags.rules, Reader.read-head, Reader.read-body, Reader.read-field, Reader.read-fields, Reader.read-record, declared.Record.Record}
 use Rattle.stored_form.proofs.{Parts.length-part, Lengths.by-tag, Lengths.by-class-length, Lengths.class-length-le, Items.length-elements}
-use Rattle.stored_form_theorems.specs.Checking.{ClassLength, LengthAllowed, Printable, decoded-checks, value-checks, after-field, with-field-at, field-checks, with-fields-at, fields-checks, end-check, record-checks, record-values}
+use Rattle.stored_form_theorems.specs.Checking.{ClassLength, LengthAllowed, Printable, value-checks, after-field, with-field-at, field-checks, with-fields-at, fields-checks, end-check, record-checks, record-values}
 use Rattle.stored_form_theorems.specs.Checking as table
 use Rattle.stored_form_theorems.proofs.CheckedReadings.{Reads, found-reads, refuse-reads, checked-reads, then-reads}
 
@@ -100,12 +100,12 @@ unfolding curve-of-degree curve-with coefficients
 zero-curve d h = let z : 0 < 2 ^ d = pow-pos d in refusal-held (curve-checked (curve-of-degree d)) (h, (more z (more z (more z none)), tt))
 
 module _ (h : Record) (ok : CurvePasses (h .curve)) (body : List ℕ) where
-  decoded-checked : ClassLength (length body) → RefusalOf (decoded-checks (h .curve) (decode-class body)) (refusal (h .curve) (decode-class body))
+  decoded-checked : ClassLength (length body) → RefusalOf (formed-checks (h .curve) (decode-class body)) (refusal (h .curve) (decode-class body))
   unfolding refusal _or-else_
   decoded-checked l =
       let c = h .curve in
       let a = decode-class body in
-      subst (RefusalOf (decoded-checks c a)) (ap (λ (n : ℕ). n or-else class-refusal c a) (sym ok)) (rest (class-checked c a ok) (decoded-form body l))
+      subst (RefusalOf (formed-checks c a)) (ap (λ (n : ℕ). n or-else class-refusal c a) (sym ok)) (rest (class-checked c a ok) (decoded-form body l))
 
   -- the check of a field's value, where its length is allowed
   value-checked : (tag : ℕ) → LengthAllowed tag (length body) → let m = rules tag .with-field body h in RefusalOf (value-checks tag m) (rules tag .check (length body) m)

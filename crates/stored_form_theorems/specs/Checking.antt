@@ -3,7 +3,7 @@ use Prim.Native.Nat.{ℕ, _+_, _≤_, _^_}
 use mathlib.Core.{Path._≡_, Bool.cond, List.List, List.[], List._∷_, List._++_, Logic._⊎_}
 use lib.{Dec.eqb, ListN.length, ListN.getD}
 use Rattle.lists.specs.Lists.{All}
-use Rattle.jacobian.specs.{Checks.Check, Checks.check, Checking.Below, Checking.degree-check, Checking.class-checks, Curves.coefficients, declared.Curve.Curve, declared.Class.Class}
+use Rattle.jacobian.specs.{Checks.Check, Checks.check, Checking.Below, Checking.degree-check, Checking.formed-checks, Curves.coefficients}
 use Rattle.stored_form.specs.{Number.part, Head.body-length, Cuts.fields-end, Record.empty-record, Record.drawing-name, Tags.rules, declared.Record.Record}
 
 -- ---- one field
@@ -25,23 +25,16 @@ pub data LengthAllowed (tag n : ℕ) : Type 0 where
 abbrev pub Printable : List ℕ → Type 0
 Printable name = All (λ b. (0x20 ≤ b) × (b ≤ 0x7E)) name
 
--- the checks of a class that a body decodes to: 110 and 111 as by value, since its length gives it the right form
-abbrev pub decoded-checks : Curve → Class → List Check
-decoded-checks c a = after-first (class-checks c a)
-  where
-    after-first : List Check → List Check
-    after-first [] = []
-    after-first (check ∷ checks) = checks
-
--- the checks of what the field with this tag says, in the record with it
+-- the checks of what the field with this tag says, in the record with it; the length of a class's body gives the class
+-- the right form
 abbrev pub value-checks : ℕ → Record → List Check
 value-checks tag h =
     cond (eqb tag 0x40) (degree-check (h .curve .degree) ∷ [])
     (cond (eqb tag 0x41) (check 107 (Below (2 ^ h .curve .degree) (coefficients (h .curve))) ∷ [])
     (cond (eqb tag 0x46) (check 108 (Printable (drawing-name (h .drawing))) ∷ [])
     (cond (eqb tag 0x42) (check 109 (h .count ≤ 1024) ∷ [])
-    (cond (eqb tag 0x43) (decoded-checks (h .curve) (h .class))
-    (cond (eqb tag 0x44) (decoded-checks (h .curve) (h .operation))
+    (cond (eqb tag 0x43) (formed-checks (h .curve) (h .class))
+    (cond (eqb tag 0x44) (formed-checks (h .curve) (h .operation))
     [])))))
 
 -- the offset after the field at an offset

@@ -1,4 +1,4 @@
--- Numbers that are told one by one: those of refusals and those of lengths (docs/SPECIFICATION.md, 6).
+-- Lists of numbers: those of refusals, and the lengths of what is written (docs/SPECIFICATION.md, 6).
 use Prim.Native.Nat.{ℕ}
 use mathlib.Core.{Path._≡_, Bool.true, List.List, List.[], List._∷_, Logic._⊎_}
 use Rattle.jacobian.specs.Refusals.{listed}
