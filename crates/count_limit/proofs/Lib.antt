@@ -1,4 +1,5 @@
--- Counts within the limit and above it; a count's refusal is valid, and given under its condition.
+-- Counts within the limit and above it, released steps within the count and above it; their refusals are valid, and given
+-- under their conditions.
 pub mod Limit
 pub mod Checking
 pub mod Valid

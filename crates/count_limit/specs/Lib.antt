@@ -1,3 +1,3 @@
--- The limit of operations, and what its check requires.
+-- The limit of operations, and what the checks of a count and of a released step require.
 pub mod Limit
 pub mod Checking
