@@ -5,34 +5,36 @@ use mathlib.Core.List.{List, [], _∷_, map, reverse}
 use Rattle.lists.specs.{Lists.All, Lists.ChangedAt, Walk.foldl}
 use Rattle.jacobian.specs.{Answer.accepted, Answer.Result, Answer.result, Answer.sum-answer, Answer.subtract-and-halve-answer, Group.difference, Group.doublings}
 use Rattle.jacobian.specs.declared.{Curve.Curve, Class.Class}
-use Rattle.history.specs.Register.{RegisterReply, step-answer, other, commit-seal, undo-seal}
+use Rattle.history.specs.Register.{RegisterReply, step-answer, release-answer, other, commit-seal, undo-seal}
 use Rattle.history.specs.Machine as machine
 use Rattle.history.specs.Machine.{Machine}
 use Rattle.history.specs.declared.{Register.Register, Step.Step, Step.the-variants.Commit, Step.the-variants.Undo}
 
--- a commit or an undo with its class, whatever values that class has
-pub record Call : Type 0 where
-  pub step : Step
-  pub class : Class
+-- a call on a register: a commit or an undo with its class, whatever values that class has, or a release
+pub data Call : Type 0 where
+  step : Step → Class → Call
+  release : Call
 
 -- the commit of a class
 abbrev pub commit : Class → Call
-commit a = record { step = Commit; class = a }
+commit a = step Commit a
 
 -- the undo of a class
 abbrev pub undo : Class → Call
-undo a = record { step = Undo; class = a }
+undo a = step Undo a
 
--- the call that takes a call back: the other step with the same class
+-- the call that takes a step back: the other step with the same class; a release has none, and is returned as it is
 unfoldable pub back : Call → Call
-back c = record { step = other (c .step); class = c .class }
+back (step k a) = step (other k) a
+back release = release
 
 -- what a call on a register answers
 unfoldable pub answer : Register → Call → RegisterReply
-answer r c = step-answer (c .step) r (c .class)
+answer r (step k a) = step-answer k r a
+answer r release = release-answer r
 
 -- ---- the register as a machine
--- the machine whose states are registers and whose calls are commits and undos
+-- the machine whose states are registers and whose calls are commits, undos and releases
 abbrev pub registers : Machine Register Call
 registers = record { outcome = λ r c. answer r c .outcome; next = λ r c. answer r c .register }
 
@@ -64,18 +66,38 @@ taken-back = machine.taken-back registers back
 abbrev pub turned : Event → Event
 turned = machine.turned back
 
--- ---- the walk
--- the classes of these calls
-unfoldable pub classes : List Event → List Class
-classes es = map (λ e. e .call .class) es
+-- ---- the calls of a list, by kind
+-- none of these calls is a release, so each has a way back
+abbrev pub NoReleases : List Event → Type 0
+NoReleases es = All (λ e. ¬ (e .call ≡ release)) es
+
+-- none of these calls is an undo
+abbrev pub NoUndos : List Event → Type 0
+NoUndos es = All (λ e. (a : Class) → ¬ (e .call ≡ undo a)) es
 
 -- all of these calls are commits
 abbrev pub OnlyCommits : List Event → Type 0
-OnlyCommits es = All (λ e. e .call .step ≡ Commit) es
+OnlyCommits es = All (λ e. (a : Class) × (e .call ≡ commit a)) es
 
--- the seals that a walk back meets: the last seal, then those just before the accepted calls, newest first
-unfoldable pub seals-back : Register → List Call → List Class
-seals-back r cs = last r cs .seal ∷ map (λ e. e .before .seal) (newest r cs)
+-- these calls without the releases
+unfoldable pub steps : List Event → List Event
+steps [] = []
+steps (e ∷ es) = elim (e .call) [ step k a ↦ e ∷ steps es | release ↦ steps es ]
+
+-- the classes of the steps among these calls
+unfoldable pub classes : List Event → List Class
+classes [] = []
+classes (e ∷ es) = elim (e .call) [ step k a ↦ a ∷ classes es | release ↦ classes es ]
+
+-- ---- the walk
+-- the seals that a walk back meets from the register after these accepted calls, newest first: its seal, then those just
+-- before the steps
+unfoldable pub seals-met : Register → List Event → List Class
+seals-met t es = t .seal ∷ map (λ e. e .before .seal) (steps es)
+
+-- the seals that a walk back meets after a list of calls
+abbrev pub seals-back : Register → List Call → List Class
+seals-back r cs = seals-met (last r cs) (newest r cs)
 
 -- the end of a walk forward: a commit of each class in turn; for no class the seal itself
 abbrev pub walk-forward : Curve → Class → List Class → Class

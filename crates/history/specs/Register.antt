@@ -1,4 +1,5 @@
--- The history register by value: its checks, its two steps and the answers of calls (docs/SPECIFICATION.md, 4 and 6).
+-- The history register by value: its checks, its two steps, the release and the answers of calls
+-- (docs/SPECIFICATION.md, 4 and 6).
 use Prim.Native.Nat.{ℕ, zero, suc, _+_, _-_}
 use mathlib.Core.{Path._≡_, Bool.cond}
 use lib.Dec.{eqb}
@@ -6,7 +7,7 @@ use Rattle.class_group.specs.Moves.{double-and-add, subtract-and-halve}
 use Rattle.jacobian.specs.{Checks._or-else_, Curves.curve-refusal, Curves.curve, Classes.pair, Classes.class-of, Classes.class-refusal}
 use Rattle.jacobian.specs.Answer.{Verdict, accepted, refused, verdict, neutral-class, Result, Only}
 use Rattle.jacobian.specs.declared.{Curve.Curve, Class.Class}
-use Rattle.count_limit.specs.Limit.{count-limit, count-refusal}
+use Rattle.count_limit.specs.Limit.{count-limit, count-refusal, released-refusal}
 use Rattle.history.specs.declared.{Register.Register, RegisterAnswer.RegisterAnswer, Step.Step, Step.the-variants.Commit, Step.the-variants.Undo}
 
 -- ---- seals
@@ -24,31 +25,32 @@ sealed zero seal = record { outcome = accepted; class = seal }
 sealed (suc n) seal = record { outcome = refused (suc n); class = neutral-class }
 
 -- ---- checks, in the stored order; 0 where every check passes
--- 106 or 107 of the curve, then 109 for a count above the limit, then 104, 110 or 111 of the seal
+-- 106 or 107 of the curve, then 109 for a count above the limit, then 120 for a released step above the count, then 104,
+-- 110 or 111 of the seal
 unfoldable pub register-refusal : Register → ℕ
 register-refusal r =
     curve-refusal (r .curve)
     or-else count-refusal (r .count)
+    or-else released-refusal (r .count) (r .released)
     or-else class-refusal (r .curve) (r .seal)
 
--- the count at which a step is refused: the limit for a commit, 0 for an undo
-unfoldable pub edge : Step → ℕ
-edge Commit = count-limit
-edge Undo = 0
+-- the refusal of a step at a count: 114 of a commit at the limit; 113 of an undo at 0, then 121 at the released step
+unfoldable pub edge-refusal : Step → ℕ → ℕ → ℕ
+edge-refusal Commit n released = cond (eqb n count-limit) 114 0
+edge-refusal Undo n released = cond (eqb n 0) 113 (cond (eqb n released) 121 0)
 
--- the refusal at that count: 114 of a commit, 113 of an undo
-unfoldable pub edge-refusal : Step → ℕ
-edge-refusal Commit = 114
-edge-refusal Undo = 113
-
--- the register's checks, then 104, 110 or 111 of the operation's class, then 114 or 113 of the count
+-- the register's checks, then 104, 110 or 111 of the operation's class, then 114, or 113 and 121, of the count
 unfoldable pub step-refusal : Step → Register → Class → ℕ
-step-refusal k r a = register-refusal r or-else class-refusal (r .curve) a or-else cond (eqb (r .count) (edge k)) (edge-refusal k) 0
+step-refusal k r a = register-refusal r or-else class-refusal (r .curve) a or-else edge-refusal k (r .count) (r .released)
 
 -- ---- the register that follows
 -- the register with this count and this seal, all else as it was
 unfoldable pub with-count-and-seal : ℕ → Class → Register → Register
-with-count-and-seal n seal r = record { curve = r .curve; count = n; seal = seal }
+with-count-and-seal n seal r = record { curve = r .curve; count = n; seal = seal; released = r .released }
+
+-- the register with this released step, all else as it was
+unfoldable pub with-released : ℕ → Register → Register
+with-released n r = record { curve = r .curve; count = r .count; seal = r .seal; released = n }
 
 -- the register after a step: a commit adds 1 to the count, an undo subtracts 1
 unfoldable pub stepped : Step → Register → Class → Register
@@ -86,6 +88,10 @@ commit-answer = step-answer Commit
 -- what an undo answers
 abbrev pub undo-answer : Register → Class → RegisterReply
 undo-answer = step-answer Undo
+
+-- what a release answers: the released step becomes the count
+unfoldable pub release-answer : Register → RegisterReply
+release-answer r = follows (register-refusal r) r (with-released (r .count) r)
 
 -- what an undo promises: its answer; and if accepted, its seal is the only one that a commit takes to the one given
 pub record UndoAnswers (r : Register) (a : Class) (x : RegisterReply) : Type 0 where
