@@ -1,7 +1,7 @@
 -- What holds where no check of a register and of a step on it refuses, and what a call answers by its refusal.
 -- `register-passes`, `passes-register`: a register has refusal 0 exactly where each of its checks passes.
+-- `edge-off`, `off-edge`: a step has no edge refusal exactly where its count is off its edges.
 -- `step-passes`, `passes-step`: a step has refusal 0 exactly where register, class and count pass.
--- `edge-positive`: 113 and 114 are not 0.
 -- `follows-accepted`: where the answer is an acceptance, the refusal is 0.
 -- `follows-outcome`: the outcome of the answer is that of the refusal.
 -- `follows-zero`, `follows-refused`: the answer where the refusal is 0, and where it is not.
@@ -19,14 +19,15 @@ use Rattle.jacobian.specs.{Checks._or-else_, Curves.curve-refusal, Classes.clas
 use Rattle.jacobian.specs.declared.Class.{Class}
 use Rattle.jacobian.proofs.ByValue.Checks.{then-zero}
 use Rattle.count_limit.specs.Limit.{count-limit}
-use Rattle.count_limit.proofs.Limit.{within-limit, limit-keeps}
-use Rattle.history.specs.Register.{register-refusal, edge, edge-refusal, step-refusal, RegisterReply, follows}
+use Rattle.count_limit.proofs.Limit.{within-limit, limit-keeps, released-within, released-keeps}
+use Rattle.history.specs.Register.{register-refusal, edge-refusal, step-refusal, RegisterReply, follows}
 use Rattle.history.specs.declared.{Register.Register, Step.Step, Step.the-variants.Commit, Step.the-variants.Undo}
 
 -- ---- a register that passes its own checks
 pub record Passes (r : Register) : Type 0 where
   pub curve-passes : curve-refusal (r .curve) ≡ 0
   pub count-passes : r .count ≤ count-limit
+  pub released-passes : r .released ≤ r .count
   pub seal-passes : class-refusal (r .curve) (r .seal) ≡ 0
 
 pub register-passes : (r : Register) → register-refusal r ≡ 0 → Passes r
@@ -34,22 +35,40 @@ unfolding register-refusal
 register-passes r e =
     let h = then-zero _ _ e in
     let k = then-zero _ _ (h .1) in
-    record { curve-passes = h .0; count-passes = limit-keeps _ (k .0); seal-passes = k .1 }
+    let m = then-zero _ _ (k .1) in
+    record { curve-passes = h .0; count-passes = limit-keeps _ (k .0); released-passes = released-keeps _ _ (m .0); seal-passes = m .1 }
 
 pub passes-register : (r : Register) → Passes r → register-refusal r ≡ 0
 unfolding register-refusal _or-else_
-passes-register r p = rw (p .curve-passes, within-limit (r .count) (p .count-passes)) (p .seal-passes)
+passes-register r p = rw (p .curve-passes, within-limit (r .count) (p .count-passes), released-within (r .count) (r .released) (p .released-passes)) (p .seal-passes)
 
--- ---- a step that passes: the register, the class, and a count off the step's edge
+-- ---- a step that passes: the register, the class, and a count off the step's edges
+-- a count at which a step can be taken, with this released step
+unfoldable pub OffEdge : Step → ℕ → ℕ → Type 0
+OffEdge Commit n released = ¬ (n ≡ count-limit)
+OffEdge Undo n released = (¬ (n ≡ 0)) × (¬ (n ≡ released))
+
+-- a refusal that is given only where a test is true is 0 where it is false
+unless-at : (b : Bool) (n m : ℕ) → ¬ (n ≡ 0) → cond b n m ≡ 0 → (b ≡ false) × (m ≡ 0)
+unless-at true n m h e = absurd (h e)
+unless-at false n m h e = (refl, e)
+
+pub edge-off : (k : Step) (n released : ℕ) → edge-refusal k n released ≡ 0 → OffEdge k n released
+unfolding edge-refusal OffEdge
+edge-off Commit n released e = eqb-false n count-limit (unless-at _ 114 0 (λ z. omega arith) e .0)
+edge-off Undo n released e =
+    let p = unless-at _ 113 _ (λ z. omega arith) e in
+    (eqb-false n 0 (p .0), eqb-false n released (unless-at _ 121 0 (λ z. omega arith) (p .1) .0))
+
+pub off-edge : (k : Step) (n released : ℕ) → OffEdge k n released → edge-refusal k n released ≡ 0
+unfolding edge-refusal OffEdge
+off-edge Commit n released h = rw (ne-eqb n count-limit h)
+off-edge Undo n released h = rw (ne-eqb n 0 (h .0), ne-eqb n released (h .1))
+
 pub record Passing (k : Step) (r : Register) (a : Class) : Type 0 where
   pub register : Passes r
   pub class-passes : class-refusal (r .curve) a ≡ 0
-  pub off-edge : ¬ (r .count ≡ edge k)
-
-pub edge-positive : (k : Step) → ¬ (edge-refusal k ≡ 0)
-unfolding edge-refusal
-edge-positive Commit = λ e. omega arith
-edge-positive Undo = λ e. omega arith
+  pub at-count : OffEdge k (r .count) (r .released)
 
 module _ (k : Step) (r : Register) (a : Class) where
   pub step-passes : step-refusal k r a ≡ 0 → Passing k r a
@@ -57,15 +76,11 @@ module _ (k : Step) (r : Register) (a : Class) where
   step-passes e =
       let h = then-zero _ _ e in
       let l = then-zero _ _ (h .1) in
-      record { register = register-passes r (h .0); class-passes = l .0; off-edge = eqb-false _ _ (off (eqb (r .count) (edge k)) (l .1)) }
-    where
-      off : (b : Bool) → cond b (edge-refusal k) 0 ≡ 0 → b ≡ false
-      off true e = absurd (edge-positive k e)
-      off false e = refl
+      record { register = register-passes r (h .0); class-passes = l .0; at-count = edge-off k (r .count) (r .released) (l .1) }
 
   pub passes-step : Passing k r a → step-refusal k r a ≡ 0
   unfolding step-refusal _or-else_
-  passes-step p = rw (passes-register r (p .register), p .class-passes, ne-eqb (r .count) (edge k) (p .off-edge))
+  passes-step p = rw (passes-register r (p .register), p .class-passes, off-edge k (r .count) (r .released) (p .at-count))
 
 -- ---- what a call answers
 module _ (n : ℕ) (given next : Register) where
