@@ -1,8 +1,9 @@
 -- The lengths that each tag allows, and the length of a field.
 -- `is-degree-length` and its like: what an allowed length is, tag by tag.
--- `by-class-length`: a class has one of four lengths. `by-tag`: a tag that allows a length is one of six.
+-- `by-class-length`: a class has one of four lengths. `by-tag`: a tag that allows a length is one of seven.
 -- `allows-short`: no allowed length is above that of the longest body.
 -- `length-stored`: a field has three bytes more than its body. `length-count`: the length of a count's field.
+-- `length-released`: the length of a released step's field.
 use Prim.Native.Nat.{ℕ, _+_, _*_, _/_, _≤_}
 use mathlib.Core.Path.{_≡_, refl, sym, subst, _∙_}
 use native.Mathlib.Decide.{ℕ-discrete}
@@ -12,7 +13,7 @@ use native.Mathlib.Omega.{arith}
 use lib.Dec.{eqb, lit≤}
 use lib.ListN.{length}
 use borrow.Author.Tests.{ne-eqb, eqb-true, leb-true}
-use Rattle.stored_form.specs.{Number.encode-number, Fields.count-field, Tags.rules, Tags.longest-body, declared.Record.Record}
+use Rattle.stored_form.specs.{Number.encode-number, Fields.count-field, Fields.released-field, Tags.rules, Tags.longest-body, declared.Record.Record}
 use Rattle.stored_form.specs.Head.{degree-length, curve-length, count-length, drawing-limit, class-length, class-limit, head-bytes, encode-field}
 
 pub class-length-last : (n : ℕ) → (n ≡ 0 → ⊥) → (n ≡ 16 → ⊥) → (n ≡ 32 → ⊥) → class-length n ≡ eqb n 48
@@ -22,11 +23,11 @@ class-length-last n h₀ h₁ h₂ = rw (ne-eqb n 0 h₀, ne-eqb n 16 h₁, ne-e
 -- ---- the lengths that are allowed
 
 module _ (h : Record) where
-  pub allows-none : (t n : ℕ) → (t ≡ 0x40 → ⊥) → (t ≡ 0x41 → ⊥) → (t ≡ 0x46 → ⊥) → (t ≡ 0x42 → ⊥) → (t ≡ 0x43 → ⊥) → (t ≡ 0x44 → ⊥) →
+  pub allows-none : (t n : ℕ) → (t ≡ 0x40 → ⊥) → (t ≡ 0x41 → ⊥) → (t ≡ 0x46 → ⊥) → (t ≡ 0x42 → ⊥) → (t ≡ 0x45 → ⊥) → (t ≡ 0x43 → ⊥) → (t ≡ 0x44 → ⊥) →
       rules t .allows h n ≡ false
   unfolding rules
-  allows-none t n h₀ h₁ h₆ h₂ h₃ h₄ =
-      rw (ne-eqb t 0x40 h₀, ne-eqb t 0x41 h₁, ne-eqb t 0x46 h₆, ne-eqb t 0x42 h₂, ne-eqb t 0x43 h₃, ne-eqb t 0x44 h₄)
+  allows-none t n h₀ h₁ h₆ h₂ h₅ h₃ h₄ =
+      rw (ne-eqb t 0x40 h₀, ne-eqb t 0x41 h₁, ne-eqb t 0x46 h₆, ne-eqb t 0x42 h₂, ne-eqb t 0x45 h₅, ne-eqb t 0x43 h₃, ne-eqb t 0x44 h₄)
 
   pub is-degree-length : {n : ℕ} → rules 0x40 .allows h n ≡ true → n ≡ degree-length
   unfolding rules
@@ -35,6 +36,10 @@ module _ (h : Record) where
   pub is-count-length : {n : ℕ} → rules 0x42 .allows h n ≡ true → n ≡ count-length
   unfolding rules
   is-count-length e = eqb-true _ _ e
+
+  pub is-released-length : {n : ℕ} → rules 0x45 .allows h n ≡ true → n ≡ count-length
+  unfolding rules
+  is-released-length e = eqb-true _ _ e
 
   pub is-drawing-length : {n : ℕ} → rules 0x46 .allows h n ≡ true → n ≤ drawing-limit
   unfolding rules
@@ -71,18 +76,18 @@ pub class-length-even : (n : ℕ) → class-length n ≡ true → 16 * (n / 16) 
 class-length-even = by-class-length (λ n. 16 * (n / 16) ≡ n) refl refl refl refl
 
 module _ (h : Record) where
-  pub by-tag : (P : ℕ → Type 0) → P 0x40 → P 0x41 → P 0x46 → P 0x42 → P 0x43 → P 0x44 → (t n : ℕ) → rules t .allows h n ≡ true → P t
-  by-tag P p₀ p₁ p₆ p₂ p₃ p₄ t n e =
-      by-case P t 0x40 p₀ (λ a₀. by-case P t 0x41 p₁ (λ a₁. by-case P t 0x46 p₆ (λ a₆. by-case P t 0x42 p₂ (λ a₂. by-case P t 0x43 p₃ (λ a₃. by-case P t 0x44 p₄
-      (λ a₄. absurd (false≢true (sym (allows-none h t n a₀ a₁ a₆ a₂ a₃ a₄) ∙ e))))))))
+  pub by-tag : (P : ℕ → Type 0) → P 0x40 → P 0x41 → P 0x46 → P 0x42 → P 0x45 → P 0x43 → P 0x44 → (t n : ℕ) → rules t .allows h n ≡ true → P t
+  by-tag P p₀ p₁ p₆ p₂ p₅ p₃ p₄ t n e =
+      by-case P t 0x40 p₀ (λ a₀. by-case P t 0x41 p₁ (λ a₁. by-case P t 0x46 p₆ (λ a₆. by-case P t 0x42 p₂ (λ a₂. by-case P t 0x45 p₅ (λ a₅. by-case P t 0x43 p₃ (λ a₃. by-case P t 0x44 p₄
+      (λ a₄. absurd (false≢true (sym (allows-none h t n a₀ a₁ a₆ a₂ a₅ a₃ a₄) ∙ e)))))))))
 
-  -- a tag that allows a length and is none of the other four is that of a class
-  pub class-left : (t n : ℕ) → (t ≡ 0x40 → ⊥) → (t ≡ 0x41 → ⊥) → (t ≡ 0x46 → ⊥) → (t ≡ 0x42 → ⊥) → rules t .allows h n ≡ true → class-length n ≡ true
-  class-left t n h₀ h₁ h₆ h₂ a =
-      by-tag (λ k. (k ≡ 0x40 → ⊥) → (k ≡ 0x41 → ⊥) → (k ≡ 0x46 → ⊥) → (k ≡ 0x42 → ⊥) → rules k .allows h n ≡ true → class-length n ≡ true)
-      (λ o _ _ _ _. absurd (o refl)) (λ _ o _ _ _. absurd (o refl)) (λ _ _ o _ _. absurd (o refl)) (λ _ _ _ o _. absurd (o refl))
-      (λ _ _ _ _ e. sym (class-lengths h n) ∙ e) (λ _ _ _ _ e. sym (operation-lengths h n) ∙ e)
-      t n a h₀ h₁ h₆ h₂ a
+  -- a tag that allows a length and is none of the other five is that of a class
+  pub class-left : (t n : ℕ) → (t ≡ 0x40 → ⊥) → (t ≡ 0x41 → ⊥) → (t ≡ 0x46 → ⊥) → (t ≡ 0x42 → ⊥) → (t ≡ 0x45 → ⊥) → rules t .allows h n ≡ true → class-length n ≡ true
+  class-left t n h₀ h₁ h₆ h₂ h₅ a =
+      by-tag (λ k. (k ≡ 0x40 → ⊥) → (k ≡ 0x41 → ⊥) → (k ≡ 0x46 → ⊥) → (k ≡ 0x42 → ⊥) → (k ≡ 0x45 → ⊥) → rules k .allows h n ≡ true → class-length n ≡ true)
+      (λ o _ _ _ _ _. absurd (o refl)) (λ _ o _ _ _ _. absurd (o refl)) (λ _ _ o _ _ _. absurd (o refl)) (λ _ _ _ o _ _. absurd (o refl)) (λ _ _ _ _ o _. absurd (o refl))
+      (λ _ _ _ _ _ e. sym (class-lengths h n) ∙ e) (λ _ _ _ _ _ e. sym (operation-lengths h n) ∙ e)
+      t n a h₀ h₁ h₆ h₂ h₅ a
 
   pub allows-short : (t n : ℕ) → rules t .allows h n ≡ true → n ≤ longest-body
   allows-short t n a =
@@ -91,6 +96,7 @@ module _ (h : Record) where
       (λ e. omega (arith, is-curve-length h e))
       (λ e. omega (arith, is-drawing-length h e))
       (λ e. omega (arith, is-count-length h e))
+      (λ e. omega (arith, is-released-length h e))
       (λ e. omega (arith, class-length-le n (sym (class-lengths h n) ∙ e)))
       (λ e. omega (arith, class-length-le n (sym (operation-lengths h n) ∙ e)))
       t n a a
@@ -104,3 +110,7 @@ length-stored tag body = omega arith
 pub length-count : (n : ℕ) → length (count-field n) ≡ 3 + count-length
 unfolding count-field encode-field head-bytes encode-number
 length-count n = refl
+
+pub length-released : (n : ℕ) → length (released-field n) ≡ 3 + count-length
+unfolding released-field encode-field head-bytes encode-number
+length-released n = refl

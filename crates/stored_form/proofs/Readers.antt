@@ -21,17 +21,17 @@ use Rattle.stored_form.specs.declared.Offset.the-variants.{Next, Refused
 use Rattle.stored_form.proofs.Readings.{then-found, then-refused, then-same, then-assoc, both-found, checked-found, same-found}
 use Rattle.stored_form.proofs.{Heads.head-found, Lengths.is-drawing-length, Lengths.by-tag, Parts.length-part}
 
--- a tag that allows a length and is none of the other five is the operation's
-pub operation-left : (h : Record) (t n : ℕ) → rules t .allows h n ≡ true → (t ≡ 0x40 → ⊥) → (t ≡ 0x41 → ⊥) → (t ≡ 0x46 → ⊥) → (t ≡ 0x42 → ⊥) → (t ≡ 0x43 → ⊥) → t ≡ 0x44
-operation-left h t n a h₀ h₁ h₆ h₂ h₃ =
-    by-tag h (λ k. (k ≡ 0x40 → ⊥) → (k ≡ 0x41 → ⊥) → (k ≡ 0x46 → ⊥) → (k ≡ 0x42 → ⊥) → (k ≡ 0x43 → ⊥) → k ≡ 0x44)
-    (λ o _ _ _ _. absurd (o refl)) (λ _ o _ _ _. absurd (o refl)) (λ _ _ o _ _. absurd (o refl)) (λ _ _ _ o _. absurd (o refl)) (λ _ _ _ _ o. absurd (o refl))
-    (λ _ _ _ _ _. refl) t n a h₀ h₁ h₆ h₂ h₃
+-- a tag that allows a length and is none of the other six is the operation's
+pub operation-left : (h : Record) (t n : ℕ) → rules t .allows h n ≡ true → (t ≡ 0x40 → ⊥) → (t ≡ 0x41 → ⊥) → (t ≡ 0x46 → ⊥) → (t ≡ 0x42 → ⊥) → (t ≡ 0x45 → ⊥) → (t ≡ 0x43 → ⊥) → t ≡ 0x44
+operation-left h t n a h₀ h₁ h₆ h₂ h₅ h₃ =
+    by-tag h (λ k. (k ≡ 0x40 → ⊥) → (k ≡ 0x41 → ⊥) → (k ≡ 0x46 → ⊥) → (k ≡ 0x42 → ⊥) → (k ≡ 0x45 → ⊥) → (k ≡ 0x43 → ⊥) → k ≡ 0x44)
+    (λ o _ _ _ _ _. absurd (o refl)) (λ _ o _ _ _ _. absurd (o refl)) (λ _ _ o _ _ _. absurd (o refl)) (λ _ _ _ o _ _. absurd (o refl)) (λ _ _ _ _ o _. absurd (o refl))
+    (λ _ _ _ _ _ o. absurd (o refl)) (λ _ _ _ _ _ _. refl) t n a h₀ h₁ h₆ h₂ h₅ h₃
 
 -- a byte that is no tag has no check
-pub no-check : (t n : ℕ) (h : Record) → (t ≡ 0x40 → ⊥) → (t ≡ 0x41 → ⊥) → (t ≡ 0x46 → ⊥) → (t ≡ 0x42 → ⊥) → (t ≡ 0x43 → ⊥) → (t ≡ 0x44 → ⊥) → rules t .check n h ≡ 0
+pub no-check : (t n : ℕ) (h : Record) → (t ≡ 0x40 → ⊥) → (t ≡ 0x41 → ⊥) → (t ≡ 0x46 → ⊥) → (t ≡ 0x42 → ⊥) → (t ≡ 0x45 → ⊥) → (t ≡ 0x43 → ⊥) → (t ≡ 0x44 → ⊥) → rules t .check n h ≡ 0
 unfolding rules
-no-check t n h h₀ h₁ h₆ h₂ h₃ h₄ = rw (ne-eqb t 0x40 h₀, ne-eqb t 0x41 h₁, ne-eqb t 0x46 h₆, ne-eqb t 0x42 h₂, ne-eqb t 0x43 h₃, ne-eqb t 0x44 h₄)
+no-check t n h h₀ h₁ h₆ h₂ h₅ h₃ h₄ = rw (ne-eqb t 0x40 h₀, ne-eqb t 0x41 h₁, ne-eqb t 0x46 h₆, ne-eqb t 0x42 h₂, ne-eqb t 0x45 h₅, ne-eqb t 0x43 h₃, ne-eqb t 0x44 h₄)
 
 -- ---- one field
 

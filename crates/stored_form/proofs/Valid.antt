@@ -9,7 +9,7 @@ use mathlib.Core.{Bool.Bool, Bool.true, Bool.false, Bool.cond, Bool.not, List.Li
 use native.Mathlib.Omega.{arith}
 use lib.{Dec.eqb, Dec.ltb, ListN.length, ListN.getD}
 use Rattle.jacobian.specs.{Refusals.refusals, Refusals.listed, Refusals.IsRefusal, Refusals.ValidRefusal, Curves.degree-refusal}
-use Rattle.count_limit.proofs.Valid.{count-refusal-valid}
+use Rattle.count_limit.proofs.Valid.{count-refusal-valid, released-refusal-valid}
 use Rattle.jacobian.proofs.{Refusals.valid-unless, Refusals.above-100, Valid.curve-refusal-valid, Valid.refusal-valid}
 use Rattle.stored_form.specs.{Reading.Reading, Reading.found, Reading.refused, Reading.refuse, Reading.checked, Reading._then_, Reading.reading-refusal}
 use Rattle.stored_form.specs.{Head.body-length, Fields.drawing-refusal, Fields.end-refusal, Fields.ended, Record.empty-record, Tags.Rules, Tags.rules}
@@ -42,9 +42,10 @@ field-refusal-valid tag n h =
     (either P (eqb tag 0x41) (curve-refusal-valid _)
     (either P (eqb tag 0x46) (drawing-refusal-valid _)
     (either P (eqb tag 0x42) (count-refusal-valid _)
+    (either P (eqb tag 0x45) (released-refusal-valid _ _)
     (either P (eqb tag 0x43) (refusal-valid _ _)
     (either P (eqb tag 0x44) (refusal-valid _ _)
-    (inl refl))))))
+    (inl refl)))))))
 
 -- ---- readings that refuse with a listed number
 

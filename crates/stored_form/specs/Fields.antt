@@ -5,7 +5,7 @@ use mathlib.Core.List.{List, [], _∷_}
 use lib.ListN.{length}
 use lib.Dec.{leb, ltb}
 use Rattle.jacobian.specs.Checks.{unless}
-unfoldable pub use Rattle.count_limit.specs.Limit.{count-limit, count-refusal}
+unfoldable pub use Rattle.count_limit.specs.Limit.{count-limit, count-refusal, released-refusal}
 use Rattle.stored_form.specs.{Number.encode-number, Reading.Reading, Reading.found, Reading.checked}
 use Rattle.stored_form.specs.Head.{degree-length, count-length, encode-field}
 
@@ -15,11 +15,15 @@ use Rattle.stored_form.specs.Head.{degree-length, count-length, encode-f
 unfoldable pub degree-field : ℕ → List ℕ
 degree-field d = encode-field 0x40 (encode-number degree-length d)
 
--- ---- the count of operations
+-- ---- the count of operations and the released step
 
 -- the field of a count, 0x42
 unfoldable pub count-field : ℕ → List ℕ
 count-field n = encode-field 0x42 (encode-number count-length n)
+
+-- the field of a released step, 0x45
+unfoldable pub released-field : ℕ → List ℕ
+released-field n = encode-field 0x45 (encode-number count-length n)
 
 -- ---- the drawing number
 

@@ -18,7 +18,7 @@ degree-length = 1
 abbrev pub curve-length : ℕ
 curve-length = coefficient-count * element-length
 
--- the length of the body of 0x42
+-- the length of the bodies of 0x42 and 0x45
 abbrev pub count-length : ℕ
 count-length = 2
 

@@ -19,6 +19,10 @@ CurvePasses c = curve-refusal c ≡ 0
 abbrev pub CountPasses : ℕ → Type 0
 CountPasses n = n ≤ count-limit
 
+-- a released step up to this count
+abbrev pub ReleasedPasses : ℕ → ℕ → Type 0
+ReleasedPasses count released = released ≤ count
+
 -- a drawing number of printable bytes that is not too long
 abbrev pub DrawingPasses : List ℕ → Type 0
 DrawingPasses name = (printable name ≡ true) × (length name ≤ drawing-limit)

@@ -57,9 +57,13 @@ class-layout = curve-layout ++ 0x43 ∷ []
 abbrev pub sum-layout : List ℕ
 sum-layout = curve-layout ++ 0x43 ∷ 0x43 ∷ []
 
--- the layout of a register with an operation
+-- the layout of a register; it is the whole record of a release
 abbrev pub register-layout : List ℕ
-register-layout = curve-layout ++ 0x42 ∷ 0x43 ∷ 0x44 ∷ []
+register-layout = curve-layout ++ 0x42 ∷ 0x45 ∷ 0x43 ∷ []
+
+-- the layout of a commit's or an undo's record: a register with an operation
+abbrev pub step-layout : List ℕ
+step-layout = register-layout ++ 0x44 ∷ []
 
 -- the layout of an archive's header, its fields before the operations
 abbrev pub header-layout : List ℕ

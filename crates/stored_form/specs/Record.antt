@@ -25,6 +25,7 @@ empty-record = record {
   curve = blank-curve;
   drawing = decode-drawing [];
   count = 0;
+  released = 0;
   previous = neutral-class;
   class = neutral-class;
   operation = neutral-class;
@@ -32,20 +33,24 @@ empty-record = record {
 
 -- the record with this curve
 abbrev pub with-curve : Curve → Record → Record
-with-curve c h = record { curve = c; drawing = h .drawing; count = h .count; previous = h .previous; class = h .class; operation = h .operation }
+with-curve c h = record { curve = c; drawing = h .drawing; count = h .count; released = h .released; previous = h .previous; class = h .class; operation = h .operation }
 
 -- the record with this drawing number
 abbrev pub with-drawing : Drawing → Record → Record
-with-drawing d h = record { curve = h .curve; drawing = d; count = h .count; previous = h .previous; class = h .class; operation = h .operation }
+with-drawing d h = record { curve = h .curve; drawing = d; count = h .count; released = h .released; previous = h .previous; class = h .class; operation = h .operation }
 
 -- the record with this count
 abbrev pub with-count : ℕ → Record → Record
-with-count n h = record { curve = h .curve; drawing = h .drawing; count = n; previous = h .previous; class = h .class; operation = h .operation }
+with-count n h = record { curve = h .curve; drawing = h .drawing; count = n; released = h .released; previous = h .previous; class = h .class; operation = h .operation }
+
+-- the record with this released step
+abbrev pub with-released : ℕ → Record → Record
+with-released n h = record { curve = h .curve; drawing = h .drawing; count = h .count; released = n; previous = h .previous; class = h .class; operation = h .operation }
 
 -- the record with this class; the class before it becomes the previous one
 abbrev pub with-class : Class → Record → Record
-with-class a h = record { curve = h .curve; drawing = h .drawing; count = h .count; previous = h .class; class = a; operation = h .operation }
+with-class a h = record { curve = h .curve; drawing = h .drawing; count = h .count; released = h .released; previous = h .class; class = a; operation = h .operation }
 
 -- the record with this operation
 abbrev pub with-operation : Class → Record → Record
-with-operation a h = record { curve = h .curve; drawing = h .drawing; count = h .count; previous = h .previous; class = h .class; operation = a }
+with-operation a h = record { curve = h .curve; drawing = h .drawing; count = h .count; released = h .released; previous = h .previous; class = h .class; operation = a }

@@ -5,10 +5,10 @@ use mathlib.Core.List.{List, []}
 use lib.Dec.{eqb, leb}
 use Rattle.jacobian.specs.{Curves.coefficients, Curves.degree-refusal, Curves.curve-refusal, Answer.refusal}
 use Rattle.jacobian.specs.declared.Class.{Class}
-use Rattle.stored_form.specs.{Number.decode-number, Number.encode-number, Elements.encode-elements, Fields.count-refusal, Fields.drawing-refusal}
+use Rattle.stored_form.specs.{Number.decode-number, Number.encode-number, Elements.encode-elements, Fields.count-refusal, Fields.released-refusal, Fields.drawing-refusal}
 use Rattle.stored_form.specs.Head.{degree-length, curve-length, count-length, drawing-limit, class-length, class-limit, encode-field}
 use Rattle.stored_form.specs.Classes.{decode-curve, decode-class, encode-class}
-use Rattle.stored_form.specs.Record.{decode-drawing, drawing-name, curve-of-degree, with-curve, with-drawing, with-count, with-class, with-operation}
+use Rattle.stored_form.specs.Record.{decode-drawing, drawing-name, curve-of-degree, with-curve, with-drawing, with-count, with-released, with-class, with-operation}
 use Rattle.stored_form.specs.declared.Record.{Record}
 
 -- the rules of a tag
@@ -58,6 +58,15 @@ count-rules = record {
   check = λ n h. count-refusal (h .count);
 }
 
+-- the released step, which is checked against the count that was read
+abbrev pub released-rules : Rules
+released-rules = record {
+  allows = λ h n. eqb n count-length;
+  with-field = λ body h. with-released (decode-number body) h;
+  body = λ h. encode-number count-length (h .released);
+  check = λ n h. released-refusal (h .count) (h .released);
+}
+
 -- a class on the curve that was read, stored and found in the record by `with` and `value`
 abbrev pub class-rules : (Class → Record → Record) → (Record → Class) → Rules
 class-rules with value = record {
@@ -78,9 +87,10 @@ rules tag =
     (cond (eqb tag 0x41) curve-rules
     (cond (eqb tag 0x46) drawing-rules
     (cond (eqb tag 0x42) count-rules
+    (cond (eqb tag 0x45) released-rules
     (cond (eqb tag 0x43) (class-rules with-class (λ h. h .class))
     (cond (eqb tag 0x44) (class-rules with-operation (λ h. h .operation))
-    no-rules)))))
+    no-rules))))))
 
 -- the length of the longest body that any tag allows
 abbrev pub longest-body : ℕ

@@ -1,4 +1,4 @@
-// Bodies decoded by their tags, and the checks 106 to 111 of their values.
+// Bodies decoded by their tags, and the checks 106 to 111 and 120 of their values.
 ghost use mathlib.Core.Path.{_≡_};
 ghost use mathlib.Core.Bool.{true};
 ghost use Prim.Native.Nat.{_+_, _≤_};
@@ -45,6 +45,11 @@ pub(crate) fn with_field(tag: u8, h: Record, s: &[u8], at: usize, len: usize) ->
         more.count = count;
         return more;
     }
+    if tag == crate::RELEASED {
+        let released = numbers::decode_number(s, at, len);
+        more.released = released;
+        return more;
+    }
     let class = classes::decode_class(s, at, len);
     if tag == crate::CLASS {
         let previous = h.class;
@@ -74,6 +79,9 @@ pub(crate) fn field_refusal(tag: u8, len: usize, h: Record) -> u32
     }
     if tag == crate::COUNT {
         return count_limit::count_refusal(h.count);
+    }
+    if tag == crate::RELEASED {
+        return count_limit::released_refusal(h.count, h.released);
     }
     if tag == crate::CLASS {
         let class = h.class;

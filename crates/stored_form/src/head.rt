@@ -46,6 +46,9 @@ fn allows(tag: u8, h: Record, len: usize) -> bool
     if tag == crate::COUNT {
         return len == crate::COUNT_LENGTH;
     }
+    if tag == crate::RELEASED {
+        return len == crate::COUNT_LENGTH;
+    }
     if tag == crate::CLASS {
         return class_allows(len);
     }

@@ -28,6 +28,8 @@ pub const CLASS: u8 = 0x43;
 
 pub const OPERATION: u8 = 0x44;
 
+pub const RELEASED: u8 = 0x45;
+
 pub const DRAWING: u8 = 0x46;
 
 // The layouts of records: the tags that are expected, in order.
@@ -37,7 +39,9 @@ pub const CLASS_LAYOUT: [u8; 3] = [DEGREE, CURVE, CLASS];
 
 pub const SUM_LAYOUT: [u8; 4] = [DEGREE, CURVE, CLASS, CLASS];
 
-pub const REGISTER_LAYOUT: [u8; 5] = [DEGREE, CURVE, COUNT, CLASS, OPERATION];
+pub const REGISTER_LAYOUT: [u8; 5] = [DEGREE, CURVE, COUNT, RELEASED, CLASS];
+
+pub const STEP_LAYOUT: [u8; 6] = [DEGREE, CURVE, COUNT, RELEASED, CLASS, OPERATION];
 
 // The number of fields of an archive's header, and its layout: the fields before the operations.
 pub const HEADER_FIELDS: usize = 5;
@@ -47,7 +51,7 @@ pub const HEADER_LAYOUT: [u8; HEADER_FIELDS] = [DEGREE, CURVE, DRAWING, COUNT, C
 // The number of bytes of an element.
 pub const ELEMENT_LENGTH: usize = 8;
 
-// The lengths of the bodies of degree, curve and count.
+// The lengths of the bodies of degree and curve, and of count and released step alike.
 pub const DEGREE_LENGTH: usize = 1;
 
 pub const CURVE_LENGTH: usize = COEFFICIENTS * ELEMENT_LENGTH;
@@ -84,6 +88,7 @@ pub struct Record {
     pub curve: Curve,
     pub drawing: Drawing,
     pub count: u64,
+    pub released: u64,
     pub previous: Class,
     pub class: Class,
     pub operation: Class,
@@ -126,6 +131,7 @@ pub fn empty_record() -> Record
         curve,
         drawing: Drawing { len: 0, bytes },
         count: 0,
+        released: 0,
         previous: neutral,
         class: neutral,
         operation: neutral,

@@ -11,7 +11,7 @@ returns : tie.Need-returns
 unfolding empty-record decode-drawing
 returns c =
     ap₂
-    (λ (k : Curve) (n : Class). record { curve = k; drawing = record { len = 0; bytes = replicate drawing-limit 0 }; count = 0; previous = n; class = n; operation = n })
+    (λ (k : Curve) (n : Class). record { curve = k; drawing = record { len = 0; bytes = replicate drawing-limit 0 }; count = 0; released = 0; previous = n; class = n; operation = n })
     (c .before .blank-curve .ensures)
     (c .neutral .ensures)
 

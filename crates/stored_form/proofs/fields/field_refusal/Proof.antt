@@ -28,24 +28,35 @@ returns-4 c = let at = c .before in c .count-refusal .ensures ∙ sym (ap (λ (t
 
 returns-5 : tie.Need-returns-5
 unfolding rules
-returns-5 c = let at = c .before .before in c .class-refusal .ensures ∙ sym (ap (λ (t : ℕ). rules t .check (at .before .before .before .before .before .before .args .len) (at .before .before .before .before .before .before .args .h)) (at .if5 .taken))
+returns-5 c =
+    let at = c .before in
+    let a = at .before .before .before .before .before .before .args in
+    c .released-refusal .ensures ∙ sym (ap (λ (t : ℕ). rules t .check (a .len) (a .h)) (at .if5 .taken))
 
 returns-6 : tie.Need-returns-6
 unfolding rules
 returns-6 c =
     let at = c .before .before in
     let a = at .before .before .before .before .before .before .before .args in
-    c .class-refusal2 .ensures ∙ sym (ap (λ (t : ℕ). rules t .check (a .len) (a .h)) (at .if6 .taken))
+    c .class-refusal .ensures ∙ sym (ap (λ (t : ℕ). rules t .check (a .len) (a .h)) (at .if6 .taken))
 
 returns-7 : tie.Need-returns-7
+unfolding rules
 returns-7 c =
-    let five = c .before in
+    let at = c .before .before in
+    let a = at .before .before .before .before .before .before .before .before .args in
+    c .class-refusal2 .ensures ∙ sym (ap (λ (t : ℕ). rules t .check (a .len) (a .h)) (at .if7 .taken))
+
+returns-8 : tie.Need-returns-8
+returns-8 c =
+    let six = c .before in
+    let five = six .before in
     let four = five .before in
     let three = four .before in
     let two = three .before in
     let one = two .before in
     let a = one .before .before .args in
-    sym (no-check _ (a .len) (a .h) (one .if1 .left) (two .if2 .left) (three .if3 .left) (four .if4 .left) (five .if5 .left) (c .if6 .left))
+    sym (no-check _ (a .len) (a .h) (one .if1 .left) (two .if2 .left) (three .if3 .left) (four .if4 .left) (five .if5 .left) (six .if6 .left) (c .if7 .left))
 
 pub field-refusal-spec : {M : Type 1} → statement M
 field-refusal-spec =
@@ -63,4 +74,6 @@ field-refusal-spec =
     returns-5
     (λ c κs. search needs)
     returns-6
-    returns-7)
+    (λ c κs. search needs)
+    returns-7
+    returns-8)

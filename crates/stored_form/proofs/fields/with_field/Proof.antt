@@ -6,8 +6,8 @@ use mathlib.Core.Bool.{true}
 use native.Mathlib.Omega.{arith}
 use Rattle.jacobian.specs.declared.{Curve.Curve, Class.Class}
 use Rattle.stored_form.specs.{Number.part, Classes.decode-curve, Tags.rules, declared.Drawing.Drawing}
-use Rattle.stored_form.specs.Record.{with-curve, with-drawing, with-count, with-class, with-operation, curve-of-degree}
-use Rattle.stored_form.proofs.{Digits.byte-fits, Lengths.is-degree-length, Lengths.is-curve-length, Lengths.is-count-length, Lengths.is-drawing-length, Lengths.class-left}
+use Rattle.stored_form.specs.Record.{with-curve, with-drawing, with-count, with-released, with-class, with-operation, curve-of-degree}
+use Rattle.stored_form.proofs.{Digits.byte-fits, Lengths.is-degree-length, Lengths.is-curve-length, Lengths.is-count-length, Lengths.is-released-length, Lengths.is-drawing-length, Lengths.class-left}
 use Rattle.stored_form.proofs.Readers.{operation-left}
 use Rattle.stored_form.proofs.fields.with_field.Statement.{statement}
 use Rattle.stored_form.proofs.fields.with_field.Tie as tie
@@ -76,26 +76,41 @@ returns-4 c =
     ap (λ (n : ℕ). with-count n (a .h)) (c .decode-number2 .ensures)
     ∙ sym (ap (λ (t : ℕ). rules t .with-field (part (a .s .now) (a .at) (a .len)) (a .h)) (at .if4 .taken))
 
-decode-class-requires : tie.Need-decode-class-requires
-decode-class-requires c κs =
-    let three = c .before in
-    let two = three .before in
-    let one = two .before in
-    let start = one .before .before in
-    (class-left _ _ _ (one .if1 .left) (two .if2 .left) (three .if3 .left) (c .if4 .left) (start .pre .0), start .pre .1)
+decode-number-requires-3 : tie.Need-decode-number-requires-3
+decode-number-requires-3 c κs =
+    let start = c .before .before .before .before .before .before in
+    (omega (arith, is-released-length _ (allows start (c .if5 .taken))), start .pre .1)
 
 returns-5 : tie.Need-returns-5
 unfolding rules
 returns-5 c =
     let at = c .before in
-    let a = at .before .before .before .before .before .before .before .args in
-    ap (λ (k : Class). with-class k (a .h)) (at .before .decode-class .ensures)
+    let a = at .before .before .before .before .before .before .args in
+    ap (λ (n : ℕ). with-released n (a .h)) (c .decode-number3 .ensures)
     ∙ sym (ap (λ (t : ℕ). rules t .with-field (part (a .s .now) (a .at) (a .len)) (a .h)) (at .if5 .taken))
+
+decode-class-requires : tie.Need-decode-class-requires
+decode-class-requires c κs =
+    let four = c .before in
+    let three = four .before in
+    let two = three .before in
+    let one = two .before in
+    let start = one .before .before in
+    (class-left _ _ _ (one .if1 .left) (two .if2 .left) (three .if3 .left) (four .if4 .left) (c .if5 .left) (start .pre .0), start .pre .1)
 
 returns-6 : tie.Need-returns-6
 unfolding rules
 returns-6 c =
-    let four = c .before .before in
+    let at = c .before in
+    let a = at .before .before .before .before .before .before .before .before .args in
+    ap (λ (k : Class). with-class k (a .h)) (at .before .decode-class .ensures)
+    ∙ sym (ap (λ (t : ℕ). rules t .with-field (part (a .s .now) (a .at) (a .len)) (a .h)) (at .if6 .taken))
+
+returns-7 : tie.Need-returns-7
+unfolding rules
+returns-7 c =
+    let five = c .before .before in
+    let four = five .before in
     let three = four .before in
     let two = three .before in
     let one = two .before in
@@ -103,7 +118,7 @@ returns-6 c =
     let a = start .args in
     ap (λ (k : Class). with-operation k (a .h)) (c .before .decode-class .ensures)
     ∙ sym (ap (λ (t : ℕ). rules t .with-field (part (a .s .now) (a .at) (a .len)) (a .h))
-    (operation-left (a .h) _ (a .len) (start .pre .0) (one .if1 .left) (two .if2 .left) (three .if3 .left) (four .if4 .left) (c .if5 .left)))
+    (operation-left (a .h) _ (a .len) (start .pre .0) (one .if1 .left) (two .if2 .left) (three .if3 .left) (four .if4 .left) (five .if5 .left) (c .if6 .left)))
 
 pub with-field-spec : {M : Type 1} → statement M
 with-field-spec =
@@ -119,6 +134,8 @@ with-field-spec =
     returns-3
     decode-number-requires-2
     returns-4
-    decode-class-requires
+    decode-number-requires-3
     returns-5
-    returns-6)
+    decode-class-requires
+    returns-6
+    returns-7)

@@ -25,20 +25,31 @@ returns-4 c = sym (ap (λ (t : ℕ). rules t .allows (c .before .before .before 
 
 returns-5 : tie.Need-returns-5
 unfolding rules
-returns-5 c =
-    let at = c .before in
-    c .class-allows .ensures ∙ sym (ap (λ (t : ℕ). rules t .allows (at .before .before .before .before .before .args .h) (at .before .before .before .before .before .args .len)) (at .if5 .taken))
+returns-5 c = sym (ap (λ (t : ℕ). rules t .allows (c .before .before .before .before .before .args .h) (c .before .before .before .before .before .args .len)) (c .if5 .taken))
 
 returns-6 : tie.Need-returns-6
 unfolding rules
 returns-6 c =
     let at = c .before in
-    c .class-allows2 .ensures ∙ sym (ap (λ (t : ℕ). rules t .allows (at .before .before .before .before .before .before .args .h) (at .before .before .before .before .before .before .args .len)) (at .if6 .taken))
+    let a = at .before .before .before .before .before .before .args in
+    c .class-allows .ensures ∙ sym (ap (λ (t : ℕ). rules t .allows (a .h) (a .len)) (at .if6 .taken))
 
 returns-7 : tie.Need-returns-7
+unfolding rules
 returns-7 c =
-    sym (allows-none _ _ _ (c .before .before .before .before .before .if1 .left) (c .before .before .before .before .if2 .left)
-    (c .before .before .before .if3 .left) (c .before .before .if4 .left) (c .before .if5 .left) (c .if6 .left))
+    let at = c .before in
+    let a = at .before .before .before .before .before .before .before .args in
+    c .class-allows2 .ensures ∙ sym (ap (λ (t : ℕ). rules t .allows (a .h) (a .len)) (at .if7 .taken))
+
+returns-8 : tie.Need-returns-8
+returns-8 c =
+    let six = c .before in
+    let five = six .before in
+    let four = five .before in
+    let three = four .before in
+    let two = three .before in
+    let one = two .before in
+    sym (allows-none _ _ _ (one .if1 .left) (two .if2 .left) (three .if3 .left) (four .if4 .left) (five .if5 .left) (six .if6 .left) (c .if7 .left))
 
 pub allows-spec : {M : Type 1} → statement M
 allows-spec =
@@ -48,8 +59,9 @@ allows-spec =
     returns-2
     returns-3
     returns-4
-    (λ c κs. search needs)
     returns-5
     (λ c κs. search needs)
     returns-6
-    returns-7)
+    (λ c κs. search needs)
+    returns-7
+    returns-8)
