@@ -15,7 +15,7 @@ use Rattle.jacobian.specs.{Curves.coefficients, Curves.curve-with, Curves.blank
 use Rattle.jacobian.proofs.Checking.{refusal-none, refusal-unless, refusal-held, held-refusal, curve-checked, class-checked}
 use Rattle.jacobian.proofs.ByValue.Checks.{both, blank-past}
 use Rattle.stored_form.specs.{Number.part, Reading.found, Reading.reading-refusal}
-use Rattle.stored_form.specs.{Head.body-length, Head.class-length, Fields.printable, Fields.drawing-refusal, Fields.count-limit, Fields.count-refusal, Fields.end-refusal, Fields.ended, Passing.CurvePasses}
+use Rattle.stored_form.specs.{Head.body-length, Head.class-length, Fields.printable, Fields.drawing-refusal, Fields.count-limit, Fields.count-refusal, Fields.released-refusal, Fields.end-refusal, Fields.ended, Passing.CurvePasses}
 use Rattle.stored_form.specs.{Cuts.fields-end, Elements.decode-elements, Classes.decode-curve, Classes.decode-row, Classes.decode-class, Record.empty-record, Record.curve-of-degree, Tags.rules, Reader.read-head, Reader.read-body, Reader.read-field, Reader.read-fields, Reader.read-record, declared.Record.Record}
 use Rattle.stored_form.proofs.{Parts.length-part, Lengths.by-tag, Lengths.by-class-length, Lengths.class-length-le, Items.length-elements}
 use Rattle.stored_form_theorems.specs.Checking.{ClassLength, LengthAllowed, Printable, value-checks, after-field, with-field-at, field-checks, with-fields-at, fields-checks, end-check, record-checks, record-values}
@@ -45,6 +45,7 @@ unfolding rules
 length-decides tag n h = (
   λ e. by-tag h (λ t. rules t .allows h n ≡ true → LengthAllowed t n)
       (λ e. table.degree refl (eqb-true n 1 e)) (λ e. table.curve refl (eqb-true n 24 e)) (λ e. table.drawing refl (leb-true n 38 e)) (λ e. table.count refl (eqb-true n 2 e))
+      (λ e. table.released refl (eqb-true n 2 e))
       (λ e. table.class refl (class-length-decides n .0 e)) (λ e. table.operation refl (class-length-decides n .0 e)) tag n e e,
   back,
 )
@@ -54,6 +55,7 @@ length-decides tag n h = (
     back (table.curve e f) = rw (e, f) refl
     back (table.drawing e f) = rw e (le-leb n 38 f)
     back (table.count e f) = rw (e, f) refl
+    back (table.released e f) = rw (e, f) refl
     back (table.class e f) = rw e (class-length-decides n .1 f)
     back (table.operation e f) = rw e (class-length-decides n .1 f)
 
@@ -109,7 +111,7 @@ module _ (h : Record) (ok : CurvePasses (h .curve)) (body : List ℕ) where
 
   -- the check of a field's value, where its length is allowed
   value-checked : (tag : ℕ) → LengthAllowed tag (length body) → let m = rules tag .with-field body h in RefusalOf (value-checks tag m) (rules tag .check (length body) m)
-  unfolding rules drawing-refusal count-refusal count-limit decode-curve curve-with curve-refusal _or-else_
+  unfolding rules drawing-refusal count-refusal count-limit released-refusal decode-curve curve-with curve-refusal _or-else_
   value-checked tag l = by l
     where
       P : ℕ → Type 0
@@ -120,6 +122,7 @@ module _ (h : Record) (ok : CurvePasses (h .curve)) (body : List ℕ) where
       by (table.curve e l) = subst P (sym e) (rest (curve-checked _) (held-refusal (curve-checked (h .curve)) ok .0))
       by (table.drawing e l) = subst P (sym e) (refusal-unless _ 108 (λ z. omega arith) (printable-decides _))
       by (table.count e l) = subst P (sym e) (refusal-unless _ 109 (λ z. omega arith) (leb-true _ 1024, le-leb _ 1024))
+      by (table.released e l) = subst P (sym e) (refusal-unless _ 120 (λ z. omega arith) (leb-true _ _, le-leb _ _))
       by (table.class e l) = subst P (sym e) (decoded-checked l)
       by (table.operation e l) = subst P (sym e) (decoded-checked l)
 
@@ -136,6 +139,7 @@ module _ (h : Record) (ok : CurvePasses (h .curve)) (body : List ℕ) where
       by (table.curve e l) = subst P (sym e) (λ held. refusal-held (curve-checked _) (held-refusal (curve-checked (h .curve)) ok .0, held))
       by (table.drawing e l) = subst P (sym e) (λ held. ok)
       by (table.count e l) = subst P (sym e) (λ held. ok)
+      by (table.released e l) = subst P (sym e) (λ held. ok)
       by (table.class e l) = subst P (sym e) (λ held. ok)
       by (table.operation e l) = subst P (sym e) (λ held. ok)
 

@@ -1,15 +1,15 @@
 -- Bytes that begin with k encoded fields, cut after them.
 -- `take-cut`, `drop-cut`: the cut gives these fields, and the rest.
 -- `curve-cut`: bytes that begin with the fields of degree and curve.
--- `degree-cut`, `count-cut`: those that begin with a degree, and those that begin with a count.
+-- `degree-cut`, `count-cut`, `released-cut`: those that begin with a degree, with a count, with a released step.
 -- `cut-whole`: the two parts of a cut make the whole.
-use Prim.Native.Nat.{ℕ, suc, _+_, _^_, _<_}
+use Prim.Native.Nat.{ℕ, suc, _+_, _^_, _≤_, _<_}
 use mathlib.Core.Path.{_≡_, refl, sym, ap, _∙_, subst}
 use mathlib.Core.List.{List, _++_}
 use native.Mathlib.{Nat.zero-add, Omega.arith}
-use lib.{ListN.length, ListN.take-append-drop, Seq.take-at, Seq.drop-at}
+use lib.{Dec.lit≤, ListN.length, ListN.take-append-drop, Seq.take-at, Seq.drop-at}
 use Rattle.jacobian.specs.{Curves.coefficients, declared.Curve.Curve}
-use Rattle.stored_form.specs.{Number.encode-number, Head.degree-length, Head.count-length, Head.body-length, Head.encode-field, Elements.encode-elements, Fields.degree-field, Fields.count-field}
+use Rattle.stored_form.specs.{Number.encode-number, Head.degree-length, Head.count-length, Head.body-length, Head.encode-field, Elements.encode-elements, Fields.degree-field, Fields.count-field, Fields.released-field}
 use Rattle.stored_form.specs.{Classes.curve-field, Classes.curve-fields-bytes, Cuts.fields-end, Cuts.take-fields, Cuts.drop-fields}
 use Rattle.stored_form.proofs.{Digits.length-bytes, ElementBytes.length-encode-elements, Lengths.length-stored}
 use Rattle.stored_form_theorems.specs.Fields.{Field}
@@ -45,13 +45,21 @@ module _ (rest : List ℕ) where
   front : (xs : List ℕ) → Field (xs ++ rest) 0 xs (length xs)
   front xs = let f = apart xs rest (whole (xs ++ rest)) in subst (Field (xs ++ rest) 0 xs) (f .1 .ends ∙ zero-add (length xs)) (f .1)
 
+  -- the field of a number in up to two bytes
+  number-cut : (tag k n : ℕ) → k ≤ 2 → FieldsAt (encode-field tag (encode-number k n) ++ rest) 1 0 (length (encode-field tag (encode-number k n)))
+  number-cut tag k n short = field tag (encode-number k n) (omega (arith, length-bytes k n)) (front (encode-field tag (encode-number k n))) none
+
   pub degree-cut : (d : ℕ) → FieldsAt (degree-field d ++ rest) 1 0 (length (degree-field d))
   unfolding degree-field
-  degree-cut d = field 0x40 (encode-number degree-length d) (omega (arith, length-bytes degree-length d)) (front (degree-field d)) none
+  degree-cut d = number-cut 0x40 degree-length d (lit≤ tt)
 
   pub count-cut : (n : ℕ) → FieldsAt (count-field n ++ rest) 1 0 (length (count-field n))
   unfolding count-field
-  count-cut n = field 0x42 (encode-number count-length n) (omega (arith, length-bytes count-length n)) (front (count-field n)) none
+  count-cut n = number-cut 0x42 count-length n (lit≤ tt)
+
+  pub released-cut : (n : ℕ) → FieldsAt (released-field n ++ rest) 1 0 (length (released-field n))
+  unfolding released-field
+  released-cut n = number-cut 0x45 count-length n (lit≤ tt)
 
   pub curve-cut : (c : Curve) → FieldsAt (curve-fields-bytes c ++ rest) 2 0 (length (curve-fields-bytes c))
   unfolding curve-fields-bytes degree-field curve-field coefficients

@@ -1,16 +1,18 @@
 -- Fields at the edges of what is allowed, byte by byte, at any offset of any input (docs/SPECIFICATION.md, 6.3).
 -- `count-of-1024`: a count of 1,024 is read. `count-of-1025`: a count of 1,025 is refused with 109.
+-- `released-of-count`: a released step that is the count is read. `released-past-count`: one more is refused with 120.
 -- `f3-of-31`: over the field of degree 5 a coefficient f3 = 31 is read. `f3-of-32`: f3 = 32 is refused with 107.
 -- `drawing-of-38`: a drawing number of 38 printable bytes is read. `drawing-of-39`: a length of 39 is refused with 104.
 -- `space-and-tilde`: the bytes 0x20 and 0x7E are printable. `unit-separator`, `delete`: 0x1F and 0x7F are not.
-use Prim.Native.Nat.{ℕ, _+_, _^_, _≤_, _<_}
+use Prim.Native.Nat.{ℕ, _+_, _*_, _^_, _≤_, _<_}
 use mathlib.Core.{Path._≡_, Path.refl, Path.sym, Path.subst, Path._∙_, Bool.true, Bool.false, List.List, List.[], List._∷_, List._++_}
-use native.Mathlib.Omega.{arith}
+use native.Mathlib.{Nat.le-refl, Omega.arith}
 use lib.{Dec.lit<, ListN.length, ListN.getD, ListN.replicate}
+use borrow.Author.Tests.{le-leb, lt-leb}
 use Rattle.binary_field.specs.Answer.{below}
 use Rattle.jacobian.specs.{Checks.unless, Checks._or-else_, Curves.coefficients, Curves.curve-with, Curves.degree-refusal, Curves.coefficient-refusal, Curves.curve-refusal}
 use Rattle.stored_form.specs.{Number.decode-number, Number.encode-number, Reading.found, Reading.refused, Reading.checked, Head.BytesAt, Head.body-length, Head.encode-field, Head.head-bytes}
-use Rattle.stored_form.specs.{Fields.printable, Fields.drawing-refusal, Fields.count-limit, Fields.count-refusal, Elements.decode-elements, Classes.decode-curve, Record.with-curve, Record.with-count, Record.with-drawing, Record.decode-drawing, Tags.rules, Reader.read-field, declared.Record.Record}
+use Rattle.stored_form.specs.{Fields.printable, Fields.drawing-refusal, Fields.count-limit, Fields.count-refusal, Fields.released-refusal, Elements.decode-elements, Classes.decode-curve, Record.with-curve, Record.with-count, Record.with-released, Record.with-drawing, Record.decode-drawing, Tags.rules, Reader.read-field, declared.Record.Record}
 use Rattle.stored_form.proofs.{Readings.then-found, Heads.head-104, Readers.field-refused, DrawingBytes.name-decoded}
 use Rattle.stored_form_theorems.proofs.Bodies.{body-read}
 
@@ -31,6 +33,21 @@ module _ (h : Record) (s : List ℕ) (at : ℕ) where
   pub count-of-1025 : BytesAt s at (0x42 ∷ 0x00 ∷ 0x02 ∷ 0x04 ∷ 0x01 ∷ []) → read-field 0x42 h s at ≡ refused 109
   unfolding rules encode-field head-bytes encode-number decode-number count-refusal count-limit unless checked
   count-of-1025 stands = field-at 0x42 (0x04 ∷ 0x01 ∷ []) refl (lit< tt) stands
+
+  -- ---- the released step, after a count that was read
+
+  pub released-of-count : (high low : ℕ) → h .count ≡ high * 256 + low → BytesAt s at (0x45 ∷ 0x00 ∷ 0x02 ∷ high ∷ low ∷ []) →
+      read-field 0x45 h s at ≡ found (with-released (h .count) h) (at + 5)
+  unfolding rules encode-field head-bytes encode-number decode-number released-refusal unless checked
+  released-of-count high low e stands =
+      let is : high * 256 ^ 1 + (low * 256 ^ 0 + 0) ≡ h .count = omega arith in
+      field-at 0x45 (high ∷ low ∷ []) refl (lit< tt) stands ∙ rw (is, le-leb (h .count) (h .count) (le-refl _)) refl
+
+  pub released-past-count : (high low : ℕ) → high * 256 + low ≡ h .count + 1 → BytesAt s at (0x45 ∷ 0x00 ∷ 0x02 ∷ high ∷ low ∷ []) → read-field 0x45 h s at ≡ refused 120
+  unfolding rules encode-field head-bytes encode-number decode-number released-refusal unless checked
+  released-past-count high low e stands =
+      let is : high * 256 ^ 1 + (low * 256 ^ 0 + 0) ≡ h .count + 1 = omega arith in
+      field-at 0x45 (high ∷ low ∷ []) refl (lit< tt) stands ∙ rw (is, lt-leb (h .count + 1) (h .count) (omega arith)) refl
 
   -- ---- the curve, over the field of degree 5
 

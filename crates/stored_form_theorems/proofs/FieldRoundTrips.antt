@@ -10,7 +10,7 @@ use lib.ListN.{length}
 use Rattle.jacobian.specs.Curves.{coefficient-count, coefficients, curve-with}
 use Rattle.stored_form.specs.{Number.decode-number, Number.encode-number, Number.Bytes, Reading.found, Reading.checked, Elements.decode-elements, Classes.decode-curve, declared.Record.Record}
 use Rattle.stored_form.specs.{Head.degree-length, Head.count-length, Head.encode-field, Head.BytesAt, Record.curve-of-degree, Tags.rules, Tags.field-bytes, Reader.read-field}
-use Rattle.stored_form.proofs.{Lengths.is-degree-length, Lengths.is-curve-length, Lengths.is-count-length, Lengths.class-lengths, Lengths.operation-lengths, Lengths.by-tag, Lengths.allows-short}
+use Rattle.stored_form.proofs.{Lengths.is-degree-length, Lengths.is-curve-length, Lengths.is-count-length, Lengths.is-released-length, Lengths.class-lengths, Lengths.operation-lengths, Lengths.by-tag, Lengths.allows-short}
 use Rattle.stored_form.proofs.{DrawingBytes.name-decoded, Readings.then-found, Readings.checked-none, Readers.field-found}
 use Rattle.stored_form_theorems.specs.Fields.{Field, FieldEncodes}
 use Rattle.stored_form_theorems.proofs.{Numbers.bytes-number, Elements.bytes-elements, ClassRoundTrips.encode-decode-class, Bodies.body-written, Bodies.body-read}
@@ -28,6 +28,7 @@ encode-with-field tag body h a b =
     (λ e. bytes-elements coefficient-count body (is-curve-length h e) b)
     (λ e. name-decoded body)
     (λ e. number-body count-length body (is-count-length h e) b)
+    (λ e. number-body count-length body (is-released-length h e) b)
     (λ e. encode-decode-class body (sym (class-lengths h (length body)) ∙ e) b)
     (λ e. encode-decode-class body (sym (operation-lengths h (length body)) ∙ e) b)
     tag (length body) a a

@@ -1,21 +1,22 @@
 -- The laws of the tags: fields, and values that no check refuses, determine each other.
--- `degree-law`, `curve-law`, `drawing-law`, `count-law`, `class-law`, `operation-law`: the law of each tag.
+-- `degree-law`, `curve-law`, `drawing-law`, `count-law`, `released-law`, `class-law`, `operation-law`: the law of each tag.
+-- The law of a released step is that after a count that passes, up to which it fits the bytes of a count.
 -- `curve-more`, `first-curve`: the same of the first two fields of a record and its curve.
 use Prim.Native.Nat.{ℕ, _^_, _≤_, _<_}
 use mathlib.Core.Path.{_≡_, refl, sym, ap, _∙_, subst}
 use mathlib.Core.Bool.{Bool, true, false, _||_}
 use mathlib.Core.List.{List, [], _∷_, _++_}
-use native.Mathlib.Omega.{arith}
-use lib.Dec.{eqb, lit<, lit≤}
+use native.Mathlib.{Nat.le-refl, Omega.arith}
+use lib.Dec.{eqb, leb, lit<, lit≤}
 use lib.ListN.{length}
 use borrow.Author.Tests.{eqb-true, leb-true, le-leb}
 use Rattle.lists.proofs.Lists.{all-of}
 use Rattle.jacobian.specs.{Checks.unless, Curves.coefficients, Curves.curve-with, Curves.degree-refusal, Curves.curve-refusal, declared.Curve.Curve}
 use Rattle.jacobian.proofs.ByValue.{Degrees.by-degree, Checks.curve-passes, Checks.then-zero}
-use Rattle.stored_form.specs.{Number.decode-number, Number.encode-number, Head.degree-length, Head.count-length, Head.drawing-limit, Elements.encode-elements, Passing.DegreePasses, Passing.CurvePasses, Passing.CountPasses, Passing.DrawingPasses, Passing.ClassPasses}
-use Rattle.stored_form.specs.Fields.{degree-field, count-field, count-limit, count-refusal, drawing-field, drawing-refusal}
+use Rattle.stored_form.specs.{Number.decode-number, Number.encode-number, Head.encode-field, Head.degree-length, Head.count-length, Head.drawing-limit, Elements.encode-elements, Passing.DegreePasses, Passing.CurvePasses, Passing.CountPasses, Passing.ReleasedPasses, Passing.DrawingPasses, Passing.ClassPasses}
+use Rattle.stored_form.specs.Fields.{degree-field, count-field, released-field, count-limit, count-refusal, released-refusal, drawing-field, drawing-refusal}
 use Rattle.stored_form.specs.Classes.{decode-curve, curve-field, curve-fields-bytes, decode-class, encode-class, class-field}
-use Rattle.stored_form.specs.Record.{decode-drawing, drawing-name, empty-record, curve-of-degree, with-curve, with-drawing, with-count, with-class, with-operation}
+use Rattle.stored_form.specs.Record.{decode-drawing, drawing-name, empty-record, curve-of-degree, with-curve, with-drawing, with-count, with-released, with-class, with-operation}
 use Rattle.stored_form.specs.{Tags.rules, declared.Record.Record}
 use Rattle.stored_form.proofs.{Digits.length-bytes, ElementBytes.length-encode-elements, Readings.test-passed, DrawingBytes.name-decoded, Lengths.class-lengths, Lengths.operation-lengths, Lengths.is-drawing-length}
 use Rattle.stored_form_theorems.specs.{Fields.FieldLaw, Records.RecordEncodes}
@@ -79,13 +80,25 @@ module _ (h : Record) where
       (λ xs ok. (refl, rw (name-decoded xs, ok .0), le-leb (length xs) drawing-limit (ok .1)))
       (λ b none fits. (test-passed _ (lit< tt) (ap drawing-refusal (sym (name-decoded b)) ∙ none), is-drawing-length h {n = length b} fits))
 
+  -- the law of a tag whose body is a number in the bytes of a count, refused with k above a bound that fits them
+  bounded-law : (tag k bound : ℕ) (with : ℕ → Record) (value : Record → ℕ) → 0 < k → CountPasses bound →
+      ((m : Record) → rules tag .body m ≡ encode-number count-length (value m)) → ((n : ℕ) → value (with n) ≡ n) →
+      ((b : List ℕ) → rules tag .with-field b h ≡ with (decode-number b)) → ((len n : ℕ) → rules tag .check len (with n) ≡ unless (leb n bound) k) →
+      ((len : ℕ) → rules tag .allows h len ≡ eqb len count-length) →
+      FieldLaw tag h (λ n. n ≤ bound) (λ n. encode-field tag (encode-number count-length n)) with value
+  unfolding unless
+  bounded-law tag k bound with value some within has back holds checks allows =
+      field-law tag h (λ n. n ≤ bound) (encode-number count-length) decode-number with value has back holds
+      (λ n ok. (number-bytes-small count-length n (count-small n (omega arith)), checks _ n ∙ rw (le-leb n bound ok), allows _ ∙ rw (length-bytes count-length n) refl))
+      (λ b none fits. leb-true _ _ (test-passed _ some (sym (checks _ _) ∙ none)))
+
   pub count-law : FieldLaw 0x42 h CountPasses count-field (λ n. with-count n h) (λ m. m .count)
-  unfolding rules count-field count-refusal unless
-  count-law =
-      field-law 0x42 h CountPasses (encode-number count-length) decode-number (λ n. with-count n h) (λ m. m .count)
-      (λ m. refl) (λ n. refl) (λ b. refl)
-      (λ n ok. (number-bytes-small count-length n (count-small n ok), rw (le-leb n count-limit ok), rw (length-bytes count-length n) refl))
-      (λ b none fits. leb-true _ _ (test-passed _ (lit< tt) none))
+  unfolding rules count-field count-refusal
+  count-law = bounded-law 0x42 109 count-limit (λ n. with-count n h) (λ m. m .count) (lit< tt) (le-refl _) (λ m. refl) (λ n. refl) (λ b. refl) (λ len n. refl) (λ len. refl)
+
+  pub released-law : CountPasses (h .count) → FieldLaw 0x45 h (ReleasedPasses (h .count)) released-field (λ n. with-released n h) (λ m. m .released)
+  unfolding rules released-field released-refusal
+  released-law within = bounded-law 0x45 120 (h .count) (λ n. with-released n h) (λ m. m .released) (lit< tt) within (λ m. refl) (λ n. refl) (λ b. refl) (λ len n. refl) (λ len. refl)
 
   pub class-law : FieldLaw 0x43 h (ClassPasses (h .curve)) (class-field 0x43) (λ a. with-class a h) (λ m. m .class)
   unfolding rules class-field

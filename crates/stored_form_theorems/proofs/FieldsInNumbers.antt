@@ -1,7 +1,7 @@
 -- Fields in numbers, as document 01's table has them: a tag, a length in two bytes, a body, high bytes first
 -- (docs/SPECIFICATION.md, 5).
 -- `degree-in-numbers`: the degree is one byte.
--- `count-in-numbers`: the count is two bytes.
+-- `count-in-numbers`, `released-in-numbers`: the count is two bytes, and the released step is two bytes.
 -- `drawing-in-numbers`: the drawing number is its own bytes.
 -- `curve-in-numbers`: the curve is f3, f1, f0, eight bytes each.
 -- `class-in-numbers`: a class is u below its leading term, the highest power first, then v likewise, eight bytes each.
@@ -10,7 +10,7 @@ use mathlib.Core.List.{[], _∷_, _++_}
 use lib.ListN.{replicate}
 use Rattle.jacobian.specs.Curves.{coefficients}
 use Rattle.stored_form.specs.{Number.encode-number, Head.head-bytes, Head.encode-field, Elements.encode-elements}
-use Rattle.stored_form.specs.{Fields.degree-field, Fields.count-field, Fields.drawing-field, Classes.curve-field, Classes.encode-row, Classes.class-field}
+use Rattle.stored_form.specs.{Fields.degree-field, Fields.count-field, Fields.released-field, Fields.drawing-field, Classes.curve-field, Classes.encode-row, Classes.class-field}
 
 pub degree-in-numbers : degree-field 61 ≡ 0x40 ∷ 0 ∷ 1 ∷ 61 ∷ []
 unfolding degree-field encode-field head-bytes encode-number
@@ -19,6 +19,10 @@ degree-in-numbers = refl
 pub count-in-numbers : count-field 1023 ≡ 0x42 ∷ 0 ∷ 2 ∷ 3 ∷ 255 ∷ []
 unfolding count-field encode-field head-bytes encode-number
 count-in-numbers = refl
+
+pub released-in-numbers : released-field 1023 ≡ 0x45 ∷ 0 ∷ 2 ∷ 3 ∷ 255 ∷ []
+unfolding released-field encode-field head-bytes encode-number
+released-in-numbers = refl
 
 pub drawing-in-numbers : drawing-field (0x41 ∷ 0x31 ∷ []) ≡ 0x46 ∷ 0 ∷ 2 ∷ 0x41 ∷ 0x31 ∷ []
 unfolding drawing-field encode-field head-bytes encode-number

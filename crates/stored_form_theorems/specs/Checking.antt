@@ -18,6 +18,7 @@ pub data LengthAllowed (tag n : ℕ) : Type 0 where
   curve : tag ≡ 0x41 → n ≡ 24 → LengthAllowed tag n
   drawing : tag ≡ 0x46 → n ≤ 38 → LengthAllowed tag n
   count : tag ≡ 0x42 → n ≡ 2 → LengthAllowed tag n
+  released : tag ≡ 0x45 → n ≡ 2 → LengthAllowed tag n
   class : tag ≡ 0x43 → ClassLength n → LengthAllowed tag n
   operation : tag ≡ 0x44 → ClassLength n → LengthAllowed tag n
 
@@ -33,9 +34,10 @@ value-checks tag h =
     (cond (eqb tag 0x41) (check 107 (Below (2 ^ h .curve .degree) (coefficients (h .curve))) ∷ [])
     (cond (eqb tag 0x46) (check 108 (Printable (drawing-name (h .drawing))) ∷ [])
     (cond (eqb tag 0x42) (check 109 (h .count ≤ 1024) ∷ [])
+    (cond (eqb tag 0x45) (check 120 (h .released ≤ h .count) ∷ [])
     (cond (eqb tag 0x43) (formed-checks (h .curve) (h .class))
     (cond (eqb tag 0x44) (formed-checks (h .curve) (h .operation))
-    [])))))
+    []))))))
 
 -- the offset after the field at an offset
 abbrev pub after-field : List ℕ → ℕ → ℕ

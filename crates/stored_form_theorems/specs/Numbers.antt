@@ -19,6 +19,6 @@ class-numbers = 102 ∷ 103 ∷ 104 ∷ 105 ∷ 106 ∷ 107 ∷ 110 ∷ 111 ∷ 
 abbrev pub class-field-lengths : List ℕ
 class-field-lengths = 3 ∷ 19 ∷ 35 ∷ 51 ∷ []
 
--- the lengths of a count's field and a class's field together
+-- the lengths of a count's field, a released step's field and a class's field together
 abbrev pub register-field-lengths : List ℕ
-register-field-lengths = 8 ∷ 24 ∷ 40 ∷ 56 ∷ []
+register-field-lengths = 13 ∷ 29 ∷ 45 ∷ 61 ∷ []
