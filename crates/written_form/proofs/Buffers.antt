@@ -52,6 +52,10 @@ field-filled d at tag body l e f =
     ∙ ap (λ (h : List ℕ). sets h (at + 3) body) (e ∙ ap (λ (n : ℕ). sets d at (head-bytes tag n)) l)
     ∙ sets-append d at (head-bytes tag (length body)) body
 
+-- a field after bytes that were stored at the start
+pub field-after : (d xs ys : List ℕ) {k : ℕ} {first both : List ℕ} → k ≡ length xs → first ≡ sets d 0 xs → both ≡ sets first k ys → both ≡ sets d 0 (xs ++ ys)
+field-after d xs ys l e f = f ∙ ap₂ (λ (b : List ℕ) (i : ℕ). sets b i ys) e (l ∙ sym (zero-add (length xs))) ∙ sets-append d 0 xs ys
+
 -- ---- the coefficients of a class, from the i-th on, highest power first
 
 module _ (d : List ℕ) (at n : ℕ) (r : List ℕ) (long : length r ≡ 3) (le : n ≤ 3) where
@@ -137,8 +141,7 @@ module _ (xs ys : List ℕ) (fits : length xs + length ys ≤ room) {k : ℕ} (e
       let both : length (xs ++ ys) ≡ length xs + length ys = length-append xs ys in
       let long : k + length ys ≡ length (xs ++ ys) = omega arith in
       let front : sets (sets zeros 0 xs) k ys ≡ (xs ++ ys) ++ drop (length (xs ++ ys)) zeros =
-      ap (λ (i : ℕ). sets (sets zeros 0 xs) i ys) (e ∙ sym (zero-add (length xs)))
-      ∙ sets-append zeros 0 xs ys
+      field-after zeros xs ys e refl refl
       ∙ sets-eq (xs ++ ys) zeros 0 (omega (arith, length-replicate {A = ℕ} room 0))
       ∙ ap (λ (i : ℕ). (xs ++ ys) ++ drop i zeros) (zero-add (length (xs ++ ys))) in
       ap response-of (g ∙ ap (λ (l : List ℕ). filled l k ys) f) ∙ ap₂ response long (ap₂ take long front ∙ take-append-seam (xs ++ ys) _)

@@ -87,13 +87,13 @@ byte-call least tags answer s out = put (on-reading (read-call (length out) leas
 
 -- ---- the room
 
--- the length of a count's field
+-- the length of a count's field and of a released step's field alike
 abbrev pub count-room : ℕ
 count-room = 3 + count-length
 
--- the length of the longest register: a count's field and a class's field
+-- the length of the longest register: a count's field, a released step's field and a class's field
 abbrev pub register-room : ℕ
-register-room = count-room + class-room
+register-room = count-room + count-room + class-room
 
 -- the most bytes that a response has
 abbrev pub room : ℕ

@@ -7,10 +7,11 @@ ghost use lib.ListN.{take};
 use crate::ranges;
 use stored_form::Read;
 
-// The length of a count's field, and that of a count's field followed by the longest field of a class.
+// The length of a count's field and of a released step's field alike, and that of both followed by the longest field
+// of a class.
 pub const COUNT_ROOM: usize = 3 + stored_form::COUNT_LENGTH;
 
-pub const REGISTER_ROOM: usize = COUNT_ROOM + stored_form::CLASS_ROOM;
+pub const REGISTER_ROOM: usize = COUNT_ROOM + COUNT_ROOM + stored_form::CLASS_ROOM;
 
 // The most bytes that a response has.
 pub const ROOM: usize = REGISTER_ROOM;

@@ -8,7 +8,7 @@ ghost use Rattle.jacobian.specs.Answer.{verdict, reply, result};
 ghost use Rattle.stored_form.specs.Number.{encode-number};
 ghost use Rattle.stored_form.specs.Head.{class-room, count-length, head-bytes, encode-field};
 ghost use Rattle.stored_form.specs.Elements.{element-length, encode-elements};
-ghost use Rattle.stored_form.specs.Fields.{count-field};
+ghost use Rattle.stored_form.specs.Fields.{count-field, released-field};
 ghost use Rattle.stored_form.specs.Classes.{encode-row, class-field};
 ghost use Rattle.written_form.specs.Effect.{room, count-room, on-outcome, class-response, response-of};
 ghost use Rattle.written_form.specs.internal.Buffers.{filled};
@@ -99,7 +99,7 @@ fn with_class(buffer: [u8; ROOM], at: usize, a: Class) -> Output
     }
 }
 
-// The buffer with the field of a count stored at an offset.
+// The buffer with the field of a count or of a released step, by its tag, stored at an offset.
 fn with_count(buffer: [u8; ROOM], at: usize, tag: u8, n: u64) -> [u8; ROOM]
     requires { ⌜ at + count-room ≤ room ⌝ }
     ensures { λ r. ⌜ r ≡ sets buffer at (encode-field tag (encode-number count-length n)) ⌝ }
@@ -120,15 +120,16 @@ pub fn class_output(a: ClassAnswer) -> Output
     }
 }
 
-// The response with the fields of a count and a seal, or with the refusal.
-pub fn register_output(o: Outcome, count: u64, seal: Class) -> Output
-    ensures { λ r. ⌜ response-of r ≡ on-outcome (verdict o) (count-field count ++ class-field 0x43 seal) ⌝ }
+// The response with the fields of a count, a released step and a seal, or with the refusal.
+pub fn register_output(o: Outcome, count: u64, released: u64, seal: Class) -> Output
+    ensures { λ r. ⌜ response-of r ≡ on-outcome (verdict o) (count-field count ++ released-field released ++ class-field 0x43 seal) ⌝ }
 {
     match o {
         Outcome::Refused(n) => refusal_output(n),
         Outcome::Accepted => {
             let counted = with_count([0u8; ROOM], 0, stored_form::COUNT, count);
-            with_class(counted, COUNT_ROOM, seal)
+            let both = with_count(counted, COUNT_ROOM, stored_form::RELEASED, released);
+            with_class(both, COUNT_ROOM + COUNT_ROOM, seal)
         }
     }
 }
