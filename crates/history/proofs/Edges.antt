@@ -9,7 +9,7 @@
 -- `undo-at-zero`: an undo at 0 is refused with 113.
 -- `release-within-limit`: a release is accepted at a count up to 1,024, and sets the released step to it.
 -- With any released step:
--- `commit-above-limit`, `undo-above-limit`, `release-above-limit`: at 1,025 or more a call is refused with 109.
+-- `above-limit-refused`: at 1,025 or more every call is refused with 109.
 -- `released-above-count`: at a count up to 1,024 with a released step above it every call is refused with 120.
 use Prim.Native.Nat.{ℕ, _+_, _≤_, _<_}
 use mathlib.Core.Path.{_≡_, refl, sym, _∙_, ap, ap₂}
@@ -21,9 +21,9 @@ use Rattle.jacobian.proofs.{Representation.accepts-curve, Representation.accept
 use Rattle.count_limit.specs.Limit.{count-limit, count-refusal, released-refusal}
 use Rattle.count_limit.proofs.Limit.{within-limit, above-limit, released-within, released-above}
 use Rattle.history.specs.Register.{register-refusal, edge-refusal, commit-seal, with-count-and-seal, with-released, stepped, follows, step-answer, commit-answer, undo-answer, release-answer}
-use Rattle.history.specs.Calls.{Call, step, release, answer}
+use Rattle.history.specs.Calls.{Call, answer}
 use Rattle.history.specs.declared.{Register.Register, Step.Step, Step.the-variants.Commit, Step.the-variants.Undo}
-use Rattle.history.proofs.{Registers.follows-zero, Registers.follows-refused, Registers.off-edge, Registers.OffEdge, Registers.passes-register, Numbers.step-within, Numbers.step-failing, Checking.answer-follows, Checking.call-refusal, Checking.called}
+use Rattle.history.proofs.{Registers.follows-zero, Registers.off-edge, Registers.OffEdge, Registers.passes-register, Numbers.step-within, Failing.failing-answer}
 
 module _ (r : Register) (a : Class) (none : refusal-of-two (r .curve) (r .seal) a ≡ 0) where
   curve-ok : curve-refusal (r .curve) ≡ 0
@@ -48,3 +48,53 @@ module _ (r : Register) (a : Class) (none : refusal-of-two (r .curve) (r .seal) 
     release-within-limit =
         follows-zero _ r (with-released (r .count) r)
         (passes-register r (record { curve-passes = curve-ok; count-passes = few; released-passes = behind; seal-passes = accepts-class (two-accept (r .curve) (r .seal) a none .0) }))
+
+    -- ---- an undo
+    pub undo-above-released : r .released < r .count → undo-answer r a ≡ record { outcome = accepted; register = stepped Undo r a }
+    unfolding OffEdge
+    undo-above-released l = off Undo (λ e. omega arith, λ e. omega arith)
+
+    pub undo-at-released : ¬ (r .count ≡ 0) → r .count ≡ r .released → undo-answer r a ≡ record { outcome = refused 121; register = r }
+    unfolding edge-refusal follows
+    undo-at-released h e = at Undo {n = 121} (rw (ne-eqb (r .count) 0 h, eq-eqb (r .count) (r .released) e))
+
+    pub undo-at-zero : r .count ≡ 0 → undo-answer r a ≡ record { outcome = refused 113; register = r }
+    unfolding edge-refusal follows
+    undo-at-zero e = at Undo {n = 113} (rw (eq-eqb (r .count) 0 e))
+
+    -- ---- a commit
+    commit-off : ¬ (r .count ≡ count-limit) → commit-answer r a ≡ record { outcome = accepted; register = stepped Commit r a }
+    unfolding OffEdge
+    commit-off h = off Commit h
+
+    commit-at : r .count ≡ count-limit → commit-answer r a ≡ record { outcome = refused 114; register = r }
+    unfolding edge-refusal follows
+    commit-at e = at Commit {n = 114} (rw (eq-eqb (r .count) count-limit e))
+
+  module _ (behind : r .released ≤ r .count) where
+    pub commit-below-limit : r .count ≤ 1023 → commit-answer r a ≡ record { outcome = accepted; register = stepped Commit r a }
+    unfolding count-limit
+    commit-below-limit h = commit-off (omega arith) behind (λ e. omega arith)
+
+    pub commit-to-limit : r .count ≡ 1023 → commit-answer r a ≡ record { outcome = accepted; register = with-count-and-seal 1024 (commit-seal (r .curve) (r .seal) a) r }
+    unfolding stepped
+    commit-to-limit e =
+        commit-below-limit (omega arith)
+        ∙ ap (λ n. record { outcome = accepted; register = with-count-and-seal (n + 1) (commit-seal (r .curve) (r .seal) a) r }) e
+
+    pub commit-at-limit : r .count ≡ 1024 → commit-answer r a ≡ record { outcome = refused 114; register = r }
+    unfolding count-limit
+    commit-at-limit e = commit-at (omega arith) behind e
+
+  -- ---- counts that are refused
+  module _ (c : Call) where
+    fails : (n : ℕ) → register-refusal r ≡ n → ¬ (n ≡ 0) → answer r c ≡ record { outcome = refused n; register = r }
+    fails n e nz = failing-answer r (λ z. nz (sym e ∙ z)) c ∙ ap (λ m. record { outcome = refused m; register = r }) e
+
+    pub above-limit-refused : 1025 ≤ r .count → answer r c ≡ record { outcome = refused 109; register = r }
+    unfolding register-refusal _or-else_ count-limit
+    above-limit-refused h = fails 109 (rw (curve-ok, above-limit (r .count) (omega arith))) (λ z. omega arith)
+
+    pub released-above-count : r .count ≤ 1024 → r .count < r .released → answer r c ≡ record { outcome = refused 120; register = r }
+    unfolding register-refusal _or-else_ count-limit
+    released-above-count h l = fails 120 (rw (curve-ok, within-limit (r .count) (omega arith), released-above (r .count) (r .released) l)) (λ z. omega arith)

@@ -2,6 +2,7 @@
 -- `then-positive`: checks one after the other refuse where the second does.
 -- `then-none`: a check that passes, made last, changes nothing.
 -- `second-refused`: where the first of two classes is not refused, the refusal of both is that of the second.
+-- `register-counts`: the refusal of a register, with those of its count and its released step as one.
 -- `counts-refused`: where the count or the released step is refused, so is the register.
 -- `step-failing`: where the register is refused, so is a step, with the same number.
 -- `step-within`: where count and released step pass, it is the refusal of curve, seal and class, else the edge's.
@@ -45,7 +46,18 @@ unfolding refusal refusal-of-two _or-else_
 second-refused c s a z = rw (z, then-zero (curve-refusal c) (class-refusal c s) z .0)
 
 -- ---- the refusal of a step by the count
+-- the middle one of three checks may be two
+three : (a c d s : ℕ) → a or-else c or-else d or-else s ≡ a or-else (c or-else d) or-else s
+unfolding _or-else_
+three zero zero d s = refl
+three zero (suc c) d s = refl
+three (suc a) c d s = refl
+
 module _ (r : Register) where
+  pub register-counts : register-refusal r ≡ curve-refusal (r .curve) or-else (count-refusal (r .count) or-else released-refusal (r .count) (r .released)) or-else class-refusal (r .curve) (r .seal)
+  unfolding register-refusal
+  register-counts = three _ _ _ _
+
   pub counts-refused : ¬ (count-refusal (r .count) or-else released-refusal (r .count) (r .released) ≡ 0) → ¬ (register-refusal r ≡ 0)
   unfolding _or-else_
   counts-refused h z = let p = register-passes r z in h (rw (within-limit (r .count) (p .count-passes)) (released-within (r .count) (r .released) (p .released-passes)))

@@ -1,12 +1,14 @@
 -- `Register::step` meets its contract: by the count it answers its own refusal, or what the class operation answered.
 use native.Mathlib.Omega.{arith}
 use mathlib.Core.Path.{sym, _∙_, ap}
-use Rattle.jacobian.specs.Answer.{result}
+use Rattle.jacobian.specs.{Checks._or-else_, Answer.result, Answer.refusal-of-two}
+use Rattle.jacobian.proofs.ByValue.Checks.{then-zero}
 use Rattle.count_limit.specs.Limit.{count-limit}
 use Rattle.count_limit.proofs.Limit.{limit-keeps}
-use Rattle.history.specs.Register.{edge, stepped, step-answer}
-use Rattle.history.proofs.Registers.{at-number, edge-positive}
-use Rattle.history.proofs.Numbers.{then-positive, step-above, step-at, step-follows}
+use Rattle.history.specs.Register.{edge-refusal, stepped, step-answer}
+use Rattle.history.specs.declared.Step.the-variants.{Undo}
+use Rattle.history.proofs.Registers.{OffEdge, at-number, edge-off}
+use Rattle.history.proofs.Numbers.{then-positive, counts-refused, step-failing, step-within, step-follows}
 use Rattle.history.proofs.Promises.{step-promised}
 use Rattle.history.proofs.Answers.{double-and-add-sealed, subtract-and-halve-sealed}
 use borrow.Author.Needs.{needs}
@@ -16,53 +18,55 @@ use Rattle.history.proofs.Register.step.Tie as tie
 kept-requires : tie.Need-kept-requires
 kept-requires c κs z =
     let due = c .before in
-    then-positive _ _ (λ e. due .if1 .taken (due .before .count-refusal .ensures ∙ e)) (sym (c .count-refusal2 .ensures) ∙ z)
+    counts-refused _ (λ e. due .if1 .taken (due .before .counts-refusal .ensures ∙ e)) (sym (c .register-refusal .ensures) ∙ z)
 
 returns : tie.Need-returns
 unfolding step-answer
 returns c =
     let due = c .before .before in
-    let s = due .before .before .before .before in
-    let above = step-above (s .args .step) (s .args .self) (s .args .class) (λ e. due .if1 .taken (due .before .count-refusal .ensures ∙ e)) in
-    step-promised (s .args .self) (s .args .class) (s .args .step) (at-number (s .args .self) _ (c .before .count-refusal2 .ensures ∙ sym above) (c .kept .ensures _))
+    let s = due .before .before .before .before .args in
+    let fails = step-failing (s .step) (s .self) (s .class) (counts-refused _ (λ e. due .if1 .taken (due .before .counts-refusal .ensures ∙ e))) in
+    step-promised (s .self) (s .class) (s .step) (at-number (s .self) _ (c .before .register-refusal .ensures ∙ sym fails) (c .kept .ensures _))
 
 kept-requires-2 : tie.Need-kept-requires-2
-kept-requires-2 c κs z = then-positive _ _ (edge-positive _) (sym (c .edge-refusal .ensures) ∙ z)
+kept-requires-2 c κs z = then-positive _ _ (λ e. c .before .if2 .taken e) (sym (c .classes-refusal .ensures) ∙ z)
 
 returns-2 : tie.Need-returns-2
 unfolding step-answer
 returns-2 c =
-    let due = c .before .before .before .before in
-    let s = due .before .before .before .before in
-    let within = sym (due .before .count-refusal .ensures) ∙ due .if1 .left in
-    let at = c .before .before .if2 .taken ∙ c .before .before .before .edge-count .ensures in
-    step-promised (s .args .self) (s .args .class) (s .args .step)
-    (at-number (s .args .self) _ (c .before .edge-refusal .ensures ∙ sym (step-at (s .args .step) (s .args .self) (s .args .class) within at)) (c .kept2 .ensures _))
+    let m = c .before .before in
+    let due = m .before .before in
+    let s = due .before .before .before .before .args in
+    let counts = sym (due .before .counts-refusal .ensures) ∙ due .if1 .left in
+    let edge = ap (λ n. refusal-of-two (s .self .curve) (s .self .seal) (s .class) or-else n) (m .before .edge-refusal .ensures) in
+    step-promised (s .self) (s .class) (s .step)
+    (at-number (s .self) _ (c .before .classes-refusal .ensures ∙ edge ∙ sym (step-within (s .step) (s .self) (s .class) counts)) (c .kept2 .ensures _))
 
 add-followed : tie.Need-add-followed
 unfolding count-limit
 add-followed c =
     let due = c .before .before .before .before in
-    let within = limit-keeps _ (sym (due .before .count-refusal .ensures) ∙ due .if1 .left) in
+    let within = limit-keeps _ (then-zero _ _ (sym (due .before .counts-refusal .ensures) ∙ due .if1 .left) .0) in
     omega (arith, within)
 
 sub-followed : tie.Need-sub-followed
-unfolding edge
+unfolding OffEdge
 sub-followed c =
     let m = c .before .before in
-    let at = m .before .edge-count .ensures ∙ ap edge (c .enum-told2 .given .1) in
-    omega (arith, m .if2 .left)
+    let s = m .before .before .before .before .before .before .args in
+    let none = ap (λ k. edge-refusal k (s .self .count) (s .self .released)) (sym (c .enum-told2 .given .1)) ∙ sym (m .before .edge-refusal .ensures) ∙ m .if2 .left in
+    omega (arith, edge-off Undo (s .self .count) (s .self .released) none .0)
 
 returns-3 : tie.Need-returns-3
 unfolding stepped
 returns-3 c =
     let m = c .before .before .before .before in
     let due = m .before .before in
-    let s = due .before .before .before .before in
-    let within = sym (due .before .count-refusal .ensures) ∙ due .if1 .left in
-    step-promised (s .args .self) (s .args .class) (s .args .step)
-    (step-follows (s .args .step) (s .args .self) (s .args .class) within (λ e. m .if2 .left (e ∙ sym (m .before .edge-count .ensures)))
-    (sym (ap (λ k. stepped k (s .args .self) (s .args .class)) (c .before .before .enum-told .given .1)))
+    let s = due .before .before .before .before .args in
+    let counts = sym (due .before .counts-refusal .ensures) ∙ due .if1 .left in
+    step-promised (s .self) (s .class) (s .step)
+    (step-follows (s .step) (s .self) (s .class) counts (sym (m .before .edge-refusal .ensures) ∙ m .if2 .left)
+    (sym (ap (λ k. stepped k (s .self) (s .class)) (c .before .before .enum-told .given .1)))
     (c .followed .ensures _ _ (ap result (c .before .double-and-add .ensures) ∙ double-and-add-sealed _ _ _)))
 
 returns-4 : tie.Need-returns-4
@@ -70,11 +74,11 @@ unfolding stepped
 returns-4 c =
     let m = c .before .before .before .before in
     let due = m .before .before in
-    let s = due .before .before .before .before in
-    let within = sym (due .before .count-refusal .ensures) ∙ due .if1 .left in
-    step-promised (s .args .self) (s .args .class) (s .args .step)
-    (step-follows (s .args .step) (s .args .self) (s .args .class) within (λ e. m .if2 .left (e ∙ sym (m .before .edge-count .ensures)))
-    (sym (ap (λ k. stepped k (s .args .self) (s .args .class)) (c .before .before .enum-told2 .given .1)))
+    let s = due .before .before .before .before .args in
+    let counts = sym (due .before .counts-refusal .ensures) ∙ due .if1 .left in
+    step-promised (s .self) (s .class) (s .step)
+    (step-follows (s .step) (s .self) (s .class) counts (sym (m .before .edge-refusal .ensures) ∙ m .if2 .left)
+    (sym (ap (λ k. stepped k (s .self) (s .class)) (c .before .before .enum-told2 .given .1)))
     (c .followed2 .ensures _ _ (ap result (c .before .subtract-and-halve .ensures .answer) ∙ subtract-and-halve-sealed _ _ _)))
 
 pub step-spec : {M : Type 1} → statement M
