@@ -60,16 +60,16 @@ fn counts_refusal(count: u64, released: u64) -> u32
 }
 
 // The refusal of a register, and 0 if no check refuses it.
-fn register_refusal(register: Register) -> u32
-    ensures { λ r. ⌜ r ≡ register-refusal register ⌝ }
+fn register_refusal(given: Register) -> u32
+    ensures { λ r. ⌜ r ≡ register-refusal given ⌝ }
 {
-    let curve = register.curve;
-    let seal = register.seal;
+    let curve = given.curve;
+    let seal = given.seal;
     let n = jacobian::curves::curve_refusal(curve);
     if n != 0 {
         return n;
     }
-    let m = counts_refusal(register.count, register.released);
+    let m = counts_refusal(given.count, given.released);
     if m != 0 {
         return m;
     }
