@@ -5,13 +5,13 @@
 -- `taken-back-states`: any function of the states just before the accepted calls comes back, newest first.
 -- `taken-back-all`: after all of them the state is the first one.
 -- Where a first part of a list cannot be taken back, this holds of the calls after it (`last-append`, `last-holds`).
-use mathlib.Core.Path.{_≡_, refl, sym, _∙_, ap, ap₂, subst}
+use mathlib.Core.Path.{_≡_, refl, sym, _∙_, ap, ap₂}
 use mathlib.Core.List.{List, [], _∷_, _++_, map, map-map, reverse, reverse-cons, map-append}
-use Rattle.lists.specs.{Lists.All, Lists.none, Lists.more, Walk.foldl}
-use Rattle.jacobian.specs.Answer.{Verdict, accepted, refused}
+use Rattle.lists.specs.{Lists.All, Walk.foldl}
+use Rattle.jacobian.specs.Answer.{accepted}
 use Rattle.history.specs.Machine.{Machine, Event, accepted-of, event, run, last, newest, backs, turned, taken-back, Reversible}
-use Rattle.lists.proofs.Lists.{all-map}
-use Rattle.history.proofs.Machine.Run.{run-append, last-append}
+use Rattle.lists.proofs.Lists.{all-map, all-head}
+use Rattle.history.proofs.Machine.Run.{run-append, last-append, by-accepted}
 
 module _ {State Call : Type 0} (M : Machine State Call) (back : Call → Call) where
   -- ---- accepted calls that can each be taken back, each made in the state that the one before it left
@@ -44,21 +44,12 @@ module _ {State Call : Type 0} (M : Machine State Call) (back : Call → Call) w
 
   module _ {Holds : State → Type 0} {Fits : Call → Type 0} (law : Reversible M back Holds Fits) where
     run-chain : (s : State) (cs : List Call) → Holds s → All (λ e. Fits (e .call)) (accepted-of (run M s cs)) → Chain s (accepted-of (run M s cs)) (last M s cs)
-    unfolding run last foldl accepted-of event
-    run-chain s [] h none = still
-    run-chain s (c ∷ cs) h fits = go (M .outcome s c) refl fits (run-chain (M .next s c) cs)
-      where
-        rest : List (Event State Call)
-        rest = accepted-of (run M (M .next s c) cs)
-
-        end : State
-        end = last M (M .next s c) cs
-
-        go : (v : Verdict) → M .outcome s c ≡ v → All {X = Event State Call} (λ e. Fits (e .call)) (elim v [ accepted ↦ event M s c ∷ rest | refused n ↦ rest ])
-            → (Holds (M .next s c) → All (λ e. Fits (e .call)) rest → Chain (M .next s c) rest end)
-            → Chain s (elim v [ accepted ↦ event M s c ∷ rest | refused n ↦ rest ]) end
-        go accepted e (more f fs) on = turns {e = event M s c} (law .returns s c h f e) (on (law .keeps s c h f e) fs)
-        go (refused n) e fs on = subst (λ t. Chain t rest end) (law .stays s c n e) (on (subst Holds (sym (law .stays s c n e)) h) fs)
+    unfolding event
+    run-chain =
+        by-accepted M (law .stays) (λ s es t. Holds s → All (λ e. Fits (e .call)) es → Chain s es t) (λ s h fits. still)
+        (λ s c es t e on h fits.
+        let f = all-head fits in
+        turns {e = event M s c} (law .returns s c h (f .0) e) (on (law .keeps s c h (f .0) e) (f .1)))
 
     module _ {s : State} (cs : List Call) (holds : Holds s) (fits : All (λ e. Fits (e .call)) (accepted-of (run M s cs))) where
       pub taken-back-turned : taken-back M back s cs ≡ map (turned back) (newest M s cs)
