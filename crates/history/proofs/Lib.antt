@@ -5,6 +5,7 @@ pub mod Registers
 pub mod OneStep
 pub mod Promises
 pub mod OneCall
+pub mod Classes
 pub mod TakingBack
 pub mod Failing
 pub mod Preserved

@@ -1,27 +1,31 @@
 -- What holds of registers and classes along a list of calls (docs/SPECIFICATION.md, 11).
 -- `last-passes`: a register that passes its checks still does so after a list of calls.
--- `accepted-class`: where a call is accepted, the register passes its checks and the class is accepted.
+-- `accepted-class`: where a step is accepted, the register passes its checks and the class is accepted.
 -- `accepted-step`: an accepted step leaves a register that passes its checks, and the other step returns the one given.
--- `accepted-class-reduced`: the class of an accepted call stands for a reduced class of the register's curve.
+-- `accepted-class-reduced`: the class of an accepted step stands for a reduced class of the register's curve.
 -- `accepted-classes`: no check refuses a class of the accepted calls of a list.
--- `classes-accept`: on an accepted curve these classes are accepted.
+-- `classes-accept`: on an accepted curve classes that no check refuses are accepted.
+-- `operations-accept`: so are those of the accepted calls, in order of time, on a register that passes its checks.
 -- `first-passes`: where a call of a list is accepted, the first register passes its checks.
+-- `none-or-passes`: what holds of no calls, and of a list's accepted calls where the first register passes its checks,
+-- holds of the accepted calls of any list.
 use Prim.Native.Nat.{_<_}
-use mathlib.Core.Path.{_≡_, refl, _∙_, subst}
+use mathlib.Core.Path.{_≡_, refl, sym, subst}
 use mathlib.Core.List.{List, [], _∷_}
 use native.Mathlib.Omega.{arith}
-use lib.ListN.{length}
+use lib.ListN.{length, length-reverse}
 use Rattle.lists.specs.Lists.{All, none, more}
 use Rattle.jacobian.specs.{Curves.curve-refusal, Membership.ClassOn, Classes.class-refusal, Answer.Verdict, Answer.accepted, Answer.refused, Answer.Accepts, declared.Curve.Curve, declared.Class.Class}
 use Rattle.jacobian.proofs.{Representation.accepts-both, Acceptance.membership-iff, Acceptance.of-accepts}
 use Rattle.history.specs.Register.{register-refusal, other, step-answer}
 use Rattle.history.specs.Machine as definition
-use Rattle.history.specs.Calls.{Call, answer, registers, Event, run, last, newest, classes}
+use Rattle.history.specs.Calls.{Call, step, release, answer, registers, Event, run, last, newest, classes, operations}
 use Rattle.history.specs.declared.{Register.Register, Step.Step}
 use Rattle.lists.proofs.Lists.{all-reverse}
-use Rattle.history.proofs.Machine.Run.{run-all, last-holds, all-accepted}
+use Rattle.history.proofs.Machine.Run.{last-holds, by-accepted}
 use Rattle.history.proofs.Registers.{Passes, register-passes, passes-register}
 use Rattle.history.proofs.OneStep.{step-taken-back}
+use Rattle.history.proofs.Classes.{classes-reverse}
 use Rattle.history.proofs.OneCall as call
 
 answer-passes : (r : Register) (c : Call) → Passes r → Passes (answer r c .register)
@@ -34,43 +38,56 @@ answer-passes r c p = go (answer r c .outcome) refl
 pub last-passes : (r : Register) (cs : List Call) → register-refusal r ≡ 0 → register-refusal (last r cs) ≡ 0
 last-passes r cs e = passes-register (last r cs) (last-holds registers Passes answer-passes cs (register-passes r e))
 
-pub accepted-class : (r : Register) (c : Call) → answer r c .outcome ≡ accepted → (register-refusal r ≡ 0) × Accepts (r .curve) (c .class)
-accepted-class r c e =
-    let p = call.accepted-class r c e in
-    (passes-register r (p .0), accepts-both (r .curve) (c .class) (p .0 .curve-passes) (p .1))
+-- ---- one step
+module _ (r : Register) (k : Step) (a : Class) (e : answer r (step k a) .outcome ≡ accepted) where
+  pub accepted-class : (register-refusal r ≡ 0) × Accepts (r .curve) a
+  accepted-class =
+      let p = call.accepted-register r (step k a) e in
+      (passes-register r p, accepts-both (r .curve) a (p .curve-passes) (call.accepted-class r k a e))
+
+  pub accepted-class-reduced : ClassOn (r .curve) a
+  accepted-class-reduced = membership-iff (r .curve) a .0 (of-accepts (r .curve) a (accepted-class .1)) .1
 
 pub accepted-step : (k : Step) (r : Register) (a : Class) → step-answer k r a .outcome ≡ accepted
     → (register-refusal (step-answer k r a .register) ≡ 0) × (step-answer (other k) (step-answer k r a .register) a ≡ record { outcome = accepted; register = r })
 unfolding answer
-accepted-step k r a e =
-    (passes-register _ (call.accepted-passes r (record { step = k; class = a }) e), step-taken-back r a k e)
+accepted-step k r a e = (passes-register _ (call.accepted-passes r (step k a) e), step-taken-back r a k e)
 
-pub accepted-class-reduced : (r : Register) (c : Call) → answer r c .outcome ≡ accepted → ClassOn (r .curve) (c .class)
-accepted-class-reduced r c e = membership-iff (r .curve) (c .class) .0 (of-accepts (r .curve) (c .class) (accepted-class r c e .1)) .1
+-- ---- the classes of a list
+-- no check on this curve refuses one of these classes
+abbrev Unrefused : Curve → List Class → Type 0
+Unrefused c l = All (λ a. class-refusal c a ≡ 0) l
 
-pub accepted-classes : (r : Register) (cs : List Call) → All (λ e. class-refusal (r .curve) (e .call .class) ≡ 0) (newest r cs)
-unfolding definition.newest definition.event
+then-unrefused : (s : Register) (c : Call) (es : List Event) (t : Register) → answer s c .outcome ≡ accepted
+    → Unrefused (answer s c .register .curve) (classes es) → Unrefused (s .curve) (classes (definition.event registers s c ∷ es))
+unfolding definition.event classes
+then-unrefused s (step k a) es t e h = more (call.accepted-class s k a e) (subst (λ d. Unrefused d (classes es)) (call.answer-curve s (step k a)) h)
+then-unrefused s release es t e h = subst (λ d. Unrefused d (classes es)) (call.answer-curve s release) h
+
+pub accepted-classes : (r : Register) (cs : List Call) → All (λ a. class-refusal (r .curve) a ≡ 0) (classes (newest r cs))
+unfolding definition.newest classes
 accepted-classes r cs =
-    all-reverse
-    (all-accepted
-    (run-all registers (λ t. t .curve ≡ r .curve) (λ t c h. call.answer-curve t c ∙ h)
-    (λ t c h e. subst (λ d. class-refusal d (c .class) ≡ 0) h (call.accepted-class t c e .1)) cs refl))
+    rw (classes-reverse (definition.accepted-of (run r cs)))
+    (all-reverse (by-accepted registers call.refused-stays (λ s es t. Unrefused (s .curve) (classes es)) (λ s. none) then-unrefused r cs))
 
-pub classes-accept : (c : Curve) → curve-refusal c ≡ 0 → (es : List Event) → All (λ e. class-refusal c (e .call .class) ≡ 0) es → All (Accepts c) (classes es)
-unfolding classes
-classes-accept c ok [] none = none
-classes-accept c ok (e ∷ es) (more p ps) = more (accepts-both c (e .call .class) ok p) (classes-accept c ok es ps)
+pub classes-accept : (c : Curve) → curve-refusal c ≡ 0 → {l : List Class} → All (λ a. class-refusal c a ≡ 0) l → All (Accepts c) l
+classes-accept c ok none = none
+classes-accept c ok (more {a = a} h hs) = more (accepts-both c a ok h) (classes-accept c ok hs)
 
--- the refused calls before the accepted one leave the register as it was
-pub first-passes : (r : Register) (cs : List Call) → 0 < length (definition.accepted-of (run r cs)) → Passes r
-unfolding definition.run definition.event definition.accepted-of
-first-passes r [] h = absurd (omega (arith, h))
-first-passes r (c ∷ cs) h = go (answer r c .outcome) refl h (first-passes (answer r c .register) cs)
+pub operations-accept : (r : Register) (cs : List Call) → Passes r → All (Accepts (r .curve)) (operations (newest r cs))
+operations-accept r cs p =
+    rw (classes-reverse (newest r cs)) (all-reverse (classes-accept (r .curve) (p .curve-passes) (accepted-classes r cs)))
+
+-- ---- the first register
+pub first-passes : (r : Register) (cs : List Call) → 0 < length (newest r cs) → Passes r
+unfolding definition.newest
+first-passes r cs h =
+    by-accepted registers call.refused-stays (λ s es t. 0 < length es → Passes s) (λ s l. absurd (omega (arith, l))) (λ s c es t e on l. call.accepted-register s c e) r cs
+    (rw (length-reverse (definition.accepted-of (run r cs))) at h)
+
+pub none-or-passes : (r : Register) (cs : List Call) (P : List Event → Type 0) → P [] → (Passes r → P (newest r cs)) → P (newest r cs)
+none-or-passes r cs P n h = go (newest r cs) refl
   where
-    rest : List Event
-    rest = definition.accepted-of (run (answer r c .register) cs)
-
-    go : (v : Verdict) → answer r c .outcome ≡ v → 0 < length {A = Event} (elim v [ accepted ↦ definition.event registers r c ∷ rest | refused n ↦ rest ])
-        → (0 < length rest → Passes (answer r c .register)) → Passes r
-    go accepted e h on = call.accepted-class r c e .0
-    go (refused n) e h on = subst Passes (call.refused-stays r c n e) (on h)
+    go : (es : List Event) → newest r cs ≡ es → P (newest r cs)
+    go [] e = subst P (sym e) n
+    go (x ∷ xs) e = h (first-passes r cs (rw e (omega arith)))

@@ -1,47 +1,149 @@
 -- Demand 3 on a list of calls (docs/SPECIFICATION.md, 11): from any register, with any classes, refused calls included.
 -- `curve-kept`: no call of a list changes degree or curve.
 -- `last-curve`: the register after a list has the degree and the curve of the first.
+-- `release-sets`: an accepted release sets the released step to the count, and changes nothing else.
+-- `steps-only`: in a list of commits and undos no release is accepted.
+-- `last-release`: every list is in two parts, the first empty or up to its last accepted release.
+-- Where no release of the list was accepted:
 -- `taken-back-turned`: taking the accepted calls back, newest first, does to each call what `turned` says.
 -- `taken-back-accepted`: no call that takes a call back is refused.
 -- `taken-back-registers`: the calls that take back return the registers just before the accepted calls, newest first.
 -- `taken-back-counts`: so they return the counts just before the accepted calls.
 -- `taken-back-all`: after all of them the register is the first one.
-use mathlib.Core.Path.{_≡_, refl, _∙_}
-use mathlib.Core.List.{List, map}
-use Rattle.lists.specs.Lists.{All}
-use Rattle.jacobian.specs.Answer.{accepted}
-use Rattle.history.specs.Machine.{accepted-of, event}
-use Rattle.history.specs.Calls.{Call, back, registers, run, last, newest, backs, taken-back, turned}
+-- `released-kept`: the released step after the list is that of the first register.
+-- In a list of two parts, where no release of the second part was accepted:
+-- `after-turned`, `after-accepted`, `after-registers`, `after-counts`: the same of the second part's accepted calls.
+-- `after-all`: after taking all of them back the register is that between the two parts.
+use Prim.Native.Nat.{ℕ}
+use mathlib.Core.Path.{_≡_, refl, sym, _∙_, ap, subst}
+use mathlib.Core.List.{List, [], _∷_, _++_, map}
+use native.Mathlib.Omega.{arith}
+use Rattle.lists.specs.{Lists.All, Lists.none, Lists.more, Walk.foldl}
+use Rattle.jacobian.specs.Answer.{Verdict, accepted, refused}
+use Rattle.jacobian.specs.declared.Class.{Class}
+use Rattle.history.specs.Register.{RegisterReply, with-count-and-seal, with-released, stepped}
+use Rattle.history.specs.Calls.{Call, step, release, back, answer, registers, Event, run, last, newest, backs, taken-back, turned, NoReleases, taken-back-after, EndsInRelease, empty, ends, LastRelease}
 use Rattle.history.specs.Machine as definition
-use Rattle.history.specs.declared.Register.{Register}
-use Rattle.lists.proofs.Lists.{every}
-use Rattle.history.proofs.Machine.Run.{run-all, last-holds}
+use Rattle.history.specs.declared.{Register.Register, Step.Step, Step.the-variants.Commit, Step.the-variants.Undo}
+use Rattle.lists.proofs.Lists.{all-reverse}
+use Rattle.history.proofs.Machine.Run.{last-append, run-all, last-holds, accepted-fit, all-oldest, by-accepted}
 use Rattle.history.proofs.Machine.TakingBack as machine
-use Rattle.history.proofs.OneCall.{answer-curve, reversible}
+use Rattle.history.proofs.OneStep.{step-taken, release-taken}
+use Rattle.history.proofs.Classes.{step-no-release}
+use Rattle.history.proofs.OneCall.{answer-curve, refused-stays, reversible}
 
 pub curve-kept : (r : Register) (cs : List Call) → All (λ e. e .left .curve ≡ r .curve) (run r cs)
-unfolding event
+unfolding definition.event
 curve-kept r cs =
     run-all registers (λ t. t .curve ≡ r .curve) (λ t c h. answer-curve t c ∙ h) (λ t c h. answer-curve t c ∙ h) cs refl
 
 pub last-curve : (r : Register) (cs : List Call) → last r cs .curve ≡ r .curve
 last-curve r cs = last-holds registers (λ t. t .curve ≡ r .curve) (λ t c h. answer-curve t c ∙ h) cs refl
 
-module _ (r : Register) (cs : List Call) where
-  all-calls : All (λ e. Unit {0}) (accepted-of (run r cs))
-  all-calls = every (λ e. tt) (accepted-of (run r cs))
+-- ---- a list in which no release was accepted
+module _ (r : Register) (cs : List Call) (only : NoReleases (newest r cs)) where
+  fits : NoReleases (definition.accepted-of (run r cs))
+  fits = all-oldest registers r cs only
 
   pub taken-back-turned : taken-back r cs ≡ map turned (newest r cs)
-  taken-back-turned = machine.taken-back-turned registers back reversible cs tt all-calls
+  taken-back-turned = machine.taken-back-turned registers back reversible cs tt fits
 
   pub taken-back-accepted : All (λ e. e .outcome ≡ accepted) (taken-back r cs)
-  taken-back-accepted = machine.taken-back-accepted registers back reversible cs tt all-calls
+  taken-back-accepted = machine.taken-back-accepted registers back reversible cs tt fits
 
   pub taken-back-registers : map (λ e. e .left) (taken-back r cs) ≡ map (λ e. e .before) (newest r cs)
-  taken-back-registers = machine.taken-back-states registers back reversible cs tt all-calls (λ t. t)
+  taken-back-registers = machine.taken-back-states registers back reversible cs tt fits (λ t. t)
 
   pub taken-back-counts : map (λ e. e .left .count) (taken-back r cs) ≡ map (λ e. e .before .count) (newest r cs)
-  taken-back-counts = machine.taken-back-states registers back reversible cs tt all-calls (λ t. t .count)
+  taken-back-counts = machine.taken-back-states registers back reversible cs tt fits (λ t. t .count)
 
   pub taken-back-all : last (last r cs) (backs (newest r cs)) ≡ r
-  taken-back-all = machine.taken-back-all registers back reversible cs tt all-calls
+  taken-back-all = machine.taken-back-all registers back reversible cs tt fits
+
+pub steps-only : (r : Register) {cs : List Call} → All (λ c. ¬ (c ≡ release)) cs → NoReleases (newest r cs)
+unfolding definition.newest
+steps-only r h = all-reverse (accepted-fit registers r h)
+
+-- ---- the released step
+stepped-released : (k : Step) (r : Register) (a : Class) → stepped k r a .released ≡ r .released
+unfolding stepped with-count-and-seal
+stepped-released Commit r a = refl
+stepped-released Undo r a = refl
+
+pub release-sets : (r : Register) → answer r release .outcome ≡ accepted → answer r release .register ≡ with-released (r .count) r
+unfolding answer
+release-sets r e = ap (λ (x : RegisterReply). x .register) (release-taken r e)
+
+then-kept : (s : Register) (c : Call) (es : List Event) (t : Register) → answer s c .outcome ≡ accepted → (NoReleases es → t .released ≡ answer s c .register .released)
+    → NoReleases (definition.event registers s c ∷ es) → t .released ≡ s .released
+unfolding definition.event answer
+then-kept s (step k a) es t e on (more h hs) = on hs ∙ ap (λ (x : RegisterReply). x .register .released) (step-taken k s a e) ∙ stepped-released k s a
+then-kept s release es t e on (more h hs) = absurd (h refl)
+
+pub released-kept : (r : Register) (cs : List Call) → NoReleases (newest r cs) → last r cs .released ≡ r .released
+released-kept r cs only =
+    by-accepted registers refused-stays (λ s es t. NoReleases es → t .released ≡ s .released) (λ s h. refl) then-kept r cs (all-oldest registers r cs only)
+
+-- ---- a list in two parts
+module _ (r : Register) (cs ds : List Call) (only : NoReleases (newest (last r cs) ds)) where
+  -- taking back from the register after both parts is taking back the second list
+  both : taken-back-after r cs ds ≡ taken-back (last r cs) ds
+  unfolding definition.taken-back
+  both = ap (λ t. run t (backs (newest (last r cs) ds))) (last-append registers r cs ds)
+
+  pub after-turned : taken-back-after r cs ds ≡ map turned (newest (last r cs) ds)
+  after-turned = both ∙ taken-back-turned (last r cs) ds only
+
+  pub after-accepted : All (λ e. e .outcome ≡ accepted) (taken-back-after r cs ds)
+  after-accepted = rw both (taken-back-accepted (last r cs) ds only)
+
+  pub after-registers : map (λ e. e .left) (taken-back-after r cs ds) ≡ map (λ e. e .before) (newest (last r cs) ds)
+  after-registers = ap (map (λ e. e .left)) both ∙ taken-back-registers (last r cs) ds only
+
+  pub after-counts : map (λ e. e .left .count) (taken-back-after r cs ds) ≡ map (λ e. e .before .count) (newest (last r cs) ds)
+  after-counts = ap (map (λ e. e .left .count)) both ∙ taken-back-counts (last r cs) ds only
+
+  pub after-all : last (last r (cs ++ ds)) (backs (newest (last r cs) ds)) ≡ last r cs
+  after-all = ap (λ t. last t (backs (newest (last r cs) ds))) (last-append registers r cs ds) ∙ taken-back-all (last r cs) ds only
+
+-- ---- the last accepted release of a list
+-- a call that is no accepted release, before calls without one
+then-no-release : (r : Register) (c : Call) (ds : List Call) → (answer r c .outcome ≡ accepted → ¬ (c ≡ release)) → NoReleases (newest (answer r c .register) ds)
+    → NoReleases (newest r (c ∷ ds))
+unfolding definition.newest definition.run definition.event definition.accepted-of
+then-no-release r c ds no-release h = all-reverse (go (answer r c .outcome) refl)
+  where
+    rest : List Event
+    rest = definition.accepted-of (run (answer r c .register) ds)
+
+    hs : NoReleases rest
+    hs = all-oldest registers (answer r c .register) ds h
+
+    go : (v : Verdict) → answer r c .outcome ≡ v → NoReleases (elim v [ accepted ↦ definition.event registers r c ∷ rest | refused n ↦ rest ])
+    go accepted e = more (no-release e) hs
+    go (refused n) e = hs
+
+-- the first call of a list in which no later release is accepted
+at-first : (r : Register) (c : Call) (ds : List Call) → NoReleases (newest (answer r c .register) ds) → LastRelease r (c ∷ ds)
+unfolding definition.last foldl
+at-first r (step k a) ds h =
+    record { before = []; after = step k a ∷ ds; parts = refl; at-release = empty; none-after = then-no-release r (step k a) ds (λ e. step-no-release k a) h }
+at-first r release ds h = go (answer r release .outcome) refl
+  where
+    go : (v : Verdict) → answer r release .outcome ≡ v → LastRelease r (release ∷ ds)
+    go accepted e = record { before = release ∷ []; after = ds; parts = refl; at-release = ends [] e; none-after = h }
+    go (refused n) e =
+        record { before = []; after = release ∷ ds; parts = refl; at-release = empty; none-after = then-no-release r release ds (λ q. let z : _≡_ {A = ℕ} 0 1 = cc in absurd (omega arith)) h }
+
+-- one call before a list
+extended : (r : Register) (c : Call) {cs before : List Call} (after : List Call) → cs ≡ before ++ after → EndsInRelease (answer r c .register) before
+    → NoReleases (newest (last (answer r c .register) before) after) → LastRelease r (c ∷ cs)
+unfolding definition.last foldl
+extended r c after e empty h = subst (λ cs. LastRelease r (c ∷ cs)) (sym e) (at-first r c after h)
+extended r c after e (ends ds q) h =
+    record { before = c ∷ (ds ++ (release ∷ [])); after = after; parts = ap (λ cs. c ∷ cs) e; at-release = ends (c ∷ ds) q; none-after = h }
+
+pub last-release : (r : Register) (cs : List Call) → LastRelease r cs
+unfolding definition.newest definition.run definition.accepted-of
+last-release r [] = record { before = []; after = []; parts = refl; at-release = empty; none-after = none }
+last-release r (c ∷ cs) = let p = last-release (answer r c .register) cs in extended r c (p .after) (p .parts) (p .at-release) (p .none-after)

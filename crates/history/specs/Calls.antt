@@ -1,7 +1,7 @@
 -- Lists of calls on a register: taking them back, walking back, and one changed operation (docs/SPECIFICATION.md, 11).
 use Prim.Native.Nat.{ℕ}
 use mathlib.Core.Path.{_≡_}
-use mathlib.Core.List.{List, [], _∷_, map, reverse}
+use mathlib.Core.List.{List, [], _∷_, _++_, map, reverse}
 use Rattle.lists.specs.{Lists.All, Lists.ChangedAt, Walk.foldl}
 use Rattle.jacobian.specs.{Answer.accepted, Answer.Result, Answer.result, Answer.sum-answer, Answer.subtract-and-halve-answer, Group.difference, Group.doublings}
 use Rattle.jacobian.specs.declared.{Curve.Curve, Class.Class}
@@ -79,6 +79,25 @@ NoUndos es = All (λ e. (a : Class) → ¬ (e .call ≡ undo a)) es
 abbrev pub OnlyCommits : List Event → Type 0
 OnlyCommits es = All (λ e. (a : Class) × (e .call ≡ commit a)) es
 
+-- ---- taking back behind a place in a list
+-- the accepted calls of the second list taken back, newest first, from the register after both lists
+abbrev pub taken-back-after : Register → List Call → List Call → List Event
+taken-back-after r cs ds = run (last r (cs ++ ds)) (backs (newest (last r cs) ds))
+
+-- the list is empty, or it ends in a release that is accepted
+pub data EndsInRelease (r : Register) : List Call → Type 0 where
+  empty : EndsInRelease r []
+  ends : (cs : List Call) → answer (last r cs) release .outcome ≡ accepted → EndsInRelease r (cs ++ (release ∷ []))
+
+-- a list in two parts: the first up to its last accepted release, or empty where there is none, and the calls after it
+pub record LastRelease (r : Register) (cs : List Call) : Type 0 where
+  pub before : List Call
+  pub after : List Call
+  pub parts : cs ≡ before ++ after
+  pub at-release : EndsInRelease r before
+  pub none-after : NoReleases (newest (last r before) after)
+
+-- ---- steps and their classes
 -- these calls without the releases
 unfoldable pub steps : List Event → List Event
 steps [] = []
