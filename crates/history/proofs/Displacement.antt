@@ -16,23 +16,23 @@
 -- `walk-displacement`: the second walk starts from the first one's seal plus n - k doublings of e - d.
 -- `walk-moves`: the two walks start from different seals where d and e differ.
 use Prim.Native.Nat.{ℕ, suc, _-_, _^_, _<_}
-use mathlib.Core.Path.{_≡_, refl, sym, _∙_, ap, ap₂, subst}
-use mathlib.Core.List.{List, [], _∷_, _++_, reverse, reverse-reverse}
+use mathlib.Core.Path.{_≡_, sym, _∙_, ap, ap₂, subst}
+use mathlib.Core.List.{List, _∷_, _++_, reverse}
 use native.Mathlib.Omega.{arith}
-use lib.ListN.{length, length-append, length-map, length-reverse}
-use Rattle.lists.specs.{Lists.All, Lists.none, Lists.more, Lists.ChangedAt, Walk.foldl}
+use lib.ListN.{length, length-append, length-reverse}
+use Rattle.lists.specs.{Lists.All, Lists.ChangedAt, Walk.foldl}
 use Rattle.class_group.specs.{Group.Doubling, Multiples.multiple, Multiples.forward}
 use Rattle.lists.proofs.{Lists.all-reverse, Lists.changed-members, Walk.foldl-agrees, Walk.foldl-state}
 use Rattle.class_group.proofs.Displacement as group
-use Rattle.jacobian.specs.{Answer.Verdict, Answer.accepted, Answer.refused, Answer.Accepts, Answer.result, Answer.gives, Answer.neutral-class, Answer.sum-answer}
+use Rattle.jacobian.specs.{Answer.Accepts, Answer.result, Answer.gives, Answer.neutral-class, Answer.sum-answer}
 use Rattle.jacobian.specs.Group.{sum-of, opposite-of, double-of, difference, doublings}
 use Rattle.jacobian.specs.declared.{Curve.Curve, Class.Class}
 use Rattle.jacobian.proofs.{Representation.accepts-curve, Representation.accepts-both, Group.class-is, Group.doubling, Group.sum-given, Group.difference-accepts, Group.doublings-accept, Group.doublings-sum}
-use Rattle.history.specs.Register.{RegisterReply, commit-seal, with-count-and-seal, stepped}
-use Rattle.history.specs.Machine as definition
-use Rattle.history.specs.Calls.{Call, answer, registers, Event, run, last, newest, classes, OnlyCommits, walk-back, operations, Variants, displaced}
-use Rattle.history.specs.declared.{Register.Register, Step.Step, Step.the-variants.Commit}
-use Rattle.history.proofs.{Seals.commit-sound, Seals.commit-sum, Seals.reversible, Seals.walk-is-only, OneStep.step-taken, OneCall.refused-stays, Preserved.accepted-classes, Preserved.classes-accept, Preserved.first-passes}
+use Rattle.history.specs.Register.{commit-seal}
+use Rattle.history.specs.Calls.{Call, last, newest, classes, OnlyCommits, walk-back, operations, Variants, displaced}
+use Rattle.history.specs.declared.Register.{Register}
+use Rattle.history.proofs.{Seals.commit-sound, Seals.commit-sum, Seals.reversible, Seals.walk-is-only, Preserved.operations-accept, Preserved.first-passes}
+use Rattle.history.proofs.{Classes.steps-all, Classes.classes-count, Classes.classes-reverse, Classes.commits-are-steps, Classes.commits-no-undos, WalkingBack.commits-end}
 
 -- ---- the commit's rule over lists of classes
 module _ {c : Curve} {k : ℕ} {d e s : Class} {l m : List Class} (at : ChangedAt k d e l m) (hs : Accepts c s) (hl : All (Accepts c) l) (hm : All (Accepts c) m) where
@@ -79,51 +79,25 @@ module _ {c : Curve} {k : ℕ} {d e s : Class} {l m : List Class} (at : ChangedA
       (other-sum (doublings-accept c (difference-accepts c (changed-members at hl hm .0) (changed-members at hl hm .1)) (length l - k)) h)
 
 -- ---- a list of calls on a register
--- where all accepted calls are commits, the last seal is the end of the commit rule over their classes, oldest first
-commits-end : (r : Register) (cs : List Call) → OnlyCommits (definition.accepted-of (run r cs))
-    → last r cs .seal ≡ foldl (commit-seal (r .curve)) (r .seal) (classes (definition.accepted-of (run r cs)))
-unfolding definition.run definition.last definition.event definition.accepted-of foldl classes answer stepped with-count-and-seal
-commits-end r [] none = refl
-commits-end r (c ∷ cs) only = go (answer r c .outcome) refl only (commits-end (answer r c .register) cs)
-  where
-    rest : List Event
-    rest = definition.accepted-of (run (answer r c .register) cs)
-
-    taken : answer r c .outcome ≡ accepted → c .step ≡ Commit → answer r c .register ≡ stepped Commit r (c .class)
-    taken e k = ap (λ (x : RegisterReply). x .register) (step-taken (c .step) r (c .class) e) ∙ ap (λ (x : Step). stepped x r (c .class)) k
-
-    go : (v : Verdict) → answer r c .outcome ≡ v → OnlyCommits (elim v [ accepted ↦ definition.event registers r c ∷ rest | refused n ↦ rest ])
-        → (OnlyCommits rest → last (answer r c .register) cs .seal ≡ foldl (commit-seal (answer r c .register .curve)) (answer r c .register .seal) (classes rest))
-        → last (answer r c .register) cs .seal
-        ≡ foldl (commit-seal (r .curve)) (r .seal) (classes (elim v [ accepted ↦ definition.event registers r c ∷ rest | refused n ↦ rest ]))
-    go accepted e (more h hs) on = on hs ∙ ap (λ (t : Register). foldl (commit-seal (t .curve)) (t .seal) (classes rest)) (taken e h)
-    go (refused n) e hs on = on hs ∙ ap (λ (t : Register). foldl (commit-seal (t .curve)) (t .seal) (classes rest)) (refused-stays r c n e)
-
 module _ (r : Register) (cs : List Call) where
-  oldest-first : operations (newest r cs) ≡ classes (definition.accepted-of (run r cs))
-  unfolding definition.newest
-  oldest-first = ap classes (reverse-reverse (definition.accepted-of (run r cs)))
+  module _ (only : OnlyCommits (newest r cs)) where
+    commits-lead : last r cs .seal ≡ foldl (commit-seal (r .curve)) (r .seal) (operations (newest r cs))
+    commits-lead = commits-end r cs (commits-no-undos only)
 
-  commits-lead : OnlyCommits (newest r cs) → last r cs .seal ≡ foldl (commit-seal (r .curve)) (r .seal) (operations (newest r cs))
-  unfolding definition.newest
-  commits-lead only =
-      commits-end r cs (subst OnlyCommits (reverse-reverse (definition.accepted-of (run r cs))) (all-reverse only))
-      ∙ ap (foldl (commit-seal (r .curve)) (r .seal)) (sym oldest-first)
-
-  operation-count : length (operations (newest r cs)) ≡ length (newest r cs)
-  unfolding classes
-  operation-count = length-map (reverse (newest r cs)) (λ e. e .call .class) ∙ length-reverse (newest r cs)
+    operation-count : length (operations (newest r cs)) ≡ length (newest r cs)
+    operation-count =
+        ap length (classes-reverse (newest r cs))
+        ∙ length-reverse (classes (newest r cs))
+        ∙ classes-count (newest r cs)
+        ∙ ap length (steps-all (commits-are-steps only))
 
   -- where a call is accepted, the first seal and the classes are accepted
   module _ (some : 0 < length (newest r cs)) where
     first-accepts : Accepts (r .curve) (r .seal)
-    unfolding definition.newest
-    first-accepts =
-        let p = first-passes r cs (subst (λ n. 0 < n) (length-reverse (definition.accepted-of (run r cs))) some) in
-        accepts-both (r .curve) (r .seal) (p .curve-passes) (p .seal-passes)
+    first-accepts = let p = first-passes r cs some in accepts-both (r .curve) (r .seal) (p .curve-passes) (p .seal-passes)
 
-    operations-accept : All (Accepts (r .curve)) (operations (newest r cs))
-    operations-accept = classes-accept (r .curve) (accepts-curve first-accepts) (reverse (newest r cs)) (all-reverse (accepted-classes r cs))
+    all-accept : All (Accepts (r .curve)) (operations (newest r cs))
+    all-accept = operations-accept r cs (first-passes r cs some)
 
 -- a list with a changed element is not empty, nor is the changed list
 changed-some : {X : Type 0} {k : ℕ} {d e : X} {l m : List X} → ChangedAt k d e l m → (0 < length l) × (0 < length m)
@@ -134,10 +108,10 @@ changed-some {d = d} {e = e} {l = l} {m = m} at =
 
 module _ (r t : Register) (cs ds : List Call) {k : ℕ} {d e : Class} (v : Variants k d e r t (newest r cs) (newest t ds)) where
   some : (0 < length (newest r cs)) × (0 < length (newest t ds))
-  some = let p = changed-some (v .changed) in (rw (operation-count r cs) at (p .0), rw (operation-count t ds) at (p .1))
+  some = let p = changed-some (v .changed) in (rw (operation-count r cs (v .commits)) at (p .0), rw (operation-count t ds (v .changed-commits)) at (p .1))
 
   changed-accept : All (Accepts (r .curve)) (operations (newest t ds))
-  changed-accept = subst (λ x. All (Accepts x) (operations (newest t ds))) (v .same-curve) (operations-accept t ds (some .1))
+  changed-accept = subst (λ x. All (Accepts x) (operations (newest t ds))) (v .same-curve) (all-accept t ds (some .1))
 
   changed-lead : last t ds .seal ≡ foldl (commit-seal (r .curve)) (r .seal) (operations (newest t ds))
   changed-lead =
@@ -146,12 +120,12 @@ module _ (r t : Register) (cs ds : List Call) {k : ℕ} {d e : Class} (v : Varia
 
   -- so the opposite, the difference and the doublings of them are not refused (Group of jacobian)
   pub both-accept : Accepts (r .curve) d × Accepts (r .curve) e
-  both-accept = changed-members (v .changed) (operations-accept r cs (some .0)) changed-accept
+  both-accept = changed-members (v .changed) (all-accept r cs (some .0)) changed-accept
 
   pub displacement : displaced (r .curve) (length (newest r cs) - k) d e (last r cs .seal) ≡ gives (last t ds .seal)
   displacement =
-      ap₂ (λ n s. displaced (r .curve) (n - k) d e s) (sym (operation-count r cs)) (commits-lead r cs (v .commits))
-      ∙ seals-displaced (v .changed) (first-accepts r cs (some .0)) (operations-accept r cs (some .0)) changed-accept
+      ap₂ (λ n s. displaced (r .curve) (n - k) d e s) (sym (operation-count r cs (v .commits))) (commits-lead r cs (v .commits))
+      ∙ seals-displaced (v .changed) (first-accepts r cs (some .0)) (all-accept r cs (some .0)) changed-accept
       ∙ ap gives (sym changed-lead)
 
   pub displacement-times :
@@ -163,7 +137,7 @@ module _ (r t : Register) (cs ds : List Call) {k : ℕ} {d e : Class} (v : Varia
 
   pub moves : ¬ (d ≡ e) → ¬ (last r cs .seal ≡ last t ds .seal)
   moves n h =
-      seals-move (v .changed) (first-accepts r cs (some .0)) (operations-accept r cs (some .0)) changed-accept n
+      seals-move (v .changed) (first-accepts r cs (some .0)) (all-accept r cs (some .0)) changed-accept n
       (sym (commits-lead r cs (v .commits)) ∙ h ∙ changed-lead)
 
   -- an equation on the last seals as one on the ends of the commit rule
@@ -171,15 +145,15 @@ module _ (r t : Register) (cs ds : List Call) {k : ℕ} {d e : Class} (v : Varia
       → displaced (r .curve) (f (length (operations (newest r cs)) - k)) a b (foldl (commit-seal (r .curve)) (r .seal) (operations (newest r cs)))
       ≡ gives (foldl (commit-seal (r .curve)) (r .seal) (operations (newest t ds)))
   by-rule a b f h =
-      ap₂ (λ n s. displaced (r .curve) (f (n - k)) a b s) (operation-count r cs) (sym (commits-lead r cs (v .commits))) ∙ h ∙ ap gives changed-lead
+      ap₂ (λ n s. displaced (r .curve) (f (n - k)) a b s) (operation-count r cs (v .commits)) (sym (commits-lead r cs (v .commits))) ∙ h ∙ ap gives changed-lead
 
   pub not-one-more : ¬ (d ≡ e) → ¬ (displaced (r .curve) (suc (length (newest r cs) - k)) d e (last r cs .seal) ≡ gives (last t ds .seal))
   not-one-more n h =
-      seals-not-one-more (v .changed) (first-accepts r cs (some .0)) (operations-accept r cs (some .0)) changed-accept n (by-rule d e (λ j. suc j) h)
+      seals-not-one-more (v .changed) (first-accepts r cs (some .0)) (all-accept r cs (some .0)) changed-accept n (by-rule d e (λ j. suc j) h)
 
   pub not-turned : ¬ (d ≡ e) → ¬ (displaced (r .curve) (length (newest r cs) - k) e d (last r cs .seal) ≡ gives (last t ds .seal))
   not-turned n h =
-      seals-not-turned (v .changed) (first-accepts r cs (some .0)) (operations-accept r cs (some .0)) changed-accept n (by-rule e d (λ j. j) h)
+      seals-not-turned (v .changed) (first-accepts r cs (some .0)) (all-accept r cs (some .0)) changed-accept n (by-rule e d (λ j. j) h)
 
 -- ---- walks back, newest first, that end in one earliest seal
 module _ {c : Curve} {s t : Class} {xs ys : List Class} (hs : Accepts c s) (hx : All (Accepts c) xs) (ht : Accepts c t) (hy : All (Accepts c) ys)

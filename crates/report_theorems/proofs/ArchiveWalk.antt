@@ -15,34 +15,16 @@ use lib.Dec.{lit<}
 use lib.ListN.{length, getD}
 use borrow.Author.Tests.{leb-true}
 use Rattle.lists.specs.{Lists.All, Lists.none, Lists.more, Walk.walk}
-use Rattle.jacobian.specs.{Answer.accepted, Answer.Accepts, Answer.neutral-class, Answer.Result, Answer.result, Answer.subtract-and-halve-answer, declared.Curve.Curve, declared.Class.Class}
-use Rattle.jacobian.proofs.{ByValue.Checks.unless-zero, Calls.accepts-two}
+use Rattle.jacobian.specs.{Answer.accepted, Answer.Accepts, Answer.neutral-class, declared.Class.Class}
+use Rattle.jacobian.proofs.ByValue.Checks.{unless-zero}
 use Rattle.stored_form.specs.{Reading.found, Fields.count-limit, Fields.count-refusal, Fields.printable, Fields.drawing-refusal, Record.drawing-name, Record.empty-record, Tags.rules, Reader.header-layout}
 use Rattle.stored_form.proofs.Passing.{Holds, fields-hold}
 use Rattle.stored_form_theorems.proofs.Operations.{operations-counted}
-use Rattle.history.specs.{Register.undo-seal, Register.sealed, Calls.steps-back}
-use Rattle.history.proofs.{Seals.undo-sound, Answers.subtract-and-halve-sealed, Steps.steps-walk}
+use Rattle.history.specs.{Register.undo-seal, Calls.steps-back}
+use Rattle.history.proofs.{Seals.undo-sound, Steps.steps-accepted, Steps.steps-walk}
 use Rattle.archive.specs.Archive.{Archive, archive-of, read-archive}
 use Rattle.archive_theorems.proofs.Parts.{parts-of, seal-sound, operations-accepted}
 use Rattle.walk_report.specs.{Lines.first-line, Walk.seals, Walk.letters, Report.seal-lines, Report.walk-lines, Report.lines-of, Report.report-lines}
-
--- ---- steps over accepted classes
-
-module _ {c : Curve} where
-  -- a step is accepted and answers the seal before
-  pub step-is : {seal a : Class} → Accepts c seal → Accepts c a → result (subtract-and-halve-answer c seal a) ≡ record { outcome = accepted; class = undo-seal c seal a }
-  unfolding sealed
-  step-is {seal} {a} hs ha = subtract-and-halve-sealed c seal a ∙ ap (λ (n : ℕ). sealed n (undo-seal c seal a)) (accepts-two c hs ha)
-
-  steps-accepted : {seal : Class} (ops : List Class) → Accepts c seal → All (Accepts c) ops → All (λ x. x .outcome ≡ accepted) (steps-back c seal ops)
-  unfolding steps-back
-  steps-accepted [] hs none = none
-  steps-accepted {seal} (a ∷ ops) hs (more ha has) =
-      let e = step-is hs ha in
-      more (ap (λ (x : Result). x .outcome) e)
-      (subst (λ (b : Class). All (λ x. x .outcome ≡ accepted) (steps-back c b ops)) (sym (ap (λ (x : Result). x .class) e)) (steps-accepted ops (undo-sound hs ha) has))
-
--- ---- the theorems
 
 module _ (s : List ℕ) {a : Archive} {end : ℕ} (reads : read-archive s ≡ found a end) where
   pub walk-accepted : All (λ x. x .outcome ≡ accepted) (steps-back (a .curve) (a .seal) (a .operations))

@@ -12,7 +12,7 @@ use Rattle.stored_form.specs.{Reader.read-field, Reader.read-fields, Reader.rea
 use Rattle.stored_form.proofs.{Readings.found-not-refused, Readings.then-found, Readers.with-field-operation}
 use Rattle.stored_form_theorems.proofs.Operations.{newest, no-operations, operation-sound, operations-counted}
 use Rattle.history.specs.Register.{undo-seal}
-use Rattle.history.proofs.Seals.{undo-sound}
+use Rattle.history.proofs.{Seals.undo-sound, Steps.step-is}
 use Rattle.archive.specs.{Archive.Archive, Archive.archive-of, Archive.read-archive, Archive.archive-refusal, Reader.reader, Reader.operations-expected, Reader.read-next, Reader.read-header, declared.Reader.Reader}
 use Rattle.archive.specs.Reader as reading
 use Rattle.archive.specs.declared.Expected.the-variants as expected
@@ -23,7 +23,6 @@ use Rattle.walk_report.specs.{Lines.line, Lines.first-line, Lines.refusal-line,
 use Rattle.walk_report.specs.Steps.{report-at, with-seal, progress, older, on-operation, advanced-by, advanced, letter-before, undone, next-of, next-line, refused-report, first-report, begin-by, begin, LineResult}
 use Rattle.walk_report.specs.Loop.{none, MakesAll, Halfway}
 use Rattle.walk_report.proofs.{LinesLeft.expected-older, Loop.turn-all, Loop.makes-only}
-use Rattle.report_theorems.proofs.ArchiveWalk.{step-is}
 use Rattle.walk_report.specs.declared.{Stage.Stage, Report.Report, Progress.Progress}
 use Rattle.walk_report.specs.declared.Stage.the-variants.{First, Last, Undo, Over}
 
