@@ -14,6 +14,7 @@ pub mod WalkingBack
 pub mod Displacement
 pub mod Checking
 pub mod Edges
+pub mod Releases
 pub mod Numbers
 pub mod Answers
 pub mod Valid

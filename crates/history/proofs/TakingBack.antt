@@ -1,7 +1,6 @@
 -- Demand 3 on a list of calls (docs/SPECIFICATION.md, 11): from any register, with any classes, refused calls included.
 -- `curve-kept`: no call of a list changes degree or curve.
 -- `last-curve`: the register after a list has the degree and the curve of the first.
--- `release-sets`: an accepted release sets the released step to the count, and changes nothing else.
 -- `steps-only`: in a list of commits and undos no release is accepted.
 -- `last-release`: every list is in two parts, the first empty or up to its last accepted release.
 -- Where no release of the list was accepted:
@@ -10,7 +9,6 @@
 -- `taken-back-registers`: the calls that take back return the registers just before the accepted calls, newest first.
 -- `taken-back-counts`: so they return the counts just before the accepted calls.
 -- `taken-back-all`: after all of them the register is the first one.
--- `released-kept`: the released step after the list is that of the first register.
 -- In a list of two parts, where no release of the second part was accepted:
 -- `after-turned`, `after-accepted`, `after-registers`, `after-counts`: the same of the second part's accepted calls.
 -- `after-all`: after taking all of them back the register is that between the two parts.
@@ -63,26 +61,6 @@ module _ (r : Register) (cs : List Call) (only : NoReleases (newest r cs)) where
 pub steps-only : (r : Register) {cs : List Call} → All (λ c. ¬ (c ≡ release)) cs → NoReleases (newest r cs)
 unfolding definition.newest
 steps-only r h = all-reverse (accepted-fit registers r h)
-
--- ---- the released step
-stepped-released : (k : Step) (r : Register) (a : Class) → stepped k r a .released ≡ r .released
-unfolding stepped with-count-and-seal
-stepped-released Commit r a = refl
-stepped-released Undo r a = refl
-
-pub release-sets : (r : Register) → answer r release .outcome ≡ accepted → answer r release .register ≡ with-released (r .count) r
-unfolding answer
-release-sets r e = ap (λ (x : RegisterReply). x .register) (release-taken r e)
-
-then-kept : (s : Register) (c : Call) (es : List Event) (t : Register) → answer s c .outcome ≡ accepted → (NoReleases es → t .released ≡ answer s c .register .released)
-    → NoReleases (definition.event registers s c ∷ es) → t .released ≡ s .released
-unfolding definition.event answer
-then-kept s (step k a) es t e on (more h hs) = on hs ∙ ap (λ (x : RegisterReply). x .register .released) (step-taken k s a e) ∙ stepped-released k s a
-then-kept s release es t e on (more h hs) = absurd (h refl)
-
-pub released-kept : (r : Register) (cs : List Call) → NoReleases (newest r cs) → last r cs .released ≡ r .released
-released-kept r cs only =
-    by-accepted registers refused-stays (λ s es t. NoReleases es → t .released ≡ s .released) (λ s h. refl) then-kept r cs (all-oldest registers r cs only)
 
 -- ---- a list in two parts
 module _ (r : Register) (cs ds : List Call) (only : NoReleases (newest (last r cs) ds)) where
