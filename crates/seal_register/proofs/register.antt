@@ -1,2 +1,3 @@
--- The common proof of the calls in place.
+-- The common proof of the calls in place, and that of those with a class.
 mod Lent
+mod WithClass

@@ -2,7 +2,7 @@
 use contract.Running.{givenOf, tables, tablesOf}
 use denote.Triple.{Spec.tripleOf, Table.entered, Table.cited}
 use Rattle.history.specs.declared.Step.the-variants.{Commit}
-use Rattle.seal_register.proofs.register.{Lent.Says, Lent.meets, committed.Symbol.name as #committed, committed.Symbol.routine as committed, committed.Met.met, seal_register_commit.Key.name, seal_register_commit.Statement.statement}
+use Rattle.seal_register.proofs.register.{WithClass.Says, WithClass.meets, committed.Symbol.name as #committed, committed.Symbol.routine as committed, committed.Met.met, seal_register_commit.Key.name, seal_register_commit.Statement.statement}
 use Rattle.seal_register.proofs.register.seal_register_commit as this
 use Rattle.seal_register.proofs.register.seal_register_commit.Code as code
 

@@ -2,7 +2,7 @@
 use contract.Running.{givenOf, tables, tablesOf}
 use denote.Triple.{Spec.tripleOf, Table.entered, Table.cited}
 use Rattle.history.specs.declared.Step.the-variants.{Undo}
-use Rattle.seal_register.proofs.register.{Lent.Says, Lent.meets, undone.Symbol.name as #undone, undone.Symbol.routine as undone, undone.Met.met, seal_register_undo.Key.name, seal_register_undo.Statement.statement}
+use Rattle.seal_register.proofs.register.{WithClass.Says, WithClass.meets, undone.Symbol.name as #undone, undone.Symbol.routine as undone, undone.Met.met, seal_register_undo.Key.name, seal_register_undo.Statement.statement}
 use Rattle.seal_register.proofs.register.seal_register_undo as this
 use Rattle.seal_register.proofs.register.seal_register_undo.Code as code
 
