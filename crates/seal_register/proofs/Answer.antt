@@ -1,15 +1,16 @@
 -- The answer of a call by value, as the call in place answers it.
 -- `verdict-number`: equal outcomes have equal numbers.
--- `step-in-place`: the number of the outcome and the register of a call by value keep what the step promises.
--- `lent-in-place`: for a number other than 0, so do that number and the lent register as it was.
+-- `call-in-place`: the number of the outcome and the register of a call by value are the answer of the call in place.
+-- `call-unchanged`: for a number other than 0, so are that number and the lent register as it was.
+-- `step-in-place`, `step-unchanged`: the same of what a step promises.
 use Prim.Native.Nat.{ℕ, zero, suc}
 use mathlib.Core.{Path._≡_, Path.refl, Path.sym, Path._∙_, Path.ap, Bool.not}
 use lib.Dec.{T, eqb}
 use Rattle.jacobian.specs.{Answer.Verdict, Answer.accepted, Answer.refused, Answer.verdict, Answer.verdict-of, Answer.outcome-refusal, declared.Class.Class}
 use Rattle.jacobian.proofs.ByValue.Answers.{outcome-refusal-is}
-use Rattle.history.specs.{Register.RegisterReply, Register.register-reply, Register.follows, Register.step-answer, Register.StepAnswers, Calls.answer}
+use Rattle.history.specs.{Register.RegisterReply, Register.register-reply, Register.follows, Register.StepAnswers, Calls.Call, Calls.step, Calls.answer}
 use Rattle.history.specs.declared.{Register.Register, RegisterAnswer.RegisterAnswer, Step.Step}
-use Rattle.history.proofs.{Registers.follows-outcome, Promises.step-promised, Promises.step-answered}
+use Rattle.history.proofs.{Registers.follows-outcome, Checking.called, Checking.answer-follows, Promises.step-promised, Promises.step-answered}
 use Rattle.seal_register.specs.InPlace.{in-place}
 use Rattle.seal_register.proofs.InPlace.{refusal-leaves}
 
@@ -35,14 +36,19 @@ follows-in-place m given next x n e h =
     ∙ ap (λ (v : Verdict). record { outcome = v; register = x .register }) (sym o)
     ∙ e
 
-pub step-in-place : (k : Step) (r : Register) (a : Class) (x : RegisterAnswer) (n : ℕ) → StepAnswers k r a (register-reply x) → n ≡ outcome-refusal (x .outcome)
-    → StepAnswers k r a (in-place n (x .register))
-unfolding step-answer
-step-in-place k r a x n h e = step-promised r a k (follows-in-place _ r _ x n (step-answered r a k h) e)
+module _ (r : Register) (c : Call) where
+  pub call-in-place : (x : RegisterAnswer) (n : ℕ) → register-reply x ≡ answer r c → n ≡ outcome-refusal (x .outcome) → in-place n (x .register) ≡ answer r c
+  call-in-place x n e h = follows-in-place _ r (called r c) x n (e ∙ answer-follows r c) h ∙ sym (answer-follows r c)
 
-pub lent-in-place : (k : Step) (r : Register) (a : Class) (n : ℕ) (told : Register) → StepAnswers k r a (in-place n told) → T (not (eqb n 0)) → StepAnswers k r a (in-place n r)
-unfolding answer
-lent-in-place k r a zero told e h = absurd h
-lent-in-place k r a (suc n) told e h =
-    let is = step-answered r a k e in
-    step-promised r a k (ap (in-place (suc n)) (sym (refusal-leaves r (record { step = k; class = a }) n told is)) ∙ is)
+  pub call-unchanged : (n : ℕ) (told : Register) → in-place n told ≡ answer r c → T (not (eqb n 0)) → in-place n r ≡ answer r c
+  call-unchanged zero told e h = absurd h
+  call-unchanged (suc n) told e h = ap (in-place (suc n)) (sym (refusal-leaves r c n told e)) ∙ e
+
+module _ (k : Step) (r : Register) (a : Class) where
+  pub step-in-place : (x : RegisterAnswer) (n : ℕ) → StepAnswers k r a (register-reply x) → n ≡ outcome-refusal (x .outcome) → StepAnswers k r a (in-place n (x .register))
+  unfolding answer
+  step-in-place x n h e = step-promised r a k (call-in-place r (step k a) x n (step-answered r a k h) e)
+
+  pub step-unchanged : (n : ℕ) (told : Register) → StepAnswers k r a (in-place n told) → T (not (eqb n 0)) → StepAnswers k r a (in-place n r)
+  unfolding answer
+  step-unchanged n told e h = step-promised r a k (call-unchanged r (step k a) n told (step-answered r a k e) h)

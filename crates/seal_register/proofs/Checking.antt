@@ -1,8 +1,8 @@
 -- Each refusal of the lent calls under its condition and in its order (docs/SPECIFICATION.md, 6 and 8).
 -- `number-is`, `row-number`: the number of the code's answer is the refusal of the call's definition.
--- `lent-checked`: the number of a commit or an undo in place is the refusal of the step's checks, and a refused call
--- leaves the register as it was.
--- `lent-listed`: such a refusal is one of the step's own numbers.
+-- `lent-checked`: the number of a commit, an undo or a release in place is the refusal of the call's checks, and a
+-- refused call leaves the register as it was.
+-- `lent-listed`: such a refusal is one of the call's own numbers.
 -- `row-checked`: the refusal of a walk over a lent row is that of the curve, then 109 for more classes than the limit,
 -- then that of the last seal, then that of the classes, newest first.
 -- `row-walk-checked`: the number of the code's walk is that refusal, and a refused walk answers the neutral class.
@@ -15,26 +15,26 @@ use Rattle.jacobian.specs.{Checks.RefusalOf, Refusals.listed, Curves.curve-refu
 use Rattle.jacobian.proofs.Checking.{curve-checked, class-checked, refusal-none, refusal-or-else, refusal-held, among, refusal-listed}
 use Rattle.count_limit.specs.{Limit.count-refusal, Checking.count-check}
 use Rattle.count_limit.proofs.Checking.{count-checked}
-use Rattle.history.specs.{Register.RegisterReply, Register.stepped, Register.step-refusal, Register.step-answer, Calls.Call, Calls.answer, Calls.walk-back, Checking.step-checks, Checking.check-numbers, Checking.step-numbers, Checking.CheckedAnswer, declared.Register.Register}
-use Rattle.history.proofs.{Registers.follows-outcome, Registers.follows-refused, Answers.sealed-outcome, Checking.step-checked, Checking.step-listed, Checking.all-listed, Checking.listed-within}
+use Rattle.history.specs.{Register.RegisterReply, Calls.Call, Calls.answer, Calls.walk-back, Checking.call-checks, Checking.check-numbers, Checking.call-numbers, Checking.CheckedAnswer, declared.Register.Register}
+use Rattle.history.proofs.{Registers.follows-outcome, Registers.follows-refused, Answers.sealed-outcome, Checking.call-refusal, Checking.called, Checking.answer-follows, Checking.call-checked, Checking.call-listed, Checking.all-listed, Checking.listed-within}
 use Rattle.seal_register.specs.{InPlace.in-place, RowWalk.classes-refusal, RowWalk.row-refusal, RowWalk.reached, RowWalk.row-walk-answer, Checking.classes-checks, Checking.row-checks, Checking.row-numbers, declared.walk.RowWalk.RowWalk}
 use Rattle.seal_register.proofs.{Answer.verdict-number, RowSteps.refused-is}
 
 -- ---- a call in place
 module _ (r : Register) (c : Call) (n : ℕ) (left : Register) (e : in-place n left ≡ answer r c) where
-  pub number-is : n ≡ step-refusal (c .step) r (c .class)
-  unfolding in-place answer step-answer
-  number-is = verdict-number n _ (ap (λ (x : RegisterReply). x .outcome) e ∙ follows-outcome (step-refusal (c .step) r (c .class)) r (stepped (c .step) r (c .class)))
+  pub number-is : n ≡ call-refusal r c
+  unfolding in-place
+  number-is = verdict-number n _ (ap (λ (x : RegisterReply). x .outcome) (e ∙ answer-follows r c) ∙ follows-outcome (call-refusal r c) r (called r c))
 
-  pub lent-checked : CheckedAnswer (step-checks (c .step) r (c .class)) n r left
-  unfolding in-place answer step-answer
+  pub lent-checked : CheckedAnswer (call-checks r c) n r left
+  unfolding in-place
   lent-checked = record {
-    refusal = subst (RefusalOf (step-checks (c .step) r (c .class))) (sym number-is) (step-checked (c .step) r (c .class));
-    kept = λ h. ap (λ (x : RegisterReply). x .register) (e ∙ follows-refused _ r (stepped (c .step) r (c .class)) (λ z. h (number-is ∙ z)));
+    refusal = subst (RefusalOf (call-checks r c)) (sym number-is) (call-checked r c);
+    kept = λ h. ap (λ (x : RegisterReply). x .register) (e ∙ answer-follows r c ∙ follows-refused _ r (called r c) (λ z. h (number-is ∙ z)));
   }
 
-  pub lent-listed : ¬ (n ≡ 0) → listed n (step-numbers (c .step)) ≡ true
-  lent-listed h = subst (λ m. listed m (step-numbers (c .step)) ≡ true) (sym number-is) (step-listed (c .step) r (c .class) (λ z. h (number-is ∙ z)))
+  pub lent-listed : ¬ (n ≡ 0) → listed n (call-numbers c) ≡ true
+  lent-listed h = subst (λ m. listed m (call-numbers c) ≡ true) (sym number-is) (call-listed r c (λ z. h (number-is ∙ z)))
 
 -- ---- the walk over a lent row
 module _ (c : Curve) where

@@ -1,6 +1,6 @@
 -- Every answer of the lent calls is an acceptance or one of the call's own refusals (docs/SPECIFICATION.md, 6).
--- `lent-valid`: a commit or an undo in place answers 0 and leaves the next register, or answers one of the step's
--- numbers and leaves the register as it was.
+-- `lent-valid`: a commit, an undo or a release in place answers 0 and leaves the next register, or answers one of the
+-- call's numbers and leaves the register as it was.
 -- `row-walk-valid`: the walk over a lent row answers 0 and the earliest seal, which no check refuses, or one of the
 -- walk's numbers and the neutral class.
 use Prim.Native.Nat.{ℕ, zero, suc}
@@ -8,16 +8,16 @@ use mathlib.Core.{Path._≡_, Path.refl, Path.sym, Path._∙_, Path.ap, Path.sub
 use native.Mathlib.Omega.{arith}
 use Rattle.jacobian.specs.{Refusals.listed, declared.Curve.Curve, declared.Class.Class}
 use Rattle.jacobian.specs.Answer.{accepted, verdict-of, neutral-class, Result, membership-answer}
-use Rattle.history.specs.{Register.RegisterReply, Register.stepped, Register.step-answer, Calls.Call, Calls.answer, Calls.walk-back, Checking.step-numbers, declared.Register.Register}
-use Rattle.history.proofs.{Registers.follows-zero, Seals.walk-is-only}
+use Rattle.history.specs.{Register.RegisterReply, Calls.Call, Calls.answer, Calls.walk-back, Checking.call-numbers, declared.Register.Register}
+use Rattle.history.proofs.{Registers.follows-zero, Checking.called, Checking.answer-follows, Seals.walk-is-only}
 use Rattle.seal_register.specs.{InPlace.in-place, RowWalk.row-refusal, RowWalk.reached, RowWalk.row-walk-answer, Checking.row-numbers, declared.walk.RowWalk.RowWalk}
 use Rattle.seal_register.proofs.{RowSteps.accepted-is, Promises.row-accepts, Checking.number-is, Checking.lent-checked, Checking.lent-listed, Checking.row-number, Checking.row-listed, Checking.row-walk-checked}
 
 -- ---- a call in place
 pub lent-valid : (r : Register) (c : Call) (n : ℕ) (left : Register) → in-place n left ≡ answer r c
-    → ((n ≡ 0) × (left ≡ stepped (c .step) r (c .class))) ⊎ ((listed n (step-numbers (c .step)) ≡ true) × (left ≡ r))
-unfolding in-place answer step-answer
-lent-valid r c zero left e = inl (refl, ap (λ (x : RegisterReply). x .register) (e ∙ follows-zero _ r _ (sym (number-is r c zero left e))))
+    → ((n ≡ 0) × (left ≡ called r c)) ⊎ ((listed n (call-numbers c) ≡ true) × (left ≡ r))
+unfolding in-place
+lent-valid r c zero left e = inl (refl, ap (λ (x : RegisterReply). x .register) (e ∙ answer-follows r c ∙ follows-zero _ r _ (sym (number-is r c zero left e))))
 lent-valid r c (suc n) left e = inr (lent-listed r c (suc n) left e (λ z. omega arith), lent-checked r c (suc n) left e .kept (λ z. omega arith))
 
 -- ---- the walk over a lent row

@@ -2,7 +2,7 @@
 // A call copies the register, makes the call by value and, if accepted, writes the new register back; a refusal writes
 // no byte. It answers 0 for an acceptance, else the refusal's number: a function that C calls cannot return an enum.
 ghost use mathlib.Core.Path.{_≡_};
-ghost use Rattle.history.specs.Register.{commit-answer, StepAnswers, UndoAnswers};
+ghost use Rattle.history.specs.Register.{commit-answer, release-answer, StepAnswers, UndoAnswers};
 ghost use Rattle.seal_register.specs.InPlace.{in-place};
 use history::Register;
 use history::Step;
@@ -42,6 +42,17 @@ fn undone(register: Register, class: Class) -> Changed
     stepped(Step::Undo, register, class)
 }
 
+// A release.
+fn released(register: Register) -> Changed
+    ensures { λ x. ⌜ in-place (x .refusal) (x .left) ≡ release-answer register ⌝ }
+{
+    let a = register.release();
+    let o = a.outcome;
+    let refusal = jacobian::outcome_refusal(o);
+    let left = a.register;
+    Changed { refusal, left }
+}
+
 // The lent register becomes the one after a commit; on a refusal it stays as it was.
 #[no_mangle]
 pub extern "C" fn seal_register_commit(register: &mut Register, class: Class) -> u32
@@ -60,6 +71,18 @@ pub extern "C" fn seal_register_undo(register: &mut Register, class: Class) -> u
     ensures { λ n. ⌜ UndoAnswers (now (register .entry)) class (in-place n (now (register .exit))) ⌝ }
 {
     let a = undone(*register, class);
+    if a.refusal == 0 {
+        *register = a.left;
+    }
+    a.refusal
+}
+
+// The lent register becomes the one after a release; on a refusal it stays as it was.
+#[no_mangle]
+pub extern "C" fn seal_register_release(register: &mut Register) -> u32
+    ensures { λ n. ⌜ in-place n (now (register .exit)) ≡ release-answer (now (register .entry)) ⌝ }
+{
+    let a = released(*register);
     if a.refusal == 0 {
         *register = a.left;
     }

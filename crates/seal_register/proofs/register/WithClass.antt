@@ -8,12 +8,12 @@ use ghost.Atoms.{Atoms}
 use types.{Kit.Given, Kit._$_, Kit.!, Kit.move, Run.init, Run.and-then, Run.no-more, Run.enter, Run.alloc1, Run.alloc0, Run.params1, Run.pass1, Run.pass0}
 use denote.{Laws.owns-make, Laws.Ises, Signature.Slot, Signature.plain, Exit.yes, Steps.only}
 use denote.Struct.Laws as S
-use denote.Triple.{Statement.Contract, Statement.Triple, Spec.Meets, End.Kepts, Clauses.closing, Walked.Stays, Walked.stay-none, Walked.goes-none}
+use denote.Triple.{Statement.Contract, Statement.Triple, Spec.Meets, Clauses.closing, Walked.Stays, Walked.stay-none, Walked.goes-none}
 use Rattle.jacobian.proofs.Class as C
 use Rattle.jacobian.proofs.Class.Laws as C′
 use Rattle.history.specs.{Register.StepAnswers, declared.Step.Step}
 use Rattle.seal_register.specs.InPlace.{in-place}
-use Rattle.seal_register.proofs.Answer.{lent-in-place}
+use Rattle.seal_register.proofs.Answer.{step-unchanged}
 use Rattle.seal_register.proofs.ByHand.{var}
 use Rattle.seal_register.proofs.register.Lent as lent
 
@@ -40,8 +40,8 @@ module _ {M : Type 1} (𝓤 : URA M) (H : Heap 𝓤) (𝓐 : Atoms 𝓤) (W : Gi
   abbrev promise-lent : lent.LentPromise class (yes, tt) stays
   promise-lent κs = promise k
 
-  pub meets : Meets 𝓤 H 𝓐 (lent.lent class (yes, tt) stays .signature) (WpFn 𝓤 H (𝓣 .C) (𝓣 .Λ) (function says-name))
-      (closing 𝓤 H 𝓐 (lent.lent class (yes, tt) stays) (lent.clauses class (yes, tt) stays 𝓤 H 𝓐 promise-lent))
+  pub meets : Meets 𝓤 H 𝓐 (lent.ended class (yes, tt) stays .signature) (WpFn 𝓤 H (𝓣 .C) (𝓣 .Λ) (function says-name))
+      (closing 𝓤 H 𝓐 (lent.ended class (yes, tt) stays) (lent.clauses class (yes, tt) stays 𝓤 H 𝓐 promise-lent))
   meets =
       lent.meets class (yes, tt) stays 𝓤 H 𝓐 promise-lent W 𝓣 (function says-name) (goes-none 𝓤 H 𝓐 W 1 (λ _. C.the-row) yes (λ κs x f. refl), tt)
       (λ κs. (S.vals C.the-type C′.the-laws, tt)) (λ κs. (S.tells C.the-type C′.the-laws, tt))
@@ -50,7 +50,7 @@ module _ {M : Type 1} (𝓤 : URA M) (H : Heap 𝓤) (𝓐 : Atoms 𝓤) (W : Gi
       pass1 ! (init ! 6 refl (S.lawful C.the-type C′.the-laws 𝓤 H 𝓐 W .typed (a .0) _ (are .0) .0)) $ pass0 ! $
       move ! (12 ∷ 13 ∷ 14 ∷ 0 ∷ 1 ∷ 2 ∷ 3 ∷ 4 ∷ 5 ∷ 8 ∷ 9 ∷ 10 ∷ 11 ∷ []) $
       lent.works 𝓤 H 𝓐 W 𝓣 says-name class (promise k) known (S.makes C.the-type C′.the-plain 𝓤 H 𝓐, tt) κ q b o γ r a _ are
-      (λ n left e other. lent-in-place k r (a .0) n left e other) (lent.Post class (yes, tt) stays 𝓤 H 𝓐 promise-lent κ q b o γ r a _)
+      (step-unchanged k r (a .0)) (lent.Post class (yes, tt) stays 𝓤 H 𝓐 promise-lent κ q b o γ r a _)
       (lent.exits class (yes, tt) stays 𝓤 H 𝓐 promise-lent κ q b o γ r a _ W (tt, tt) (tt, tt)
       (owns-make 𝓤 H 𝓐 (C.the-row ∷ []) (Ises (C.the-row ∷ [])) (S.makes C.the-type C′.the-plain 𝓤 H 𝓐, tt) a _ are))
       l₀ l₁ ((C′.mir, l, only (S.vals C.the-type C′.the-laws (a .0))) ∷ []) l₂ l₃ l₄ (copy (place 2 []) ∷ []) (λ P. and-then ! (var 16 refl) (no-more !)))))))))
