@@ -8,26 +8,32 @@
 -- `curve-kept`: no call changes degree or curve.
 -- `failing`: a register that itself fails a check is refused by every call with that check's number.
 -- `failing-stays`: such a register stays as it was.
+-- `steps-only`: in a list of commits and undos no release is accepted.
+-- Where no release was accepted:
+-- `released-kept`: the released step after the list is that of the first register.
 -- `taken-back-turned`: taking the accepted calls back, newest first, does to each call what `turned` says.
 -- `taken-back-accepted`: no call that takes a call back is refused.
 -- `taken-back-registers`: each leaves the register just before the call that it takes back.
 -- `taken-back-all`: after all of them the register is the first one.
--- Where the accepted calls are all commits, for the walk back from the last seal over their classes, newest first:
+-- `after-turned`, `after-accepted`, `after-registers`, `after-all`: the same of the calls after any place from which on
+-- no release was accepted; the last register is then the one at that place.
+-- Where the accepted calls are commits and releases, for the walk back from the last seal over the classes of the
+-- commits, newest first:
 -- `walk-steps`: no step is refused, and each answers the seal just before its commit.
 -- `walk-meets`: the seals of the walk are the last seal, then those just before the commits.
 -- `walk-ends`: the walk over the k newest classes ends in the seal just before the k-th newest commit, and for k = 0 in
 -- the last seal.
 -- `walk-part`: no step of the walk over the k newest classes is refused.
 use Prim.Native.Nat.{ℕ, suc, _≤_}
-use mathlib.Core.{Path._≡_, Path.refl, Path.sym, Path._∙_, Path.ap, List.List, List.[], List._∷_, List.map, List.map-map}
+use mathlib.Core.{Path._≡_, Path.refl, Path.sym, Path._∙_, Path.ap, List.List, List.[], List._∷_, List._++_, List.map, List.map-map}
 use lib.ListN.{length, take, getD}
 use Rattle.lists.specs.{Lists.All, Lists.none, Lists.more, Walk.walk}
 use Rattle.jacobian.specs.Answer.{accepted, refused, verdict-of}
-use Rattle.history.specs.{Register.RegisterReply, Register.register-refusal, Register.undo-seal, Calls.Call, Calls.answer, Calls.registers, Calls.Event, Calls.run, Calls.last, Calls.newest, Calls.backs, Calls.turned, Calls.classes, Calls.OnlyCommits, Calls.walk-back, Calls.steps-back, Calls.met, Calls.seals-back}
+use Rattle.history.specs.{Register.RegisterReply, Register.register-refusal, Register.undo-seal, Calls.Call, Calls.release, Calls.answer, Calls.registers, Calls.Event, Calls.run, Calls.last, Calls.newest, Calls.backs, Calls.turned, Calls.NoReleases, Calls.NoUndos, Calls.steps, Calls.classes, Calls.walk-back, Calls.steps-back, Calls.met, Calls.seals-met}
 use Rattle.history.specs.Machine as machine
 use Rattle.history.specs.declared.Register.{Register}
-use Rattle.history.proofs.{OneCall.refused-stays, Failing.failing-run, Failing.failing-last, Machine.Carried.run-carried, Machine.Carried.last-carried, Machine.Carried.newest-carried}
-use Rattle.lists.proofs.Lists.{all-map}
+use Rattle.history.proofs.{OneCall.refused-stays, Failing.failing-run, Failing.failing-last, Machine.Run.run-append, Machine.Run.last-append, Machine.Carried.run-carried, Machine.Carried.last-carried, Machine.Carried.newest-carried}
+use Rattle.lists.proofs.Lists.{all-map, all-split}
 use Rattle.history.proofs.TakingBack as history
 use Rattle.history.proofs.WalkingBack as walking
 use Rattle.seal_register.specs.InPlace.{in-place, RecordedCall, call, recorded-reply, calls, replay, Session, happened, left-by, newest-recorded, seals-recorded}
@@ -71,14 +77,24 @@ module _ (r : Register) (fails : ¬ (register-refusal r ≡ 0)) (ms : List Recor
   pub failing-stays : left-by r ms ≡ r
   failing-stays = left-by-last r ms s ∙ failing-last r fails (calls ms)
 
-module _ (r : Register) (ms : List RecordedCall) (s : Session r ms) where
+-- ---- taking back, where no release was accepted
+pub steps-only : (r : Register) (ms : List RecordedCall) → Session r ms → All (λ c. ¬ (c ≡ release)) (calls ms) → NoReleases (newest-recorded r ms)
+steps-only r ms s h = rw (newest-is r ms s) (history.steps-only r h)
+
+module _ (r : Register) (ms : List RecordedCall) (s : Session r ms) (no-releases : NoReleases (newest-recorded r ms)) where
+  no-releases-by-value : NoReleases (newest r (calls ms))
+  no-releases-by-value = rw (newest-is r ms s) at no-releases
+
+  pub released-kept : left-by r ms .released ≡ r .released
+  released-kept = rw (left-by-last r ms s) (history.released-kept r (calls ms) no-releases-by-value)
+
   -- the list bs of calls takes the accepted calls back, newest first, each by value or in place
   module _ (bs : List RecordedCall) (back : Session (left-by r ms) bs) (takes : calls bs ≡ backs (newest-recorded r ms)) where
     pub taken-back-turned : happened (left-by r ms) bs ≡ map turned (newest-recorded r ms)
     unfolding machine.taken-back
     taken-back-turned =
         happened-run (left-by r ms) bs back ∙ ap (run (left-by r ms)) takes
-        ∙ as-by-value r ms s (λ es t. run t (backs es) ≡ map turned es) (history.taken-back-turned r (calls ms))
+        ∙ as-by-value r ms s (λ es t. run t (backs es) ≡ map turned es) (history.taken-back-turned r (calls ms) no-releases-by-value)
 
     pub taken-back-accepted : All (λ e. e .outcome ≡ accepted) (happened (left-by r ms) bs)
     unfolding machine.turned
@@ -91,28 +107,52 @@ module _ (r : Register) (ms : List RecordedCall) (s : Session r ms) where
     pub taken-back-all : left-by (left-by r ms) bs ≡ r
     taken-back-all =
         left-by-last (left-by r ms) bs back ∙ ap (last (left-by r ms)) takes
-        ∙ as-by-value r ms s (λ es t. last t (backs es) ≡ r) (history.taken-back-all r (calls ms))
+        ∙ as-by-value r ms s (λ es t. last t (backs es) ≡ r) (history.taken-back-all r (calls ms) no-releases-by-value)
 
-  -- ---- the walk back, where all accepted calls are commits
-  module _ (only : OnlyCommits (newest-recorded r ms)) where
-    only-by-value : OnlyCommits (newest r (calls ms))
-    only-by-value = rw (newest-is r ms s) at only
+-- ---- the same after a first part of the list: of the calls ns that follow ms, none is an accepted release, and bs takes
+-- the accepted ones back
+module _ (r : Register) (ms ns : List RecordedCall) (s : Session r (ms ++ ns)) (no-releases : NoReleases (newest-recorded (left-by r ms) ns))
+    (bs : List RecordedCall) (back : Session (left-by r (ms ++ ns)) bs) (takes : calls bs ≡ backs (newest-recorded (left-by r ms) ns)) where
+  follows : left-by r (ms ++ ns) ≡ left-by (left-by r ms) ns
+  follows = last-append replay r ms ns
 
-    pub walk-steps : steps-back (r .curve) (left-by r ms .seal) (classes (newest-recorded r ms)) ≡ map met (newest-recorded r ms)
-    walk-steps = as-by-value r ms s (λ es t. steps-back (r .curve) (t .seal) (classes es) ≡ map met es) (walking.walk-steps r (calls ms) only-by-value)
+  second : Session (left-by r ms) ns
+  second = all-split (machine.run replay r ms) (rw (run-append replay r ms ns) at s) .1
 
-    pub walk-meets : walk (undo-seal (r .curve)) (left-by r ms .seal) (classes (newest-recorded r ms)) ≡ seals-recorded r ms
-    unfolding seals-back seals-recorded
-    walk-meets =
-        as-by-value r ms s (λ es t. walk (undo-seal (r .curve)) (t .seal) (classes es) ≡ t .seal ∷ map (λ e. e .before .seal) es) (walking.walk-meets r (calls ms) only-by-value)
+  back-from-second : Session (left-by (left-by r ms) ns) bs
+  back-from-second = rw follows at back
 
-    pub walk-ends : (k : ℕ) → k ≤ length (newest-recorded r ms)
-        → walk-back (r .curve) (left-by r ms .seal) (take k (classes (newest-recorded r ms))) ≡ getD (seals-recorded r ms) k (left-by r ms .seal)
-    unfolding seals-back seals-recorded
-    walk-ends =
-        as-by-value r ms s (λ es t. (k : ℕ) → k ≤ length es → walk-back (r .curve) (t .seal) (take k (classes es)) ≡ getD (t .seal ∷ map (λ e. e .before .seal) es) k (t .seal))
-        (walking.walk-ends r (calls ms) only-by-value)
+  pub after-turned : happened (left-by r (ms ++ ns)) bs ≡ map turned (newest-recorded (left-by r ms) ns)
+  after-turned = rw follows (taken-back-turned (left-by r ms) ns second no-releases bs back-from-second takes)
 
-    pub walk-part : (k : ℕ) → steps-back (r .curve) (left-by r ms .seal) (take k (classes (newest-recorded r ms))) ≡ take k (map met (newest-recorded r ms))
-    walk-part =
-        as-by-value r ms s (λ es t. (k : ℕ) → steps-back (r .curve) (t .seal) (take k (classes es)) ≡ take k (map met es)) (walking.walk-part r (calls ms) only-by-value)
+  pub after-accepted : All (λ e. e .outcome ≡ accepted) (happened (left-by r (ms ++ ns)) bs)
+  after-accepted = rw follows (taken-back-accepted (left-by r ms) ns second no-releases bs back-from-second takes)
+
+  pub after-registers : map (λ e. e .left) (happened (left-by r (ms ++ ns)) bs) ≡ map (λ e. e .before) (newest-recorded (left-by r ms) ns)
+  after-registers = rw follows (taken-back-registers (left-by r ms) ns second no-releases bs back-from-second takes)
+
+  pub after-all : left-by (left-by r (ms ++ ns)) bs ≡ left-by r ms
+  after-all = rw follows (taken-back-all (left-by r ms) ns second no-releases bs back-from-second takes)
+
+-- ---- the walk back, where the accepted calls are commits and releases
+module _ (r : Register) (ms : List RecordedCall) (s : Session r ms) (no-undos : NoUndos (newest-recorded r ms)) where
+  no-undos-by-value : NoUndos (newest r (calls ms))
+  no-undos-by-value = rw (newest-is r ms s) at no-undos
+
+  pub walk-steps : steps-back (r .curve) (left-by r ms .seal) (classes (newest-recorded r ms)) ≡ map met (steps (newest-recorded r ms))
+  walk-steps = as-by-value r ms s (λ es t. steps-back (r .curve) (t .seal) (classes es) ≡ map met (steps es)) (walking.walk-steps r (calls ms) no-undos-by-value)
+
+  pub walk-meets : walk (undo-seal (r .curve)) (left-by r ms .seal) (classes (newest-recorded r ms)) ≡ seals-recorded r ms
+  unfolding seals-recorded
+  walk-meets = as-by-value r ms s (λ es t. walk (undo-seal (r .curve)) (t .seal) (classes es) ≡ seals-met t es) (walking.walk-meets r (calls ms) no-undos-by-value)
+
+  pub walk-ends : (k : ℕ) → k ≤ length (classes (newest-recorded r ms))
+      → walk-back (r .curve) (left-by r ms .seal) (take k (classes (newest-recorded r ms))) ≡ getD (seals-recorded r ms) k (left-by r ms .seal)
+  unfolding seals-recorded
+  walk-ends =
+      as-by-value r ms s (λ es t. (k : ℕ) → k ≤ length (classes es) → walk-back (r .curve) (t .seal) (take k (classes es)) ≡ getD (seals-met t es) k (t .seal))
+      (walking.walk-ends r (calls ms) no-undos-by-value)
+
+  pub walk-part : (k : ℕ) → steps-back (r .curve) (left-by r ms .seal) (take k (classes (newest-recorded r ms))) ≡ take k (map met (steps (newest-recorded r ms)))
+  walk-part =
+      as-by-value r ms s (λ es t. (k : ℕ) → steps-back (r .curve) (t .seal) (take k (classes es)) ≡ take k (map met (steps es))) (walking.walk-part r (calls ms) no-undos-by-value)

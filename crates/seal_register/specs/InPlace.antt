@@ -1,12 +1,12 @@
 -- A register lent and changed in place, and lists of calls each by value or in place (docs/SPECIFICATION.md, 8 and 11).
 use Prim.Native.Nat.{ℕ}
 use mathlib.Core.Path.{_≡_}
-use mathlib.Core.List.{List, _∷_, map}
+use mathlib.Core.List.{List, map}
 use Rattle.lists.specs.Lists.{All}
 use Rattle.jacobian.specs.{Answer.verdict-of, declared.Class.Class}
 use Rattle.history.specs.Register.{RegisterReply, register-reply}
 use Rattle.history.specs.Machine.{Machine, run, last, newest, carried}
-use Rattle.history.specs.Calls.{Call, answer, Event}
+use Rattle.history.specs.Calls.{Call, answer, Event, seals-met}
 use Rattle.history.specs.declared.{Register.Register, RegisterAnswer.RegisterAnswer}
 
 -- what a call on a lent register answers: 0 is an acceptance, else that refusal; with the register that the call leaves
@@ -53,6 +53,6 @@ left-by = last replay
 unfoldable pub newest-recorded : Register → List RecordedCall → List Event
 newest-recorded r ms = map (carried (λ t. t) call) (newest replay r ms)
 
--- the seals that a walk back meets: the last seal, then those just before the accepted calls, newest first
+-- the seals that a walk back meets: the last seal, then those just before the accepted steps, newest first
 unfoldable pub seals-recorded : Register → List RecordedCall → List Class
-seals-recorded r ms = left-by r ms .seal ∷ map (λ e. e .before .seal) (newest-recorded r ms)
+seals-recorded r ms = seals-met (left-by r ms) (newest-recorded r ms)
