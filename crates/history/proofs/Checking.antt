@@ -17,8 +17,8 @@ use Rattle.jacobian.specs.Checks as checks
 use Rattle.jacobian.proofs.{ByValue.Checks.then-zero, ByValue.Checks.both, ByValue.Answers.outcome-refusal-is, Checking.curve-checked, Checking.class-checked, Checking.refusal-or-else, Checking.refusal-held, Checking.among, Checking.refusal-listed}
 use Rattle.count_limit.specs.{Limit.count-limit, Limit.count-refusal, Limit.released-refusal, Checking.count-check, Checking.released-check}
 use Rattle.count_limit.proofs.Checking.{count-checked, released-checked}
-use Rattle.history.specs.Register.{RegisterReply, register-reply, register-refusal, edge-refusal, step-refusal, with-released, stepped, follows, step-answer, release-answer}
-use Rattle.history.specs.Calls.{Call, step, release, answer}
+use Rattle.history.specs.Register.{RegisterReply, register-reply, register-refusal, edge-refusal, step-refusal, follows, step-answer, release-answer}
+use Rattle.history.specs.Calls.{Call, step, release, answer, call-refusal, called}
 use Rattle.history.specs.Checking.{register-checks, edge-checks, call-checks, check-numbers, call-numbers, CheckedAnswer}
 use Rattle.history.specs.declared.{Register.Register, RegisterAnswer.RegisterAnswer, Step.Step, Step.the-variants.Commit, Step.the-variants.Undo}
 use Rattle.history.proofs.Registers.{follows-outcome, follows-refused}
@@ -64,15 +64,6 @@ step-checked k r a =
     let last = edge-checks k (r .count) (r .released) in
     refusal-or-else (register-checks r) (class-checks c a ++ last) (register-refusal r) _ (register-checked r)
     (λ h. refusal-or-else (class-checks c a) last (class-refusal c a) _ (class-checked c a (then-zero _ _ (refusal-held (register-checked r) h) .0)) (λ m. edge-checked k (r .count) (r .released)))
-
--- the refusal of a call, and the register after it where there is none
-unfoldable pub call-refusal : Register → Call → ℕ
-call-refusal r (step k a) = step-refusal k r a
-call-refusal r release = register-refusal r
-
-unfoldable pub called : Register → Call → Register
-called r (step k a) = stepped k r a
-called r release = with-released (r .count) r
 
 pub answer-follows : (r : Register) (c : Call) → answer r c ≡ follows (call-refusal r c) r (called r c)
 unfolding answer step-answer release-answer call-refusal called

@@ -16,11 +16,11 @@ use Rattle.jacobian.proofs.{Refusals.valid-or-else, Valid.curve-refusal-valid, 
 use Rattle.count_limit.specs.Limit.{count-limit}
 use Rattle.count_limit.proofs.Valid.{count-refusal-valid, released-refusal-valid}
 use Rattle.history.specs.Register.{RegisterReply, register-refusal, edge-refusal, step-refusal, follows, commit-answer, undo-answer, release-answer}
-use Rattle.history.specs.Calls.{Call, step, release, commit, undo, answer}
+use Rattle.history.specs.Calls.{Call, step, release, commit, undo, answer, call-refusal, called}
 use Rattle.history.specs.Checking.{call-numbers, ValidRegisterReply}
 use Rattle.history.specs.Checking as checking
 use Rattle.history.specs.declared.{Register.Register, Step.Step, Step.the-variants.Commit, Step.the-variants.Undo}
-use Rattle.history.proofs.{Registers.follows-number, Checking.call-refusal, Checking.called, Checking.answer-follows, Checking.call-listed}
+use Rattle.history.proofs.{Registers.follows-number, Checking.answer-follows, Checking.call-listed}
 
 -- ---- the checks
 pub register-refusal-valid : (r : Register) → ValidRefusal (register-refusal r)

@@ -5,7 +5,7 @@ use mathlib.Core.List.{List, [], _∷_, _++_, map, reverse}
 use Rattle.lists.specs.{Lists.All, Lists.ChangedAt, Walk.foldl}
 use Rattle.jacobian.specs.{Answer.accepted, Answer.Result, Answer.result, Answer.sum-answer, Answer.subtract-and-halve-answer, Group.difference, Group.doublings}
 use Rattle.jacobian.specs.declared.{Curve.Curve, Class.Class}
-use Rattle.history.specs.Register.{RegisterReply, step-answer, release-answer, other, commit-seal, undo-seal}
+use Rattle.history.specs.Register.{RegisterReply, register-refusal, step-refusal, with-released, stepped, step-answer, release-answer, other, commit-seal, undo-seal}
 use Rattle.history.specs.Machine as machine
 use Rattle.history.specs.Machine.{Machine}
 use Rattle.history.specs.declared.{Register.Register, Step.Step, Step.the-variants.Commit, Step.the-variants.Undo}
@@ -32,6 +32,16 @@ back release = release
 unfoldable pub answer : Register → Call → RegisterReply
 answer r (step k a) = step-answer k r a
 answer r release = release-answer r
+
+-- the refusal of a call, and 0 if no check refuses it
+unfoldable pub call-refusal : Register → Call → ℕ
+call-refusal r (step k a) = step-refusal k r a
+call-refusal r release = register-refusal r
+
+-- the register after a call that no check refuses
+unfoldable pub called : Register → Call → Register
+called r (step k a) = stepped k r a
+called r release = with-released (r .count) r
 
 -- ---- the register as a machine
 -- the machine whose states are registers and whose calls are commits, undos and releases

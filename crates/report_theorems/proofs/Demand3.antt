@@ -1,6 +1,6 @@
 -- Demand 3 for archives (docs/SPECIFICATION.md, 10.1).
--- The accepted calls of a list are all commits; an accepted archive with any drawing number keeps the register's curve,
--- its last seal and the classes of all these commits, newest first.
+-- The accepted calls of a list are commits and releases; an accepted archive with any drawing number keeps the register's
+-- curve, its last seal and the classes of all these commits, newest first.
 -- `archive-seals`: the walk's seals are the last seal and those just before each commit, newest first.
 -- `archive-seal`: with k operations undone the seal is the one just before the k-th newest commit, the last for k = 0.
 -- `archive-exists`: if no check refuses the register, such an archive exists for every allowed drawing number.
@@ -10,7 +10,7 @@ use mathlib.Core.Path.{_≡_, refl, ap}
 use mathlib.Core.Bool.{true}
 use mathlib.Core.List.{List}
 use lib.ListN.{length, getD}
-use Rattle.history.specs.{Register.register-refusal, Calls.Call, Calls.OnlyCommits, Calls.last, Calls.newest, Calls.classes, Calls.seals-back, declared.Register.Register}
+use Rattle.history.specs.{Register.register-refusal, Calls.Call, Calls.NoUndos, Calls.last, Calls.newest, Calls.classes, Calls.seals-back, declared.Register.Register}
 use Rattle.history.proofs.WalkingBack.{walk-meets}
 use Rattle.stored_form.specs.{Reading.found, Head.drawing-limit, Fields.printable}
 use Rattle.archive.specs.Archive.{Archive, read-archive}
@@ -24,7 +24,7 @@ use Rattle.report_theorems.proofs.Kept.{kept-storable}
 
 -- ---- calls by value
 
-module _ (r : Register) (cs : List Call) (only : OnlyCommits (newest r cs)) where
+module _ (r : Register) (cs : List Call) (only : NoUndos (newest r cs)) where
   list-seals : seals (r .curve) (last r cs .seal) (classes (newest r cs)) ≡ seals-back r cs
   unfolding seals
   list-seals = walk-meets r cs only
@@ -38,7 +38,7 @@ module _ (r : Register) (cs : List Call) (only : OnlyCommits (newest r cs)) wher
 
   pub archive-exists : register-refusal r ≡ 0 → (drawing : List ℕ) → printable drawing ≡ true → length drawing ≤ drawing-limit →
       Encodes r (last r cs) (newest r cs) drawing (kept-archive r (last r cs) (newest r cs) drawing)
-  unfolding kept-archive seals-back
+  unfolding kept-archive
   archive-exists passes drawing clean short =
       let a : Archive = kept-archive r (last r cs) (newest r cs) drawing in
       let keeps : Keeps a r (last r cs) (newest r cs) = record { curve-kept = refl; seal-kept = refl; operations-kept = refl } in
@@ -47,13 +47,13 @@ module _ (r : Register) (cs : List Call) (only : OnlyCommits (newest r cs)) wher
 
 -- ---- each call by value or in place
 
-module _ (r : Register) (ms : List RecordedCall) (session : Session r ms) (only : OnlyCommits (newest-recorded r ms)) where
-  only-by-value : OnlyCommits (newest r (calls ms))
+module _ (r : Register) (ms : List RecordedCall) (session : Session r ms) (only : NoUndos (newest-recorded r ms)) where
+  only-by-value : NoUndos (newest r (calls ms))
   only-by-value = rw (newest-is r ms session) at only
 
   module _ (s : List ℕ) {a : Archive} {end : ℕ} (reads : read-archive s ≡ found a end) (keeps : Keeps a r (left-by r ms) (newest-recorded r ms)) where
     pub left-archive-seals : seals (a .curve) (a .seal) (a .operations) ≡ seals-recorded r ms
-    unfolding seals-back seals-recorded
+    unfolding seals-recorded
     left-archive-seals =
         rw (newest-is r ms session, left-by-last r ms session)
         (archive-seals r (calls ms) only-by-value s reads (rw (newest-is r ms session, left-by-last r ms session) at keeps))

@@ -1,22 +1,22 @@
--- `kept-storable`: if only commits were accepted on a register that no check refuses, an archive can keep what is left.
--- No check refuses the curve, the last seal and the classes of the accepted calls, which are no more than the limit.
+-- `kept-storable`: if no undo was accepted on a register that no check refuses, an archive can keep what is left.
+-- No check refuses the curve, the last seal and the classes of the accepted commits, which are no more than the limit.
 use Prim.Native.Nat.{ℕ, _≤_}
 use mathlib.Core.Path.{_≡_, subst}
 use mathlib.Core.Bool.{true}
 use mathlib.Core.List.{List}
-use lib.ListN.{length, length-map}
+use lib.ListN.{length}
 use Rattle.jacobian.specs.{Classes.class-refusal, declared.Curve.Curve}
 use Rattle.jacobian.proofs.Representation.{accepts-both}
-use Rattle.history.specs.{Register.register-refusal, Calls.Call, Calls.last, Calls.newest, Calls.classes, Calls.OnlyCommits, declared.Register.Register}
+use Rattle.history.specs.{Register.register-refusal, Calls.Call, Calls.last, Calls.newest, Calls.classes, Calls.NoUndos, declared.Register.Register}
 use Rattle.history.proofs.{Registers.register-passes, TakingBack.last-curve}
 use Rattle.history.proofs.{Preserved.last-passes, Preserved.accepted-classes, Preserved.classes-accept, WalkingBack.accepted-few}
 use Rattle.stored_form.specs.{Head.drawing-limit, Fields.printable}
 use Rattle.archive_theorems.specs.Written.{Storable}
 use Rattle.report_theorems.specs.Demand3.{kept-archive}
 
-pub kept-storable : (r : Register) (cs : List Call) → OnlyCommits (newest r cs) → register-refusal r ≡ 0 →
+pub kept-storable : (r : Register) (cs : List Call) → NoUndos (newest r cs) → register-refusal r ≡ 0 →
     (drawing : List ℕ) → printable drawing ≡ true → length drawing ≤ drawing-limit → Storable (kept-archive r (last r cs) (newest r cs) drawing)
-unfolding kept-archive classes
+unfolding kept-archive
 kept-storable r cs only passes drawing clean short =
     let curve-ok = register-passes r passes .curve-passes in
     let left = register-passes (last r cs) (last-passes r cs passes) in
@@ -24,9 +24,9 @@ kept-storable r cs only passes drawing clean short =
       curve-allowed = curve-ok;
       drawing-printable = clean;
       drawing-short = short;
-      count-within = rw length-map (accepted-few r cs only);
+      count-within = accepted-few r cs only;
       seal-allowed =
           accepts-both (r .curve) (last r cs .seal) curve-ok
           (subst (λ (c : Curve). class-refusal c (last r cs .seal) ≡ 0) (last-curve r cs) (left .seal-passes));
-      operations-allowed = classes-accept (r .curve) curve-ok (newest r cs) (accepted-classes r cs);
+      operations-allowed = classes-accept (r .curve) curve-ok (accepted-classes r cs);
     }

@@ -4,15 +4,15 @@
 -- for calls of which some are in place (seal_register/specs/InPlace.antt).
 use Prim.Native.Nat.{ℕ}
 use mathlib.Core.Path.{_≡_}
-use mathlib.Core.List.{List, _∷_, map}
+use mathlib.Core.List.{List}
 use lib.ListN.{length}
-use Rattle.history.specs.{Calls.Event, Calls.classes, declared.Register.Register}
+use Rattle.history.specs.{Calls.Event, Calls.classes, Calls.seals-met, declared.Register.Register}
 use Rattle.stored_form.specs.{Number.Bytes, Reading.found}
 use Rattle.archive.specs.Archive.{Archive, read-archive}
 use Rattle.archive_theorems.specs.Written.{archive-bytes}
 use Rattle.walk_report.specs.Walk.{seals}
 
--- the archive has the register's curve, the last seal and the classes of the accepted calls, newest first
+-- the archive has the register's curve, the last seal and the classes of the accepted steps, newest first
 pub record Keeps (a : Archive) (r t : Register) (es : List Event) : Type 0 where
   pub curve-kept : a .curve ≡ r .curve
   pub seal-kept : a .seal ≡ t .seal
@@ -23,10 +23,10 @@ unfoldable pub kept-archive : Register → Register → List Event → List ℕ 
 kept-archive r t es drawing = record { curve = r .curve; drawing = drawing; seal = t .seal; operations = classes es }
 
 -- The archive a has this drawing number and keeps what the list leaves; its encoding is bytes that read back as a.
--- Its walk's seals are the last seal and those just before each accepted call, newest first.
+-- Its walk's seals are the last seal and those just before each accepted step, newest first.
 pub record Encodes (r t : Register) (es : List Event) (drawing : List ℕ) (a : Archive) : Type 0 where
   pub named : a .drawing ≡ drawing
   pub keeps : Keeps a r t es
   pub bytes : Bytes (archive-bytes a)
   pub reads : read-archive (archive-bytes a) ≡ found a (length (archive-bytes a))
-  pub meets : seals (a .curve) (a .seal) (a .operations) ≡ t .seal ∷ map (λ e. e .before .seal) es
+  pub meets : seals (a .curve) (a .seal) (a .operations) ≡ seals-met t es

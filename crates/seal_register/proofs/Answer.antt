@@ -8,9 +8,9 @@ use mathlib.Core.{Path._≡_, Path.refl, Path.sym, Path._∙_, Path.ap, Bool.not
 use lib.Dec.{T, eqb}
 use Rattle.jacobian.specs.{Answer.Verdict, Answer.accepted, Answer.refused, Answer.verdict, Answer.verdict-of, Answer.outcome-refusal, declared.Class.Class}
 use Rattle.jacobian.proofs.ByValue.Answers.{outcome-refusal-is}
-use Rattle.history.specs.{Register.RegisterReply, Register.register-reply, Register.follows, Register.StepAnswers, Calls.Call, Calls.step, Calls.answer}
+use Rattle.history.specs.{Register.RegisterReply, Register.register-reply, Register.follows, Register.StepAnswers, Calls.Call, Calls.step, Calls.answer, Calls.called}
 use Rattle.history.specs.declared.{Register.Register, RegisterAnswer.RegisterAnswer, Step.Step}
-use Rattle.history.proofs.{Registers.follows-outcome, Checking.called, Checking.answer-follows, Promises.step-promised, Promises.step-answered}
+use Rattle.history.proofs.{Registers.follows-outcome, Checking.answer-follows, Promises.step-promised, Promises.step-answered}
 use Rattle.seal_register.specs.InPlace.{in-place}
 use Rattle.seal_register.proofs.InPlace.{refusal-leaves}
 

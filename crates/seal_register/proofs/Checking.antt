@@ -15,8 +15,8 @@ use Rattle.jacobian.specs.{Checks.RefusalOf, Refusals.listed, Curves.curve-refu
 use Rattle.jacobian.proofs.Checking.{curve-checked, class-checked, refusal-none, refusal-or-else, refusal-held, among, refusal-listed}
 use Rattle.count_limit.specs.{Limit.count-refusal, Checking.count-check}
 use Rattle.count_limit.proofs.Checking.{count-checked}
-use Rattle.history.specs.{Register.RegisterReply, Calls.Call, Calls.answer, Calls.walk-back, Checking.call-checks, Checking.check-numbers, Checking.call-numbers, Checking.CheckedAnswer, declared.Register.Register}
-use Rattle.history.proofs.{Registers.follows-outcome, Registers.follows-refused, Answers.sealed-outcome, Checking.call-refusal, Checking.called, Checking.answer-follows, Checking.call-checked, Checking.call-listed, Checking.all-listed, Checking.listed-within}
+use Rattle.history.specs.{Register.RegisterReply, Calls.Call, Calls.answer, Calls.call-refusal, Calls.called, Calls.walk-back, Checking.call-checks, Checking.check-numbers, Checking.call-numbers, Checking.CheckedAnswer, declared.Register.Register}
+use Rattle.history.proofs.{Registers.follows-outcome, Registers.follows-refused, Answers.sealed-outcome, Checking.answer-follows, Checking.call-checked, Checking.call-listed, Checking.all-listed, Checking.listed-within}
 use Rattle.seal_register.specs.{InPlace.in-place, RowWalk.classes-refusal, RowWalk.row-refusal, RowWalk.reached, RowWalk.row-walk-answer, Checking.classes-checks, Checking.row-checks, Checking.row-numbers, declared.walk.RowWalk.RowWalk}
 use Rattle.seal_register.proofs.{Answer.verdict-number, RowSteps.refused-is}
 

@@ -8,6 +8,8 @@
 -- `curve-kept`: no call changes degree or curve.
 -- `failing`: a register that itself fails a check is refused by every call with that check's number.
 -- `failing-stays`: such a register stays as it was.
+-- `released-grows`: no list of calls makes the released step smaller.
+-- `none-behind`: after an accepted release no list of calls leads to a smaller count.
 -- `steps-only`: in a list of commits and undos no release is accepted.
 -- Where no release was accepted:
 -- `released-kept`: the released step after the list is that of the first register.
@@ -29,12 +31,13 @@ use mathlib.Core.{Path._≡_, Path.refl, Path.sym, Path._∙_, Path.ap, List.Lis
 use lib.ListN.{length, take, getD}
 use Rattle.lists.specs.{Lists.All, Lists.none, Lists.more, Walk.walk}
 use Rattle.jacobian.specs.Answer.{accepted, refused, verdict-of}
-use Rattle.history.specs.{Register.RegisterReply, Register.register-refusal, Register.undo-seal, Calls.Call, Calls.release, Calls.answer, Calls.registers, Calls.Event, Calls.run, Calls.last, Calls.newest, Calls.backs, Calls.turned, Calls.NoReleases, Calls.NoUndos, Calls.steps, Calls.classes, Calls.walk-back, Calls.steps-back, Calls.met, Calls.seals-met}
+use Rattle.history.specs.{Register.RegisterReply, Register.register-refusal, Register.undo-seal, Register.release-answer, Calls.Call, Calls.release, Calls.answer, Calls.registers, Calls.Event, Calls.run, Calls.last, Calls.newest, Calls.backs, Calls.turned, Calls.NoReleases, Calls.NoUndos, Calls.steps, Calls.classes, Calls.walk-back, Calls.steps-back, Calls.met, Calls.seals-met}
 use Rattle.history.specs.Machine as machine
 use Rattle.history.specs.declared.Register.{Register}
 use Rattle.history.proofs.{OneCall.refused-stays, Failing.failing-run, Failing.failing-last, Machine.Run.run-append, Machine.Run.last-append, Machine.Carried.run-carried, Machine.Carried.last-carried, Machine.Carried.newest-carried}
 use Rattle.lists.proofs.Lists.{all-map, all-split}
 use Rattle.history.proofs.TakingBack as history
+use Rattle.history.proofs.Releases as releases
 use Rattle.history.proofs.WalkingBack as walking
 use Rattle.seal_register.specs.InPlace.{in-place, RecordedCall, call, recorded-reply, calls, replay, Session, happened, left-by, newest-recorded, seals-recorded}
 
@@ -77,6 +80,14 @@ module _ (r : Register) (fails : ¬ (register-refusal r ≡ 0)) (ms : List Recor
   pub failing-stays : left-by r ms ≡ r
   failing-stays = left-by-last r ms s ∙ failing-last r fails (calls ms)
 
+-- ---- releases
+pub released-grows : (r : Register) (ms : List RecordedCall) → Session r ms → r .released ≤ left-by r ms .released
+released-grows r ms s = rw (left-by-last r ms s) (releases.released-grows r (calls ms))
+
+pub none-behind : (r : Register) → release-answer r .outcome ≡ accepted → (ms : List RecordedCall) → Session (release-answer r .register) ms
+    → r .count ≤ left-by (release-answer r .register) ms .count
+none-behind r e ms s = rw (left-by-last (release-answer r .register) ms s) (releases.none-behind r (calls ms) e)
+
 -- ---- taking back, where no release was accepted
 pub steps-only : (r : Register) (ms : List RecordedCall) → Session r ms → All (λ c. ¬ (c ≡ release)) (calls ms) → NoReleases (newest-recorded r ms)
 steps-only r ms s h = rw (newest-is r ms s) (history.steps-only r h)
@@ -86,7 +97,7 @@ module _ (r : Register) (ms : List RecordedCall) (s : Session r ms) (no-releases
   no-releases-by-value = rw (newest-is r ms s) at no-releases
 
   pub released-kept : left-by r ms .released ≡ r .released
-  released-kept = rw (left-by-last r ms s) (history.released-kept r (calls ms) no-releases-by-value)
+  released-kept = rw (left-by-last r ms s) (releases.released-kept r (calls ms) no-releases-by-value)
 
   -- the list bs of calls takes the accepted calls back, newest first, each by value or in place
   module _ (bs : List RecordedCall) (back : Session (left-by r ms) bs) (takes : calls bs ≡ backs (newest-recorded r ms)) where

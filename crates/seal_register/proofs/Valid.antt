@@ -8,8 +8,8 @@ use mathlib.Core.{Path._≡_, Path.refl, Path.sym, Path._∙_, Path.ap, Path.sub
 use native.Mathlib.Omega.{arith}
 use Rattle.jacobian.specs.{Refusals.listed, declared.Curve.Curve, declared.Class.Class}
 use Rattle.jacobian.specs.Answer.{accepted, verdict-of, neutral-class, Result, membership-answer}
-use Rattle.history.specs.{Register.RegisterReply, Calls.Call, Calls.answer, Calls.walk-back, Checking.call-numbers, declared.Register.Register}
-use Rattle.history.proofs.{Registers.follows-zero, Checking.called, Checking.answer-follows, Seals.walk-is-only}
+use Rattle.history.specs.{Register.RegisterReply, Calls.Call, Calls.answer, Calls.called, Calls.walk-back, Checking.call-numbers, declared.Register.Register}
+use Rattle.history.proofs.{Registers.follows-zero, Checking.answer-follows, Seals.walk-is-only}
 use Rattle.seal_register.specs.{InPlace.in-place, RowWalk.row-refusal, RowWalk.reached, RowWalk.row-walk-answer, Checking.row-numbers, declared.walk.RowWalk.RowWalk}
 use Rattle.seal_register.proofs.{RowSteps.accepted-is, Promises.row-accepts, Checking.number-is, Checking.lent-checked, Checking.lent-listed, Checking.row-number, Checking.row-listed, Checking.row-walk-checked}
 
