@@ -1,6 +1,7 @@
 -- Each refusal of a register and of a call, under its condition and in its order (docs/SPECIFICATION.md, 4 and 6).
 -- `register-checked`: the refusal of a register is that of the curve, then 109 of the count, then 120 of the released
 -- step, then that of the seal.
+-- `edge-checked`: that of a step at its edges is 114 of a commit, 113 and then 121 of an undo.
 -- `step-checked`: that of a step is the register's, then that of the class, then 114 of a commit, 113 and 121 of an undo.
 -- `call-checked`: that of a call is a step's, or for a release the register's.
 -- `answer-checked`: the number of the code's answer is that refusal, and a refused call returns the register given.
@@ -49,7 +50,7 @@ either-or true zero m h = absurd (h refl)
 either-or true (suc n) m h = refl
 either-or false n m h = refl
 
-edge-checked : (k : Step) (n released : ℕ) → RefusalOf (edge-checks k n released) (edge-refusal k n released)
+pub edge-checked : (k : Step) (n released : ℕ) → RefusalOf (edge-checks k n released) (edge-refusal k n released)
 unfolding edge-refusal
 edge-checked Commit n released = refusal-at n count-limit 114 (λ e. omega arith)
 edge-checked Undo n released =
