@@ -1,6 +1,6 @@
--- Demand 3 for lists of byte calls whose accepted calls are all commits (docs/SPECIFICATION.md, 11).
+-- Demand 3 for lists of byte calls whose accepted calls are commits and releases (docs/SPECIFICATION.md, 11).
 -- The list starts from the stored form of any register that no check refuses; any bytes may be given as operations,
--- into any outputs, and calls may be refused. Walks start from the seal field last written.
+-- into any outputs, and calls may be refused. Walks start from the seal field last written, and go past releases.
 -- `row-walk-bytes`: the walk over a lent row of the i newest classes is not refused, and answers the seal whose field
 -- was kept just before the i-th newest commit, for i = 0 the one last written.
 -- `archive-seals-bytes`: the seals of the walk of every accepted archive that keeps this have the fields kept.
@@ -11,15 +11,14 @@
 use Prim.Native.Nat.{ℕ, _≤_}
 use mathlib.Core.Path.{_≡_, refl, sym, ap, ap₂, _∙_, subst}
 use mathlib.Core.Bool.{true}
-use mathlib.Core.List.{List, _∷_, _++_, map, flatten}
+use mathlib.Core.List.{List, [], _∷_, _++_, map, flatten}
 use lib.ListN.{length, getD, take, length-map, List·getD-map}
-use Rattle.lists.specs.Lists.{All, none, more}
-use Rattle.jacobian.specs.{Answer.accepted, Answer.Result}
-use Rattle.history.specs.{Machine.Event, Machine.last, Machine.newest, Machine.carried, Calls.OnlyCommits, Calls.classes, Calls.seals-back, declared.Register.Register}
+use Rattle.jacobian.specs.{Answer.accepted, Answer.Result, declared.Class.Class}
+use Rattle.history.specs.{Machine.last, Machine.newest, Calls.NoUndos, Calls.classes, Calls.seals-met, declared.Register.Register}
 use Rattle.history.specs.Calls as history
-use Rattle.stored_form.specs.{Number.Bytes, Reading.found, Head.drawing-limit, Fields.printable, Fields.drawing-field, Fields.count-field, Classes.class-field, Classes.curve-fields-bytes, Classes.operation-fields}
-use Rattle.seal.specs.Steps.{Kept, ByteStep, byte-steps, seal-field, seal-fields, kept, decode-kept, decode-step, decoded, newest-decoded, last-decoded, decoded-calls, InStoredForm}
-use Rattle.seal.proofs.{ByteCarried.newest-carried, ByteCarried.last-carried, ByteCarried.operations-stored, ByteCarried.seals-stored, ByteSteps.last-stored, Decoding.seal-stored}
+use Rattle.stored_form.specs.{Reading.found, Head.drawing-limit, Fields.printable, Fields.drawing-field, Fields.count-field, Classes.class-field, Classes.curve-fields-bytes, Classes.operation-fields}
+use Rattle.seal.specs.Steps.{Kept, ByteCall, byte-calls, BytesGiven, operations, seal-field, seal-fields, kept, decode-kept, newest-decoded, last-decoded, decoded-calls, InStoredForm}
+use Rattle.seal.proofs.{ByteCarried.newest-carried, ByteCarried.last-carried, ByteCarried.operations-stored, ByteCarried.seals-stored, ByteCalls.last-stored, Decoding.seal-stored}
 use Rattle.seal_register.specs.RowWalk.{row-walk-answer}
 use Rattle.seal_register.proofs.RowWalk.{row-walk-by-value}
 use Rattle.archive.specs.Archive.{Archive, read-archive}
@@ -29,7 +28,13 @@ use Rattle.report_theorems.specs.Demand3.{Keeps, kept-archive, Encodes}
 use Rattle.report_theorems.proofs.Demand3.{archive-seals, archive-exists}
 use Rattle.byte_theorems.specs.Demand3.{archive-of-fields}
 
-module _ (k : Kept) (form : InStoredForm k) (cs : List ByteStep) (bytes : All (λ c. Bytes (c .operation)) cs) where
+-- the fields of operations are their joined fields
+joined : (l : List Class) → operation-fields l ≡ flatten (map (class-field 0x44) l)
+unfolding operation-fields flatten
+joined [] = refl
+joined (a ∷ l) = ap (λ (ys : List ℕ). class-field 0x44 a ++ ys) (joined l)
+
+module _ (k : Kept) (form : InStoredForm k) (cs : List ByteCall) (bytes : BytesGiven cs) where
   abbrev r : Register
   r = decode-kept k
 
@@ -40,56 +45,46 @@ module _ (k : Kept) (form : InStoredForm k) (cs : List ByteStep) (bytes : All (�
   by-value : (P : List history.Event → Register → Type 0) → P (history.newest r xs) (history.last r xs) → P (newest-decoded k cs) (last-decoded k cs)
   by-value P h = rw (newest-carried k form cs bytes, last-carried k form cs bytes) h
 
-  many : length (newest-decoded k cs) ≡ length (newest byte-steps k cs)
-  unfolding newest-decoded
-  many = length-map (newest byte-steps k cs) decoded
+  many : length (classes (newest-decoded k cs)) ≡ length (operations (newest byte-calls k cs))
+  many = sym (ap length (operations-stored k form cs bytes) ∙ length-map (classes (newest-decoded k cs)) (class-field 0x44))
 
   -- ---- the archive made of the fields
   first-fields : curve-fields-bytes (r .curve) ≡ k .curve
   unfolding kept
   first-fields = ap (λ (t : Kept). t .curve) (form .stored)
 
-  -- the fields of the operations, as they were given
-  as-given : {es : List (Event Kept ByteStep)} → All (λ e. e .call .operation ≡ class-field 0x44 (decode-step (e .call) .class)) es
-      → operation-fields (classes (map decoded es)) ≡ flatten (map (λ e. e .call .operation) es)
-  unfolding operation-fields classes flatten carried
-  as-given none = refl
-  as-given (more h hs) = ap₂ (λ (ys zs : List ℕ). ys ++ zs) (sym h) (as-given hs)
+  operations-given : operation-fields (classes (newest-decoded k cs)) ≡ flatten (operations (newest byte-calls k cs))
+  operations-given = joined (classes (newest-decoded k cs)) ∙ ap flatten (sym (operations-stored k form cs bytes))
 
-  operations-given : operation-fields (classes (newest-decoded k cs)) ≡ flatten (map (λ e. e .call .operation) (newest byte-steps k cs))
-  unfolding newest-decoded
-  operations-given = as-given (operations-stored k form cs bytes)
-
-  last-field : class-field 0x43 (last-decoded k cs .seal) ≡ seal-field (last byte-steps k cs)
+  last-field : class-field 0x43 (last-decoded k cs .seal) ≡ seal-field (last byte-calls k cs)
   unfolding last-decoded
-  last-field = sym (seal-stored (last byte-steps k cs) (last-stored k form bytes .stored))
+  last-field = sym (seal-stored (last byte-calls k cs) (last-stored k form bytes .stored))
 
   pub archive-is-fields : (drawing : List ℕ) → archive-bytes (kept-archive (decode-kept k) (last-decoded k cs) (newest-decoded k cs) drawing) ≡ archive-of-fields k cs drawing
-  unfolding archive-bytes kept-archive archive-of-fields classes
+  unfolding archive-bytes kept-archive archive-of-fields
   archive-is-fields drawing =
       ap₂ (λ (f : List ℕ) (n : ℕ). f ++ drawing-field drawing ++ count-field n ++ class-field 0x43 (last-decoded k cs .seal) ++ operation-fields (classes (newest-decoded k cs))) first-fields
-      (length-map (newest-decoded k cs) (λ e. e .call .class) ∙ many)
-      ∙ ap₂ (λ (f o : List ℕ). k .curve ++ drawing-field drawing ++ count-field (length (newest byte-steps k cs)) ++ f ++ o) last-field operations-given
+      many
+      ∙ ap₂ (λ (f o : List ℕ). k .curve ++ drawing-field drawing ++ count-field (length (operations (newest byte-calls k cs))) ++ f ++ o) last-field operations-given
 
-  module _ (only : OnlyCommits (newest-decoded k cs)) where
-    only-by-value : OnlyCommits (history.newest r xs)
+  module _ (only : NoUndos (newest-decoded k cs)) where
+    only-by-value : NoUndos (history.newest r xs)
     only-by-value = rw (newest-carried k form cs bytes) at only
 
     -- ---- the walk over a lent row
-    walked : (i : ℕ) → i ≤ length (newest-decoded k cs) → row-walk-answer (r .curve) (last-decoded k cs .seal) (take i (classes (newest-decoded k cs)))
-        ≡ record { outcome = accepted; class = getD (last-decoded k cs .seal ∷ map (λ e. e .before .seal) (newest-decoded k cs)) i (last-decoded k cs .seal) }
-    unfolding seals-back
+    walked : (i : ℕ) → i ≤ length (classes (newest-decoded k cs)) → row-walk-answer (r .curve) (last-decoded k cs .seal) (take i (classes (newest-decoded k cs)))
+        ≡ record { outcome = accepted; class = getD (seals-met (last-decoded k cs) (newest-decoded k cs)) i (last-decoded k cs .seal) }
     walked =
         by-value
-        (λ es t. (i : ℕ) → i ≤ length es → row-walk-answer (r .curve) (t .seal) (take i (classes es)) ≡ record { outcome = accepted; class = getD (t .seal ∷ map (λ e. e .before .seal) es) i (t .seal) })
+        (λ es t. (i : ℕ) → i ≤ length (classes es) → row-walk-answer (r .curve) (t .seal) (take i (classes es)) ≡ record { outcome = accepted; class = getD (seals-met t es) i (t .seal) })
         (row-walk-by-value r xs only-by-value (form .passes))
 
-    pub row-walk-bytes : (i : ℕ) → i ≤ length (newest byte-steps k cs) →
+    pub row-walk-bytes : (i : ℕ) → i ≤ length (operations (newest byte-calls k cs)) →
         let walk = row-walk-answer (decode-kept k .curve) (last-decoded k cs .seal) (take i (classes (newest-decoded k cs))) in
-        (walk .outcome ≡ accepted) × (class-field 0x43 (walk .class) ≡ getD (seal-fields k cs) i (seal-field (last byte-steps k cs)))
+        (walk .outcome ≡ accepted) × (class-field 0x43 (walk .class) ≡ getD (seal-fields k cs) i (seal-field (last byte-calls k cs)))
     row-walk-bytes i h =
         let e = walked i (subst (λ (n : ℕ). i ≤ n) (sym many) h) in
-        let all = last-decoded k cs .seal ∷ map (λ e. e .before .seal) (newest-decoded k cs) in (
+        let all = seals-met (last-decoded k cs) (newest-decoded k cs) in (
           ap (λ (x : Result). x .outcome) e,
           ap (λ (x : Result). class-field 0x43 (x .class)) e
               ∙ sym (List·getD-map (class-field 0x43) all i (last-decoded k cs .seal))
@@ -99,11 +94,10 @@ module _ (k : Kept) (form : InStoredForm k) (cs : List ByteStep) (bytes : All (�
     -- ---- the walk of an archive
     module _ (s : List ℕ) {a : Archive} {end : ℕ} (reads : read-archive s ≡ found a end) (keeps : Keeps a (decode-kept k) (last-decoded k cs) (newest-decoded k cs)) where
       pub archive-seals-bytes : map (class-field 0x43) (seals (a .curve) (a .seal) (a .operations)) ≡ seal-fields k cs
-      unfolding seals-back
       archive-seals-bytes =
           ap (map (class-field 0x43))
           (archive-seals r xs only-by-value s reads (rw (newest-carried k form cs bytes, last-carried k form cs bytes) at keeps)
-          ∙ by-value (λ es t. history.last r xs .seal ∷ map (λ e. e .before .seal) (history.newest r xs) ≡ t .seal ∷ map (λ e. e .before .seal) es) refl)
+          ∙ by-value (λ es t. seals-met (history.last r xs) (history.newest r xs) ≡ seals-met t es) refl)
           ∙ sym (seals-stored k form cs bytes)
 
       pub archive-seal-bytes : (i : ℕ) → class-field 0x43 (getD (seals (a .curve) (a .seal) (a .operations)) i (a .seal)) ≡ getD (seal-fields k cs) i (class-field 0x43 (a .seal))
