@@ -1,4 +1,4 @@
-/* Seals of a model's history: the eight calls on byte areas of the proved library seal.
+/* Seals of a model's history: the nine calls on byte areas of the proved library seal.
  *
  * To build and link (x86-64 Linux, nothing else is linked):
  *
@@ -12,16 +12,23 @@
  *     0x40   degree d of the field, 5 or 61                             1
  *     0x41   f3, f1, f0 of the curve y^2 + y = x^7 + f3 x^3 + f1 x + f0 24
  *     0x42   count of operations, at most 1,024                         2
+ *     0x45   released step: the count at the last release, at most     2
+ *            the count, and 0 where there was none
  *     0x43   a class: the coefficients of u without the leading 1, from 0, 16, 32, 48
  *            the highest power on, then those of v; neutral: length 0
  *     0x44   the class of an operation, stored like 0x43                0, 16, 32, 48
  *
- * Answers. A call that is accepted writes at the start of the output and answers how many bytes it wrote, at most 56;
+ * A register is stored as 0x42, 0x45, 0x43, in this order, in the records of commit, undo and release and in what they
+ * write. Up to SEAL_VERSION 3 it was 0x42, 0x43: put the five bytes 45 00 02 00 00 (hexadecimal), the released step 0,
+ * between the two fields of a register that was stored then. A record without 0x45 is refused with 103. Archives have
+ * no 0x45 and stay as they are.
+ *
+ * Answers. A call that is accepted writes at the start of the output and answers how many bytes it wrote, at most 61;
  * seal_membership writes nothing and answers 0. A call that is refused answers the refusal's number, 101 or more
  * (seal_refusals.h), and has changed no byte. No call changes the input, nor a byte of the output after those it
  * wrote. 101 comes before any byte of the input is looked at. A field must pass its checks of 102 to 111 before the one
- * after it is looked at; 112 comes after the last field, and 113 to 116 come last. 108 is of archives, which no call
- * for C reads.
+ * after it is looked at, and 0x45 that of 120 too; 112 comes after the last field, and 113 to 116 and 121 come last.
+ * 108 is of archives, which no call for C reads.
  *
  * Areas. The input may hold anything: nothing has to be checked before a call. The one duty of the caller is to hand
  * over areas that are his, as long as said, with the output apart from the input: where they overlap, nothing is
@@ -48,7 +55,7 @@ extern "C" {
 
 /* How long an output must be, and so how long one is always long enough. */
 #define SEAL_CLASS_OUTPUT 51    /* opposite, sum, double, half, stamp: one 0x43 */
-#define SEAL_REGISTER_OUTPUT 56 /* commit, undo: 0x42, then 0x43 */
+#define SEAL_REGISTER_OUTPUT 61 /* commit, undo, release: 0x42, 0x45, 0x43 */
 
 /* Is the class one of the curve?
  * Reads 0x40, 0x41, 0x43; writes nothing and answers 0. Refusals: 102 to 107, 110 to 112. */
@@ -71,15 +78,25 @@ uint32_t seal_double(const uint8_t *in, size_t in_len, uint8_t *out, size_t out_
  * Reads 0x40, 0x41, 0x43; writes 0x43. Refusals: 101 to 107, 110 to 112. */
 uint32_t seal_half(const uint8_t *in, size_t in_len, uint8_t *out, size_t out_len);
 
-/* The register after an operation: twice the seal plus the operation's class, and the count one higher.
+/* The register after an operation: twice the seal plus the operation's class, the count one higher and the released
+ * step kept.
  * Where one of the commits from a seal on has class E in place of D, the last seal moves by E - D, doubled once for
  * each commit that follows; where D and E differ, so do the last seals (examples/compare_variants.c).
- * Reads 0x40, 0x41, 0x42, 0x43 (the seal), 0x44; writes 0x42, 0x43. Refusals: 101 to 107, 109 to 112, 114. */
+ * Reads 0x40, 0x41, 0x42, 0x45, 0x43 (the seal), 0x44; writes 0x42, 0x45, 0x43: 13, 29, 45 or 61 bytes.
+ * Refusals: 101 to 107, 109 to 112, 114, 120. */
 uint32_t seal_commit(const uint8_t *in, size_t in_len, uint8_t *out, size_t out_len);
 
-/* The register before an operation: the half of the seal less the operation's class, and the count one lower.
- * Reads 0x40, 0x41, 0x42, 0x43 (the seal), 0x44; writes 0x42, 0x43. Refusals: 101 to 107, 109 to 113. */
+/* The register before an operation: the half of the seal less the operation's class, the count one lower and the
+ * released step kept. At the released step it is refused with 121, and at count 0 with 113.
+ * Reads 0x40, 0x41, 0x42, 0x45, 0x43 (the seal), 0x44; writes 0x42, 0x45, 0x43: 13, 29, 45 or 61 bytes.
+ * Refusals: 101 to 107, 109 to 113, 120, 121. */
 uint32_t seal_undo(const uint8_t *in, size_t in_len, uint8_t *out, size_t out_len);
+
+/* The register after a release: the released step becomes the count, and count and seal are kept. From then on no undo
+ * goes behind this count. Any count may be released, 0 and 1,024 too, and again: a second release writes the same.
+ * Reads 0x40, 0x41, 0x42, 0x45, 0x43 (the seal), and no 0x44; writes 0x42, 0x45, 0x43: 13, 29, 45 or 61 bytes.
+ * Refusals: 101 to 107, 109 to 112, 120. */
+uint32_t seal_release(const uint8_t *in, size_t in_len, uint8_t *out, size_t out_len);
 
 /* The class of an operation's stamp, a number below 2^(d-3). Of the eight numbers x from 8 stamp on it takes the first
  * at which y^2 + y = f(x) has roots, and as y the root with lowest bit 0. The class is [X + x, y]. On one curve, two

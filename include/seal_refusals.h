@@ -4,7 +4,7 @@
 #define SEAL_REFUSALS_H
 
 /* Grows by 1 with every change that a caller can see: an answer, a number, a struct, a length. */
-#define SEAL_VERSION 3
+#define SEAL_VERSION 4
 
 /* The tags of the stored form, which seal.h describes. */
 #define SEAL_TAG_DEGREE 0x40
@@ -12,6 +12,7 @@
 #define SEAL_TAG_COUNT 0x42
 #define SEAL_TAG_CLASS 0x43
 #define SEAL_TAG_OPERATION 0x44
+#define SEAL_TAG_RELEASED 0x45
 
 /* The most operations that a register counts, and the most classes of a row. */
 #define SEAL_COUNT_LIMIT 1024
@@ -20,9 +21,9 @@
  * (bench/stack.txt, which `bash bench/stack` makes); tests/run fails where a call takes more than half of this. */
 #define SEAL_STACK 65536
 
-/* The refusals, in checking order (docs/SPECIFICATION.md, section 6). 117 is not among them: it is of calls on elements
- * alone, and no call for C answers it. */
-#define SEAL_OUTPUT_TOO_SHORT 101    /* the output is shorter than 51 bytes; for commit and undo, than 56 */
+/* The refusals, by number; the order of checks is this but for 120, which comes after 109 (docs/SPECIFICATION.md,
+ * section 6). 117 is not among them: it is of calls on elements alone, and no call for C answers it. */
+#define SEAL_OUTPUT_TOO_SHORT 101    /* the output is shorter than 51 bytes; for commit, undo and release, than 61 */
 #define SEAL_HEAD_CUT 102            /* fewer than three bytes are left where a field's head is due */
 #define SEAL_WRONG_TAG 103           /* a field has another tag than the one due */
 #define SEAL_WRONG_LENGTH 104        /* the tag does not allow the body's length */
@@ -41,8 +42,10 @@
 #define SEAL_STAMP_WITHOUT_CLASS 116 /* there is no root for any of the stamp's eight candidates: take another stamp */
 #define SEAL_MULTIPLE_TOO_LARGE 118  /* n is not below 2^61 */
 #define SEAL_TOO_MANY_HALVINGS 119   /* k is above 64 */
+#define SEAL_RELEASED_TOO_HIGH 120   /* the released step is above the count */
+#define SEAL_UNDO_AT_RELEASED 121    /* of an undo: the count is the released step, and not 0, which is 113 */
 
-/* Is an answer a refusal? An accepted call answers at most 56, so that no answer is both. */
+/* Is an answer a refusal? An accepted call answers at most 61, so that no answer is both. */
 #define SEAL_IS_REFUSAL(answer) ((answer) >= SEAL_OUTPUT_TOO_SHORT)
 
 #endif
