@@ -1,4 +1,4 @@
-//! Records of the ten byte calls and archives, most of them mutated, with what is expected of the calls and of the
+//! Records of the eleven byte calls and archives, most of them mutated, with what is expected of the calls and of the
 //! walk report for them. They are made by a generator with a fixed seed, so that the first n are the same in every run.
 //!
 //! - `pool`: curves over both fields with classes of every degree, from which the records are made.
@@ -13,7 +13,7 @@ use crate::jacobian::Class;
 use crate::multiples::{HALVINGS_LIMIT, MULTIPLE_LIMIT};
 use crate::random::Random;
 use crate::stamp::stamp_limit;
-use crate::stored::{class_field, count_field, curve_fields, operation_field, DRAWING_LIMIT};
+use crate::stored::{class_field, curve_fields, operation_field, register_fields, DRAWING_LIMIT};
 use mutation::mutated;
 use pool::{pools, Pool};
 
@@ -49,6 +49,17 @@ fn count(random: &mut Random) -> u16 {
         0 => *random.pick(&[0, 1, 1023, 1024]),
         1 => *random.pick(&[2, 255, 256, 1022]),
         _ => random.below(1025) as u16,
+    }
+}
+
+/// Released steps beside a count, those at the edges often, and some that are too high.
+fn released(random: &mut Random, count: u16) -> u16 {
+    match random.below(8) {
+        0 | 1 => count,
+        2 => 0,
+        3 => count.saturating_sub(1),
+        4 => *random.pick(&[count + 1, 1025, 65535]),
+        _ => random.below(count as usize + 1) as u16,
     }
 }
 
@@ -98,11 +109,22 @@ fn record(random: &mut Random, pool: &Pool, call: Call) -> Vec<Vec<u8>> {
     let mut fields = curve_fields(&pool.curve).to_vec();
     let (first, second) = (random.pick(&pool.classes), random.pick(&pool.classes));
     match call {
-        Call::Commit | Call::Undo => {
-            // half of the undos take back what was a commit
-            let back = call == Call::Undo && random.below(2) == 0;
-            let seal = if back { seal_after_commit(&pool.curve, first, second) } else { first.clone() };
-            fields.extend([count_field(count(random)), class_field(&seal), operation_field(second)]);
+        Call::Commit | Call::Undo | Call::Release => {
+            // half of the undos take back what was a commit, and a quarter of the commits lead to a class of the pool
+            let known = random.below(4);
+            let seal = match call {
+                Call::Undo if known < 2 => seal_after_commit(&pool.curve, first, second),
+                _ => first.clone(),
+            };
+            let operation = match call {
+                Call::Commit if known == 0 => pool.curve.difference(second, &pool.curve.double(first)),
+                _ => second.clone(),
+            };
+            let count = count(random);
+            fields.extend(register_fields(count, released(random, count), &seal));
+            if call.takes_operation() {
+                fields.push(operation_field(&operation));
+            }
         }
         Call::Sum => {
             let second = match random.below(4) {
@@ -125,7 +147,7 @@ fn output_length(random: &mut Random, call: Call) -> usize {
         return 0;
     }
     match random.below(12) {
-        0 => *random.pick(&[0, 1, 50, 55, bound - 1]),
+        0 => *random.pick(&[0, 1, 50, 60, bound - 1]),
         1 => random.below(bound + 20),
         2..=6 => bound,
         _ => bound + random.below(50),
@@ -215,7 +237,7 @@ mod tests {
         let expected = [vec![3], vec![0; 8], numbers, input, vec![0x43, 0, 0]].concat();
         assert_eq!(case.bytes(), expected);
         let stamp = ByteCase::new(Call::Stamp(0x0102030405060708), vec![], 51).bytes();
-        assert_eq!(stamp, [7, 1, 2, 3, 4, 5, 6, 7, 8, 0, 0, 0, 51, 0, 0, 0, 0, 0, 0, 0, 102]);
+        assert_eq!(stamp, [8, 1, 2, 3, 4, 5, 6, 7, 8, 0, 0, 0, 51, 0, 0, 0, 0, 0, 0, 0, 102]);
     }
 
     /// Among the first ten thousand every call meets every refusal that it can give, and writes classes of every degree
@@ -229,8 +251,9 @@ mod tests {
             let mut expected = HashSet::from([102, 103, 104, 105, 106, 107, 112]);
             expected.extend(match call {
                 Call::Membership => vec![110, 111, 0],
-                Call::Commit => vec![101, 109, 110, 111, 114, 8, 24, 40, 56],
-                Call::Undo => vec![101, 109, 110, 111, 113, 8, 24, 40, 56],
+                Call::Commit => vec![101, 109, 110, 111, 114, 120, 13, 29, 45, 61],
+                Call::Undo => vec![101, 109, 110, 111, 113, 120, 121, 13, 29, 45, 61],
+                Call::Release => vec![101, 109, 110, 111, 120, 13, 29, 45, 61],
                 Call::Stamp(_) => vec![101, 115, 116, 19],
                 Call::Multiple(_) => vec![101, 110, 111, 118, 3, 19, 35, 51],
                 Call::Halvings(_) => vec![101, 110, 111, 119, 3, 19, 35, 51],
@@ -251,7 +274,7 @@ mod tests {
         let cases = ten_thousand();
         let stamps = |answer, degree| {
             let wanted =
-                |case: &&ByteCase| case.call.number() == 7 && case.answer == answer && case.input[3] == degree;
+                |case: &&ByteCase| case.call.number() == 8 && case.answer == answer && case.input[3] == degree;
             cases.iter().filter(wanted).collect::<Vec<_>>()
         };
         for degree in [5, 61] {
@@ -273,7 +296,7 @@ mod tests {
     fn refused_numbers() {
         let cases = ten_thousand();
         let met = |wanted: &dyn Fn(&ByteCase) -> bool| cases.iter().any(wanted);
-        for (call, refusal, last) in [(8, 118, MULTIPLE_LIMIT - 1), (9, 119, HALVINGS_LIMIT)] {
+        for (call, refusal, last) in [(9, 118, MULTIPLE_LIMIT - 1), (10, 119, HALVINGS_LIMIT)] {
             for degree in [5, 61] {
                 let answered = |case: &ByteCase, beside, answer| {
                     case.call.number() == call

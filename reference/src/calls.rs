@@ -1,11 +1,11 @@
-//! The ten calls on byte areas (document 01, 'Stored form', 'The register' and 'In checking order'; document 02,
-//! requests 2 and 4).
+//! The eleven calls on byte areas (document 01, 'Stored form', 'The register' and 'In checking order'; document 02,
+//! requests 2, 4 and 8).
 
 use crate::halving::half;
 use crate::jacobian::{Class, Curve};
 use crate::multiples::{halvings, multiple};
 use crate::stamp::class_of_stamp;
-use crate::stored::{class_field, count_field, Reader, Refusal, COUNT_LIMIT};
+use crate::stored::{class_field, register_fields, Reader, Refusal, COUNT_LIMIT};
 
 #[derive(Clone, Copy, Debug, PartialEq, Eq, Hash)]
 pub enum Call {
@@ -16,6 +16,7 @@ pub enum Call {
     Half,
     Commit,
     Undo,
+    Release,
     /// With the stamp, which is handed over beside the input.
     Stamp(u64),
     /// With the factor, likewise.
@@ -25,7 +26,7 @@ pub enum Call {
 }
 
 /// All of them, the last three with the number 0.
-pub const CALLS: [Call; 10] = [
+pub const CALLS: [Call; 11] = [
     Call::Membership,
     Call::Opposite,
     Call::Sum,
@@ -33,6 +34,7 @@ pub const CALLS: [Call; 10] = [
     Call::Half,
     Call::Commit,
     Call::Undo,
+    Call::Release,
     Call::Stamp(0),
     Call::Multiple(0),
     Call::Halvings(0),
@@ -67,12 +69,17 @@ impl Call {
     pub fn output_bound(self) -> usize {
         match self {
             Call::Membership => 0,
-            Call::Commit | Call::Undo => 56,
+            Call::Commit | Call::Undo | Call::Release => 61,
             _ => 51,
         }
     }
 
     pub fn is_of_register(self) -> bool {
+        matches!(self, Call::Commit | Call::Undo | Call::Release)
+    }
+
+    /// Does the call read an operation's class?
+    pub fn takes_operation(self) -> bool {
         matches!(self, Call::Commit | Call::Undo)
     }
 }
@@ -87,23 +94,30 @@ pub fn seal_after_undo(curve: &Curve, seal: &Class, operation: &Class) -> Class 
     half(curve, &curve.difference(seal, operation))
 }
 
+/// The bytes that an accepted call on a register writes; the degree and the curve have been read.
+fn written_register(call: Call, curve: &Curve, mut reader: Reader) -> Result<Vec<u8>, Refusal> {
+    let count = reader.count()?;
+    let released = reader.released(count)?;
+    let seal = reader.class(curve)?;
+    let operation = if call.takes_operation() { Some(reader.operation(curve)?) } else { None };
+    reader.end()?;
+    let (count, released, seal) = match (call, operation) {
+        (Call::Commit, Some(_)) if count == COUNT_LIMIT => return Err(114),
+        (Call::Commit, Some(operation)) => (count + 1, released, seal_after_commit(curve, &seal, &operation)),
+        (Call::Undo, Some(_)) if count == 0 => return Err(113),
+        (Call::Undo, Some(_)) if count == released => return Err(121),
+        (Call::Undo, Some(operation)) => (count - 1, released, seal_after_undo(curve, &seal, &operation)),
+        _ => (count, count, seal),
+    };
+    Ok(register_fields(count, released, &seal).concat())
+}
+
 /// The bytes that an accepted call writes.
 fn written(call: Call, input: &[u8]) -> Result<Vec<u8>, Refusal> {
     let mut reader = Reader::new(input);
     let curve = reader.curve()?;
     if call.is_of_register() {
-        let count = reader.count()?;
-        let seal = reader.class(&curve)?;
-        let operation = reader.operation(&curve)?;
-        reader.end()?;
-        return match call {
-            Call::Undo if count == 0 => Err(113),
-            Call::Undo => {
-                Ok([count_field(count - 1), class_field(&seal_after_undo(&curve, &seal, &operation))].concat())
-            }
-            _ if count == COUNT_LIMIT => Err(114),
-            _ => Ok([count_field(count + 1), class_field(&seal_after_commit(&curve, &seal, &operation))].concat()),
-        };
+        return written_register(call, &curve, reader);
     }
     if let Call::Stamp(stamp) = call {
         reader.end()?;

@@ -11,10 +11,11 @@
 //! - `class_number`: how many they are, from points alone.
 //! - `element_cases`: the cases that the program `element_trial` is run on, and the lines that are expected of it.
 //! - `class_cases`: the same for the program `conformance`: calls on classes.
-//! - `history_cases`: the same for the program `history_trial`: commits and undos on a register, and taking them back.
+//! - `history_cases`: the same for the program `history_trial`: commits, undos and releases on a register, and taking
+//!   back.
 //! - `stamp`: the class of an operation's stamp.
 //! - `stored`: the stored form's writer and checking reader.
-//! - `calls`: the ten calls on byte areas.
+//! - `calls`: the eleven calls on byte areas.
 //! - `archive`: the archive, its walk and the walk report.
 //! - `byte_cases`: records and archives, mutated or not, and what the byte calls and the walk report have to
 //!   answer for them.

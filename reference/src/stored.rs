@@ -1,4 +1,5 @@
-//! The stored form (document 01, 'Stored form' and 'In checking order'): a writer, and a reader that refuses.
+//! The stored form (document 01, 'Stored form' and 'In checking order'; document 02, request 8): a writer, and a reader
+//! that refuses.
 //!
 //! A field is a one-byte tag, a two-byte length and a body, high byte first; an element takes eight bytes. The reader
 //! takes the fields in their order and does with each all the checks from 102 to 111 before it begins the next.
@@ -11,6 +12,7 @@ pub const CURVE: u8 = 0x41;
 pub const COUNT: u8 = 0x42;
 pub const CLASS: u8 = 0x43;
 pub const OPERATION: u8 = 0x44;
+pub const RELEASED: u8 = 0x45;
 pub const DRAWING: u8 = 0x46;
 
 /// The most operations that a register counts and an archive keeps.
@@ -19,7 +21,7 @@ pub const COUNT_LIMIT: u16 = 1024;
 /// The longest drawing number (document 02, request 1).
 pub const DRAWING_LIMIT: usize = 38;
 
-/// A refusal's number, 101 to 116.
+/// A refusal's number, 101 to 121.
 pub type Refusal = u32;
 
 /// May the body of a field with this tag have this length?
@@ -28,7 +30,7 @@ fn allowed(tag: u8, length: usize) -> bool {
         DEGREE => length == 1,
         CURVE => length == 24,
         DRAWING => length <= DRAWING_LIMIT,
-        COUNT => length == 2,
+        COUNT | RELEASED => length == 2,
         CLASS | OPERATION => [0, 16, 32, 48].contains(&length),
         _ => panic!("no tag {tag:#x}"),
     }
@@ -58,6 +60,16 @@ pub fn drawing_field(number: &[u8]) -> Vec<u8> {
 
 pub fn count_field(count: u16) -> Vec<u8> {
     field(COUNT, &count.to_be_bytes())
+}
+
+/// The count at the last release (document 02, request 8).
+pub fn released_field(released: u16) -> Vec<u8> {
+    field(RELEASED, &released.to_be_bytes())
+}
+
+/// A register without its curve, as commit, undo and release read and write it.
+pub fn register_fields(count: u16, released: u16, seal: &Class) -> [Vec<u8>; 3] {
+    [count_field(count), released_field(released), class_field(seal)]
 }
 
 /// A class under a tag: u below its leading term, highest power first, then v likewise.
@@ -138,15 +150,25 @@ impl<'a> Reader<'a> {
         }
     }
 
+    /// A number of two bytes up to the most that is allowed; above it the refusal given.
+    fn up_to(&mut self, tag: u8, most: u16, refusal: Refusal) -> Result<u16, Refusal> {
+        let body = self.body(tag)?;
+        let number = u16::from_be_bytes([body[0], body[1]]);
+        if number <= most {
+            Ok(number)
+        } else {
+            Err(refusal)
+        }
+    }
+
     /// 109.
     pub fn count(&mut self) -> Result<u16, Refusal> {
-        let body = self.body(COUNT)?;
-        let count = u16::from_be_bytes([body[0], body[1]]);
-        if count <= COUNT_LIMIT {
-            Ok(count)
-        } else {
-            Err(109)
-        }
+        self.up_to(COUNT, COUNT_LIMIT, 109)
+    }
+
+    /// 120: the released step is at most the count that was read before it.
+    pub fn released(&mut self, count: u16) -> Result<u16, Refusal> {
+        self.up_to(RELEASED, count, 120)
     }
 
     /// 110, 111.
@@ -193,6 +215,9 @@ mod tests {
     fn bytes_by_hand() {
         assert_eq!(degree_field(61), [0x40, 0, 1, 61]);
         assert_eq!(count_field(0x0102), [0x42, 0, 2, 1, 2]);
+        assert_eq!(released_field(0x0102), [0x45, 0, 2, 1, 2]);
+        let fields = [0x42, 0, 2, 1, 4, 0x45, 0, 2, 0, 7, 0x43, 0, 0];
+        assert_eq!(register_fields(0x0104, 7, &Class::neutral()).concat(), fields);
         assert_eq!(drawing_field(b"A1"), [0x46, 0, 2, 0x41, 0x31]);
         assert_eq!(class_field(&Class::neutral()), [0x43, 0, 0]);
         let curve = curve_field(0x0102030405060708, 9, 10);
@@ -230,6 +255,9 @@ mod tests {
         assert_eq!(Reader::new(&[0x42, 0, 2]).count(), Err(105));
         assert_eq!(Reader::new(&[0x42, 0, 2, 0xff]).count(), Err(105), "the body's end before its content");
         assert_eq!(Reader::new(&[0x42, 0, 2, 0, 7]).count(), Ok(7));
+        assert_eq!(Reader::new(&[0x42, 0, 2, 0, 7]).released(7), Err(103), "a count is no released step");
+        assert_eq!(Reader::new(&[0x45, 0, 4, 0, 0, 0, 7]).released(7), Err(104));
+        assert_eq!(Reader::new(&[0x45, 0, 2, 0xff]).released(7), Err(105));
         let curve = Curve::new(BENCH, 0, 0, 0);
         for length in 0..50 {
             let expected = if [0, 16, 32, 48].contains(&length) { Err(105) } else { Err(104) };
@@ -267,6 +295,12 @@ mod tests {
         assert_eq!(Reader::new(&count_field(1024)).count(), Ok(1024));
         assert_eq!(Reader::new(&count_field(1025)).count(), Err(109));
         assert_eq!(Reader::new(&count_field(65535)).count(), Err(109));
+        for count in [0, 1, 255, 256, 1023, 1024] {
+            for released in (0..=1025).chain([32768, 65535]) {
+                let expected = if released <= count { Ok(released) } else { Err(120) };
+                assert_eq!(Reader::new(&released_field(released)).released(count), expected);
+            }
+        }
     }
 
     /// Up to 38 bytes pass; more are 104, also where the body is cut short or has bytes that are 108.

@@ -2,9 +2,9 @@
 //! FOLDER/stdin and what is expected for that to FOLDER/stdout. The kinds are
 //!
 //! - `stored`, the cases that are kept with the program;
-//! - `bench`, `known-halves` and `wide`, lists of calls that are taken back: over the bench field, on curves over
-//!   GF(2^61) where every half is known, and on any curve over GF(2^61);
-//! - `full`, 1,024 commits and the way back;
+//! - `bench`, `known-halves` and `wide`, lists of calls, some with releases, that are taken back as far as the last
+//!   release: over the bench field, on curves over GF(2^61) where every half is known, and on any curve over GF(2^61);
+//! - `full`, 1,024 commits and the way back, without releases and with them;
 //! - `every-class`, an undo with every class of f = x^7 over the bench field;
 //! - `displacement`, lists of 1 to 64 commits over both fields, each once more with one operation changed.
 

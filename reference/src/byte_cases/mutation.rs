@@ -2,7 +2,7 @@
 
 use super::pool::Pool;
 use crate::random::Random;
-use crate::stored::{class_field, CLASS, COUNT, CURVE, DEGREE, OPERATION};
+use crate::stored::{class_field, CLASS, COUNT, CURVE, DEGREE, OPERATION, RELEASED};
 
 /// Numbers at the edges of the pool's field, or an element.
 fn number(random: &mut Random, pool: &Pool) -> u64 {
@@ -28,7 +28,7 @@ fn other_content(random: &mut Random, part: &[u8], pool: &Pool) -> Vec<u8> {
             let degree = *random.pick(&[0, 4, 5, 6, 60, 61, 62, 63, 64, 255]);
             with_body(&part, &[degree])
         }
-        Some(&COUNT) => {
+        Some(&COUNT | &RELEASED) => {
             let count: u16 = *random.pick(&[0, 1, 2, 1023, 1024, 1025, 2048, 32768, 65535]);
             with_body(&part, &count.to_be_bytes())
         }

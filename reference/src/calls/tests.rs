@@ -1,9 +1,11 @@
-//! The byte calls: document 01's examples, every refusal at its edges, the order of the checks; stamps; multiples and
-//! halvings.
+//! The byte calls: document 01's examples, every refusal at its edges, the order of the checks; releases; stamps;
+//! multiples and halvings.
 
 use super::*;
 use crate::field::{Field, BENCH, WIDE};
-use crate::stored::{curve_field, curve_fields, degree_field, field, operation_field, CLASS, OPERATION};
+use crate::stored::{
+    count_field, curve_field, curve_fields, degree_field, field, operation_field, released_field, CLASS, OPERATION,
+};
 
 const CLASS_CALLS: [Call; 7] =
     [Call::Opposite, Call::Sum, Call::Double, Call::Half, Call::Stamp(0), Call::Multiple(0), Call::Halvings(0)];
@@ -17,12 +19,15 @@ fn x() -> Class {
     Class::new(vec![0, 1], vec![])
 }
 
-/// The fields of an accepted record: every class is [x, 0] on f = x^7, the count 7.
+/// The calls on registers.
+const REGISTER_CALLS: [Call; 3] = [Call::Commit, Call::Undo, Call::Release];
+
+/// The fields of an accepted record: every class is [x, 0] on f = x^7, the count 7, the released step 3.
 fn fields(call: Call, field: Field) -> Vec<Vec<u8>> {
     let coefficients = curve_field(0, 0, 0);
     let mut fields = vec![degree_field(field.degree as u8), coefficients];
     if call.is_of_register() {
-        fields.push(count_field(7));
+        fields.extend([count_field(7), released_field(3)]);
     }
     if !matches!(call, Call::Stamp(_)) {
         fields.push(class_field(&x()));
@@ -39,10 +44,11 @@ fn record(call: Call, field: Field) -> Vec<u8> {
     fields(call, field).concat()
 }
 
-/// A record of the register's calls.
-fn register(count: u16, seal: &Class, operation: &Class) -> Vec<u8> {
-    [curve_fields(&curve_a(BENCH)).concat(), count_field(count), class_field(seal), operation_field(operation)]
-        .concat()
+/// A record of a call on a register, with the operation that a release does not have.
+fn register(call: Call, count: u16, released: u16, seal: &Class, operation: &Class) -> Vec<u8> {
+    let last = if call.takes_operation() { operation_field(operation) } else { vec![] };
+    let [degree, curve] = curve_fields(&curve_a(BENCH));
+    [degree, curve, register_fields(count, released, seal).concat(), last].concat()
 }
 
 /// The answer with an output that is long enough; a refusal changes no byte.
@@ -97,7 +103,7 @@ fn twelve_examples() {
 /// 101 at its edges, and before any byte of the input is looked at.
 #[test]
 fn output_bounds() {
-    for (calls, bound) in [(&CLASS_CALLS[..], 51), (&[Call::Commit, Call::Undo][..], 56)] {
+    for (calls, bound) in [(&CLASS_CALLS[..], 51), (&REGISTER_CALLS[..], 61)] {
         for &call in calls {
             let input = record(call, BENCH);
             for length in 0..bound {
@@ -132,7 +138,7 @@ fn heads_of_every_field() {
                 let allowed: &[u16] = match part[0] {
                     0x40 => &[1],
                     0x41 => &[24],
-                    0x42 => &[2],
+                    0x42 | 0x45 => &[2],
                     _ => &[0, 16, 32, 48],
                 };
                 let [high, low] = length.to_be_bytes();
@@ -152,7 +158,7 @@ fn heads_of_every_field() {
     }
 }
 
-/// 106, 107, 109, 110 and 111 in every field that can have them, the next field being cut after a byte.
+/// 106, 107, 109, 110, 111 and 120 in every field that can have them, the next field being cut after a byte.
 #[test]
 fn bodies_of_every_field() {
     for call in CALLS {
@@ -186,6 +192,14 @@ fn bodies_of_every_field() {
                         assert_eq!(with(count_field(1025)), 109);
                         assert_eq!(with(count_field(1024)), 102);
                     }
+                    0x45 => {
+                        for released in [8, 9, 1024, 1025, 65535] {
+                            assert_eq!(with(released_field(released)), 120);
+                        }
+                        for released in 0..=7 {
+                            assert_eq!(with(released_field(released)), 102);
+                        }
+                    }
                     CLASS | OPERATION => {
                         for degree in 1..=3 {
                             for place in 0..2 * degree {
@@ -205,32 +219,82 @@ fn bodies_of_every_field() {
     }
 }
 
-/// Document 01's edges of the count.
+/// The output of a call on a register that is long enough, held to what an accepted one writes.
+fn writes(call: Call, input: &[u8], count: u16, released: u16, seal: &Class) {
+    let expected = register_fields(count, released, seal).concat();
+    let after = [&expected[..], &vec![9; 61 - expected.len()]].concat();
+    assert_eq!(run(call, input, &[9; 61]), (expected.len() as u32, after));
+}
+
+/// Document 01's edges of the count; the released step is 0 and stays.
 #[test]
 fn counts() {
-    let (input, neutral) = (x(), Class::neutral());
-    let commit = |count| run(Call::Commit, &register(count, &input, &neutral), &[0; 56]);
-    let undo = |count| run(Call::Undo, &register(count, &curve_a(BENCH).double(&input), &neutral), &[0; 56]);
-    let starts = |(answer, output): (u32, Vec<u8>), count: u16, class: &Class| {
-        let expected = [count_field(count), class_field(class)].concat();
-        answer as usize == expected.len() && output.starts_with(&expected)
-    };
-    let double = curve_a(BENCH).double(&input);
-    assert!(starts(commit(0), 1, &double));
-    assert!(starts(commit(1023), 1024, &double));
-    assert_eq!(commit(1024), (114, vec![0; 56]));
-    assert_eq!(commit(1025), (109, vec![0; 56]));
-    assert!(starts(undo(1024), 1023, &input));
-    assert!(starts(undo(1), 0, &input));
-    assert_eq!(undo(0), (113, vec![0; 56]));
-    assert_eq!(undo(1025), (109, vec![0; 56]));
+    let (x, neutral) = (x(), Class::neutral());
+    let double = curve_a(BENCH).double(&x);
+    let commit = |count| register(Call::Commit, count, 0, &x, &neutral);
+    let undo = |count| register(Call::Undo, count, 0, &double, &neutral);
+    writes(Call::Commit, &commit(0), 1, 0, &double);
+    writes(Call::Commit, &commit(1023), 1024, 0, &double);
+    assert_eq!(answered(Call::Commit, &commit(1024)), 114);
+    assert_eq!(answered(Call::Commit, &commit(1025)), 109);
+    writes(Call::Undo, &undo(1024), 1023, 0, &x);
+    writes(Call::Undo, &undo(1), 0, 0, &x);
+    assert_eq!(answered(Call::Undo, &undo(0)), 113);
+    assert_eq!(answered(Call::Undo, &undo(1025)), 109);
     // 113 and 114 come last
-    let longer = |count| [register(count, &input, &neutral), vec![0]].concat();
-    assert_eq!(answered(Call::Undo, &longer(0)), 112);
-    assert_eq!(answered(Call::Commit, &longer(1024)), 112);
+    assert_eq!(answered(Call::Undo, &[undo(0), vec![0]].concat()), 112);
+    assert_eq!(answered(Call::Commit, &[commit(1024), vec![0]].concat()), 112);
     let off_curve = Class::new(vec![1, 1], vec![]);
-    assert_eq!(answered(Call::Undo, &register(0, &input, &off_curve)), 111);
-    assert_eq!(answered(Call::Commit, &register(1024, &off_curve, &input)), 111);
+    assert_eq!(answered(Call::Undo, &register(Call::Undo, 0, 0, &x, &off_curve)), 111);
+    assert_eq!(answered(Call::Commit, &register(Call::Commit, 1024, 0, &off_curve, &x)), 111);
+}
+
+/// Document 02's edges of the released step: a release sets it to the count, at any count and again; commit and undo keep
+/// it; 121 at it, 113 at count 0; 120 above the count, before the seal and after 109.
+#[test]
+fn released_steps() {
+    let (x, neutral) = (x(), Class::neutral());
+    let double = curve_a(BENCH).double(&x);
+    let off_curve = Class::new(vec![1, 1], vec![]);
+    for count in [0u16, 1, 2, 512, 1023, 1024] {
+        for released in [0, count / 2, count.saturating_sub(1), count] {
+            let record = |call, seal, operation| register(call, count, released, seal, operation);
+            let release = record(Call::Release, &x, &neutral);
+            writes(Call::Release, &release, count, count, &x);
+            writes(Call::Release, &register(Call::Release, count, count, &x, &neutral), count, count, &x);
+            assert_eq!(answered(Call::Release, &[&release[..], &[0x44, 0, 0]].concat()), 112, "no operation");
+            assert_eq!(answered(Call::Release, &record(Call::Release, &off_curve, &neutral)), 111);
+            if count < 1024 {
+                writes(Call::Commit, &record(Call::Commit, &x, &neutral), count + 1, released, &double);
+            }
+            let undo = record(Call::Undo, &double, &neutral);
+            match (count, released) {
+                (0, _) => assert_eq!(answered(Call::Undo, &undo), 113),
+                _ if count == released => {
+                    assert_eq!(answered(Call::Undo, &undo), 121);
+                    assert_eq!(answered(Call::Undo, &[&undo[..], &[0]].concat()), 112);
+                    assert_eq!(answered(Call::Undo, &record(Call::Undo, &double, &off_curve)), 111);
+                }
+                _ => writes(Call::Undo, &undo, count - 1, released, &x),
+            }
+        }
+        for call in REGISTER_CALLS {
+            for released in [count + 1, count + 2, 1025, 65535] {
+                assert_eq!(answered(call, &register(call, count, released, &x, &x)), 120);
+                assert_eq!(answered(call, &register(call, count, released, &off_curve, &off_curve)), 120);
+                assert_eq!(answered(call, &register(call, 1025, released, &x, &x)), 109);
+            }
+        }
+    }
+    // without 0x45, and with it after the seal
+    for call in REGISTER_CALLS {
+        let fields = fields(call, BENCH);
+        let without = [&fields[..3], &fields[4..]].concat();
+        assert_eq!(answered(call, &without.concat()), 103);
+        let mut behind = fields.clone();
+        behind.swap(3, 4);
+        assert_eq!(answered(call, &behind.concat()), 103);
+    }
 }
 
 /// The class of a stamp is written in 19 bytes. 115 and 116 come after all that is wrong with the input, 115 first.
@@ -289,25 +353,28 @@ fn multiples_and_halvings() {
     }
 }
 
-/// An undo takes back a commit; the longest output has 56 bytes, that of a class 51.
+/// An undo takes back a commit, as far as the last release; the longest output has 61 bytes, that of a class 51.
 #[test]
 fn commit_and_undo() {
     for field in [BENCH, WIDE] {
         let curve = Curve::new(field, 5, 19, 0);
         let point = (0..32).find_map(|a| curve.point(a)).expect("the curve has a point");
         let mut seal = Class::neutral();
+        let mut longest = 0;
         for count in 0..20 {
+            let released = count / 2;
             let record = |count, seal: &Class| {
-                [curve_fields(&curve).concat(), count_field(count), class_field(seal), operation_field(&point)]
-                    .concat()
+                let [degree, curve] = curve_fields(&curve);
+                [degree, curve, register_fields(count, released, seal).concat(), operation_field(&point)].concat()
             };
-            let (_, after) = answer(Call::Commit, &record(count, &seal), 56);
-            assert!(after.starts_with(&count_field(count + 1)));
-            let next = Reader::new(&after[5..]).class(&curve).expect("the new seal is a class");
-            let back = [count_field(count), class_field(&seal)].concat();
-            assert_eq!(answer(Call::Undo, &record(count + 1, &next), 56), (back.len() as u32, back));
+            let (length, after) = answer(Call::Commit, &record(count, &seal), 61);
+            longest = longest.max(length);
+            assert!(after.starts_with(&[count_field(count + 1), released_field(released)].concat()));
+            let next = Reader::new(&after[10..]).class(&curve).expect("the new seal is a class");
+            let back = register_fields(count, released, &seal).concat();
+            assert_eq!(answer(Call::Undo, &record(count + 1, &next), 61), (back.len() as u32, back));
             seal = next;
         }
-        assert_eq!(seal.degree(), 3);
+        assert_eq!((seal.degree(), longest), (3, 61));
     }
 }

@@ -4,7 +4,8 @@
 //! changed list is made so from the first list's seals, and the multiple from sums by decimal digits: it is neither
 //! committed nor doubled.
 //!
-//! Refused calls stand at other places in the two lists, and they start from other counts, since neither moves a seal.
+//! Refused calls stand at other places in the two lists, and they start from other counts and released steps, since none
+//! of these moves a seal.
 
 use super::ground::{drawn_values, Ground};
 use super::{RegisterValues, Trial, COMMIT, LIMIT, UNDO};
@@ -93,7 +94,8 @@ impl<'a> Variants<'a> {
         let highest = LIMIT - n as u64;
         let between = random.number() % (highest + 1);
         let count = *random.pick(&[0, highest, between]);
-        trial.start(RegisterValues { curve: self.ground.values, count, seal: (&self.first).into() });
+        let released = *random.pick(&[0, count / 2, count]);
+        trial.start(RegisterValues { curve: self.ground.values, count, seal: (&self.first).into(), released });
         for i in 0..n {
             refused_calls(trial, random, self.ground);
             commit(trial, i);
@@ -120,13 +122,13 @@ impl<'a> Variants<'a> {
     }
 }
 
-/// Some calls that are surely refused, or none: with what is no class, and at count 0 undos, at 1,024 commits, with any
-/// class.
+/// Some calls that are surely refused, or none: with what is no class; at count 0 and at the released step undos, at 1,024
+/// commits, with any class.
 fn refused_calls(trial: &mut Trial, random: &mut Random, ground: &Ground) {
     while random.below(8) == 0 {
-        let (call, edge) = *random.pick(&[(COMMIT, LIMIT), (UNDO, 0)]);
-        let class =
-            if trial.register.count == edge { (&ground.class(random)).into() } else { ground.no_class(random) };
+        let barred = [(COMMIT, trial.register.count == LIMIT), (UNDO, trial.register.is_undo_barred())];
+        let (call, is_barred) = *random.pick(&barred);
+        let class = if is_barred { (&ground.class(random)).into() } else { ground.no_class(random) };
         trial.refused(call, class);
     }
 }

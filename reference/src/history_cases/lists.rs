@@ -1,5 +1,6 @@
-//! Lists of calls drawn at random, commits and undos in any order, refused ones among them; after each list the accepted
-//! calls are taken back. Where only commits were accepted, the walk over their classes is these same undos.
+//! Lists of calls drawn at random, commits and undos in any order, refused ones among them, some with releases; after each
+//! list the accepted calls are taken back as far as the last accepted release, behind which an undo is refused. Where only
+//! commits were accepted, the walk over their classes is these same undos; a walk goes past releases.
 //!
 //! The half that an undo needs is known on the curve (`ground`), or from the answer: the new seal is drawn first, and the
 //! class is what leads to it.
@@ -11,11 +12,13 @@ use crate::field::{BENCH, WIDE};
 use crate::jacobian::Class;
 use crate::random::Random;
 
-/// How a list is drawn: the count that it starts from, how many of sixteen calls are commits, and how many calls there
-/// are.
+/// How a list is drawn: the count and the released step that it starts from, how many of sixteen calls are commits, how
+/// many are releases, and how many calls there are.
 struct Shape {
     count: u64,
+    released: u64,
     commits: u64,
+    releases: u64,
     calls: usize,
 }
 
@@ -53,23 +56,32 @@ fn step(trial: &mut Trial, random: &mut Random, ground: &Ground, call: u8) {
 /// A list, and taking it back.
 fn list(trial: &mut Trial, random: &mut Random, ground: &Ground, shape: Shape) {
     let seal = if random.number() & 3 == 0 { Class::neutral() } else { ground.class(random) };
-    trial.start(RegisterValues { curve: ground.values, count: shape.count, seal: (&seal).into() });
-    for _ in 0..shape.calls {
-        let call = if random.number() % 16 < shape.commits { COMMIT } else { UNDO };
-        step(trial, random, ground, call);
+    let Shape { count, released, commits, releases, calls } = shape;
+    trial.start(RegisterValues { curve: ground.values, count, seal: (&seal).into(), released });
+    for _ in 0..calls {
+        match random.number() % 16 {
+            n if n < releases => trial.release(),
+            n if n < releases + commits => step(trial, random, ground, COMMIT),
+            _ => step(trial, random, ground, UNDO),
+        }
     }
     trial.take_all_back();
+    if trial.register.is_undo_barred() {
+        trial.refused(UNDO, (&ground.class(random)).into());
+    }
 }
 
-/// Lists on one curve: commits alone, both, mostly undos; from counts at both ends and between.
+/// Lists on one curve: commits alone, with releases or without, both, mostly undos; from counts at both ends and between,
+/// released or not.
 fn on_curve(trial: &mut Trial, random: &mut Random, values: CurveValues, lists: usize, calls: usize) {
     let curve = values.curve().expect("the curve is accepted");
     let ground = Ground::new(values, &curve);
     for i in 0..lists {
         let between = random.number() % (LIMIT + 1);
         let count = [0, LIMIT - 4, 2, between][i % 4];
-        let commits = [16, 16, 3, 8, 8, 12][i % 6];
-        list(trial, random, &ground, Shape { count, commits, calls });
+        let released = [0, count / 2, 0, count][i % 4];
+        let (commits, releases) = [(16, 0), (13, 3), (3, 0), (8, 0), (8, 1), (12, 1), (16, 0)][i % 7];
+        list(trial, random, &ground, Shape { count, released, commits, releases, calls });
     }
 }
 
@@ -114,18 +126,30 @@ pub fn wide(trial: &mut Trial) {
     }
 }
 
-/// As many commits as there can be, over both fields: from count 0 to 1,024, 114 there, and all the way back, 113.
+/// As many commits as there can be, over both fields: from count 0 to 1,024, 114 there, and all the way back, 113; then a
+/// release, commits once more with releases among them, and the way back to the last one, 121.
 pub fn full(trial: &mut Trial) {
     let mut random = Random::new(95);
     for values in [CurveValues::new(BENCH, 12, 25, 6), drawn_values(&mut random, WIDE)] {
         let curve = values.curve().expect("the curve is accepted");
         let ground = Ground::new(values, &curve);
         let seal = ground.class(&mut random);
-        trial.start(RegisterValues { curve: values, count: 0, seal: (&seal).into() });
+        trial.start(RegisterValues { curve: values, count: 0, seal: (&seal).into(), released: 0 });
         let class = ClassValues::from(&ground.class(&mut random));
         trial.refused(UNDO, class);
         while trial.register.count < LIMIT {
             step(trial, &mut random, &ground, COMMIT);
+        }
+        trial.refused(COMMIT, class);
+        trial.take_all_back();
+        trial.refused(UNDO, class);
+        trial.release();
+        trial.refused(UNDO, class);
+        while trial.register.count < LIMIT {
+            step(trial, &mut random, &ground, COMMIT);
+            if trial.register.count % 256 == 0 && trial.register.count < LIMIT {
+                trial.release();
+            }
         }
         trial.refused(COMMIT, class);
         trial.take_all_back();
@@ -140,7 +164,7 @@ pub fn every_class(trial: &mut Trial) {
     let curve = values.curve().expect("the curve is accepted");
     let ground = Ground::new(values, &curve);
     let seal = ground.class(&mut Random::new(96));
-    trial.start(RegisterValues { curve: values, count: LIMIT, seal: (&seal).into() });
+    trial.start(RegisterValues { curve: values, count: LIMIT, seal: (&seal).into(), released: LIMIT - 1 });
     for class in &ground.classes {
         make(trial, UNDO, class, |class| ground.half(class).expect("halves are known"));
         trial.take_back();

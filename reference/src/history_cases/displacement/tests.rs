@@ -1,4 +1,4 @@
-use super::super::{Accepted, START};
+use super::super::{Accepted, RECORD, START};
 use super::*;
 use std::collections::HashSet;
 
@@ -14,7 +14,7 @@ fn committed(variants: &Variants, operations: &[Class]) -> Vec<Class> {
 /// Which calls of each list of a trial are refused.
 fn refused(trial: &Trial) -> Vec<Vec<bool>> {
     let mut lines = trial.output.lines();
-    let records: Vec<&[u8]> = trial.input.chunks_exact(146).collect();
+    let records: Vec<&[u8]> = trial.input.chunks_exact(RECORD).collect();
     let lists = records.split(|record| record[0] == START).skip(1);
     lists.map(|list| lines.by_ref().take(list.len()).map(|line| line.starts_with("refused")).collect()).collect()
 }
