@@ -1,15 +1,16 @@
 // Answers calls on one history register that it reads from standard input, one line for each.
 //
-// A case is 146 bytes: the call (0 start, 1 commit, 2 undo, 3 show), the degree d, f3, f1 and f0, the count, the seal
-// and an operation's class. A class is its degree, u0, u1, u2, v0, v1 and v2. All numbers but d take eight bytes, high
-// byte first. A start takes d to the seal as the register and ignores the class; a commit and an undo take the class
-// alone, on the register that the call before returned, also after a refusal. Before the first start the register has
-// degree 0.
+// A case is 154 bytes: the call (0 start, 1 commit, 2 undo, 3 show, 4 release), the degree d, f3, f1 and f0, the count,
+// the seal, the released step and an operation's class. A class is its degree, u0, u1, u2, v0, v1 and v2. All numbers but
+// d take eight bytes, high byte first. A start takes d to the released step as the register and ignores the class; a
+// commit and an undo take the class alone, and a release nothing, on the register that the call before returned, also
+// after a refusal. Before the first start the register has degree 0.
 //
-// For a commit and an undo the line is the count and the seal, or `refused` and the refusal's number; the seal is
-// printed as degree, u and v with colons between, coefficients from the highest power down in hexadecimal with commas
-// between. For a show it is every number of the register, whether or not it passes the checks. A start has no line. Any
-// other first byte is answered by `no such call`, and fewer than 146 bytes at the end by `cut short`.
+// For a commit, an undo and a release the line is the count, the released step and the seal, or `refused` and the
+// refusal's number; the seal is printed as degree, u and v with colons between, coefficients from the highest power down
+// in hexadecimal with commas between. For a show it is every number of the register, whether or not it passes the checks.
+// A start has no line. Any other first byte is answered by `no such call`, and fewer than 154 bytes at the end by
+// `cut short`.
 ghost use Prim.Native.Nat.{_≤_};
 use history::Register;
 use history::RegisterAnswer;
@@ -24,8 +25,8 @@ struct Turn {
 }
 
 // The class whose seven numbers start at an index of the case.
-fn class(record: &[u8; 146], place: u8) -> Class
-    requires { ⌜ place ≤ 11 ⌝ }
+fn class(record: &[u8; 154], place: u8) -> Class
+    requires { ⌜ place ≤ 12 ⌝ }
 {
     Class {
         degree: trial_text::number(record, place),
@@ -35,12 +36,13 @@ fn class(record: &[u8; 146], place: u8) -> Class
 }
 
 // The register that a case starts.
-fn started(record: &[u8; 146]) -> Register {
+fn started(record: &[u8; 154]) -> Register {
     let curve = jacobian::curves::curve_with(record[1], trial_text::row(record, 0));
     Register {
         curve,
         count: trial_text::number(record, 3),
         seal: class(record, 4),
+        released: trial_text::number(record, 11),
     }
 }
 
@@ -49,6 +51,12 @@ fn with_class(line: Line, class: Class, n: u64) -> Line {
     let u = class.u;
     let v = class.v;
     text::with_class(line, class.degree, u, v, n)
+}
+
+// The line with a count and a released step appended.
+fn with_counts(line: Line, count: u64, released: u64) -> Line {
+    let counted = text::with_decimal(line, count);
+    text::with_decimal(text::with_byte(counted, b' '), released)
 }
 
 // Writes a line and a line feed.
@@ -64,8 +72,8 @@ fn answer_text(answer: RegisterAnswer) -> Line {
     let seal = register.seal;
     match outcome {
         Outcome::Accepted => {
-            let count = text::with_decimal(start, register.count);
-            with_class(text::with_byte(count, b' '), seal, seal.degree)
+            let counts = with_counts(start, register.count, register.released);
+            with_class(text::with_byte(counts, b' '), seal, seal.degree)
         }
         Outcome::Refused(number) => text::with_refusal(start, number),
     }
@@ -84,20 +92,25 @@ fn register_text(register: Register) -> Line {
     let degree = text::with_decimal(text::empty(), curve.degree as u64);
     let cs = jacobian::curves::coefficients(curve);
     let row = text::with_row(text::with_byte(degree, b' '), 3, [cs[2], cs[1], cs[0]]);
-    let count = text::with_decimal(text::with_byte(row, b' '), register.count);
-    with_class(text::with_byte(count, b' '), seal, 3)
+    let counts = with_counts(
+        text::with_byte(row, b' '),
+        register.count,
+        register.released,
+    );
+    with_class(text::with_byte(counts, b' '), seal, 3)
 }
 
 // Makes the call of a case, writes its line and returns the next register.
-fn answer_record(record: &[u8; 146], register: Register) -> Register {
+fn answer_record(record: &[u8; 154], register: Register) -> Register {
     match record[0] {
         0 => started(record),
-        1 => write_answer(register.commit(class(record, 11))),
-        2 => write_answer(register.undo(class(record, 11))),
+        1 => write_answer(register.commit(class(record, 12))),
+        2 => write_answer(register.undo(class(record, 12))),
         3 => {
             write_told(register_text(register));
             register
         }
+        4 => write_answer(register.release()),
         _ => {
             write_told(text::with_bytes(text::empty(), b"no such call"));
             register
@@ -107,8 +120,8 @@ fn answer_record(record: &[u8; 146], register: Register) -> Register {
 
 // Reads one case and answers it.
 fn next_record(register: Register) -> Turn {
-    let mut record = [0u8; 146];
-    if trial_text::read_case(&mut record) < 146 {
+    let mut record = [0u8; 154];
+    if trial_text::read_case(&mut record) < 154 {
         return Turn {
             more: false,
             register,
@@ -127,6 +140,7 @@ fn unset() -> Register {
         curve,
         count: 0,
         seal: jacobian::neutral(),
+        released: 0,
     }
 }
 
