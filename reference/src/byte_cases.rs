@@ -9,7 +9,8 @@ pub mod pool;
 
 use crate::archive::{report, Archive};
 use crate::calls::{answer, seal_after_commit, Call, CALLS};
-use crate::jacobian::Class;
+use crate::field::{BENCH, WIDE};
+use crate::jacobian::{Class, Curve};
 use crate::multiples::{HALVINGS_LIMIT, MULTIPLE_LIMIT};
 use crate::random::Random;
 use crate::stamp::stamp_limit;
@@ -187,6 +188,28 @@ impl Iterator for Mutated {
     }
 }
 
+/// Releases with one byte changed: records that are accepted, over both fields and with seals of degree 0 and 3, each byte
+/// of which takes every other value.
+pub fn changed_releases() -> impl Iterator<Item = ByteCase> {
+    let mut records = vec![];
+    for field in [BENCH, WIDE] {
+        let curve = Curve::new(field, 0, 0, 0);
+        let cube = Class::new(vec![0, 0, 0, 1], vec![1]);
+        for seal in [Class::neutral(), cube] {
+            let [degree, coefficients] = curve_fields(&curve);
+            records.push([degree, coefficients, register_fields(0x0107, 0x0103, &seal).concat()].concat());
+        }
+    }
+    records.into_iter().flat_map(|record| {
+        let changes = (0..record.len()).flat_map(|at| (1..=255u8).map(move |by| (at, by)));
+        changes.map(move |(at, by)| {
+            let mut input = record.clone();
+            input[at] ^= by;
+            ByteCase::new(Call::Release, input, Call::Release.output_bound())
+        })
+    })
+}
+
 /// Some archives, mutated or not, each with its report.
 pub fn archives(number: usize) -> Vec<(Vec<u8>, String)> {
     let mut random = Random::new(72);
@@ -217,8 +240,6 @@ pub fn archives(number: usize) -> Vec<(Vec<u8>, String)> {
 #[cfg(test)]
 mod tests {
     use super::*;
-    use crate::field::BENCH;
-    use crate::jacobian::Curve;
     use std::collections::HashSet;
     use std::sync::OnceLock;
 
@@ -264,6 +285,18 @@ mod tests {
                 let accepted = |case: &&ByteCase| case.answer <= 100 && case.input[3] == degree;
                 assert!(made().filter(accepted).count() > 50, "{call:?} {degree}");
             }
+        }
+    }
+
+    /// A release with one byte changed meets every refusal but 101 and 102, and where it is accepted the step is the count.
+    #[test]
+    fn releases_with_one_byte_changed() {
+        let cases: Vec<ByteCase> = changed_releases().collect();
+        assert_eq!(cases.len(), 2 * 255 * (44 + 92));
+        let met: HashSet<u32> = cases.iter().map(|case| case.answer).collect();
+        assert_eq!(met, HashSet::from([103, 104, 105, 106, 107, 109, 110, 111, 112, 120, 13, 61]));
+        for case in cases.iter().filter(|case| case.answer <= 100) {
+            assert_eq!(case.written[3..5], case.written[8..10]);
         }
     }
 

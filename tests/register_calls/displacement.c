@@ -18,14 +18,14 @@ static void make(enum call call, struct seal_register *r, struct seal_class oper
 
 /* The first less the second. */
 static struct seal_class less(struct seal_curve curve, struct seal_class first, struct seal_class second) {
-    struct seal_register r = {curve, 1, first};
+    struct seal_register r = {curve, 1, first, 0};
     make(UNDO, &r, second);
     make(COMMIT, &r, neutral);
     return r.seal;
 }
 
 static struct seal_class doubled(struct seal_curve curve, struct seal_class class, int times) {
-    struct seal_register r = {curve, 0, class};
+    struct seal_register r = {curve, 0, class, 0};
     for (int i = 0; i < times; i++)
         make(COMMIT, &r, neutral);
     return r.seal;
@@ -34,7 +34,7 @@ static struct seal_class doubled(struct seal_curve curve, struct seal_class clas
 /* Three points, and classes of degree 0, 2 and 3: neutral, twice the first point, and that plus the second. */
 static void make_pool(int which, struct seal_class pool[POOL]) {
     const struct seal_class *point = with_points[which].point;
-    struct seal_register r = {with_points[which].curve, 0, point[0]};
+    struct seal_register r = {with_points[which].curve, 0, point[0], 0};
     for (int i = 0; i < POINTS; i++)
         pool[i] = point[i];
     pool[3] = neutral;
@@ -54,7 +54,7 @@ static struct seal_class operation(const struct seal_class pool[POOL], int n, in
  * stand between them, at places that depend on k. */
 static struct seal_class last_seal(struct seal_curve curve, const struct seal_class pool[POOL], int n, int k,
                                    struct seal_class changed) {
-    struct seal_register r = {curve, (uint64_t)n, pool[n % POOL]};
+    struct seal_register r = {curve, (uint64_t)n, pool[n % POOL], (uint64_t)(n % 3)};
     for (int i = 1; i <= n; i++) {
         if ((i + k) % 5 == 0 && lend(COMMIT, &r, wrong(1, curve.degree), 0) != SEAL_CLASS_COEFFICIENT)
             fault("commit of what is no class in a list");

@@ -3,36 +3,6 @@
 #include "count.h"
 #include "lent.h"
 
-static struct seal_register of(int degree, uint64_t count, struct seal_class seal) {
-    struct seal_register r = {{(uint8_t)degree, 0, 0, 0}, count, seal};
-    return r;
-}
-
-static const char *const names[2] = {"commit", "undo"};
-
-/* The call refuses with this number, at both ends of the area. */
-static void refuses(enum call call, struct seal_register r, struct seal_class a, uint32_t number) {
-    for (int end = 0; end < 2; end++) {
-        struct seal_register lent = r;
-        uint32_t got = lend(call, &lent, a, end);
-        if (got != number)
-            fault("%s: expected %u, got %u", names[call], number, got);
-    }
-}
-
-/* The call is accepted and leaves this count and this seal. */
-static void leaves(enum call call, struct seal_register r, struct seal_class a, uint64_t count,
-                   struct seal_class seal) {
-    for (int end = 0; end < 2; end++) {
-        struct seal_register lent = r;
-        uint32_t got = lend(call, &lent, a, end);
-        if (got != 0)
-            fault("%s: expected 0, got %u", names[call], got);
-        else if (lent.count != count || !same_class(lent.seal, seal))
-            fault("%s: another count or seal than expected", names[call]);
-    }
-}
-
 static void counts(void) {
     for (int d = 0; d < 2; d++) {
         int degree = degrees[d];
@@ -42,24 +12,23 @@ static void counts(void) {
             /* twice [x, 0] plus neutral is [x^2, 0], and half of [x^2, 0] less neutral is [x, 0] */
             uint64_t count = within[i];
             if (count < LIMIT)
-                leaves(COMMIT, of(degree, count, x_0), neutral, count + 1, xx_0);
+                leaves(COMMIT, of(degree, count, x_0), neutral, of(degree, count + 1, xx_0));
             else
                 refuses(COMMIT, of(degree, count, x_0), neutral, 114);
             if (count > 0)
-                leaves(UNDO, of(degree, count, xx_0), neutral, count - 1, x_0);
+                leaves(UNDO, of(degree, count, xx_0), neutral, of(degree, count - 1, x_0));
             else
                 refuses(UNDO, of(degree, count, xx_0), neutral, 113);
         }
-        for (int i = 0; i < 3; i++) {
-            refuses(COMMIT, of(degree, above[i], x_0), neutral, 109);
-            refuses(UNDO, of(degree, above[i], x_0), neutral, 109);
-        }
+        for (int i = 0; i < 3; i++)
+            for (int call = COMMIT; call < CALLS; call++)
+                refuses(call, of(degree, above[i], x_0), neutral, 109);
     }
     end_test("counts 0, 1, 2, 512, 1,023, 1,024; 1,025, 2^32 and 2^64 - 1 are 109");
 }
 
 static void degrees_and_curves(void) {
-    for (int call = COMMIT; call <= UNDO; call++) {
+    for (int call = COMMIT; call < CALLS; call++) {
         for (int degree = 0; degree < 256; degree++)
             if (degree != 5 && degree != 61) {
                 struct seal_register r = of(degree, UINT64_MAX, off);

@@ -1,7 +1,8 @@
-/* The areas and the call of lent.h. An area is one page; it is filled before each call, the padding of the register
+/* The areas and the calls of lent.h. An area is one page; it is filled before each call, the padding of the register
  * too, so that a byte that changes is seen. The second cannot be written through what the library gets. */
 #include "lent.h"
 #include "area.h"
+#include "classes.h"
 #include "count.h"
 
 #include <string.h>
@@ -25,7 +26,23 @@ static void put(uint8_t *at, const struct seal_register *given) {
 static uint32_t made(enum call call, uint8_t *at, struct seal_class operation) {
     struct seal_register *lent = (struct seal_register *)(void *)at;
     count_call();
-    return call == COMMIT ? seal_register_commit(lent, operation) : seal_register_undo(lent, operation);
+    switch (call) {
+    case COMMIT: return seal_register_commit(lent, operation);
+    case UNDO: return seal_register_undo(lent, operation);
+    default: return seal_register_release(lent);
+    }
+}
+
+/* What an accepted call has to leave of the register: degree and curve; of commit and undo the released step, and of a
+ * release count and seal. */
+static void keeps(enum call call, const uint8_t *before, const uint8_t *after) {
+    size_t curve = offsetof(struct seal_register, count), released = offsetof(struct seal_register, released);
+    if (after[0] != before[0] || memcmp(after + 1 + PADDING, before + 1 + PADDING, curve - 1 - PADDING) != 0)
+        fault("degree or curve changed");
+    if (call == RELEASE && memcmp(after + curve, before + curve, released - curve) != 0)
+        fault("a release changed count or seal");
+    if (call != RELEASE && memcmp(after + released, before + released, sizeof(uint64_t)) != 0)
+        fault("another call than a release changed the released step");
 }
 
 uint32_t lend(enum call call, struct seal_register *given, struct seal_class operation, int at_end) {
@@ -47,8 +64,34 @@ uint32_t lend(enum call call, struct seal_register *given, struct seal_class ope
             fault("answer %u, and another the next time", answer);
         return answer;
     }
-    if (after[at] != before[at] || memcmp(after + at + 8, before + at + 8, sizeof given->curve - 8) != 0)
-        fault("degree or curve changed");
+    keeps(call, before + at, after + at);
     memcpy(given, after + at, sizeof *given);
     return answer;
+}
+
+struct seal_register of(int degree, uint64_t count, struct seal_class seal) {
+    struct seal_register r = {{(uint8_t)degree, 0, 0, 0}, count, seal, 0};
+    return r;
+}
+
+static const char *const names[CALLS] = {"commit", "undo", "release"};
+
+void refuses(enum call call, struct seal_register r, struct seal_class a, uint32_t number) {
+    for (int end = 0; end < 2; end++) {
+        struct seal_register lent = r;
+        uint32_t got = lend(call, &lent, a, end);
+        if (got != number)
+            fault("%s: expected %u, got %u", names[call], number, got);
+    }
+}
+
+void leaves(enum call call, struct seal_register r, struct seal_class a, struct seal_register left) {
+    for (int end = 0; end < 2; end++) {
+        struct seal_register lent = r;
+        uint32_t got = lend(call, &lent, a, end);
+        if (got != 0)
+            fault("%s: expected 0, got %u", names[call], got);
+        else if (lent.count != left.count || lent.released != left.released || !same_class(lent.seal, left.seal))
+            fault("%s: another count, released step or seal than expected", names[call]);
+    }
 }

@@ -1,6 +1,6 @@
 /* Tests the calls on a register of include/seal_register.h.
  *
- *     register_calls            the edges and a changed commit, a line for each test, then 'N passed, M failed'
+ *     register_calls            the edges, releases, a changed commit: a line for each test, then 'N passed, M failed'
  *     register_calls trial      answers calls that it reads from standard input, one line for each, on one register
  *
  * The records and the lines of a trial are those of the program history_trial (crates/history_trial/src/main.rt),
@@ -21,7 +21,7 @@ static void answer(enum call call, struct seal_register *r, struct seal_class a,
     else if (r->seal.degree > 3)
         puts("a seal of a degree above 3");
     else {
-        printf("%" PRIu64 " ", r->count);
+        printf("%" PRIu64 " %" PRIu64 " ", r->count, r->released);
         print_class(r->seal.degree, r->seal.u, r->seal.v);
     }
 }
@@ -31,7 +31,7 @@ static void show(const struct seal_register *r) {
     uint64_t f[3] = {r->curve.f0, r->curve.f1, r->curve.f3};
     printf("%u ", r->curve.degree);
     print_coefficients(3, f);
-    printf(" %" PRIu64 " %" PRIu64 ":", r->count, r->seal.degree);
+    printf(" %" PRIu64 " %" PRIu64 " %" PRIu64 ":", r->count, r->released, r->seal.degree);
     print_coefficients(3, r->seal.u);
     putchar(':');
     print_coefficients(3, r->seal.v);
@@ -45,10 +45,11 @@ static void trial(void) {
     memset(&r, 0, sizeof r);
     for (unsigned long i = 0; (read = fread(record, 1, RECORD, stdin)) == RECORD; i++) {
         switch (record[0]) {
-        case 0: r = register_in(record); break;
-        case 1: answer(COMMIT, &r, operation_in(record), i % 2); break;
-        case 2: answer(UNDO, &r, operation_in(record), i % 2); break;
-        case 3: show(&r); break;
+        case TRIAL_START: r = register_in(record); break;
+        case TRIAL_COMMIT: answer(COMMIT, &r, operation_in(record), i % 2); break;
+        case TRIAL_UNDO: answer(UNDO, &r, operation_in(record), i % 2); break;
+        case TRIAL_RELEASE: answer(RELEASE, &r, operation_in(record), i % 2); break;
+        case TRIAL_SHOW: show(&r); break;
         default: puts("no such call");
         }
     }
@@ -60,6 +61,7 @@ int main(int words, char **word) {
     make_room();
     if (words == 1) {
         test_edges();
+        test_releases();
         test_displacement();
         return end_tests() ? 0 : 1;
     }

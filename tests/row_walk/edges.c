@@ -104,12 +104,13 @@ static void classes(void) {
     end_test("104, 110 and 111 of the last seal, then of the classes, newest first, at each place of a row");
 }
 
-/* Commits up to the limit on a register that is lent, then walks back over the k newest classes. */
+/* Commits up to the limit on a register that is lent, a release after every so many, then walks back over the k newest
+ * classes: a walk has no released step and goes past it. */
 static void there_and_back(void) {
     static const size_t parts[] = {0, 1, 2, 3, 512, 1023, 1024};
     for (int d = 0; d < 2; d++) {
         static struct seal_class seals[LIMIT + 1], row[LIMIT];
-        struct seal_register kept = {curve(degrees[d]), 0, xxx_0};
+        struct seal_register kept = {curve(degrees[d]), 0, xxx_0, 0};
         for (size_t i = 0; i < LIMIT; i++) {
             struct seal_class operation = i % 5 == 0 ? neutral : i % 3 == 0 ? x_1 : i % 7 == 0 ? kept.seal : x_0;
             seals[LIMIT - i] = kept.seal;
@@ -117,12 +118,16 @@ static void there_and_back(void) {
             uint32_t got = seal_register_commit(&kept, operation);
             if (got != 0)
                 fault("commit %zu on the way: got %u", i, got);
+            if (i % 100 == 99 || i == LIMIT - 2)
+                got = seal_register_release(&kept);
+            if (got != 0)
+                fault("release after %zu commits: got %u", i + 1, got);
         }
         seals[0] = kept.seal;
         for (size_t i = 0; i < sizeof parts / sizeof *parts; i++)
             answers(kept.curve, kept.seal, row, parts[i], seals[parts[i]]);
     }
-    end_test("1,024 commits over each field, and walks back over the newest 0, 1, 2, 3, 512, 1,023 and 1,024 classes");
+    end_test("1,024 commits over each field, with releases, and walks past these over the newest 0 to 1,024 classes");
 }
 
 int test_edges(void) {

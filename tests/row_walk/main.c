@@ -5,7 +5,8 @@
  *
  * RECORDS are the calls that the program history_trial is run on, and LINES what the second implementation answers to
  * them (reference/, `history_vectors`). After each accepted call, walks over the newest of the commits that stand are
- * held to the seals that LINES has just before these. The status is 0 where there was no fault, and some walk was made.
+ * held to the seals that LINES has just before these, past every release among them. The status is 0 where there was no
+ * fault, some walk was made, and some went past a release.
  */
 #include "count.h"
 #include "trial.h"
@@ -24,10 +25,10 @@ static char *read_row(char *at, uint64_t degree, uint64_t row[3]) {
     return at;
 }
 
-/* The seal of a line: after the count the degree, u and v with a colon between. */
+/* The seal of a line: after the count and the released step the degree, u and v with a colon between. */
 static struct seal_class seal_in(char *at) {
     struct seal_class a = neutral;
-    at = strchr(at, ' ');
+    at = strrchr(at, ' ');
     if (at == NULL)
         return a;
     a.degree = strtoull(at, &at, 10);
@@ -40,12 +41,17 @@ static struct seal_class seal_in(char *at) {
 static struct seal_class operations[LIMIT], seals[LIMIT];
 static size_t standing;
 
+/* How many of them stood at the last release, and the walks that went past it. */
+static size_t released;
+static unsigned long past;
+
 /* Walks over the k newest. */
 static void walk_back(struct seal_curve curve, struct seal_class last, size_t k) {
     static struct seal_class row[LIMIT];
     for (size_t i = 0; i < k; i++)
         row[i] = operations[standing - 1 - i];
     answers(curve, last, row, k, k == 0 ? last : seals[standing - k]);
+    past += standing - k < released;
 }
 
 /* Every walk over few classes, and over all where they are as many as a power of 2. */
@@ -67,25 +73,31 @@ static void stands(int commit, struct seal_class operation, struct seal_class be
     } else {
         standing = 0;
     }
+    if (standing < released)
+        released = 0;
 }
 
 static int trial(FILE *lines) {
     uint8_t record[RECORD];
     char line[400];
-    struct seal_register r = {{0, 0, 0, 0}, 0, neutral};
+    struct seal_register r = {{0, 0, 0, 0}, 0, neutral, 0};
     while (fread(record, 1, RECORD, stdin) == RECORD) {
-        if (record[0] == 0) {
+        if (record[0] == TRIAL_START) {
             r = register_in(record);
-            standing = 0;
+            standing = released = 0;
             continue;
         }
         if (fgets(line, sizeof line, lines) == NULL)
             return 0;
-        if ((record[0] == 1 || record[0] == 2) && strncmp(line, "refused", 7) != 0) {
-            stands(record[0] == 1, operation_in(record), r.seal);
-            r.seal = seal_in(line);
-            walk_all(r.curve, r.seal);
-        }
+        int call = record[0];
+        if ((call != TRIAL_COMMIT && call != TRIAL_UNDO && call != TRIAL_RELEASE) || strncmp(line, "refused", 7) == 0)
+            continue;
+        if (call == TRIAL_RELEASE)
+            released = standing;
+        else
+            stands(call == TRIAL_COMMIT, operation_in(record), r.seal);
+        r.seal = seal_in(line);
+        walk_all(r.curve, r.seal);
     }
     return fgets(line, sizeof line, lines) == NULL;
 }
@@ -99,6 +111,6 @@ int main(int words, char **word) {
         return 2;
     int whole = trial(lines);
     fclose(lines);
-    printf("%lu walks%s\n", calls(), whole ? "" : ", and other lines than calls");
-    return whole && calls() > 0 && faults() == 0 ? 0 : 1;
+    printf("%lu walks, %lu past a release%s\n", calls(), past, whole ? "" : ", and other lines than calls");
+    return whole && calls() > 0 && past > 0 && faults() == 0 ? 0 : 1;
 }

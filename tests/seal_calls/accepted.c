@@ -80,7 +80,7 @@ static void output_bounds(void) {
         expect(call, NULL, 0, output_bound(call), 102, NULL);
     }
     expect(MEMBERSHIP, NULL, 0, 0, 102, NULL);
-    end_test("101: outputs of 0 to 50 or 55 bytes, before any byte of the input");
+    end_test("101: outputs of 0 to 50 or 60 bytes, before any byte of the input");
 }
 
 void test_accepted(void) {

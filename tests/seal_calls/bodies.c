@@ -1,4 +1,4 @@
-/* Refusals of what is in a field: 106, 107, 109, 110, 111. */
+/* Refusals of what is in a field: 106, 107, 109, 110, 111, 120. */
 #include "edges.h"
 #include "records.h"
 #include "seal.h"
@@ -52,7 +52,7 @@ static void curve_coefficients(void) {
 }
 
 static void counts(void) {
-    for (int call = COMMIT; call <= UNDO; call++)
+    for (int call = COMMIT; call <= RELEASE; call++)
         for (int count = 0; count < 65536; count += count < 1030 || count > 65500 ? 1 : 331) {
             struct record r = accepted(call, 5);
             struct bytes b = {0};
@@ -64,7 +64,26 @@ static void counts(void) {
             put(&b, 0xff);
             refused(call, &b, count > 1024 ? 109 : 103);
         }
-    end_test("109: counts above 1,024, before the seal");
+    end_test("109: counts above 1,024, before the released step and the seal");
+}
+
+static void released_steps(void) {
+    static const int counts[3] = {0, 7, 1024};
+    for (int call = COMMIT; call <= RELEASE; call++)
+        for (int i = 0; i < 3; i++)
+            for (int step = 0; step < 65536; step += step < 1030 || step > 65500 ? 1 : 331) {
+                struct record r = accepted(call, 61);
+                struct bytes b = {0};
+                append_fields(&b, &r, 0, 2);
+                put_count(&b, counts[i]);
+                put_released(&b, step);
+                refused(call, &b, step > counts[i] ? 120 : 102);
+                put(&b, 0xff);
+                put(&b, 0xff);
+                put(&b, 0xff);
+                refused(call, &b, step > counts[i] ? 120 : 103);
+            }
+    end_test("120: released steps above the count, before the seal; the count itself passes");
 }
 
 static void class_coefficients(void) {
@@ -110,6 +129,7 @@ void test_bodies(void) {
     degrees_refused();
     curve_coefficients();
     counts();
+    released_steps();
     class_coefficients();
     no_classes();
 }

@@ -21,11 +21,15 @@ void make_areas(void) {
     output_area = make_area(AREA, PROT_READ | PROT_WRITE);
 }
 
-static const char *const call_names[CALLS] = {"membership", "opposite", "sum",   "double",   "half",
-                                              "commit",     "undo",     "stamp", "multiple", "halvings"};
+static const char *const call_names[CALLS] = {"membership", "opposite", "sum",   "double",   "half",    "commit",
+                                              "undo",       "release",  "stamp", "multiple", "halvings"};
 
 int takes_number(enum call call) {
     return call == STAMP || call == MULTIPLE || call == HALVINGS;
+}
+
+int is_of_register(enum call call) {
+    return call == COMMIT || call == UNDO || call == RELEASE;
 }
 
 uint32_t call_library(enum call call, const uint8_t *in, size_t in_len, uint64_t number, uint8_t *out, size_t out_len) {
@@ -37,6 +41,7 @@ uint32_t call_library(enum call call, const uint8_t *in, size_t in_len, uint64_t
     case HALF: return seal_half(in, in_len, out, out_len);
     case COMMIT: return seal_commit(in, in_len, out, out_len);
     case UNDO: return seal_undo(in, in_len, out, out_len);
+    case RELEASE: return seal_release(in, in_len, out, out_len);
     case STAMP: return seal_stamp(in, in_len, number, out, out_len);
     case MULTIPLE: return seal_multiple(in, in_len, number, out, out_len);
     case HALVINGS: return seal_halvings(in, in_len, number, out, out_len);
@@ -45,10 +50,10 @@ uint32_t call_library(enum call call, const uint8_t *in, size_t in_len, uint64_t
 }
 
 size_t output_bound(enum call call) {
-    return call == MEMBERSHIP ? 0 : call == COMMIT || call == UNDO ? 56 : 51;
+    return call == MEMBERSHIP ? 0 : is_of_register(call) ? 61 : 51;
 }
 
-#define LAST_REFUSAL SEAL_TOO_MANY_HALVINGS
+#define LAST_REFUSAL SEAL_UNDO_AT_RELEASED
 
 /* how often each call gave 101 to the last refusal; place 0: an accepted call */
 static unsigned long met[CALLS][LAST_REFUSAL - 99];

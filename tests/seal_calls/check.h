@@ -8,10 +8,13 @@
 /* The longest input or output that is tried: one page. */
 #define AREA PAGE
 
-enum call { MEMBERSHIP, OPPOSITE, SUM, DOUBLE, HALF, COMMIT, UNDO, STAMP, MULTIPLE, HALVINGS, CALLS };
+enum call { MEMBERSHIP, OPPOSITE, SUM, DOUBLE, HALF, COMMIT, UNDO, RELEASE, STAMP, MULTIPLE, HALVINGS, CALLS };
 
 /* Does the call take a number beside the input: STAMP the stamp, MULTIPLE n and HALVINGS k? */
 int takes_number(enum call call);
+
+/* Is the call one on a register: COMMIT, UNDO or RELEASE? */
+int is_of_register(enum call call);
 
 /* The number is handed over by the calls that take one. */
 uint32_t call_library(enum call call, const uint8_t *in, size_t in_len, uint64_t number, uint8_t *out, size_t out_len);

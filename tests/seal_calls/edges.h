@@ -6,6 +6,7 @@ void test_accepted(void);
 void test_heads(void);
 void test_bodies(void);
 void test_ends(void);
+void test_releases(void);
 void test_stamps(void);
 void test_licence(void);
 

@@ -20,11 +20,13 @@ static void bytes_remain(void) {
                 refused(call, &b, 112);
             }
         }
-    for (int call = COMMIT; call <= UNDO; call++) {
-        struct bytes b = register_record(5, call == UNDO ? 0 : 1024, x_0, x_0);
-        put(&b, 0);
-        refused(call, &b, 112);
-    }
+    for (int call = COMMIT; call <= RELEASE; call++)
+        for (int step = 0; step < 2; step++) {
+            int count = call == COMMIT || step == 1 ? 1024 : 0;
+            struct bytes b = register_record(call, 5, count, count * step, x_0, x_0);
+            put(&b, 0);
+            refused(call, &b, 112);
+        }
     for (int call = 0; call < CALLS; call++) {
         struct record r = accepted(call, 61);
         struct bytes b = {0};
@@ -33,7 +35,7 @@ static void bytes_remain(void) {
             put(&b, 0x43);
         refused(call, &b, 112);
     }
-    end_test("112: 1 to 60 bytes and a page of them after the last field, before 113, 114, 115, 118 and 119");
+    end_test("112: 1 to 60 bytes and a page of them after the last field, before 113 to 115, 118, 119 and 121");
 }
 
 static void first_and_last_count(void) {
@@ -41,21 +43,19 @@ static void first_and_last_count(void) {
         int counts[6] = {0, 1, 2, 512, 1023, 1024};
         for (int i = 0; i < 6; i++) {
             /* twice [x, 0] plus neutral is [x^2, 0]; half of [x^2, 0] less neutral is [x, 0] */
-            struct bytes commit = register_record(degrees[d], counts[i], x_0, neutral), out = {0};
-            put_count(&out, counts[i] + 1);
-            put_class(&out, SEAL_TAG_CLASS, xx_0);
-            expect(COMMIT, commit.at, commit.length, 56, counts[i] == 1024 ? 114 : (uint32_t)out.length, out.at);
-            struct bytes undo = register_record(degrees[d], counts[i], xx_0, neutral), back = {0};
-            put_count(&back, counts[i] - 1);
-            put_class(&back, SEAL_TAG_CLASS, x_0);
-            expect(UNDO, undo.at, undo.length, 56, counts[i] == 0 ? 113 : (uint32_t)back.length, back.at);
+            struct bytes commit = register_record(COMMIT, degrees[d], counts[i], 0, x_0, neutral), out = {0};
+            put_register(&out, counts[i] + 1, 0, xx_0);
+            expect(COMMIT, commit.at, commit.length, 61, counts[i] == 1024 ? 114 : (uint32_t)out.length, out.at);
+            struct bytes undo = register_record(UNDO, degrees[d], counts[i], 0, xx_0, neutral), back = {0};
+            put_register(&back, counts[i] - 1, 0, x_0);
+            expect(UNDO, undo.at, undo.length, 61, counts[i] == 0 ? 113 : (uint32_t)back.length, back.at);
         }
-        struct bytes b = register_record(degrees[d], 1025, x_0, neutral);
+        struct bytes b = register_record(COMMIT, degrees[d], 1025, 0, x_0, neutral);
         refused(COMMIT, &b, 109);
         refused(UNDO, &b, 109);
-        b = register_record(degrees[d], 1024, x_0, off);
+        b = register_record(COMMIT, degrees[d], 1024, 0, x_0, off);
         refused(COMMIT, &b, 111);
-        b = register_record(degrees[d], 0, off, x_0);
+        b = register_record(UNDO, degrees[d], 0, 0, off, x_0);
         refused(UNDO, &b, 111);
     }
     end_test("113 and 114: undo at 0; commit at 1,023 gives 1,024, at 1,024 is 114, at 1,025 is 109");

@@ -129,6 +129,7 @@ static const struct bytes *operation(const struct pool *p, int n, int i) {
 static struct bytes last_seal(const struct pool *p, int n, int k, const struct bytes *changed) {
     struct bytes written = {0}, seal = {0};
     put_count(&written, n);
+    put_released(&written, n / 2);
     append(&written, &p->class[n % POOL]);
     for (int i = 1; i <= n; i++) {
         if ((i + k) % 5 == 0)
@@ -136,7 +137,7 @@ static struct bytes last_seal(const struct pool *p, int n, int k, const struct b
         struct bytes in = commit_record(&p->s, &written, i == k ? changed : operation(p, n, i));
         written = made(COMMIT, &in, 0);
     }
-    for (size_t i = 5; i < written.length; i++)
+    for (size_t i = 10; i < written.length; i++)
         put(&seal, written.at[i]);
     return seal;
 }

@@ -8,7 +8,8 @@ static int allowed(int tag, size_t length) {
     switch (tag) {
     case SEAL_TAG_DEGREE: return length == 1;
     case SEAL_TAG_CURVE: return length == 24;
-    case SEAL_TAG_COUNT: return length == 2;
+    case SEAL_TAG_COUNT:
+    case SEAL_TAG_RELEASED: return length == 2;
     default: return length == 0 || length == 16 || length == 32 || length == 48;
     }
 }

@@ -1,10 +1,11 @@
-/* Tests the ten calls of include/seal.h and include/seal_licence.h. It knows nothing of how they are made: the edges
+/* Tests the eleven calls of include/seal.h and include/seal_licence.h. It knows nothing of how they are made: the edges
  * are written out here from documents 01 and 02 (edges.h), and further cases come from a second implementation
  * (reference/, `byte_vectors N`).
  *
- *     seal_calls              the edges
- *     seal_calls N < FILE     the edges, then the N cases of the file
- *     seal_calls group        the laws of the group alone
+ *     seal_calls                      the edges
+ *     seal_calls N < FILE             the edges, then the N cases of the file
+ *     seal_calls changes N < FILE     the N cases of the file alone
+ *     seal_calls group                the laws of the group alone
  *
  * A line is printed for each test. The last line is 'N passed, M failed', and the status is 0 where nothing failed.
  */
@@ -46,19 +47,20 @@ static void test_edges(void) {
     test_heads();
     test_bodies();
     test_ends();
+    test_releases();
     test_stamps();
     test_licence();
 }
 
 int main(int words, char **word) {
-    int laws = words > 1 && strcmp(word[1], "group") == 0;
+    int laws = words > 1 && strcmp(word[1], "group") == 0, file_alone = words > 2 && strcmp(word[1], "changes") == 0;
     make_areas();
     if (laws)
         test_group();
-    else
+    else if (!file_alone)
         test_edges();
     if (words > 1 && !laws)
-        test_file(strtoul(word[1], NULL, 10));
+        test_file(strtoul(word[words - 1], NULL, 10));
     print_met();
     return end_tests() ? 0 : 1;
 }

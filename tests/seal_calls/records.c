@@ -39,6 +39,12 @@ void put_count(struct bytes *b, int count) {
     put(b, count & 0xff);
 }
 
+void put_released(struct bytes *b, int step) {
+    put_head(b, SEAL_TAG_RELEASED, 2);
+    put(b, step >> 8);
+    put(b, step & 0xff);
+}
+
 /* u below its leading term from the highest power down, then v likewise */
 void put_class(struct bytes *b, int tag, struct seal_class class) {
     put_head(b, tag, (size_t)(16 * class.degree));
@@ -48,15 +54,22 @@ void put_class(struct bytes *b, int tag, struct seal_class class) {
         put_number(b, class.v[i]);
 }
 
+void put_register(struct bytes *b, int count, int step, struct seal_class seal) {
+    put_count(b, count);
+    put_released(b, step);
+    put_class(b, SEAL_TAG_CLASS, seal);
+}
+
 struct record accepted(enum call call, int d) {
     struct record r = {0};
     put_degree(&r.field[0], d);
     put_curve(&r.field[1], 0, 0, 0);
-    if (call == COMMIT || call == UNDO) {
+    if (is_of_register(call)) {
         put_count(&r.field[2], 7);
-        put_class(&r.field[3], SEAL_TAG_CLASS, x_0);
-        put_class(&r.field[4], SEAL_TAG_OPERATION, x_0);
-        r.fields = 5;
+        put_released(&r.field[3], 3);
+        put_class(&r.field[4], SEAL_TAG_CLASS, x_0);
+        put_class(&r.field[5], SEAL_TAG_OPERATION, x_0);
+        r.fields = call == RELEASE ? 5 : 6;
     } else if (call == STAMP) {
         r.fields = 2;
     } else {
@@ -68,7 +81,7 @@ struct record accepted(enum call call, int d) {
 }
 
 int first_class(enum call call) {
-    return call == COMMIT || call == UNDO ? 3 : 2;
+    return is_of_register(call) ? 4 : 2;
 }
 
 void append(struct bytes *b, const struct bytes *more) {
@@ -89,13 +102,12 @@ struct bytes expected_of_accepted(enum call call) {
     case DOUBLE: put_class(&b, SEAL_TAG_CLASS, xx_0); break;
     case HALF: put_class(&b, SEAL_TAG_CLASS, xxx_1); break; /* example 3 */
     case COMMIT:                                            /* [x^2, 0] + [x, 0] is [x^3, 0] */
-        put_count(&b, 8);
-        put_class(&b, SEAL_TAG_CLASS, xxx_0);
+        put_register(&b, 8, 3, xxx_0);
         break;
     case UNDO: /* [x, 0] less itself is neutral, and so is its half */
-        put_count(&b, 6);
-        put_class(&b, SEAL_TAG_CLASS, neutral);
+        put_register(&b, 6, 3, neutral);
         break;
+    case RELEASE: put_register(&b, 7, 7, x_0); break;
     case STAMP: put_class(&b, SEAL_TAG_CLASS, x_0); break; /* x^7 is 0 at x = 0, and so is its root */
     case MULTIPLE: put_class(&b, SEAL_TAG_CLASS, neutral); break;
     case HALVINGS: put_class(&b, SEAL_TAG_CLASS, x_0); break;
@@ -119,12 +131,13 @@ struct bytes with_row(const struct record *r, int f, const uint64_t *row, int nu
     return b;
 }
 
-struct bytes register_record(int d, int count, struct seal_class seal, struct seal_class operation) {
+struct bytes register_record(enum call call, int d, int count, int step, struct seal_class seal,
+                             struct seal_class operation) {
     struct bytes b = {0};
     put_degree(&b, d);
     put_curve(&b, 0, 0, 0);
-    put_count(&b, count);
-    put_class(&b, SEAL_TAG_CLASS, seal);
-    put_class(&b, SEAL_TAG_OPERATION, operation);
+    put_register(&b, count, step, seal);
+    if (call != RELEASE)
+        put_class(&b, SEAL_TAG_OPERATION, operation);
     return b;
 }

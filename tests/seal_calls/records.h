@@ -17,14 +17,19 @@ void put_number(struct bytes *b, uint64_t n);
 void put_degree(struct bytes *b, int d);
 void put_curve(struct bytes *b, uint64_t f3, uint64_t f1, uint64_t f0);
 void put_count(struct bytes *b, int count);
+void put_released(struct bytes *b, int step);
 void append(struct bytes *b, const struct bytes *more);
 
 void put_class(struct bytes *b, int tag, struct seal_class class);
 
-/* The fields of an accepted record on f = x^7, one by one: classes [x, 0], count 7; for STAMP no class. */
+/* The fields of a register: count, released step and seal. */
+void put_register(struct bytes *b, int count, int step, struct seal_class seal);
+
+/* The fields of an accepted record on f = x^7, one by one: classes [x, 0], count 7, released step 3; for STAMP no
+ * class. */
 struct record {
     int fields;
-    struct bytes field[5];
+    struct bytes field[6];
 };
 
 struct record accepted(enum call call, int d);
@@ -42,8 +47,9 @@ struct bytes expected_of_accepted(enum call call);
 /* An accepted record up to a field, and that field with another row of numbers as its body. */
 struct bytes with_row(const struct record *r, int f, const uint64_t *row, int numbers);
 
-/* A record of a register on f = x^7. */
-struct bytes register_record(int d, int count, struct seal_class seal, struct seal_class operation);
+/* The record of a call on a register on f = x^7; that of RELEASE has no operation. */
+struct bytes register_record(enum call call, int d, int count, int step, struct seal_class seal,
+                             struct seal_class operation);
 
 /* Holds a call to a refusal by its input, with an output that is just long enough; one that takes a number also with a
  * number that is too large, which is looked at later. */

@@ -21,12 +21,10 @@ static void class_is_of_use(const struct bytes *curve, struct seal_class class) 
     struct bytes alone = *curve, commit = *curve, expected = {0};
     put_class(&alone, SEAL_TAG_CLASS, class);
     expect(MEMBERSHIP, alone.at, alone.length, 0, 0, NULL);
-    put_count(&commit, 0);
-    put_class(&commit, SEAL_TAG_CLASS, neutral);
+    put_register(&commit, 0, 0, neutral);
     put_class(&commit, SEAL_TAG_OPERATION, class);
-    put_count(&expected, 1);
-    put_class(&expected, SEAL_TAG_CLASS, class);
-    expect(COMMIT, commit.at, commit.length, 56, (uint32_t)expected.length, expected.at);
+    put_register(&expected, 1, 0, class);
+    expect(COMMIT, commit.at, commit.length, 61, (uint32_t)expected.length, expected.at);
 }
 
 /* Over both fields f(0) = 0 on x^7, with the root 0. On x^7 + 1 f(0) = 1 has no root, since the degrees are odd, and

@@ -16,9 +16,10 @@ answers() { # FOLDER KIND LINES [F3 F1 F0]
     return 1
 }
 
-# The lists of commits and undos that `history_vectors` makes, each with refused calls in it, and how many lines it
-# has, one for each call but a start. They are run by value (tests/history_trial), in place (tests/register_calls) and
-# walked back (tests/row_walk).
+# The lists of commits, undos and releases that `history_vectors` makes, each with refused calls in it, and how many
+# lines it has, one for each call but a start. They are run by value (tests/history_trial), in place
+# (tests/register_calls) and walked back (tests/row_walk). A list is taken back as far as its last accepted release,
+# behind which an undo is refused with 121; about every second list has none.
 #
 # The last has lists of 1 to 64 commits, each once more with operation k alone changed from D to E (document 02,
 # request 7), with refused calls at other places. What is expected of a changed list is what the first one came to,
@@ -26,14 +27,14 @@ answers() { # FOLDER KIND LINES [F3 F1 F0]
 # neither by commits nor by doubling.
 # shellcheck disable=SC2034
 declare -A list_lines=(
-    [bench]=14858 [known-halves]=1633 [wide]=6405 [full]=4408 [every-class]=64835 [displacement]=29332
+    [bench]=13336 [known-halves]=1558 [wide]=6229 [full]=7297 [every-class]=64835 [displacement]=29258
 )
 # shellcheck disable=SC2034
 declare -A list_name=(
-    [bench]="lists of commits and undos on six curves of the bench field, taken back"
+    [bench]="lists of commits, undos and releases on six curves of the bench field, taken back"
     [known-halves]="the same over GF(2^61) on the curves with coefficients 0 and 1"
     [wide]="the same over GF(2^61) on forty curves"
-    [full]="1,024 commits over each field, and the way back"
+    [full]="1,024 commits over each field, and the way back, without releases and with them"
     [every-class]="an undo with every class of x^7, each taken back"
     [displacement]="one operation changed in lists of 1 to 64 commits over both fields"
 )

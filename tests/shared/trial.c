@@ -26,9 +26,10 @@ struct seal_register register_in(const uint8_t *record) {
     r.curve.f0 = number(record + 18);
     r.count = number(record + 26);
     r.seal = class_at(record + 34);
+    r.released = number(record + 90);
     return r;
 }
 
 struct seal_class operation_in(const uint8_t *record) {
-    return class_at(record + 90);
+    return class_at(record + 98);
 }

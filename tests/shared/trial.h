@@ -4,8 +4,9 @@
 
 #include "seal_register.h"
 
-/* The length of a record, whose first byte is the call: 0 start, 1 commit, 2 undo, 3 show. */
-#define RECORD 146
+/* The length of a record, and the calls, which its first byte says. */
+#define RECORD 154
+enum { TRIAL_START, TRIAL_COMMIT, TRIAL_UNDO, TRIAL_SHOW, TRIAL_RELEASE };
 
 /* The register that a record starts. */
 struct seal_register register_in(const uint8_t *record);

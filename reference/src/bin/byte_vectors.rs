@@ -1,17 +1,25 @@
-//! Prints cases of the byte calls, records mutated or not, for tests/seal_calls: `byte_vectors N` the first N, in the
-//! bytes that `ByteCase::bytes` gives.
+//! Prints cases of the byte calls for tests/seal_calls, in the bytes that `ByteCase::bytes` gives: `byte_vectors N` the
+//! first N records, mutated or not; `byte_vectors changes` every release with one byte changed.
 
-use reference::byte_cases::Mutated;
+use reference::byte_cases::{changed_releases, ByteCase, Mutated};
 use std::io::{BufWriter, Write};
 
-fn main() {
-    let Some(number) = std::env::args().nth(1).and_then(|word| word.parse().ok()) else {
-        eprintln!("usage: byte_vectors N");
-        std::process::exit(2);
-    };
+fn print(cases: impl Iterator<Item = ByteCase>) {
     let mut output = BufWriter::new(std::io::stdout().lock());
-    for case in Mutated::new().take(number) {
+    for case in cases {
         output.write_all(&case.bytes()).expect("standard output takes the bytes");
     }
     output.flush().expect("standard output takes the bytes");
+}
+
+fn main() {
+    let word = std::env::args().nth(1).unwrap_or_default();
+    match word.parse() {
+        Ok(number) => print(Mutated::new().take(number)),
+        Err(_) if word == "changes" => print(changed_releases()),
+        Err(_) => {
+            eprintln!("usage: byte_vectors N, or byte_vectors changes");
+            std::process::exit(2);
+        }
+    }
 }

@@ -1,4 +1,4 @@
-//! The ten byte calls of the reference under the C names of include/seal.h and include/seal_licence.h, as a static library.
+//! The eleven byte calls of the reference under the C names of include/seal.h and include/seal_licence.h, as a static library.
 //! It stands in for the two proved libraries where tests/seal_calls is tested itself: the variable SEAL_FAULT, one of
 //! `FAULTS`, makes the calls wrong in one way, and that test has to fail.
 
@@ -6,7 +6,7 @@ use reference::calls::{answer, seal_after_commit, Call};
 use reference::jacobian::Class;
 use reference::multiples::{doublings, HALVINGS_LIMIT, MULTIPLE_LIMIT};
 use reference::stamp::{first_class, stamp_limit};
-use reference::stored::{class_field, count_field, Reader, Refusal};
+use reference::stored::{class_field, register_fields, released_field, Reader, Refusal, COUNT_LIMIT};
 use std::sync::OnceLock;
 
 /// The faults, by name.
@@ -42,7 +42,25 @@ use std::sync::OnceLock;
 /// - `commit-subtracts`: the class is subtracted from the double of the seal.
 /// - `commit-leaves-out`: a class of degree 3 is left out, and the seal is doubled alone.
 /// - `all-neutral`: every class that is written, but a stamp's, is the neutral one, so that no seal moves.
-const FAULTS: [&str; 30] = [
+/// - `register-room`: 60 bytes of output are enough for commit, undo and release where they hold what is written.
+/// - `commit-clears`: a commit writes the released step 0.
+/// - `undo-clears`: an undo does.
+/// - `release-one-more`: a release writes one more than the count as the step.
+/// - `release-keeps`: a release writes the step that it read.
+/// - `release-doubles`: a release writes the double of the seal.
+/// - `refused-release-writes`: a release with bytes after its record is refused, and writes the register all the same.
+/// - `zero-late`: 121 comes before 113.
+/// - `undo-behind`: an undo is accepted at the released step.
+/// - `early-stop`: an undo is refused with 121 also one above the released step.
+/// - `step-unchecked`: a released step above the count is read as if it were the count.
+/// - `step-late`: 120 comes after the checks of the seal.
+/// - `seal-first`: commit, undo and release write 0x45 after 0x43.
+/// - `step-left-out`: they write no 0x45.
+/// - `reads-old`: they take a record without 0x45 as one of which nothing is released.
+/// - `release-at-limit`: a release is refused with 114 at count 1,024.
+/// - `release-at-zero`: a release is refused with 113 at count 0.
+/// - `release-takes-operation`: a release passes over a 0x44 after the seal.
+const FAULTS: [&str; 48] = [
     "bound",
     "scratch",
     "beyond",
@@ -73,6 +91,24 @@ const FAULTS: [&str; 30] = [
     "commit-subtracts",
     "commit-leaves-out",
     "all-neutral",
+    "register-room",
+    "commit-clears",
+    "undo-clears",
+    "release-one-more",
+    "release-keeps",
+    "release-doubles",
+    "refused-release-writes",
+    "zero-late",
+    "undo-behind",
+    "early-stop",
+    "step-unchecked",
+    "step-late",
+    "seal-first",
+    "step-left-out",
+    "reads-old",
+    "release-at-limit",
+    "release-at-zero",
+    "release-takes-operation",
 ];
 
 /// The least number of halvings that is too large.
@@ -170,6 +206,7 @@ fn faulty_commit(input: &[u8]) -> Result<Vec<u8>, Refusal> {
     let mut reader = Reader::new(input);
     let curve = reader.curve()?;
     let count = reader.count()?;
+    let released = reader.released(count)?;
     let (seal, operation) = (reader.class(&curve)?, reader.operation(&curve)?);
     let next = match fault() {
         "commit-adds-first" => curve.double(&curve.sum(&seal, &operation)),
@@ -177,7 +214,81 @@ fn faulty_commit(input: &[u8]) -> Result<Vec<u8>, Refusal> {
         "commit-leaves-out" if operation.degree() == 3 => curve.double(&seal),
         _ => seal_after_commit(&curve, &seal, &operation),
     };
-    Ok([count_field(count + 1), class_field(&next)].concat())
+    Ok(register_fields(count + 1, released, &next).concat())
+}
+
+/// The places of the fields 0x45 and 0x43 in a record of a register that is read so far.
+const STEP_AT: usize = 36;
+const SEAL_AT: usize = 41;
+
+/// The answer to a record with another released step, which is written as the step.
+fn with_step(call: Call, input: &[u8], step: u16, length: usize) -> (u32, Vec<u8>) {
+    let mut other = input.to_vec();
+    other[STEP_AT..SEAL_AT].copy_from_slice(&released_field(step));
+    let (number, mut bytes) = answer(call, &other, length);
+    if number <= 100 {
+        bytes[5..10].copy_from_slice(&input[STEP_AT..SEAL_AT]);
+    }
+    (number, bytes)
+}
+
+/// What an accepted call on a register writes, with one of the faults of the released step; none where it does not show.
+fn faulty_written(call: Call, right: &[u8], input: &[u8]) -> Option<Vec<u8>> {
+    let with = |step: &[u8]| Some([&right[..5], step, &right[10..]].concat());
+    let count = u16::from_be_bytes([right[3], right[4]]);
+    match (fault(), call) {
+        ("commit-clears", Call::Commit) | ("undo-clears", Call::Undo) => with(&released_field(0)),
+        ("release-one-more", Call::Release) => with(&released_field(count + 1)),
+        ("release-keeps", Call::Release) => with(&input[STEP_AT..SEAL_AT]),
+        ("release-doubles", Call::Release) => {
+            let mut reader = Reader::new(input);
+            let curve = reader.curve().ok()?;
+            let mut seal = Reader::new(&right[10..]);
+            let doubled = class_field(&curve.double(&seal.class(&curve).ok()?));
+            Some([&right[..10], &doubled].concat())
+        }
+        ("seal-first", _) => Some([&right[..5], &right[10..], &right[5..10]].concat()),
+        ("step-left-out", _) => with(&[]),
+        _ => None,
+    }
+}
+
+/// The answer of a call on a register, with one of the faults of the released step; none where it does not show. `right`
+/// is what should be answered.
+fn faulty_register(call: Call, right: &(u32, Vec<u8>), input: &[u8], length: usize) -> Option<(u32, Vec<u8>)> {
+    if right.0 <= 100 {
+        let count = u16::from_be_bytes([input[34], input[35]]);
+        let released = u16::from_be_bytes([input[39], input[40]]);
+        return match (fault(), call) {
+            ("early-stop", Call::Undo) if released > 0 && count == released + 1 => Some((121, vec![])),
+            ("release-at-limit", Call::Release) if count == COUNT_LIMIT => Some((114, vec![])),
+            ("release-at-zero", Call::Release) if count == 0 => Some((113, vec![])),
+            _ => faulty_written(call, &right.1, input).map(|bytes| (bytes.len() as u32, bytes)),
+        };
+    }
+    match (fault(), right.0) {
+        ("register-room", 101) if length == 60 => {
+            let (number, bytes) = answer(call, input, 61);
+            (bytes.len() <= length).then_some((number, bytes))
+        }
+        ("zero-late", 113) => Some((121, vec![])),
+        ("undo-behind", 121) => Some(with_step(call, input, 0, length)),
+        ("step-unchecked", 120) => Some(with_step(call, input, 0, length)),
+        ("step-late", 120) => {
+            let (number, _) = with_step(call, input, 0, length);
+            [102, 103, 104, 105, 110, 111].contains(&number).then_some((number, vec![]))
+        }
+        ("reads-old", 103) if input.len() > STEP_AT && input[STEP_AT] == 0x43 => {
+            let with_step = [&input[..STEP_AT], &released_field(0), &input[STEP_AT..]].concat();
+            Some(answer(call, &with_step, length))
+        }
+        ("release-takes-operation", 112) if call == Call::Release => {
+            let seal_end = SEAL_AT + 3 + input[SEAL_AT + 2] as usize;
+            let read = input[seal_end] == 0x44 && answer(Call::Commit, input, length).0 != 112;
+            read.then(|| answer(call, &input[..seal_end], length))
+        }
+        _ => None,
+    }
 }
 
 /// What an accepted call writes, with a fault by which a law of the group fails; none where the fault does not show.
@@ -187,7 +298,7 @@ fn faulty_group(call: Call, right: &[u8], input: &[u8]) -> Option<Vec<u8>> {
         ("commit-adds-first" | "commit-subtracts" | "commit-leaves-out", Call::Commit) => faulty_commit(input).ok(),
         ("all-neutral", Call::Membership | Call::Stamp(_)) => None,
         ("all-neutral", _) => {
-            let before = if call.is_of_register() { &right[..5] } else { &[] };
+            let before = if call.is_of_register() { &right[..10] } else { &[] };
             Some([before, &class_field(&Class::neutral())].concat())
         }
         _ => None,
@@ -204,14 +315,16 @@ fn faulty(call: Call, input: &[u8], length: usize) -> (u32, Vec<u8>) {
                 return (number, bytes);
             }
         }
-        "order" if right.0 == 111 && call.output_bound() < 56 && input[33] == 16 && input.len() > 31 + 19 => {
+        "order" if right.0 == 111 && !call.is_of_register() && input[33] == 16 && input.len() > 31 + 19 => {
             return (112, vec![]);
         }
         "limit" if right.0 == 114 => {
             let mut lower = input.to_vec();
             lower[34..36].copy_from_slice(&1023u16.to_be_bytes());
             let (number, mut bytes) = answer(call, &lower, length);
-            bytes[3..5].copy_from_slice(&1025u16.to_be_bytes());
+            if number <= 100 {
+                bytes[3..5].copy_from_slice(&1025u16.to_be_bytes());
+            }
             return (number, bytes);
         }
         "half" if call == Call::Half && right.0 <= 100 && input[33] == 16 => {
@@ -234,6 +347,11 @@ fn faulty(call: Call, input: &[u8], length: usize) -> (u32, Vec<u8>) {
         }
         _ => {}
     }
+    if call.is_of_register() {
+        if let Some(wrong) = faulty_register(call, &right, input, length) {
+            return wrong;
+        }
+    }
     if right.0 <= 100 {
         if let Some(bytes) = faulty_group(call, &right.1, input) {
             return (bytes.len() as u32, bytes);
@@ -250,6 +368,11 @@ unsafe fn run(call: Call, input: *const u8, input_length: usize, output: *mut u8
     let (answer, written) = faulty(call, bytes, output_length);
     std::ptr::copy_nonoverlapping(written.as_ptr(), output, written.len());
     match fault() {
+        "refused-release-writes" if call == Call::Release && answer == 112 => {
+            let seal_end = SEAL_AT + 3 + bytes[SEAL_AT + 2] as usize;
+            let anyhow = reference::calls::answer(call, &bytes[..seal_end], output_length).1;
+            std::ptr::copy_nonoverlapping(anyhow.as_ptr(), output, anyhow.len());
+        }
         "scratch" if answer > 100 && output_length > 0 => *output.add(output_length - 1) ^= 1,
         "beyond" if answer <= 100 && written.len() < output_length => *output.add(written.len()) ^= 1,
         "input" if input_length > 0 => {
@@ -290,7 +413,8 @@ macro_rules! exported {
 }
 
 exported!(
-    seal_opposite Opposite, seal_sum Sum, seal_double Double, seal_half Half, seal_commit Commit, seal_undo Undo
+    seal_opposite Opposite, seal_sum Sum, seal_double Double, seal_half Half, seal_commit Commit, seal_undo Undo,
+    seal_release Release
 );
 
 macro_rules! exported_with_number {
