@@ -20,7 +20,7 @@
 #define OPERATIONS 5
 #define CHANGED 2 /* the place of the operation that is changed, from 1, the oldest */
 
-/* One field of a class, or a register: count (0x42) and seal (0x43), as commit writes them. */
+/* One field of a class, or a register: count (0x42), released step (0x45) and seal (0x43), as commit writes them. */
 struct stored {
     uint8_t bytes[SEAL_REGISTER_OUTPUT];
     size_t length;
@@ -61,13 +61,13 @@ static struct stored sum(const struct stored *first, const struct stored *second
 
 /* The last seal of a model that is empty at first, with count 0 and the neutral seal. */
 static struct stored sealed(const struct stored operations[OPERATIONS]) {
-    struct stored model = {{SEAL_TAG_COUNT, 0, 2, 0, 0, SEAL_TAG_CLASS, 0, 0}, 8}, seal;
+    struct stored model = {EMPTY_REGISTER, EMPTY_REGISTER_LENGTH}, seal;
     for (int i = 0; i < OPERATIONS; i++) {
         struct stored operation = operations[i];
         operation.bytes[0] = SEAL_TAG_OPERATION;
         model = made(seal_commit, &model, &operation);
     }
-    const uint8_t *seal_at = next_field(model.bytes);
+    const uint8_t *seal_at = seal_field(model.bytes);
     seal.length = HEAD + body_length(seal_at);
     memcpy(seal.bytes, seal_at, seal.length);
     return seal;

@@ -1,4 +1,4 @@
-/* What the examples share: the curve, and how a class and a register are printed. */
+/* What the examples share: the curve, an empty model, and how a class and a register are printed. */
 #ifndef EXAMPLE_H
 #define EXAMPLE_H
 
@@ -61,10 +61,19 @@ static inline void print_stored_class(const uint8_t *field) {
     print_class(degree, u, v);
 }
 
-/* Prints the count, then the seal, of a register in stored form, as commit and undo write it. */
+/* The stored form of an empty model: count 0, nothing released, the neutral seal. */
+#define EMPTY_REGISTER {SEAL_TAG_COUNT, 0, 2, 0, 0, SEAL_TAG_RELEASED, 0, 2, 0, 0, SEAL_TAG_CLASS, 0, 0}
+#define EMPTY_REGISTER_LENGTH 13
+
+/* The seal's field of a register in stored form: count, released step, seal. */
+static inline const uint8_t *seal_field(const uint8_t *fields) {
+    return next_field(next_field(fields));
+}
+
+/* Prints the count, then the seal, of a register in stored form, as commit, undo and release write it. */
 static inline void print_stored_register(const uint8_t *fields) {
     printf("%" PRIu64 " ", number_at(fields + HEAD, body_length(fields)));
-    print_stored_class(next_field(fields));
+    print_stored_class(seal_field(fields));
 }
 
 #endif

@@ -26,7 +26,7 @@ static void print_register(const char *what, uint32_t answer, const struct seal_
 }
 
 int main(void) {
-    struct seal_register model = {{61, 0, 0, 1}, 0, {0, {0, 0, 0}, {0, 0, 0}}};
+    struct seal_register model = {{61, 0, 0, 1}, 0, {0, {0, 0, 0}, {0, 0, 0}}, 0};
     struct seal_class not_a_class = operations[0], row[OPERATIONS];
     struct seal_row_walk walk;
     uint32_t answer = 0;

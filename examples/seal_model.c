@@ -15,7 +15,7 @@
 #include <stdlib.h>
 #include <string.h>
 
-/* The register as it is stored: count (0x42) and seal (0x43), as commit and undo write them. */
+/* The register as it is stored: count (0x42), released step (0x45) and seal (0x43), as commit and undo write them. */
 struct stored_register {
     uint8_t bytes[SEAL_REGISTER_OUTPUT];
     size_t length;
@@ -80,8 +80,10 @@ int main(int words, char **word) {
     const char *commits[3] = {"commit hole", "commit bend", "commit flange"};
     const char *undos[3] = {"undo hole", "undo bend", "undo flange"};
     struct stored_class seal = class_field(SEAL_TAG_CLASS, words > 1 ? word[1] : "0::");
-    struct stored_register model = {{SEAL_TAG_COUNT, 0, 2, 0, 0}, 5 + seal.length};
-    memcpy(model.bytes + 5, seal.bytes, seal.length);
+    struct stored_register model = {EMPTY_REGISTER, 0};
+    size_t before_seal = (size_t)(seal_field(model.bytes) - model.bytes);
+    memcpy(model.bytes + before_seal, seal.bytes, seal.length);
+    model.length = before_seal + seal.length;
 
     print("first", &model);
     for (int i = 0; i < 3; i++) {

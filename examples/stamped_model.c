@@ -18,7 +18,7 @@
 
 #define MOST 16
 
-/* The register as it is stored: count (0x42) and seal (0x43), as commit and undo write them. */
+/* The register as it is stored: count (0x42), released step (0x45) and seal (0x43), as commit and undo write them. */
 struct stored_register {
     uint8_t bytes[SEAL_REGISTER_OUTPUT];
     size_t length;
@@ -72,7 +72,7 @@ static void change(struct stored_register *model, const struct operation *operat
 int main(int words, char **word) {
     struct operation operations[MOST] = {{.stamp = 10}, {.stamp = 784}, {.stamp = 20261116}};
     int number = words > 1 ? words - 1 : 3;
-    struct stored_register model = {{SEAL_TAG_COUNT, 0, 2, 0, 0, SEAL_TAG_CLASS, 0, 0}, 8};
+    struct stored_register model = {EMPTY_REGISTER, EMPTY_REGISTER_LENGTH};
     if (number > MOST)
         return 2;
     for (int i = 0; i < number; i++) {
