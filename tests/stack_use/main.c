@@ -39,11 +39,13 @@ static void twice(void) { answer = seal_double(in, in_len, out, sizeof out); }
 static void half(void) { answer = seal_half(in, in_len, out, sizeof out); }
 static void commit(void) { answer = seal_commit(in, in_len, out, sizeof out); }
 static void undo(void) { answer = seal_undo(in, in_len, out, sizeof out); }
+static void release(void) { answer = seal_release(in, in_len, out, sizeof out); }
 static void stamp(void) { answer = seal_stamp(in, in_len, number, out, sizeof out); }
 static void multiple(void) { answer = seal_multiple(in, in_len, number, out, sizeof out); }
 static void halvings(void) { answer = seal_halvings(in, in_len, number, out, sizeof out); }
 static void commit_in_place(void) { answer = seal_register_commit(&lent, operation); }
 static void undo_in_place(void) { answer = seal_register_undo(&lent, operation); }
+static void release_in_place(void) { answer = seal_register_release(&lent); }
 static void walk_row(void) {
     walked = seal_walk_row(lent.curve, lent.seal, row, classes);
     answer = walked.refusal;
@@ -64,17 +66,19 @@ static struct measure calls[] = {
     {"seal_half", half, 0, 0, 0},
     {"seal_commit", commit, 0, 0, 0},
     {"seal_undo", undo, 0, 0, 0},
+    {"seal_release", release, 0, 0, 0},
     {"seal_stamp", stamp, 0, 0, 0},
     {"seal_multiple", multiple, 0, 0, 0},
     {"seal_halvings", halvings, 0, 0, 0},
     {"seal_register_commit", commit_in_place, 0, 0, 0},
     {"seal_register_undo", undo_in_place, 0, 0, 0},
+    {"seal_register_release", release_in_place, 0, 0, 0},
     {"seal_walk_row", walk_row, 0, 0, 0},
 };
 
 enum {
-    MEMBERSHIP, OPPOSITE, SUM, TWICE, HALF, COMMIT, UNDO, STAMP, MULTIPLE, HALVINGS, COMMIT_IN_PLACE, UNDO_IN_PLACE,
-    WALK_ROW, CALLS
+    MEMBERSHIP, OPPOSITE, SUM, TWICE, HALF, COMMIT, UNDO, RELEASE, STAMP, MULTIPLE, HALVINGS, COMMIT_IN_PLACE,
+    UNDO_IN_PLACE, RELEASE_IN_PLACE, WALK_ROW, CALLS
 };
 
 /* How many bytes of the stack a function used, from its top down. */
@@ -170,13 +174,16 @@ static void on_two(struct seal_curve c, struct seal_class a, struct seal_class b
     put_curve(c);
     put_head(SEAL_TAG_COUNT, 2);
     put_number(7, 2);
+    put_head(SEAL_TAG_RELEASED, 2);
+    put_number(3, 2);
     put_class(SEAL_TAG_CLASS, a);
+    measure(RELEASE);
     put_class(SEAL_TAG_OPERATION, b);
     measure(COMMIT);
     measure(UNDO);
     operation = b;
-    for (int which = COMMIT_IN_PLACE; which <= UNDO_IN_PLACE; which++) {
-        lent = (struct seal_register){c, 7, a};
+    for (int which = COMMIT_IN_PLACE; which <= RELEASE_IN_PLACE; which++) {
+        lent = (struct seal_register){c, 7, a, 3};
         measure(which);
     }
 }
@@ -199,7 +206,7 @@ static void on_one(struct seal_curve c, struct seal_class a) {
         if (which != SUM)
             measure(which);
     in_len--;
-    for (int which = MEMBERSHIP; which <= UNDO; which++)
+    for (int which = MEMBERSHIP; which <= RELEASE; which++)
         measure(which);
     with_numbers();
 }
@@ -230,11 +237,13 @@ static void on_curve(struct seal_curve c, struct seal_class point) {
         for (int j = 0; j < CLASSES - 1; j++)
             on_two(c, row[j], row[i % (CLASSES - 1)]);
         operation = row[i];
-        lent = (struct seal_register){c, 7, row[1]};
+        lent = (struct seal_register){c, 7, row[1], 3};
         measure(COMMIT_IN_PLACE);
         measure(UNDO_IN_PLACE);
+        lent = (struct seal_register){c, 7, row[i], 3};
+        measure(RELEASE_IN_PLACE);
         classes = (size_t)i + 1;
-        lent = (struct seal_register){c, 7, row[3]};
+        lent = (struct seal_register){c, 7, row[3], 3};
         measure(WALK_ROW);
     }
     classes = 0;
