@@ -33,6 +33,7 @@ uint32_t class_double_and_add(uint8_t d, const uint64_t *f, const uint64_t *a, c
 uint32_t class_subtract_and_halve(uint8_t d, const uint64_t *f, const uint64_t *a, const uint64_t *b, uint64_t *r);
 uint32_t register_commit(uint8_t d, const uint64_t *f, uint64_t count, const uint64_t *a, const uint64_t *b, uint64_t *r);
 uint32_t register_undo(uint8_t d, const uint64_t *f, uint64_t count, const uint64_t *a, const uint64_t *b, uint64_t *r);
+uint32_t register_release(uint8_t d, const uint64_t *f, uint64_t count, const uint64_t *a, uint64_t *r);
 uint64_t element_product(uint8_t d, uint64_t a, uint64_t b);
 uint64_t element_square(uint8_t d, uint64_t a);
 uint64_t element_square_root(uint8_t d, uint64_t a);
@@ -165,7 +166,9 @@ static void draw() {
     }
 }
 
-// The record of an undo: degree, curve, count, seal and operation.
+// The record of an undo: degree, curve, count, released step, seal and operation. That of a release ends after the seal, which
+// has degree 3.
+enum { RELEASE_RECORD = CURVE_FIELDS + SEAL_REGISTER_OUTPUT };
 static std::vector<uint8_t> record_of(uint64_t count, const Class &seal, const Class &operation) {
     std::vector<uint8_t> bytes = {0x40, 0, 1, DEGREE, 0x41, 0, 24};
     auto put = [&bytes](uint64_t n) {
@@ -178,7 +181,7 @@ static std::vector<uint8_t> record_of(uint64_t count, const Class &seal, const C
             for (int i = n - 1; i >= 0; i--) put(a.numbers[start + i]);
     };
     for (int i = 0; i < 3; i++) put(curve[i]);
-    bytes.insert(bytes.end(), {0x42, 0, 2, uint8_t(count >> 8), uint8_t(count)});
+    bytes.insert(bytes.end(), {0x42, 0, 2, uint8_t(count >> 8), uint8_t(count), 0x45, 0, 2, 0, 0});
     put_class(0x43, seal);
     put_class(0x44, operation);
     return bytes;
@@ -224,7 +227,7 @@ static void compare() {
         const uint64_t *a = classes[i].numbers, *b = classes[j].numbers;
         Pair sum = sum_by_ntl(pairs[i], pairs[j]), twice = double_by_ntl(pairs[i]);
         Class r, back, plain;
-        uint8_t out[56];
+        uint8_t out[SEAL_REGISTER_OUTPUT];
         uint64_t x = a[1], y = b[1];
         hold(element_product(DEGREE, x, y) == number(element(x) * element(y)), "product", i);
         hold(element_product(DEGREE, x, y) == plain_product(x, y) && plain_product(x, y) == plain_loop_product(x, y), "product", i);
@@ -246,7 +249,9 @@ static void compare() {
         records.push_back(record_of(8, r, classes[j]));
         hold(register_undo(DEGREE, curve, 8, r.numbers, b, back.numbers) == 0 && back == classes[i], "undo", i);
         hold(plain_subtract_and_halve(curve, r.numbers, b, plain.numbers) == 0 && back == plain, "undo", i);
-        hold(seal_undo(records[i].data(), records[i].size(), out, sizeof out) == 56 && out[4] == 7, "undo by bytes", i);
+        hold(seal_undo(records[i].data(), records[i].size(), out, sizeof out) == sizeof out && out[4] == 7 && out[9] == 0, "undo by bytes", i);
+        hold(register_release(DEGREE, curve, 8, a, back.numbers) == 0 && back == classes[i], "release", i);
+        hold(seal_release(records[i].data(), RELEASE_RECORD, out, sizeof out) == sizeof out && out[4] == 8 && out[9] == 8, "release by bytes", i);
         hold(seal_stamp(records[i].data(), CURVE_FIELDS, stamps[i], out, sizeof out) == 19, "stamp by bytes", i);
     }
 }
@@ -267,8 +272,8 @@ static void compare_multiples() {
 }
 
 // What is measured: an operation by the proved code, in C, or by NTL.
-enum Operation { PRODUCT, SQUARE, ROOT, INVERSE, QUADRATIC, MEMBERSHIP, DOUBLE, HALF, SUM, COMMIT, UNDO, STAMP, FIRST_STAMP,
-    MULTIPLE, HALVINGS, BYTE_UNDO, BYTE_STAMP, LOOP_PRODUCT, OPERATIONS };
+enum Operation { PRODUCT, SQUARE, ROOT, INVERSE, QUADRATIC, MEMBERSHIP, DOUBLE, HALF, SUM, COMMIT, UNDO, RELEASE, STAMP,
+    FIRST_STAMP, MULTIPLE, HALVINGS, BYTE_UNDO, BYTE_RELEASE, BYTE_STAMP, LOOP_PRODUCT, OPERATIONS };
 enum Maker { PROVED, PLAIN, NTL_LIBRARY, MAKERS };
 
 // An element for which y^2 + y has a root: the trace is the sum of the bits 0 and 59.
@@ -300,7 +305,7 @@ static GF2E element_step_by_ntl(int operation, const GF2E &x, const GF2E &y) {
 
 static bool is_made(int operation, int maker) {
     if (maker == PROVED) return operation != LOOP_PRODUCT;
-    if (maker == PLAIN) return operation != BYTE_UNDO && operation != BYTE_STAMP;
+    if (maker == PLAIN) return operation != RELEASE && operation != BYTE_UNDO && operation != BYTE_RELEASE && operation != BYTE_STAMP;
     return operation == PRODUCT || operation == SQUARE || operation == INVERSE || operation == DOUBLE || operation == SUM ||
         operation == COMMIT || operation == MULTIPLE;
 }
@@ -317,7 +322,7 @@ static bool is_of_elements(int operation) {
 // One round on classes: the operation on every class, or on each class and the next.
 static uint64_t class_round(int operation, int maker, uint64_t x) {
     Class r;
-    uint8_t out[56];
+    uint8_t out[SEAL_REGISTER_OUTPUT];
     for (int i = 0; i < classes_of(operation); i++) {
         int j = (i + 1) % CLASSES;
         const uint64_t *a = classes[i].numbers, *b = classes[j].numbers;
@@ -337,6 +342,7 @@ static uint64_t class_round(int operation, int maker, uint64_t x) {
         case COMMIT * MAKERS + NTL_LIBRARY: x += deg(sum_by_ntl(double_by_ntl(pairs[i]), pairs[j]).u); break;
         case UNDO * MAKERS + PROVED: x += register_undo(DEGREE, curve, 8, a, b, r.numbers); break;
         case UNDO * MAKERS + PLAIN: x += plain_subtract_and_halve(curve, a, b, r.numbers); break;
+        case RELEASE * MAKERS + PROVED: x += register_release(DEGREE, curve, 8, a, r.numbers); break;
         case STAMP * MAKERS + PROVED: x += class_stamp(DEGREE, curve, stamps[i], r.numbers); break;
         case STAMP * MAKERS + PLAIN: x += plain_stamp(curve, stamps[i], r.numbers); break;
         case FIRST_STAMP * MAKERS + PROVED: x += class_stamp(DEGREE, curve, first_stamps[i], r.numbers); break;
@@ -346,6 +352,7 @@ static uint64_t class_round(int operation, int maker, uint64_t x) {
         case MULTIPLE * MAKERS + NTL_LIBRARY: x += deg(multiple_by_ntl(pairs[i]).u); break;
         case HALVINGS * MAKERS + PROVED: x += class_halvings(DEGREE, curve, a, MOST_HALVINGS, r.numbers); break;
         case HALVINGS * MAKERS + PLAIN: x += plain_halvings(curve, a, MOST_HALVINGS, r.numbers); break;
+        case BYTE_RELEASE * MAKERS + PROVED: x += seal_release(records[i].data(), RELEASE_RECORD, out, sizeof out); break;
         case BYTE_STAMP * MAKERS + PROVED: x += seal_stamp(records[i].data(), CURVE_FIELDS, stamps[i], out, sizeof out); break;
         default: x += seal_undo(records[i].data(), records[i].size(), out, sizeof out); break;
         }
@@ -432,8 +439,8 @@ int main(int words, char **word) {
     printf("  %-30s %10s %8s %8s %8s\n", "", "time in", "time in", "C by", "NTL by");
     printf("  %-30s %10s %8s %8s %8s\n", "", "products", "halves", "ours", "ours");
     const char *names[] = {"product", "square", "square root", "inverse", "root of y^2 + y = a", "membership", "double", "half",
-        "sum", "commit", "undo", "stamp", "stamp, first candidate", "multiple, n = 2^61 - 1", "64 halvings", "undo by bytes",
-        "stamp by bytes"};
+        "sum", "commit", "undo", "release", "stamp", "stamp, first candidate", "multiple, n = 2^61 - 1", "64 halvings",
+        "undo by bytes", "release by bytes", "stamp by bytes"};
     for (int operation = 0; operation <= BYTE_STAMP; operation++) print_line(names[operation], operation);
     double program = program_time(word[2], word[1]) / least[HALF][PROVED];
     printf("  the program walkreport on %d operations takes %.0f halves, %.2f for each operation\n", KEPT, program, program / KEPT);
