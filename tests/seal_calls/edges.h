@@ -13,4 +13,7 @@ void test_licence(void);
 /* The laws of the group: what the calls have to make of each other's answers. */
 void test_group(void);
 
+/* Answers the lists of calls on standard input, a line for each call; whether there was no fault. */
+int answer_lists(void);
+
 #endif

@@ -6,8 +6,9 @@
  *     seal_calls N < FILE             the edges, then the N cases of the file
  *     seal_calls changes N < FILE     the N cases of the file alone
  *     seal_calls group                the laws of the group alone
+ *     seal_calls lists < RECORDS      answers lists of calls on a register (lists.c)
  *
- * A line is printed for each test. The last line is 'N passed, M failed', and the status is 0 where nothing failed.
+ * A line is printed for each test, of lists for each call. The last line of tests is 'N passed, M failed', and the status is 0 where nothing failed.
  */
 #include "check.h"
 #include "edges.h"
@@ -54,6 +55,8 @@ static void test_edges(void) {
 
 int main(int words, char **word) {
     int laws = words > 1 && strcmp(word[1], "group") == 0, file_alone = words > 2 && strcmp(word[1], "changes") == 0;
+    if (words > 1 && strcmp(word[1], "lists") == 0)
+        return answer_lists() ? 0 : 1;
     make_areas();
     if (laws)
         test_group();
