@@ -18,6 +18,6 @@ last-field s = drop-fields 2 s
 unfoldable pub class-rebuilt : List ℕ → Effect → List ℕ
 class-rebuilt s e = first-fields s ++ wrote e
 
--- the record of an operation with the count and the seal that a call wrote
-unfoldable pub register-rebuilt : Register → Class → Effect → List ℕ
-register-rebuilt g a e = curve-fields-bytes (g .curve) ++ wrote e ++ class-field 0x44 a
+-- a step's record with the register's fields that a call wrote
+unfoldable pub step-rebuilt : Register → Class → Effect → List ℕ
+step-rebuilt g a e = curve-fields-bytes (g .curve) ++ wrote e ++ class-field 0x44 a

@@ -3,9 +3,9 @@ use Prim.Native.Nat.{ℕ}
 use mathlib.Core.Path.{_≡_}
 use mathlib.Core.List.{List, _++_}
 use Rattle.jacobian.specs.declared.{Curve.Curve, Class.Class}
-use Rattle.history.specs.declared.Register.{Register}
-use Rattle.stored_form.specs.{Passing.CountPasses, Passing.ClassPasses, Fields.count-field, Classes.curve-fields-bytes, Classes.class-field}
-use Rattle.stored_form.specs.Record.{empty-record, with-curve, with-count, with-class, with-operation}
+use Rattle.history.specs.{Register.register-refusal, declared.Register.Register}
+use Rattle.stored_form.specs.{Passing.ClassPasses, Fields.count-field, Fields.released-field, Classes.curve-fields-bytes, Classes.class-field}
+use Rattle.stored_form.specs.Record.{empty-record, with-curve, with-count, with-released, with-class, with-operation}
 use Rattle.stored_form.specs.declared.Record.{Record}
 
 -- ---- the values of a record
@@ -18,15 +18,19 @@ class-values c a = with-class a (with-curve c empty-record)
 abbrev pub sum-values : Curve → Class → Class → Record
 sum-values c a b = with-class b (with-class a (with-curve c empty-record))
 
--- the values of a register's record with an operation
-abbrev pub register-values : Register → Class → Record
-register-values g a = with-operation a (with-class (g .seal) (with-count (g .count) (with-curve (g .curve) empty-record)))
+-- the values of a register's record, which is that of a release
+abbrev pub register-values : Register → Record
+register-values g = with-class (g .seal) (with-released (g .released) (with-count (g .count) (with-curve (g .curve) empty-record)))
+
+-- the values of a step's record: a register with an operation
+abbrev pub step-values : Register → Class → Record
+step-values g a = with-operation a (register-values g)
 
 -- ---- the records encoded
 
--- the fields of a register: 0x42, then 0x43
+-- the fields of a register after those of its curve: 0x42, 0x45, then 0x43
 abbrev pub register-fields : Register → List ℕ
-register-fields g = count-field (g .count) ++ class-field 0x43 (g .seal)
+register-fields g = count-field (g .count) ++ released-field (g .released) ++ class-field 0x43 (g .seal)
 
 -- a class's record
 unfoldable pub class-record-bytes : Curve → Class → List ℕ
@@ -36,9 +40,13 @@ class-record-bytes c a = curve-fields-bytes c ++ class-field 0x43 a
 unfoldable pub sum-record-bytes : Curve → Class → Class → List ℕ
 sum-record-bytes c a b = curve-fields-bytes c ++ class-field 0x43 a ++ class-field 0x43 b
 
--- a register's record with an operation
-unfoldable pub register-record-bytes : Register → Class → List ℕ
-register-record-bytes g a = curve-fields-bytes (g .curve) ++ register-fields g ++ class-field 0x44 a
+-- a register's record
+unfoldable pub register-record-bytes : Register → List ℕ
+register-record-bytes g = curve-fields-bytes (g .curve) ++ register-fields g
+
+-- a step's record: a register with an operation
+unfoldable pub step-record-bytes : Register → Class → List ℕ
+step-record-bytes g a = register-record-bytes g ++ class-field 0x44 a
 
 -- ---- bytes that encode values which no check refuses
 
@@ -60,12 +68,18 @@ pub record SumStored (s : List ℕ) (h : Record) : Type 0 where
   pub first-passes : ClassPasses curve first
   pub second-passes : ClassPasses curve second
 
--- the same for a register's record with an operation
+-- the same for a register's record
 pub record RegisterStored (s : List ℕ) (h : Record) : Type 0 where
   pub register : Register
+  pub values : h ≡ register-values register
+  pub bytes : s ≡ register-record-bytes register
+  pub passes : register-refusal register ≡ 0
+
+-- the same for a step's record
+pub record StepStored (s : List ℕ) (h : Record) : Type 0 where
+  pub register : Register
   pub class : Class
-  pub values : h ≡ register-values register class
-  pub bytes : s ≡ register-record-bytes register class
-  pub count-passes : CountPasses (register .count)
-  pub seal-passes : ClassPasses (register .curve) (register .seal)
+  pub values : h ≡ step-values register class
+  pub bytes : s ≡ step-record-bytes register class
+  pub passes : register-refusal register ≡ 0
   pub class-passes : ClassPasses (register .curve) class

@@ -2,9 +2,9 @@
 // A call answers the length written, or the number of a refusal; then no lent byte has changed.
 ghost use mathlib.Core.Path.{_≡_};
 ghost use Rattle.history.specs.Register.{register-reply};
-ghost use Rattle.stored_form.specs.{Head.class-room, Reader.class-layout, Reader.register-layout};
+ghost use Rattle.stored_form.specs.{Head.class-room, Reader.class-layout, Reader.step-layout};
 ghost use Rattle.written_form.specs.{Effect.register-room, Effect.effect, Effect.response-of, Effect.byte-call};
-ghost use Rattle.seal.specs.Calls.{register-response, answered, membership-call, opposite-call, double-call, sum-call, commit-call, stamp-call, Halves, Undoes};
+ghost use Rattle.seal.specs.Calls.{register-response, answered, membership-call, opposite-call, double-call, sum-call, commit-call, release-call, stamp-call, Halves, Undoes};
 use history::Register;
 use history::RegisterAnswer;
 use stored_form::Offset;
@@ -32,18 +32,20 @@ enum Call {
     Sum,
     Commit,
     Undo,
+    Release,
     Stamp(u64),
 }
 
-// The response with the fields of count and seal, or with the refusal.
+// The response with the fields of count, released step and seal, or with the refusal.
 fn register_output(a: RegisterAnswer) -> Output
     ensures { λ r. ⌜ response-of r ≡ register-response (register-reply a) ⌝ }
 {
     let o = a.outcome;
     let register = a.register;
     let count = register.count;
+    let released = register.released;
     let seal = register.seal;
-    writing::register_output(o, count, seal)
+    writing::register_output(o, count, released, seal)
 }
 
 // The response of a call for the values of a record, by the call by value.
@@ -58,6 +60,7 @@ fn answered(call: Call, h: Record) -> Output
         curve,
         count: h.count,
         seal: class,
+        released: h.released,
     };
     match call {
         Call::Opposite => writing::class_output(jacobian::opposite(curve, class)),
@@ -66,6 +69,7 @@ fn answered(call: Call, h: Record) -> Output
         Call::Sum => writing::class_output(jacobian::sum(curve, previous, class)),
         Call::Commit => register_output(Register::commit(register, operation)),
         Call::Undo => register_output(Register::undo(register, operation)),
+        Call::Release => register_output(Register::release(register)),
         Call::Stamp(s) => writing::class_output(stamps::stamp(curve, s)),
     }
 }
@@ -92,10 +96,10 @@ fn class_call(call: Call, input: &[u8], output: &mut [u8]) -> u32
 }
 
 // A call on a register and an operation's class that answers a register.
-fn register_call(call: Call, input: &[u8], output: &mut [u8]) -> u32
-    ensures { λ r. ⌜ effect r (now (output .exit)) ≡ byte-call register-room register-layout (answered call) (now (input .entry)) (now (output .entry)) ⌝ }
+fn step_call(call: Call, input: &[u8], output: &mut [u8]) -> u32
+    ensures { λ r. ⌜ effect r (now (output .exit)) ≡ byte-call register-room step-layout (answered call) (now (input .entry)) (now (output .entry)) ⌝ }
 {
-    let tags = stored_form::REGISTER_LAYOUT;
+    let tags = stored_form::STEP_LAYOUT;
     byte_call(call, effect::REGISTER_ROOM, &tags, input, output)
 }
 
@@ -137,7 +141,7 @@ pub extern "C" fn seal_sum(input: &[u8], output: &mut [u8]) -> u32
 pub extern "C" fn seal_commit(input: &[u8], output: &mut [u8]) -> u32
     ensures { λ r. ⌜ effect r (now (output .exit)) ≡ commit-call (now (input .entry)) (now (output .entry)) ⌝ }
 {
-    register_call(Call::Commit, input, output)
+    step_call(Call::Commit, input, output)
 }
 
 // The register after an undo of the class.
@@ -145,7 +149,16 @@ pub extern "C" fn seal_commit(input: &[u8], output: &mut [u8]) -> u32
 pub extern "C" fn seal_undo(input: &[u8], output: &mut [u8]) -> u32
     ensures { λ r. ⌜ Undoes (now (input .entry)) (now (output .entry)) (effect r (now (output .exit))) ⌝ }
 {
-    register_call(Call::Undo, input, output)
+    step_call(Call::Undo, input, output)
+}
+
+// The register after a release: its released step is the count.
+#[no_mangle]
+pub extern "C" fn seal_release(input: &[u8], output: &mut [u8]) -> u32
+    ensures { λ r. ⌜ effect r (now (output .exit)) ≡ release-call (now (input .entry)) (now (output .entry)) ⌝ }
+{
+    let tags = stored_form::REGISTER_LAYOUT;
+    byte_call(Call::Release, effect::REGISTER_ROOM, &tags, input, output)
 }
 
 // The class of the stamp on the curve of the record.
