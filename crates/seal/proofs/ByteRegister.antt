@@ -1,31 +1,37 @@
--- A byte commit or undo answers what the register call answers for the record's values (docs/SPECIFICATION.md, 11).
--- Every output has the room that the calls require.
--- `commit-of-record`, `undo-of-record`: on a record that is read, the response is the register call's for its values.
--- `written`, `unwritten`: an accepted answer writes its count and seal; a refused one is a refusal.
--- `step-accepts`: it is accepted if the register call accepts the encoded values.
--- `undo-of-commit-bytes`: undo on the record rebuilt from a commit's output writes the record's count and seal.
+-- A byte commit, undo or release answers what the register call answers for the record's values
+-- (docs/SPECIFICATION.md, 11). Every output has the room that the calls require.
+-- `of-record`: on a record that is read, the response is the register call's for its values.
+-- `commit-of-record`, `undo-of-record`, `release-of-record`: the same of each call.
+-- `written`, `unwritten`: an accepted answer writes its register's fields; a refused one is a refusal.
+-- `call-fits`: they fit the room. `call-written`: so they are written.
+-- `as-requested`: a record with a register and a call's class makes that call on that register.
+-- `call-answers`: a call on the encoded values, which pass, writes what the register call answers for them.
+-- `call-accepts`: it is accepted if the register call accepts the encoded values.
+-- `undo-of-commit-bytes`: undo on the record rebuilt from a commit's output writes the record's register.
 -- `commit-of-undo-bytes`: commit on the record rebuilt from an undo's output does the same.
 use Prim.Native.Nat.{ℕ, _≤_}
-use mathlib.Core.Path.{_≡_, refl, sym, ap, _∙_, subst}
-use mathlib.Core.List.{List}
+use mathlib.Core.Path.{_≡_, refl, ap, _∙_}
+use mathlib.Core.List.{List, [], _++_}
 use native.Mathlib.Omega.{arith}
 use lib.ListN.{length, length-append}
 use Rattle.jacobian.specs.{Answer.accepted, Answer.refused, declared.Class.Class}
 use Rattle.jacobian.proofs.Representation.{accepts-both}
 use Rattle.history.specs.declared.{Register.Register, Step.Step, Step.the-variants.Commit, Step.the-variants.Undo}
-use Rattle.history.specs.Register.{RegisterReply, step-refusal, stepped, other, step-answer, commit-answer, undo-answer}
-use Rattle.history.proofs.Registers.{Passes, step-passes, follows-accepted}
-use Rattle.history.proofs.OneStep.{taken, step-taken, stepped-curve, stepped-passes, step-taken-back}
-use Rattle.stored_form.specs.{Reading.found, Fields.count-field, Classes.class-field, Reader.read-record, Reader.register-layout}
+use Rattle.history.specs.Register.{RegisterReply, other, commit-answer, undo-answer, release-answer}
+use Rattle.history.specs.Calls as history
+use Rattle.history.specs.Calls.{answer}
+use Rattle.history.proofs.{Registers.Passes, Registers.passes-register, OneStep.step-taken-back, OneCall.answer-curve, OneCall.accepted-register, OneCall.accepted-class, OneCall.accepted-passes}
+use Rattle.stored_form.specs.{Reading.found, Fields.count-field, Fields.released-field, Classes.class-field, Reader.read-record, Reader.register-layout, Reader.step-layout}
 use Rattle.written_form.specs.Effect.{Effect, refuse, write, put, register-room}
 use Rattle.stored_form.specs.declared.Record.{Record}
 use Rattle.stored_form_theorems.proofs.ClassRoundTrips.{class-short}
-use Rattle.stored_form.proofs.Lengths.{length-count}
+use Rattle.stored_form.proofs.Lengths.{length-count, length-released}
 use Rattle.written_form.proofs.{Effects.call-found, Effects.put-accepted, Effects.put-refused, Wrote.wrote-write}
-use Rattle.seal.specs.Records.{register-values, register-fields, register-record-bytes, RegisterStored}
-use Rattle.seal.specs.Rebuilt.{register-rebuilt}
-use Rattle.seal.specs.Calls.{register, register-response, answered, commit-call, undo-call, step-call}
-use Rattle.seal.proofs.Written.{register-record-back}
+use Rattle.seal.specs.Records.{register-fields, register-record-bytes}
+use Rattle.seal.specs.Rebuilt.{step-rebuilt}
+use Rattle.seal.specs.Calls.{register, register-response, answered, tags, called, commit-call, undo-call, release-call}
+use Rattle.seal.specs.Steps.{Request, step, release, operation, request-call, encode-call}
+use Rattle.seal.proofs.KeptFields.{call-values, CallClassPasses, call-record-back}
 
 -- ---- what is written for a register call's answer
 
@@ -40,91 +46,108 @@ module _ (out : List ℕ) (x : RegisterReply) where
 
 -- ---- a record that is read
 
-module _ (s out : List ℕ) (room : register-room ≤ length out) {h : Record} {end : ℕ} (e : read-record register-layout s ≡ found h end) where
-  pub of-record : (k : Step) → step-call k s out ≡ put (register-response (step-answer k (register h) (h .operation))) out
-  unfolding answered
-  of-record Commit = call-found register-room register-layout _ s out room e
-  of-record Undo = call-found register-room register-layout _ s out room e
+-- the register call that a request makes with the record's operation
+abbrev pub requested : Request → Record → history.Call
+requested (step k op) h = history.step k (h .operation)
+requested release h = history.release
 
-  pub commit-of-record : commit-call s out ≡ put (register-response (commit-answer (register h) (h .operation))) out
-  unfolding answered
-  commit-of-record = of-record Commit
+module _ (s out : List ℕ) (room : register-room ≤ length out) {h : Record} {end : ℕ} where
+  pub of-record : (q : Request) → read-record (tags (request-call q)) s ≡ found h end → called (request-call q) s out ≡ put (register-response (answer (register h) (requested q h))) out
+  unfolding answered answer
+  of-record (step Commit op) e = call-found register-room step-layout _ s out room e
+  of-record (step Undo op) e = call-found register-room step-layout _ s out room e
+  of-record release e = call-found register-room register-layout _ s out room e
 
-  pub undo-of-record : undo-call s out ≡ put (register-response (undo-answer (register h) (h .operation))) out
-  unfolding answered
-  undo-of-record = of-record Undo
+  pub commit-of-record : read-record step-layout s ≡ found h end → commit-call s out ≡ put (register-response (commit-answer (register h) (h .operation))) out
+  unfolding answer
+  commit-of-record e = of-record (step Commit []) e
 
--- ---- encoded values that the register call accepts
+  pub undo-of-record : read-record step-layout s ≡ found h end → undo-call s out ≡ put (register-response (undo-answer (register h) (h .operation))) out
+  unfolding answer
+  undo-of-record e = of-record (step Undo []) e
+
+  pub release-of-record : read-record register-layout s ≡ found h end → release-call s out ≡ put (register-response (release-answer (register h))) out
+  unfolding answer
+  release-of-record e = of-record release e
+
+-- ---- encoded values
 
 -- the fields of a register that passes are no longer than `register-room`
 fields-short : (g : Register) → Passes g → length (register-fields g) ≤ register-room
 fields-short g p =
     let seal = accepts-both (g .curve) (g .seal) (p .curve-passes) (p .seal-passes) in
-    omega (arith, length-append (count-field (g .count)) (class-field 0x43 (g .seal)), length-count (g .count), class-short 0x43 (g .curve) (g .seal) (seal .none))
+    let counts = count-field (g .count) ++ released-field (g .released) in
+    omega (
+      arith,
+      length-append counts (class-field 0x43 (g .seal)),
+      length-append (count-field (g .count)) (released-field (g .released)),
+      length-count (g .count),
+      length-released (g .released),
+      class-short 0x43 (g .curve) (g .seal) (seal .none),
+    )
 
-module _ (k : Step) (g : Register) (a : Class) (e : step-answer k g a .outcome ≡ accepted) where
-  none-due : step-refusal k g a ≡ 0
-  unfolding step-answer
-  none-due = follows-accepted (step-refusal k g a) g (stepped k g a) e
+pub as-requested : (g : Register) (c : history.Call) → answer (register (call-values g c)) (requested (encode-call c) (call-values g c)) ≡ answer g c
+unfolding encode-call
+as-requested g (history.step k a) = refl
+as-requested g history.release = refl
 
-  accepted-is : step-answer k g a ≡ taken (stepped k g a)
-  accepted-is = step-taken k g a e
+pub call-answers : (g : Register) (c : history.Call) → Passes g → CallClassPasses g c → (out : List ℕ) → register-room ≤ length out →
+    called (request-call (encode-call c)) (register-record-bytes g ++ operation (encode-call c)) out ≡ put (register-response (answer g c)) out
+call-answers g c p class out room =
+    of-record (register-record-bytes g ++ operation (encode-call c)) out room (encode-call c) (call-record-back g (passes-register g p) c class)
+    ∙ ap (λ (x : RegisterReply). put (register-response x) out) (as-requested g c)
 
-  pub follows-fits : length (register-fields (step-answer k g a .register)) ≤ register-room
-  follows-fits =
-      subst (λ (x : RegisterReply). length (register-fields (x .register)) ≤ register-room) (sym accepted-is)
-      (fields-short (stepped k g a) (stepped-passes g a k (step-passes k g a none-due)))
+module _ (g : Register) (c : history.Call) (e : answer g c .outcome ≡ accepted) where
+  pub call-fits : length (register-fields (answer g c .register)) ≤ register-room
+  call-fits = fields-short (answer g c .register) (accepted-passes g c e)
 
-  stored : RegisterStored (register-record-bytes g a) (register-values g a)
-  stored =
-      let p = step-passes k g a none-due in
-      let ok = p .register .curve-passes in
-      record {
-        register = g;
-        class = a;
-        values = refl;
-        bytes = refl;
-        count-passes = p .register .count-passes;
-        seal-passes = accepts-both (g .curve) (g .seal) ok (p .register .seal-passes);
-        class-passes = accepts-both (g .curve) a ok (p .class-passes);
-      }
+  pub call-written : (out : List ℕ) → register-room ≤ length out → put (register-response (answer g c)) out ≡ write (register-fields (answer g c .register)) out
+  call-written out room = written out (answer g c) e (let l = call-fits in omega arith)
 
-  pub step-written : (out : List ℕ) → register-room ≤ length out → put (register-response (step-answer k g a)) out ≡ write (register-fields (step-answer k g a .register)) out
-  step-written out room = written out (step-answer k g a) e (let l = follows-fits in omega arith)
-
-  pub step-accepts : (out : List ℕ) → register-room ≤ length out → step-call k (register-record-bytes g a) out ≡ write (register-fields (step-answer k g a .register)) out
-  step-accepts out room = of-record (register-record-bytes g a) out room (register-record-back stored) k ∙ step-written out room
+  pub call-accepts : (out : List ℕ) → register-room ≤ length out →
+      called (request-call (encode-call c)) (register-record-bytes g ++ operation (encode-call c)) out ≡ write (register-fields (answer g c .register)) out
+  call-accepts out room = call-answers g c (accepted-register g c e) (class-passes c e) out room ∙ call-written out room
+    where
+      class-passes : (x : history.Call) → answer g x .outcome ≡ accepted → CallClassPasses g x
+      class-passes (history.step k a) f = accepts-both (g .curve) a (accepted-register g (history.step k a) f .curve-passes) (accepted-class g k a f)
+      class-passes history.release f = tt
 
 -- ---- taking back
 
 rebuilt-write : (g k : Register) (a : Class) (out : List ℕ) → length (register-fields k) ≤ register-room → k .curve ≡ g .curve →
-    register-rebuilt g a (write (register-fields k) out) ≡ register-record-bytes k a
-unfolding register-rebuilt register-record-bytes
+    step-rebuilt g a (write (register-fields k) out) ≡ register-record-bytes k ++ class-field 0x44 a
+unfolding step-rebuilt register-record-bytes
 rebuilt-write g k a out short same = rw (wrote-write (register-fields k) out (omega arith), same)
 
-module _ (s out last : List ℕ) (room : register-room ≤ length out) (room' : register-room ≤ length last) {h : Record} {end : ℕ}
-    (read : read-record register-layout s ≡ found h end) where
-  -- the other step on the record rebuilt from an accepted step's output writes the record's count and seal
-  taken-back : (k : Step) → step-answer k (register h) (h .operation) .outcome ≡ accepted →
-      step-call (other k) (register-rebuilt (register h) (h .operation) (step-call k s out)) last ≡ write (register-fields (register h)) last
-  taken-back k e =
+module _ (s out last : List ℕ) (room : register-room ≤ length out) (room' : register-room ≤ length last) {h : Record} {end : ℕ} where
+  -- the other step on the record rebuilt from an accepted step's output writes the record's register
+  taken-back : (k : Step) → read-record (tags (request-call (step k []))) s ≡ found h end → answer (register h) (history.step k (h .operation)) .outcome ≡ accepted →
+      called (request-call (step (other k) [])) (step-rebuilt (register h) (h .operation) (called (request-call (step k [])) s out)) last ≡ write (register-fields (register h)) last
+  unfolding answer encode-call operation
+  taken-back k read e =
       let g = register h in
       let a = h .operation in
-      let next = stepped k g a in
-      let is = accepted-is k g a e in
-      let back = ap (λ (x : RegisterReply). step-answer (other k) (x .register) a) (sym is) ∙ step-taken-back g a k e in
-      ap (λ (o : Effect). step-call (other k) (register-rebuilt g a o) last)
-      (of-record s out room read k ∙ step-written k g a e out room ∙ ap (λ (x : RegisterReply). write (register-fields (x .register)) out) is)
-      ∙ ap (λ (l : List ℕ). step-call (other k) l last) (rebuilt-write g next a out (subst (λ (x : RegisterReply). length (register-fields (x .register)) ≤ register-room) is (follows-fits k g a e)) (stepped-curve k g a))
-      ∙ step-accepts (other k) next a (ap (λ (x : RegisterReply). x .outcome) back) last room'
+      let c = history.step k a in
+      let next = answer g c .register in
+      let back = step-taken-back g a k e in
+      let op = class-field 0x44 a in
+      ap (λ (x : Effect). called (request-call (step (other k) [])) (step-rebuilt g a x) last) (of-record s out room (step k []) read ∙ call-written g c e out room)
+      ∙ ap (λ (t : List ℕ). called (request-call (step (other k) [])) t last) (rebuilt-write g next a out (call-fits g c e) (answer-curve g c))
+      ∙ by-step (other k) op (register-record-bytes next ++ op)
+      ∙ call-accepts next (history.step (other k) a) (ap (λ (x : RegisterReply). x .outcome) back) last room'
       ∙ ap (λ (x : RegisterReply). write (register-fields (x .register)) last) back
+    where
+      -- the operation given is not looked at
+      by-step : (j : Step) (op t : List ℕ) → called (request-call (step j [])) t last ≡ called (request-call (step j op)) t last
+      by-step Commit op t = refl
+      by-step Undo op t = refl
 
-  pub undo-of-commit-bytes : commit-answer (register h) (h .operation) .outcome ≡ accepted →
-      undo-call (register-rebuilt (register h) (h .operation) (commit-call s out)) last ≡ write (register-fields (register h)) last
-  unfolding answered other
-  undo-of-commit-bytes e = taken-back Commit e
+  pub undo-of-commit-bytes : read-record step-layout s ≡ found h end → commit-answer (register h) (h .operation) .outcome ≡ accepted →
+      undo-call (step-rebuilt (register h) (h .operation) (commit-call s out)) last ≡ write (register-fields (register h)) last
+  unfolding answer other
+  undo-of-commit-bytes read e = taken-back Commit read e
 
-  pub commit-of-undo-bytes : undo-answer (register h) (h .operation) .outcome ≡ accepted →
-      commit-call (register-rebuilt (register h) (h .operation) (undo-call s out)) last ≡ write (register-fields (register h)) last
-  unfolding answered other
-  commit-of-undo-bytes e = taken-back Undo e
+  pub commit-of-undo-bytes : read-record step-layout s ≡ found h end → undo-answer (register h) (h .operation) .outcome ≡ accepted →
+      commit-call (step-rebuilt (register h) (h .operation) (undo-call s out)) last ≡ write (register-fields (register h)) last
+  unfolding answer other
+  commit-of-undo-bytes read e = taken-back Undo read e

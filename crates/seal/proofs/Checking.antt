@@ -1,33 +1,35 @@
 -- Each refusal of the byte calls, under its condition and in its order (docs/SPECIFICATION.md, 6 and 7).
 -- `membership-checked`: membership refuses as its record does.
--- `call-checked`: every other call refuses with 101 of the output, then as its record does, then with 113 to 116 of its
--- values, and no byte changes; where no check fails, it writes its bytes, whose length is one of its lengths.
-use Prim.Native.Nat.{ℕ, zero, suc, _-_, _^_, _≤_, _<_}
-use mathlib.Core.{Path._≡_, Path.refl, Path.sym, Path.ap, Path.subst, Bool.Bool, Bool.true, Bool.false, Bool.cond, Bool.false≢true, List.List, List.[], List._∷_, Logic._↔_, Logic._⊎_, Logic.inl, Logic.inr, Option.Option, Option.none, Option.some}
+-- `given-responds`: a call that gives a class that passes responds with its field.
+-- `call-verdict`: the outcome of a register call is that of its refusal.
+-- `call-checked`: every other call refuses with 101 of the output, then as its record does, then with 113 to 116 or
+-- 121 of its values, and no byte changes; where no check fails, it writes its bytes, of one of its lengths.
+use Prim.Native.Nat.{ℕ, _-_, _^_, _≤_, _<_}
+use mathlib.Core.{Path._≡_, Path.refl, Path.ap, Path._∙_, Bool.Bool, Bool.true, Bool.false, Bool.false≢true, List.List, List.[], List._∷_, Logic._↔_, Logic._⊎_, Logic.inl, Logic.inr, Option.Option, Option.none, Option.some}
 use native.Mathlib.Omega.{arith}
-use lib.{Dec.eqb, Dec.ltb, Dec.leb, ListN.length}
-use borrow.Author.Tests.{eqb-true, eqb-false, ltb-true, ltb-false, lt-ltb}
+use lib.{Dec.ltb, Dec.leb}
+use borrow.Author.Tests.{ltb-true, ltb-false, lt-ltb}
 use Rattle.jacobian.specs.{Checks.Check, Checks.check, Checks.unless, Checks._or-else_, Checks.AllHold, Checks.RefusalOf, Refusals.listed, Curves.f-row, Curves.curve-refusal, Answer.Result, Answer.accepted, Answer.refused, Answer.result, Answer.verdict-of, declared.Curve.Curve, declared.Class.Class}
 use Rattle.jacobian.proofs.{Checking.refusal-none, Checking.refusal-unless, Checking.refusal-or-else, Representation.accepts-curve, Representation.accepts-class, Representation.accepts-both}
-use Rattle.count_limit.proofs.Limit.{within-limit}
-use Rattle.history.specs.Register.{register-refusal, edge, edge-refusal, step-refusal, stepped, RegisterReply, follows, step-answer}
+use Rattle.history.specs.{Register.register-refusal, Register.step-refusal, Register.RegisterReply, Register.step-answer, Register.release-answer, Calls.answer, Checking.edge-checks}
+use Rattle.history.specs.Calls as history
 use Rattle.history.specs.declared.{Register.Register, Step.Step, Step.the-variants.Commit, Step.the-variants.Undo}
-use Rattle.history.proofs.{Registers.step-passes, Registers.follows-zero, OneStep.stepped-passes}
+use Rattle.history.proofs.{Registers.passes-register, Registers.follows-outcome, OneCall.accepted-passes, Checking.call-refusal, Checking.answer-follows, Checking.edge-checked}
 use Rattle.stamps.specs.Stamps.{first-class, stamp-refusal, stamped, stamp-answer, SomeRoot}
 use Rattle.stamps.proofs.Theorems.{stamp-gives, stamp-accepts, stamp-too-large, stamp-rootless}
-use Rattle.stored_form.specs.{Fields.count-limit, Reader.curve-layout, Reader.class-layout, Reader.sum-layout, Reader.register-layout, Passing.CountPasses, Passing.ClassPasses, declared.Record.Record}
-use Rattle.stored_form_theorems.specs.{Checking.record-checks, Checking.record-values, Numbers.OneOf, Numbers.class-field-lengths, Numbers.register-field-lengths}
+use Rattle.stored_form.specs.{Fields.count-limit, Reader.curve-layout, Reader.class-layout, Reader.sum-layout, Reader.register-layout, Reader.step-layout, Passing.CountPasses, Passing.ReleasedPasses, Passing.ClassPasses, declared.Record.Record}
+use Rattle.stored_form_theorems.specs.{Checking.record-checks, Checking.record-values, Numbers.class-field-lengths, Numbers.register-field-lengths}
 use Rattle.stored_form_theorems.proofs.{Checking.record-checked, Checking.record-found, ClassLengths.first-degree-length, ClassLengths.counted-length}
 use Rattle.written_form.specs.Effect.{class-response, call-checks, EffectOf}
 use Rattle.written_form.proofs.Checking.{every, ResponseOf, on-response, class-responds}
 use Rattle.written_form.proofs.Checking as written
 use Rattle.seal.specs.Records.{register-fields}
-use Rattle.seal.specs.Calls.{register, register-response, answered, membership-call, tags, room, called}
+use Rattle.seal.specs.Calls.{register-response, answered, membership-call, tags, room, called}
 use Rattle.seal.specs.Checking.{last-checks, checks, lengths}
 use Rattle.seal.specs.declared.calls.Call.{Call}
 use Rattle.seal.specs.declared.calls.Call.the-variants.{Opposite, Double, Half, Sum, Stamp}
 use Rattle.seal.specs.declared.calls.Call.the-variants as Call
-use Rattle.seal.proofs.Passing.{Given, curve-holds, class-holds, sum-holds, register-holds, opposite-given, double-given, half-given, sum-given}
+use Rattle.seal.proofs.Passing.{Given, curve-holds, class-holds, sum-holds, register-holds, step-holds, opposite-given, double-given, half-given, sum-given}
 
 pub membership-checked : (s : List ℕ) → RefusalOf (record-checks class-layout s) (membership-call s)
 unfolding membership-call
@@ -41,35 +43,30 @@ given-responds {c} {r} g = class-responds c 0 r refusal-none (ap (λ (x : Result
 
 -- ---- a register
 
--- a step is refused at its edge
-edge-checked : (n m k : ℕ) → ¬ (k ≡ 0) → RefusalOf (check k (¬ (n ≡ m)) ∷ []) (cond (eqb n m) k 0)
-unfolding unless
-edge-checked n m k z = by (eqb n m) refl
-  where
-    by : (b : Bool) → eqb n m ≡ b → RefusalOf (check k (¬ (n ≡ m)) ∷ []) (cond b k 0)
-    by true e = refusal-unless false k z (λ f. absurd (false≢true f), λ h. absurd (h (eqb-true n m e)))
-    by false e = refusal-unless true k z (λ f. eqb-false n m e, λ h. refl)
+pub call-verdict : (g : Register) (c : history.Call) → answer g c .outcome ≡ verdict-of (call-refusal g c)
+call-verdict g c = ap (λ (x : RegisterReply). x .outcome) (answer-follows g c) ∙ follows-outcome (call-refusal g c) g _
 
-pub follows-verdict : (n : ℕ) (given next : Register) → follows n given next .outcome ≡ verdict-of n
-unfolding follows verdict-of
-follows-verdict zero given next = refl
-follows-verdict (suc n) given next = refl
+-- a register call on values that pass, with the number with which it is refused then
+register-responds : (g : Register) (c : history.Call) {n : ℕ} {checks : List Check} → call-refusal g c ≡ n → RefusalOf checks n → ResponseOf checks register-field-lengths (register-response (answer g c))
+unfolding register-response verdict-of
+register-responds g c {n} e h =
+    on-response _ n (answer g c .outcome) (register-fields (answer g c .register)) h (call-verdict g c ∙ ap verdict-of e)
+    (λ z.
+    let next = answer g c .register in
+    let p = accepted-passes g c (call-verdict g c ∙ ap verdict-of (e ∙ z)) in
+    counted-length (next .curve) (next .seal) (accepts-both (next .curve) (next .seal) (p .curve-passes) (p .seal-passes) .none) 0x43 (next .count) (next .released))
 
-module _ (k : Step) (g : Register) (a : Class) (count : CountPasses (g .count)) (seal : ClassPasses (g .curve) (g .seal)) (class : ClassPasses (g .curve) a) where
-  step-number : step-refusal k g a ≡ cond (eqb (g .count) (edge k)) (edge-refusal k) 0
-  unfolding step-refusal register-refusal _or-else_
-  step-number = rw (accepts-curve seal, within-limit (g .count) count, accepts-class seal, accepts-class class) refl
+module _ (g : Register) (count : CountPasses (g .count)) (released : ReleasedPasses (g .count) (g .released)) (seal : ClassPasses (g .curve) (g .seal)) where
+  passes : register-refusal g ≡ 0
+  passes = passes-register g (record { curve-passes = accepts-curve seal; count-passes = count; released-passes = released; seal-passes = accepts-class seal })
 
-  step-responds : {checks : List Check} → RefusalOf checks (cond (eqb (g .count) (edge k)) (edge-refusal k) 0) → ResponseOf checks register-field-lengths (register-response (step-answer k g a))
-  unfolding register-response step-answer
-  step-responds {checks} h =
-      on-response _ (step-refusal k g a) (step-answer k g a .outcome) (register-fields (step-answer k g a .register)) (subst (RefusalOf checks) (sym step-number) h)
-      (follows-verdict (step-refusal k g a) g (stepped k g a))
-      (λ z.
-      let p = stepped-passes g a k (step-passes k g a z) in
-      let next = stepped k g a in
-      subst (λ (x : RegisterReply). OneOf register-field-lengths (length (register-fields (x .register)))) (sym (follows-zero (step-refusal k g a) g next z))
-      (counted-length (next .curve) (next .seal) (accepts-both (next .curve) (next .seal) (p .curve-passes) (p .seal-passes) .none) 0x43 (next .count)))
+  release-responds : ResponseOf [] register-field-lengths (register-response (release-answer g))
+  unfolding answer call-refusal
+  release-responds = register-responds g history.release passes refusal-none
+
+  step-responds : (k : Step) (a : Class) → ClassPasses (g .curve) a → ResponseOf (edge-checks k (g .count) (g .released)) register-field-lengths (register-response (step-answer k g a))
+  unfolding answer call-refusal step-refusal _or-else_
+  step-responds k a class = register-responds g (history.step k a) (rw (passes, accepts-class class) refl) (edge-checked k (g .count) (g .released))
 
 -- ---- a stamp
 
@@ -126,17 +123,14 @@ module _ (h : Record) (s : ℕ) (ok : curve-refusal (h .curve) ≡ 0) where
 -- ---- the calls
 
 responds : (call : Call) (s : List ℕ) → AllHold (record-checks (tags call) s) → let h = record-values (tags call) s in ResponseOf (last-checks call h) (lengths call) (answered call h)
-unfolding answered edge edge-refusal count-limit
+unfolding answered count-limit
 responds Opposite s held = given-responds (opposite-given (class-holds s (record-found class-layout s held)))
 responds Double s held = given-responds (double-given (class-holds s (record-found class-layout s held)))
 responds Half s held = given-responds (half-given (class-holds s (record-found class-layout s held)))
 responds Sum s held = let p = sum-holds s (record-found sum-layout s held) in given-responds (sum-given (p .0) (p .1))
-responds Call.Commit s held =
-    let p = register-holds s (record-found register-layout s held) in
-    step-responds Commit _ _ (p .0) (p .1) (p .2) (edge-checked _ 1024 114 (λ z. omega arith))
-responds Call.Undo s held =
-    let p = register-holds s (record-found register-layout s held) in
-    step-responds Undo _ _ (p .0) (p .1) (p .2) (edge-checked _ 0 113 (λ z. omega arith))
+responds Call.Commit s held = let p = step-holds s (record-found step-layout s held) in step-responds _ (p .0) (p .1) (p .2) Commit _ (p .3)
+responds Call.Undo s held = let p = step-holds s (record-found step-layout s held) in step-responds _ (p .0) (p .1) (p .2) Undo _ (p .3)
+responds Call.Release s held = let p = register-holds s (record-found register-layout s held) in release-responds _ (p .0) (p .1) (p .2)
 responds (Stamp n) s held = stamp-responds (record-values curve-layout s) n (curve-holds s (record-found curve-layout s held))
 
 checked : (call : Call) (s out : List ℕ) → every (λ n. leb n (room call)) (lengths call) ≡ true →
@@ -150,4 +144,5 @@ call-checked Half s out = checked Half s out refl
 call-checked Sum s out = checked Sum s out refl
 call-checked Call.Commit s out = checked Call.Commit s out refl
 call-checked Call.Undo s out = checked Call.Undo s out refl
+call-checked Call.Release s out = checked Call.Release s out refl
 call-checked (Stamp n) s out = checked (Stamp n) s out refl

@@ -1,99 +1,123 @@
 -- Records that begin with the stored form of a register.
--- `before-read`: the fields of a register that passes are read, and what follows stands after them.
--- `operation`: such a record, if read, gives that register, and what follows is the field of a class.
--- `record-kept`: every register's record that is read begins so.
+-- `register-read`: the fields of a register that passes are read, and what follows stands after them.
+-- `call-record-back`: so is the whole record of a call, a register with the operation of a class that passes.
+-- `record-carries`: such a record, if read, gives that register, and the request is that of a register call.
+-- `record-kept`: every record of a commit, an undo or a release that is read begins so.
 use Prim.Native.Nat.{ℕ}
-use mathlib.Core.Path.{_≡_, sym, ap, _∙_, subst}
-use mathlib.Core.List.{List, [], _∷_, _++_, append-assoc}
+use mathlib.Core.Path.{_≡_, refl, sym, ap, _∙_, subst}
+use mathlib.Core.List.{List, [], _++_, append-nil}
 use lib.Dec.{lit<}
 use lib.ListN.{length, drop}
 use lib.Seq.{drop-append-seam}
 use Rattle.jacobian.specs.declared.Class.{Class}
-use Rattle.jacobian.proofs.Representation.{accepts-both, accepts-class}
-use Rattle.history.specs.{Register.register-refusal, declared.Register.Register}
-use Rattle.history.proofs.Registers.{register-passes, passes-register}
-use Rattle.stored_form.specs.{Number.Bytes, Reading.found, Head.count-length, Classes.curve-fields-bytes, Classes.class-field, Fields.count-field, Passing.CountPasses, Passing.ClassPasses}
-use Rattle.stored_form.specs.{Record.empty-record, Record.with-curve, Record.with-count, Record.with-class, Reader.read-fields, Reader.read-record, Reader.curve-layout, Reader.register-layout}
+use Rattle.history.specs.{Register.register-refusal, declared.Register.Register, declared.Step.Step, declared.Step.the-variants.Commit, declared.Step.the-variants.Undo}
+use Rattle.history.specs.Calls as history
+use Rattle.stored_form.specs.{Number.Bytes, Reading.found, Head.count-length, Classes.curve-fields-bytes, Classes.class-field, Fields.count-field, Fields.released-field, Passing.ClassPasses}
+use Rattle.stored_form.specs.{Record.empty-record, Reader.read-fields, Reader.read-record, Reader.register-layout, Reader.step-layout}
 use Rattle.stored_form.specs.declared.Record.{Record}
 use Rattle.stored_form.proofs.Readings.{same-found}
-use Rattle.stored_form_theorems.specs.{Fields.Field, Records.none, Records.Stored}
+use Rattle.stored_form_theorems.specs.{Fields.Field, Records.none}
 use Rattle.stored_form_theorems.proofs.Written.{bytes-append, number-bytes, field-bytes, class-bytes, first-bytes}
-use Rattle.stored_form_theorems.proofs.{Places.apart, Places.whole, RecordRoundTrips.begin-read-back, FieldLaws.more, FieldValues.count-law, FieldValues.class-law, FieldValues.curve-more}
-use Rattle.seal.specs.{Records.register-values, Records.register-fields, Records.register-record-bytes, Calls.register, Steps.Kept, Steps.kept, Steps.InStoredForm}
-use Rattle.seal.proofs.{Written.curve-passes, Written.register-record-written, Decoding.in-stored-form}
+use Rattle.stored_form_theorems.proofs.{Places.apart, Places.whole, RecordRoundTrips.begin-read-back}
+use Rattle.seal.specs.{Records.register-values, Records.step-values, Records.register-fields, Records.register-record-bytes, Records.step-record-bytes, Calls.register, Calls.tags}
+use Rattle.seal.specs.Steps.{Kept, Request, step, release, operation, request-call, kept, encode-call, InStoredForm}
+use Rattle.seal.proofs.Written.{register-more, register-record-written, register-record-back, step-record-written, step-record-back}
+use Rattle.seal.proofs.Decoding.{in-stored-form}
 
--- the fields before the operation, and their tags
-abbrev pub before-tags : List ℕ
-before-tags = curve-layout ++ 0x42 ∷ 0x43 ∷ []
+-- ---- a register's fields
 
-abbrev pub before : Register → List ℕ
-before g = curve-fields-bytes (g .curve) ++ register-fields g
-
-abbrev pub before-values : Register → Record
-before-values g = with-class (g .seal) (with-count (g .count) (with-curve (g .curve) empty-record))
-
-before-bytes : (g : Register) → Bytes (before g)
-unfolding count-field
-before-bytes g =
+register-record-are-bytes : (g : Register) → Bytes (register-record-bytes g)
+unfolding register-record-bytes count-field released-field
+register-record-are-bytes g =
+    let counts = count-field (g .count) ++ released-field (g .released) in
     bytes-append (curve-fields-bytes (g .curve)) (register-fields g) (first-bytes (g .curve))
-    (bytes-append (count-field (g .count)) (class-field 0x43 (g .seal)) (field-bytes 0x42 _ (lit< tt) (number-bytes count-length (g .count))) (class-bytes 0x43 (g .seal) (lit< tt)))
+    (bytes-append counts (class-field 0x43 (g .seal))
+    (bytes-append (count-field (g .count)) (released-field (g .released))
+    (field-bytes 0x42 _ (lit< tt) (number-bytes count-length (g .count)))
+    (field-bytes 0x45 _ (lit< tt) (number-bytes count-length (g .released))))
+    (class-bytes 0x43 (g .seal) (lit< tt)))
 
--- values that no check refuses
-pub record Passes (g : Register) : Type 0 where
-  pub count : CountPasses (g .count)
-  pub seal : ClassPasses (g .curve) (g .seal)
-
-pub passing : (g : Register) → register-refusal g ≡ 0 → Passes g
-passing g ok =
-    let p = register-passes g ok in
-    record { count = p .count-passes; seal = accepts-both (g .curve) (g .seal) (p .curve-passes) (p .seal-passes) }
-
-before-stored : (g : Register) → Passes g → Stored before-tags (before-values g) ((curve-fields-bytes (g .curve) ++ count-field (g .count)) ++ class-field 0x43 (g .seal))
-before-stored g p =
-    let begun = with-curve (g .curve) empty-record in
-    curve-more (g .curve) (curve-passes (p .seal))
-    (more (count-law begun) (g .count) (p .count) (more (class-law (with-count (g .count) begun)) (g .seal) (p .seal) none))
-
--- such a record's fields before the operation are read, and what follows stands after them
-pub before-read : (g : Register) (rest : List ℕ) → Passes g
-    → (at : ℕ) × (read-fields before-tags empty-record (before g ++ rest) 0 ≡ found (before-values g) at) × Field (before g ++ rest) at rest (length (before g ++ rest))
-before-read g rest p =
-    let f = apart (before g) rest (whole (before g ++ rest)) in
-    let stored = subst (Stored _ (before-values g)) (append-assoc (curve-fields-bytes (g .curve)) (count-field (g .count)) (class-field 0x43 (g .seal))) (before-stored g p) in
-    (f .0, begin-read-back (before g ++ rest) stored (f .1), f .2)
+pub register-read : (g : Register) (rest : List ℕ) → register-refusal g ≡ 0
+    → (at : ℕ) × (read-fields register-layout empty-record (register-record-bytes g ++ rest) 0 ≡ found (register-values g) at)
+    × Field (register-record-bytes g ++ rest) at rest (length (register-record-bytes g ++ rest))
+register-read g rest ok =
+    let f = apart (register-record-bytes g) rest (whole (register-record-bytes g ++ rest)) in
+    (f .0, begin-read-back (register-record-bytes g ++ rest) (register-more g ok none) (f .1), f .2)
 
 -- two records that begin so and have the same bytes have the same register
-same-register : (g k : Register) (xs ys : List ℕ) → Passes g → Passes k → before g ++ xs ≡ before k ++ ys → g ≡ k
+same-register : (g k : Register) (xs ys : List ℕ) → register-refusal g ≡ 0 → register-refusal k ≡ 0 → register-record-bytes g ++ xs ≡ register-record-bytes k ++ ys → g ≡ k
 same-register g k xs ys p q e =
-    let here = before-read g xs p in
-    let there = before-read k ys q in
-    ap register (same-found (sym (here .1) ∙ ap (λ (s : List ℕ). read-fields before-tags empty-record s 0) e ∙ there .1) .0)
+    let here = register-read g xs p in
+    let there = register-read k ys q in
+    ap register (same-found (sym (here .1) ∙ ap (λ (s : List ℕ). read-fields register-layout empty-record s 0) e ∙ there .1) .0)
 
--- the bytes op are the field of a class, and h has the values of the register with that class
-pub record Operation (g : Register) (op : List ℕ) (h : Record) : Type 0 where
-  pub class : Class
-  pub field : op ≡ class-field 0x44 class
-  pub values : h ≡ register-values g class
+-- ---- the record of a register call
 
-pub operation : (g : Register) (op : List ℕ) → Passes g → Bytes op → {h : Record} {end : ℕ} → read-record register-layout (before g ++ op) ≡ found h end → Operation g op h
-unfolding register-record-bytes
-operation g op p bytes read =
-    let w = register-record-written (bytes-append (before g) op (before-bytes g) bytes) read .0 in
-    let same : g ≡ w .register = same-register g (w .register) op (class-field 0x44 (w .class)) p (record { count = w .count-passes; seal = w .seal-passes }) (w .bytes) in
-    record {
-      class = w .class;
-      field =
-          sym (drop-append-seam (before g) op)
-          ∙ ap (drop (length (before g))) (w .bytes ∙ ap (λ (r : Register). before r ++ class-field 0x44 (w .class)) (sym same))
-          ∙ drop-append-seam (before g) (class-field 0x44 (w .class));
-      values = w .values ∙ ap (λ (r : Register). register-values r (w .class)) (sym same);
-    }
+-- the values of a record with this register and this call's class
+abbrev pub call-values : Register → history.Call → Record
+call-values g (history.step k a) = step-values g a
+call-values g history.release = register-values g
 
-pub record-kept : (s : List ℕ) → Bytes s → {h : Record} {end : ℕ} → read-record register-layout s ≡ found h end →
-    (k : Kept) × InStoredForm k × (op : List ℕ) × (s ≡ k .curve ++ k .register ++ op)
-unfolding register-record-bytes kept
-record-kept s bytes read =
-    let w = register-record-written bytes read .0 in
-    let g = w .register in
-    let ok = passes-register g (record { curve-passes = curve-passes (w .seal-passes); count-passes = w .count-passes; seal-passes = accepts-class (w .seal-passes) }) in
-    (kept g, in-stored-form g ok, class-field 0x44 (w .class), w .bytes)
+-- no check refuses the call's class, if it has one
+abbrev pub CallClassPasses : Register → history.Call → Type 0
+CallClassPasses g (history.step k a) = ClassPasses (g .curve) a
+CallClassPasses g history.release = Unit {0}
+
+module _ (g : Register) (ok : register-refusal g ≡ 0) where
+  step-back : (a : Class) → ClassPasses (g .curve) a → read-record step-layout (register-record-bytes g ++ class-field 0x44 a) ≡ found (step-values g a) (length (register-record-bytes g ++ class-field 0x44 a))
+  unfolding step-record-bytes
+  step-back a p = step-record-back {s = step-record-bytes g a} (record { register = g; class = a; values = refl; bytes = refl; passes = ok; class-passes = p })
+
+  pub call-record-back : (c : history.Call) → CallClassPasses g c →
+      let s = register-record-bytes g ++ operation (encode-call c) in read-record (tags (request-call (encode-call c))) s ≡ found (call-values g c) (length s)
+  unfolding encode-call operation
+  call-record-back (history.step Commit a) p = step-back a p
+  call-record-back (history.step Undo a) p = step-back a p
+  call-record-back history.release p =
+      subst (λ (s : List ℕ). read-record register-layout s ≡ found (register-values g) (length s)) (sym (append-nil (register-record-bytes g)))
+      (register-record-back {s = register-record-bytes g} (record { register = g; values = refl; bytes = refl; passes = ok }))
+
+-- the request is that of a register call, and h has the values of the register with that call's class
+pub record Carries (g : Register) (q : Request) (h : Record) : Type 0 where
+  pub call : history.Call
+  pub request : q ≡ encode-call call
+  pub values : h ≡ call-values g call
+
+module _ (g : Register) (ok : register-refusal g ≡ 0) {h : Record} {end : ℕ} where
+  step-carries : (k : Step) (op : List ℕ) → Bytes op → read-record step-layout (register-record-bytes g ++ op) ≡ found h end → Carries g (step k op) h
+  unfolding step-record-bytes encode-call
+  step-carries k op bytes read =
+      let w = step-record-written (bytes-append (register-record-bytes g) op (register-record-are-bytes g) bytes) read .0 in
+      let field = class-field 0x44 (w .class) in
+      let same : g ≡ w .register = same-register g (w .register) op field ok (w .passes) (w .bytes) in
+      record {
+        call = history.step k (w .class);
+        request =
+            ap (step k)
+            (sym (drop-append-seam (register-record-bytes g) op)
+            ∙ ap (drop (length (register-record-bytes g))) (w .bytes ∙ ap (λ (r : Register). register-record-bytes r ++ field) (sym same))
+            ∙ drop-append-seam (register-record-bytes g) field);
+        values = w .values ∙ ap (λ (r : Register). step-values r (w .class)) (sym same);
+      }
+
+  pub record-carries : (q : Request) → Bytes (operation q) → read-record (tags (request-call q)) (register-record-bytes g ++ operation q) ≡ found h end → Carries g q h
+  unfolding operation encode-call
+  record-carries (step Commit op) bytes read = step-carries Commit op bytes read
+  record-carries (step Undo op) bytes read = step-carries Undo op bytes read
+  record-carries release bytes read =
+      record { call = history.release; request = refl; values = same-found (sym read ∙ call-record-back g ok history.release tt) .0 }
+
+-- ---- every record that is read
+
+module _ (s : List ℕ) (bytes : Bytes s) {h : Record} {end : ℕ} where
+  step-kept : read-record step-layout s ≡ found h end → (t : Kept) × InStoredForm t × (op : List ℕ) × (s ≡ t .curve ++ t .register ++ op)
+  unfolding step-record-bytes register-record-bytes kept
+  step-kept read = let w = step-record-written bytes read .0 in (kept (w .register), in-stored-form (w .register) (w .passes), class-field 0x44 (w .class), w .bytes)
+
+  pub record-kept : (q : Request) → read-record (tags (request-call q)) s ≡ found h end → (t : Kept) × InStoredForm t × (op : List ℕ) × (s ≡ t .curve ++ t .register ++ op)
+  unfolding register-record-bytes kept
+  record-kept (step Commit op) read = step-kept read
+  record-kept (step Undo op) read = step-kept read
+  record-kept release read =
+      let w = register-record-written bytes read .0 in
+      (kept (w .register), in-stored-form (w .register) (w .passes), [], w .bytes ∙ sym (append-nil (register-record-bytes (w .register))))

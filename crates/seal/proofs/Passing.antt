@@ -6,7 +6,7 @@ use Rattle.jacobian.specs.declared.{Curve.Curve, Class.Class}
 use Rattle.jacobian.proofs.Calls.{opposite-gives, double-gives, half-gives, sum-gives, opposite-accepts, double-accepts, half-accepts, sum-accepts}
 use Rattle.jacobian.proofs.Group.{gives-own}
 use Rattle.stored_form.specs.Passing.{ClassPasses}
-pub use Rattle.stored_form_theorems.proofs.Passing.{curve-holds, class-holds, sum-holds, register-holds}
+pub use Rattle.stored_form_theorems.proofs.Passing.{curve-holds, class-holds, sum-holds, register-holds, step-holds}
 
 -- an answer that gives a class that passes
 pub record Given (c : Curve) (r : Result) : Type 0 where

@@ -1,25 +1,26 @@
 -- What half and undo promise (docs/SPECIFICATION.md, 2), if the record is read and the output has room.
 -- `halves`: half writes the one class whose double is the record's class.
--- `undoes`: if the count is not 0, undo writes the count less one and a seal,
--- the one seal whose double plus the operation's class is the record's seal.
-use Prim.Native.Nat.{ℕ, _-_, _≤_}
+-- `undo-writes`: if the released step is below the count, undo writes the count less one, the released step as it was
+-- and the seal after the undo. `undoes`: that is the one seal whose double plus the operation's class is the record's.
+use Prim.Native.Nat.{ℕ, _-_, _≤_, _<_}
 use mathlib.Core.Path.{_≡_, sym, ap, _∙_}
 use mathlib.Core.List.{List, _++_}
 use lib.ListN.{length}
 use Rattle.class_group.specs.{Operations.sum, Operations.double, Moves.double-and-add}
 use Rattle.class_group.proofs.Closed.{double-reduced}
 use Rattle.jacobian.specs.{Curves.curve, Classes.pair, Classes.class-of, Answer.Only, Answer.Result, Answer.result, Answer.gives, Answer.double-answer, Answer.half-answer, Answer.sum-answer, declared.Curve.Curve, declared.Class.Class}
-use Rattle.jacobian.proofs.{Calls.double-gives, Calls.sum-gives, Calls.double-accepts, Calls.double-of-half, Calls.only-half, Representation.accepts-curve, Representation.accepts-class, Representation.accepted-reduced, Representation.Form.pair-class-of}
-use Rattle.history.specs.Register.{commit-seal, undo-seal, edge, with-count-and-seal, stepped, step-answer, RegisterReply}
-use Rattle.history.specs.declared.{Register.Register, Step.the-variants.Undo}
-use Rattle.history.proofs.{Seals.undo-sound, Seals.undo-of-commit, Seals.commit-of-undo, Registers.Passing, Registers.passes-step, Registers.follows-zero, OneStep.taken}
-use Rattle.stored_form.specs.{Reading.found, Fields.count-field, Classes.class-field, Passing.ClassPasses, Reader.read-record, Reader.register-layout, declared.Record.Record}
+use Rattle.jacobian.proofs.{Calls.accepts-two, Calls.double-gives, Calls.sum-gives, Calls.double-accepts, Calls.double-of-half, Calls.only-half, Representation.accepted-reduced, Representation.Form.pair-class-of}
+use Rattle.history.specs.Register.{commit-seal, undo-seal, with-count-and-seal, stepped, RegisterReply}
+use Rattle.history.specs.Calls as history
+use Rattle.history.specs.Calls.{answer}
+use Rattle.history.proofs.{Seals.undo-sound, Seals.undo-of-commit, Seals.commit-of-undo, Edges.undo-above-released}
+use Rattle.stored_form.specs.{Reading.found, Fields.count-field, Fields.released-field, Classes.class-field, Passing.ClassPasses, Reader.read-record, Reader.step-layout, declared.Record.Record}
 use Rattle.written_form.specs.Effect.{Effect, write, register-room}
 use Rattle.seal.specs.Records.{register-fields}
 use Rattle.seal.specs.Calls.{register, half-call, undo-call, Halves, Undoes}
-use Rattle.seal.proofs.Passing.{class-holds, register-holds, half-given}
+use Rattle.seal.proofs.Passing.{class-holds, step-holds, half-given}
 use Rattle.seal.proofs.ByteHalving.{half-writes}
-use Rattle.seal.proofs.ByteRegister.{undo-of-record, step-written}
+use Rattle.seal.proofs.ByteRegister.{undo-of-record, call-written}
 
 -- ---- half
 
@@ -62,32 +63,22 @@ module _ {c : Curve} {s a : Class} (p : ClassPasses c s) (q : ClassPasses c a) w
             ∙ ap (λ (x : Result). undo-seal c (x .class) a) (sym (sum-of-double r q) ∙ e);
       }
 
--- an undo of values that pass is accepted if the count is not 0
-accepted-undo : (g : Register) (a : Class) → Passing Undo g a → step-answer Undo g a ≡ taken (with-count-and-seal (g .count - 1) (undo-seal (g .curve) (g .seal) a) g)
-unfolding step-answer stepped
-accepted-undo g a p = follows-zero _ g _ (passes-step Undo g a p)
-
-undo-writes : (s out : List ℕ) {h : Record} {end : ℕ} → read-record register-layout s ≡ found h end → ¬ (h .count ≡ 0) → register-room ≤ length out →
-    undo-call s out ≡ write (count-field (h .count - 1) ++ class-field 0x43 (undo-seal (h .curve) (h .class) (h .operation))) out
-unfolding edge with-count-and-seal
-undo-writes s out {h} read some room =
+pub undo-writes : (s out : List ℕ) {h : Record} {end : ℕ} → read-record step-layout s ≡ found h end → h .released < h .count → register-room ≤ length out →
+    undo-call s out ≡ write (count-field (h .count - 1) ++ released-field (h .released) ++ class-field 0x43 (undo-seal (h .curve) (h .class) (h .operation))) out
+unfolding answer stepped with-count-and-seal
+undo-writes s out {h} read above room =
     let g = register h in
     let a = h .operation in
-    let p = register-holds s read in
-    let passing : Passing Undo g a = record {
-      register = record { curve-passes = accepts-curve (p .1); count-passes = p .0; seal-passes = accepts-class (p .1) };
-      class-passes = accepts-class (p .2);
-      off-edge = some;
-    } in
-    let is = accepted-undo g a passing in
+    let p = step-holds s read in
+    let is = undo-above-released g a (accepts-two (h .curve) (p .2) (p .3)) (p .0) (p .1) above in
     undo-of-record s out room read
-    ∙ step-written Undo g a (ap (λ (x : RegisterReply). x .outcome) is) out room
+    ∙ call-written g (history.undo a) (ap (λ (x : RegisterReply). x .outcome) is) out room
     ∙ ap (λ (x : RegisterReply). write (register-fields (x .register)) out) is
 
 pub undoes : {s out : List ℕ} {e : Effect} → e ≡ undo-call s out → Undoes s out e
 undoes {s} {out} is = record {
   answer = is;
-  undone = λ {h} {end} read some room.
-      let p = register-holds s read in
-      (undo-seal (h .curve) (h .class) (h .operation), is ∙ undo-writes s out read some room, only-undone (p .1) (p .2));
+  undone = λ {h} {end} read above room.
+      let p = step-holds s read in
+      (undo-seal (h .curve) (h .class) (h .operation), is ∙ undo-writes s out read above room, only-undone (p .2) (p .3));
 }

@@ -1,33 +1,38 @@
 -- Every byte call wrote or refused (docs/SPECIFICATION.md, 6).
 -- `wrote-or-refused`: on every input and output, a call writes bytes of one of its lengths and answers that length,
 -- or it answers one of its numbers and leaves the output as it was.
+-- `lengths-low`: its lengths are at most 100, and its numbers are above that.
 -- `call-decides`: the answer alone decides which: up to 100 it is a length, above that the number of a refusal.
 -- `membership-valid`: membership answers 0 or the number of a refusal.
 -- `membership-answers`: it answers 0 or one of its numbers.
 -- `length-read`: a call whose answer is a length had the room, and its record was read.
--- `accepted-room`, `accepted-read`: so had a commit or an undo, and the register call accepts its values.
+-- `call-refuses`: the number of a refused register call is a listed one.
+-- `room-is`: commit, undo and release require the room of a register's fields.
+-- `accepted-room`, `accepted-read`: so had a commit, an undo or a release, and the register call accepts its values.
 use Prim.Native.Nat.{ℕ, _≤_}
 use mathlib.Core.Path.{_≡_, refl, sym, _∙_, subst}
 use mathlib.Core.{Bool.true, List.List}
 use lib.{Dec.leb, Dec.ltb, ListN.length}
-use Rattle.jacobian.specs.{Refusals.listed, Refusals.IsRefusal, Refusals.ValidRefusal, Answer.Verdict, Answer.accepted, Answer.refused, declared.Class.Class}
+use Rattle.jacobian.specs.{Refusals.listed, Refusals.IsRefusal, Refusals.ValidRefusal, Answer.Verdict, Answer.accepted, Answer.refused}
 use Rattle.jacobian.proofs.Refusals.{refused-valid}
-use Rattle.history.proofs.Valid.{step-refusal-valid}
-use Rattle.history.specs.Register.{step-refusal, stepped, step-answer}
-use Rattle.history.specs.declared.{Register.Register, Step.Step, Step.the-variants.Commit, Step.the-variants.Undo}
-use Rattle.stored_form.specs.{Reading.Reading, Reading.found, Reading.refused as unread, Reader.read-record, Reader.class-layout, Reader.register-layout, declared.Record.Record}
+use Rattle.history.specs.Calls as history
+use Rattle.history.specs.Calls.{answer}
+use Rattle.history.proofs.{Checking.call-refusal, Valid.call-refusal-valid}
+use Rattle.history.specs.declared.{Register.Register, Step.the-variants.Commit, Step.the-variants.Undo}
+use Rattle.stored_form.specs.{Reading.Reading, Reading.found, Reading.refused as unread, Reader.read-record, Reader.class-layout, declared.Record.Record}
 use Rattle.written_form.specs.Effect.{Effect, refuse, register-room, WroteOrRefused, AnswerDecides, longest-answer}
 use Rattle.stored_form_theorems.specs.Numbers.{ZeroOrOneOf, class-numbers}
 use Rattle.jacobian.proofs.Checking.{refusal-among}
 use Rattle.stored_form.proofs.{Valid.ValidReading, Valid.record-valid, Valid.reading-valid}
 use Rattle.written_form.proofs.{Checking.every, WroteOrRefused.call-wrote-or-refused, WroteOrRefused.answer-decides, WroteOrRefused.never-both, Effects.call-refused}
-use Rattle.seal.specs.Calls.{register, membership-call, tags, room, called, step-call}
+use Rattle.seal.specs.Calls.{register, membership-call, tags, room, called}
+use Rattle.seal.specs.Steps.{Request, step, release, request-call}
 use Rattle.seal.specs.Checking.{numbers, lengths}
 use Rattle.seal.specs.declared.calls.Call.{Call}
 use Rattle.seal.specs.declared.calls.Call.the-variants.{Opposite, Double, Half, Sum, Stamp}
 use Rattle.seal.specs.declared.calls.Call.the-variants as Call
-use Rattle.seal.proofs.Checking.{membership-checked, follows-verdict, call-checked}
-use Rattle.seal.proofs.ByteRegister.{of-record, unwritten}
+use Rattle.seal.proofs.Checking.{membership-checked, call-verdict, call-checked}
+use Rattle.seal.proofs.ByteRegister.{requested, of-record, unwritten}
 
 -- ---- membership
 
@@ -42,9 +47,8 @@ module _ (s : List ℕ) where
 
 -- ---- the calls
 
-pub step-refuses : (k : Step) (g : Register) (a : Class) (n : ℕ) → step-answer k g a .outcome ≡ refused n → IsRefusal n
-unfolding step-answer
-step-refuses k g a n e = refused-valid (step-refusal k g a) n (step-refusal-valid k g a) (sym (follows-verdict (step-refusal k g a) g (stepped k g a)) ∙ e)
+pub call-refuses : (g : Register) (c : history.Call) (n : ℕ) → answer g c .outcome ≡ refused n → IsRefusal n
+call-refuses g c n e = refused-valid (call-refusal g c) n (call-refusal-valid g c) (sym (call-verdict g c) ∙ e)
 
 pub wrote-or-refused : (call : Call) (s out : List ℕ) → WroteOrRefused (room call) (lengths call) (numbers call) out (called call s out)
 unfolding listed
@@ -54,6 +58,7 @@ wrote-or-refused Half s out = call-wrote-or-refused (numbers Half) refl (call-ch
 wrote-or-refused Sum s out = call-wrote-or-refused (numbers Sum) refl (call-checked Sum s out)
 wrote-or-refused Call.Commit s out = call-wrote-or-refused (numbers Call.Commit) refl (call-checked Call.Commit s out)
 wrote-or-refused Call.Undo s out = call-wrote-or-refused (numbers Call.Undo) refl (call-checked Call.Undo s out)
+wrote-or-refused Call.Release s out = call-wrote-or-refused (numbers Call.Release) refl (call-checked Call.Release s out)
 wrote-or-refused (Stamp n) s out = call-wrote-or-refused (numbers (Stamp n)) refl (call-checked (Stamp n) s out)
 
 pub lengths-low : (call : Call) → (every (λ n. leb n longest-answer) (lengths call) ≡ true) × (every (λ n. ltb longest-answer n) (numbers call) ≡ true)
@@ -63,6 +68,7 @@ lengths-low Half = (refl, refl)
 lengths-low Sum = (refl, refl)
 lengths-low Call.Commit = (refl, refl)
 lengths-low Call.Undo = (refl, refl)
+lengths-low Call.Release = (refl, refl)
 lengths-low (Stamp n) = (refl, refl)
 
 pub call-decides : (call : Call) (s out : List ℕ) → AnswerDecides (room call) (lengths call) (numbers call) out (called call s out)
@@ -82,27 +88,25 @@ length-read call s out low = (long, by (read-record (tags call) s) refl (record-
     by (found h end) e t = (h, end, e)
     by (unread k) e t = absurd (never-both (subst (λ (x : Effect). x .answer ≤ longest-answer) (call-refused (room call) (tags call) _ s out long e) low) t)
 
--- ---- a commit or an undo whose answer is a length: it was accepted
+-- ---- a commit, an undo or a release whose answer is a length: it was accepted
 
-module _ (k : Step) (s out : List ℕ) (low : step-call k s out .answer ≤ longest-answer) where
-  step-read : (register-room ≤ length out) × ((h : Record) × (end : ℕ) × (read-record register-layout s ≡ found h end))
-  step-read = by k low
-    where
-      by : (j : Step) → step-call j s out .answer ≤ longest-answer → (register-room ≤ length out) × ((h : Record) × (end : ℕ) × (read-record register-layout s ≡ found h end))
-      by Commit l = length-read Call.Commit s out l
-      by Undo l = length-read Call.Undo s out l
+pub room-is : (q : Request) → room (request-call q) ≡ register-room
+room-is (step Commit op) = refl
+room-is (step Undo op) = refl
+room-is release = refl
 
+module _ (q : Request) (s out : List ℕ) (low : called (request-call q) s out .answer ≤ longest-answer) where
   pub accepted-room : register-room ≤ length out
-  accepted-room = step-read .0
+  accepted-room = subst (λ (n : ℕ). n ≤ length out) (room-is q) (length-read (request-call q) s out low .0)
 
-  not-refused : (n : ℕ) → IsRefusal n → step-call k s out ≡ refuse n out → ⊥
+  not-refused : (n : ℕ) → IsRefusal n → called (request-call q) s out ≡ refuse n out → ⊥
   unfolding refuse
   not-refused n i e = never-both (subst (λ (x : Effect). x .answer ≤ longest-answer) e low) i
 
-  pub accepted-read : (h : Record) × (end : ℕ) × (read-record register-layout s ≡ found h end) × (step-answer k (register h) (h .operation) .outcome ≡ accepted)
-  accepted-read = let r = step-read .1 in (r .0, r .1, r .2, taken (r .0) (r .1) (r .2) (step-answer k (register (r .0)) (r .0 .operation) .outcome) refl)
+  pub accepted-read : (h : Record) × (end : ℕ) × (read-record (tags (request-call q)) s ≡ found h end) × (answer (register h) (requested q h) .outcome ≡ accepted)
+  accepted-read = let r = length-read (request-call q) s out low .1 in (r .0, r .1, r .2, taken (r .0) (r .1) (r .2) (answer (register (r .0)) (requested q (r .0)) .outcome) refl)
     where
-      taken : (h : Record) (end : ℕ) → read-record register-layout s ≡ found h end → (v : Verdict) → step-answer k (register h) (h .operation) .outcome ≡ v → v ≡ accepted
+      taken : (h : Record) (end : ℕ) → read-record (tags (request-call q)) s ≡ found h end → (v : Verdict) → answer (register h) (requested q h) .outcome ≡ v → v ≡ accepted
       taken h end e accepted f = refl
       taken h end e (refused n) f =
-          absurd (not-refused n (step-refuses k (register h) (h .operation) n f) (of-record s out accepted-room e k ∙ unwritten out (step-answer k (register h) (h .operation)) f))
+          absurd (not-refused n (call-refuses (register h) (requested q h) n f) (of-record s out accepted-room q e ∙ unwritten out (answer (register h) (requested q h)) f))

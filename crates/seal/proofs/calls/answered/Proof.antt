@@ -36,12 +36,19 @@ returns-6 c = rw (c .before .before .enum-told6 .given .1) (c .register-output2 
 
 returns-7 : tie.Need-returns-7
 unfolding answered
-returns-7 c = rw (c .before .before .before .call .given .1) (c .class-output5 .ensures ∙ ap response-of-reply (c .before .stamp .ensures))
+returns-7 c = rw (c .before .before .enum-told7 .given .1) (c .register-output3 .ensures ∙ ap register-response (c .before .release .ensures))
+
+returns-8 : tie.Need-returns-8
+unfolding answered
+returns-8 c = rw (c .before .before .before .call .given .1) (c .class-output5 .ensures ∙ ap response-of-reply (c .before .stamp .ensures))
 
 pub answered-spec : {M : Type 1} → statement M
 answered-spec =
     tie.close
     (tie.spec
+    (λ c. search needs)
+    (λ c κs. search needs)
+    (λ c κs. search needs)
     (λ c. search needs)
     (λ c κs. search needs)
     (λ c κs. search needs)
@@ -69,4 +76,5 @@ answered-spec =
     returns-4
     returns-5
     returns-6
-    returns-7)
+    returns-7
+    returns-8)
