@@ -11,17 +11,16 @@ use Prim.Native.Nat.{ℕ, _-_, _≤_}
 use mathlib.Core.Path.{_≡_, refl, sym, ap, ap₂, _∙_, subst}
 use mathlib.Core.List.{List, _++_}
 use lib.ListN.{length, length-map}
-use Rattle.lists.specs.Lists.{All}
 use Rattle.jacobian.specs.{Answer.Accepts, Answer.Result, Group.sum-of, Group.difference, Group.doublings, declared.Curve.Curve, declared.Class.Class}
 use Rattle.jacobian.proofs.Representation.{accepts-both}
 use Rattle.history.specs.{Machine.last, Machine.newest, Calls.Variants, declared.Register.Register}
 use Rattle.history.specs.Calls as history
 use Rattle.history.proofs.{Registers.register-passes, TakingBack.last-curve, Displacement.both-accept, Displacement.displacement, Displacement.moves}
-use Rattle.stored_form.specs.{Number.Bytes, Head.class-room, Classes.curve-fields-bytes, Classes.class-field}
+use Rattle.stored_form.specs.{Head.class-room, Classes.curve-fields-bytes, Classes.class-field}
 use Rattle.written_form.specs.Effect.{write}
 use Rattle.seal.specs.{Records.class-record-bytes, Rebuilt.last-field, Calls.sum-call}
 use Rattle.seal.specs.Group.{ReadWith, sum-record-of, record-sum, record-difference, ClassRooms, doubled-record}
-use Rattle.seal.specs.Steps.{Kept, ByteStep, byte-steps, kept, decode-kept, decoded, newest-decoded, last-decoded, decoded-calls, InStoredForm, seal-record}
+use Rattle.seal.specs.Steps.{Kept, ByteCall, byte-calls, BytesGiven, kept, decode-kept, decoded, newest-decoded, last-decoded, decoded-calls, InStoredForm, seal-record}
 use Rattle.seal.proofs.{Decoding.seal-stored, ClassCalls.last-is, ByteSteps.last-stored, ByteCarried.newest-carried, ByteCarried.last-carried}
 use Rattle.seal.proofs.ByteGroup.{Holds, read-again, sum-written, sum-holds, opposite-holds, doubled-holds, same-class}
 
@@ -39,16 +38,16 @@ seal-holds k form {c} same =
     })
 
 -- ---- one list of calls
-module _ (k : Kept) (form : InStoredForm k) (cs : List ByteStep) (bytes : All (λ c. Bytes (c .operation)) cs) where
+module _ (k : Kept) (form : InStoredForm k) (cs : List ByteCall) (bytes : BytesGiven cs) where
   curve-kept : last-decoded k cs .curve ≡ decode-kept k .curve
   curve-kept = ap (λ (g : Register). g .curve) (last-carried k form cs bytes) ∙ last-curve (decode-kept k) (decoded-calls k cs)
 
-  last-holds : {c : Curve} → decode-kept k .curve ≡ c → Holds c (last-decoded k cs .seal) (curve-fields-bytes c) (seal-record (last byte-steps k cs))
+  last-holds : {c : Curve} → decode-kept k .curve ≡ c → Holds c (last-decoded k cs .seal) (curve-fields-bytes c) (seal-record (last byte-calls k cs))
   unfolding last-decoded
-  last-holds same = seal-holds (last byte-steps k cs) (last-stored k form bytes) (curve-kept ∙ same)
+  last-holds same = seal-holds (last byte-calls k cs) (last-stored k form bytes) (curve-kept ∙ same)
 
 -- ---- two lists of calls
-module _ (k t : Kept) (form : InStoredForm k) (form' : InStoredForm t) (cs ds : List ByteStep) (bytes : All (λ c. Bytes (c .operation)) cs) (bytes' : All (λ c. Bytes (c .operation)) ds)
+module _ (k t : Kept) (form : InStoredForm k) (form' : InStoredForm t) (cs ds : List ByteCall) (bytes : BytesGiven cs) (bytes' : BytesGiven ds)
     {j : ℕ} {d e : Class} (v : Variants j d e (decode-kept k) (decode-kept t) (newest-decoded k cs) (newest-decoded t ds)) where
   abbrev own : Curve
   own = decode-kept k .curve
@@ -59,9 +58,9 @@ module _ (k t : Kept) (form : InStoredForm k) (form' : InStoredForm t) (cs ds : 
       subst (λ fs. Variants j d e (decode-kept k) (decode-kept t) (history.newest (decode-kept k) (decoded-calls k cs)) fs) (newest-carried t form' ds bytes')
       (subst (λ es. Variants j d e (decode-kept k) (decode-kept t) es (newest-decoded t ds)) (newest-carried k form cs bytes) v)
 
-  many : length (history.newest (decode-kept k) (decoded-calls k cs)) ≡ length (newest byte-steps k cs)
+  many : length (history.newest (decode-kept k) (decoded-calls k cs)) ≡ length (newest byte-calls k cs)
   unfolding newest-decoded
-  many = ap length (sym (newest-carried k form cs bytes)) ∙ length-map (newest byte-steps k cs) decoded
+  many = ap length (sym (newest-carried k form cs bytes)) ∙ length-map (newest byte-calls k cs) decoded
 
   begins : k .curve ≡ curve-fields-bytes own
   unfolding kept
@@ -74,10 +73,10 @@ module _ (k t : Kept) (form : InStoredForm k) (form' : InStoredForm t) (cs ds : 
   both-hold : Holds own d (curve-fields-bytes own) (class-record-bytes own d) × Holds own e (curve-fields-bytes own) (class-record-bytes own e)
   both-hold = let p = both-accept _ _ _ _ by-value in (class-holds (p .0), class-holds (p .1))
 
-  was : Holds own (last-decoded k cs .seal) (curve-fields-bytes own) (seal-record (last byte-steps k cs))
+  was : Holds own (last-decoded k cs .seal) (curve-fields-bytes own) (seal-record (last byte-calls k cs))
   was = last-holds k form cs bytes refl
 
-  is : Holds own (last-decoded t ds .seal) (curve-fields-bytes own) (seal-record (last byte-steps t ds))
+  is : Holds own (last-decoded t ds .seal) (curve-fields-bytes own) (seal-record (last byte-calls t ds))
   is = last-holds t form' ds bytes' (v .same-curve)
 
   read : {a : Class} {s : List ℕ} → Holds own a (curve-fields-bytes own) s → ReadWith (k .curve) s
@@ -86,7 +85,7 @@ module _ (k t : Kept) (form : InStoredForm k) (form' : InStoredForm t) (cs ds : 
   pub operations-read : ReadWith (k .curve) (class-record-bytes (decode-kept k .curve) d) × ReadWith (k .curve) (class-record-bytes (decode-kept k .curve) e)
   operations-read = (read (both-hold .0), read (both-hold .1))
 
-  pub moves-bytes : ¬ (d ≡ e) → ¬ (seal-record (last byte-steps k cs) ≡ seal-record (last byte-steps t ds))
+  pub moves-bytes : ¬ (d ≡ e) → ¬ (seal-record (last byte-calls k cs) ≡ seal-record (last byte-calls t ds))
   moves-bytes differ same =
       moves _ _ _ _ by-value differ
       (ap (λ (g : Register). g .seal) (sym (last-carried k form cs bytes)) ∙ same-class was is same ∙ ap (λ (g : Register). g .seal) (last-carried t form' ds bytes'))
@@ -95,7 +94,7 @@ module _ (k t : Kept) (form : InStoredForm k) (form' : InStoredForm t) (cs ds : 
     difference-holds : Holds own (difference own e d) (curve-fields-bytes own) (record-difference mid out (class-record-bytes own e) (class-record-bytes own d))
     difference-holds = sum-holds out room' (both-hold .1) (opposite-holds mid room (both-hold .0))
 
-    module _ {outs : List (List ℕ)} (rooms : ClassRooms outs) (doubles : length outs ≡ length (newest byte-steps k cs) - j) (end : List ℕ) (room'' : class-room ≤ length end) where
+    module _ {outs : List (List ℕ)} (rooms : ClassRooms outs) (doubles : length outs ≡ length (newest byte-calls k cs) - j) (end : List ℕ) (room'' : class-room ≤ length end) where
       doubled-difference : Holds own (doublings own (length outs) (difference own e d)) (curve-fields-bytes own) (doubled-record outs (record-difference mid out (class-record-bytes own e) (class-record-bytes own d)))
       doubled-difference = doubled-holds rooms difference-holds
 
@@ -107,16 +106,16 @@ module _ (k t : Kept) (form : InStoredForm k) (form' : InStoredForm t) (cs ds : 
           ∙ ap (λ (g : Register). g .seal) (sym (last-carried t form' ds bytes'))
 
       pub displacement-bytes :
-          record-sum end (seal-record (last byte-steps k cs))
+          record-sum end (seal-record (last byte-calls k cs))
           (doubled-record outs (record-difference mid out (class-record-bytes (decode-kept k .curve) e) (class-record-bytes (decode-kept k .curve) d)))
-          ≡ seal-record (last byte-steps t ds)
+          ≡ seal-record (last byte-calls t ds)
       displacement-bytes = sum-holds end room'' was doubled-difference .bytes ∙ ap (class-record-bytes own) sum-is ∙ sym (is .bytes)
 
       pub displacement-writes :
           sum-call
-          (sum-record-of (seal-record (last byte-steps k cs))
+          (sum-record-of (seal-record (last byte-calls k cs))
           (doubled-record outs (record-difference mid out (class-record-bytes (decode-kept k .curve) e) (class-record-bytes (decode-kept k .curve) d)))) end
-          ≡ write (last-field (seal-record (last byte-steps t ds))) end
+          ≡ write (last-field (seal-record (last byte-calls t ds))) end
       displacement-writes =
           sum-written end room'' was doubled-difference
           ∙ ap (λ (b : List ℕ). write b end) (ap (class-field 0x43) sum-is ∙ sym (last-is own _ (is .bytes)))

@@ -1,5 +1,4 @@
 -- Fields in stored form as they are read, whether or not their values pass the checks.
--- `fields-split`: fields are read in two parts, one after the other.
 -- `field-read`: a field whose length is allowed is read as its check says.
 -- `class-allowed`: the body of a class that it decodes to has an allowed length.
 -- `register-unread`: the fields of a register that fails a check by value are refused with that check's number.
@@ -13,21 +12,13 @@ use Rattle.jacobian.specs.{Checks._or-else_, Curves.coefficients, Curves.curve-
 use Rattle.jacobian.proofs.ByValue.Checks.{first-due, next-due}
 use Rattle.history.specs.{Register.register-refusal, declared.Register.Register}
 use Rattle.stored_form.specs.{Number.encode-number, Reading.Reading, Reading.found, Reading.refused as unread, Reading.checked, Reading._then_, Head.degree-length, Head.count-length, Head.class-length, Head.encode-field, Elements.encode-elements}
-use Rattle.stored_form.specs.{Fields.degree-field, Fields.count-field, Fields.count-refusal, Classes.curve-field, Classes.curve-fields-bytes, Classes.decode-class, Classes.decode-row, Classes.encode-row, Classes.encode-class, Classes.class-field, Classes.decode-curve}
-use Rattle.stored_form.specs.{Record.empty-record, Record.curve-of-degree, Tags.rules, Reader.read-field, Reader.read-fields, declared.Record.Record}
-use Rattle.stored_form.proofs.{Digits.length-bytes, ElementBytes.length-encode-elements, Lengths.allows-short, Readings.then-found, Readings.then-same, Readings.then-assoc}
+use Rattle.stored_form.specs.{Fields.degree-field, Fields.count-field, Fields.released-field, Fields.count-refusal, Fields.released-refusal, Classes.curve-field, Classes.curve-fields-bytes, Classes.decode-class, Classes.decode-row, Classes.encode-row, Classes.encode-class, Classes.class-field, Classes.decode-curve}
+use Rattle.stored_form.specs.{Record.empty-record, Record.curve-of-degree, Tags.rules, Reader.read-field, Reader.read-fields, Reader.register-layout, declared.Record.Record}
+use Rattle.stored_form.proofs.{Digits.length-bytes, ElementBytes.length-encode-elements, Lengths.allows-short, Readings.then-found}
 use Rattle.stored_form_theorems.specs.Fields.{Field}
 use Rattle.stored_form_theorems.proofs.{Bodies.body-read, Places.apart, Places.whole, ClassRoundTrips.class-length-of}
-use Rattle.seal.specs.Records.{register-fields}
-use Rattle.seal.proofs.{Decoding.of-bodies, KeptFields.before-tags}
-
--- fields that are read in two parts
-pub fields-split : (s tags rest : List ℕ) (h : Record) (at : ℕ) → read-fields (tags ++ rest) h s at ≡ (read-fields tags h s at then λ m a. read-fields rest m s a)
-unfolding read-fields _then_
-fields-split s [] rest h at = refl
-fields-split s (tag ∷ tags) rest h at =
-    then-same _ (read-field tag h s at) (λ m a. fields-split s tags rest m a)
-    ∙ sym (then-assoc (read-field tag h s at) (λ m a. read-fields tags m s a) (λ m a. read-fields rest m s a))
+use Rattle.seal.specs.Records.{register-fields, register-record-bytes}
+use Rattle.seal.proofs.Decoding.{of-bodies}
 
 -- a field as it is read: its check, then the record with it
 pub field-read : (tag : ℕ) (h : Record) (s : List ℕ) (at : ℕ) (body : List ℕ) {next : ℕ} → rules tag .allows h (length body) ≡ true → Field s at (encode-field tag body) next
@@ -81,18 +72,20 @@ module _ (g : Register) (same : of-bodies g ≡ g) (fails : ¬ (register-refusal
   b = of-bodies g
 
   abbrev s : List ℕ
-  s = curve-fields-bytes (g .curve) ++ register-fields g ++ rest
+  s = register-record-bytes g ++ rest
 
   -- where its fields stand
-  stands : (a₁ : ℕ) × (a₂ : ℕ) × (a₃ : ℕ) × (a₄ : ℕ) × Field s 0 (degree-field (g .curve .degree)) a₁ × Field s a₁ (curve-field (g .curve)) a₂
-      × Field s a₂ (count-field (g .count)) a₃ × Field s a₃ (class-field 0x43 (g .seal)) a₄
-  unfolding curve-fields-bytes
+  stands : (a₁ : ℕ) × (a₂ : ℕ) × (a₃ : ℕ) × (a₄ : ℕ) × (a₅ : ℕ) × Field s 0 (degree-field (g .curve .degree)) a₁ × Field s a₁ (curve-field (g .curve)) a₂
+      × Field s a₂ (count-field (g .count)) a₃ × Field s a₃ (released-field (g .released)) a₄ × Field s a₄ (class-field 0x43 (g .seal)) a₅
+  unfolding register-record-bytes curve-fields-bytes
   stands =
-      let all = apart (curve-fields-bytes (g .curve) ++ register-fields g) rest (whole s) in
+      let counts = count-field (g .count) ++ released-field (g .released) in
+      let all = apart (register-record-bytes g) rest (whole s) in
       let halves = apart (curve-fields-bytes (g .curve)) (register-fields g) (all .1) in
       let first = apart (degree-field (g .curve .degree)) (curve-field (g .curve)) (halves .1) in
-      let second = apart (count-field (g .count)) (class-field 0x43 (g .seal)) (halves .2) in
-      (first .0, halves .0, second .0, all .0, first .1, first .2, second .1, second .2)
+      let second = apart counts (class-field 0x43 (g .seal)) (halves .2) in
+      let third = apart (count-field (g .count)) (released-field (g .released)) (second .1) in
+      (first .0, halves .0, third .0, second .0, all .0, first .1, first .2, third .1, third .2, second .2)
 
   -- the refusal of the register, by the checks of its fields
   of-degree : ¬ (degree-refusal (b .curve .degree) ≡ 0) → degree-refusal (b .curve .degree) ≡ register-refusal b
@@ -107,23 +100,30 @@ module _ (g : Register) (same : of-bodies g ≡ g) (fails : ¬ (register-refusal
   unfolding register-refusal
   of-count z nz = next-due refl z (first-due _ refl nz)
 
-  of-seal : curve-refusal (b .curve) ≡ 0 → count-refusal (b .count) ≡ 0 → refusal (b .curve) (b .seal) ≡ register-refusal b
-  unfolding register-refusal refusal _or-else_
-  of-seal z y = rw (z, y)
+  of-released : curve-refusal (b .curve) ≡ 0 → count-refusal (b .count) ≡ 0 → ¬ (released-refusal (b .count) (b .released) ≡ 0) → released-refusal (b .count) (b .released) ≡ register-refusal b
+  unfolding register-refusal
+  of-released z y nz = next-due refl z (next-due refl y (first-due _ refl nz))
 
-  pub register-unread : read-fields before-tags empty-record s 0 ≡ unread (register-refusal (of-bodies g))
-  unfolding rules degree-field curve-field count-field class-field curve-of-degree curve-with decode-curve coefficients
+  of-seal : curve-refusal (b .curve) ≡ 0 → count-refusal (b .count) ≡ 0 → released-refusal (b .count) (b .released) ≡ 0 → refusal (b .curve) (b .seal) ≡ register-refusal b
+  unfolding register-refusal refusal _or-else_
+  of-seal z y x = rw (z, y, x)
+
+  pub register-unread : read-fields register-layout empty-record (register-record-bytes g ++ rest) 0 ≡ unread (register-refusal (of-bodies g))
+  unfolding rules degree-field curve-field count-field released-field class-field curve-of-degree curve-with decode-curve coefficients
   register-unread =
       let p = stands in
-      next-fails 0x40 (0x41 ∷ 0x42 ∷ 0x43 ∷ []) empty-record s 0 (encode-number degree-length (g .curve .degree)) (rw (length-bytes degree-length (g .curve .degree)) refl) (p .4)
+      next-fails 0x40 (0x41 ∷ 0x42 ∷ 0x45 ∷ 0x43 ∷ []) empty-record s 0 (encode-number degree-length (g .curve .degree)) (rw (length-bytes degree-length (g .curve .degree)) refl) (p .5)
       (λ x.
-      next-fails 0x41 (0x42 ∷ 0x43 ∷ []) _ s _ (encode-elements (coefficients (g .curve))) (rw (length-encode-elements (coefficients (g .curve))) refl) (p .5)
+      next-fails 0x41 (0x42 ∷ 0x45 ∷ 0x43 ∷ []) _ s _ (encode-elements (coefficients (g .curve))) (rw (length-encode-elements (coefficients (g .curve))) refl) (p .6)
       (λ y.
-      next-fails 0x42 (0x43 ∷ []) _ s _ (encode-number count-length (g .count)) (rw (length-bytes count-length (g .count)) refl) (p .6)
+      next-fails 0x42 (0x45 ∷ 0x43 ∷ []) _ s _ (encode-number count-length (g .count)) (rw (length-bytes count-length (g .count)) refl) (p .7)
       (λ z.
-      next-fails 0x43 [] _ s _ (encode-class (g .seal)) (class-allowed (g .seal) (ap (λ (t : Register). t .seal) same)) (p .7)
-      (λ w. absurd (fails (sym (of-seal y z) ∙ w)))
-      (λ nz. of-seal y z))
+      next-fails 0x45 (0x43 ∷ []) _ s _ (encode-number count-length (g .released)) (rw (length-bytes count-length (g .released)) refl) (p .8)
+      (λ v.
+      next-fails 0x43 [] _ s _ (encode-class (g .seal)) (class-allowed (g .seal) (ap (λ (t : Register). t .seal) same)) (p .9)
+      (λ w. absurd (fails (sym (of-seal y z v) ∙ w)))
+      (λ nz. of-seal y z v))
+      (λ nz. of-released y z nz))
       (λ nz. of-count y nz))
       (λ nz. of-curve nz))
       (λ nz. of-degree nz)
