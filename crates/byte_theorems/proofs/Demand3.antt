@@ -18,7 +18,7 @@ use Rattle.history.specs.{Machine.last, Machine.newest, Calls.NoUndos, Calls.cl
 use Rattle.history.specs.Calls as history
 use Rattle.stored_form.specs.{Reading.found, Head.drawing-limit, Fields.printable, Fields.drawing-field, Fields.count-field, Classes.class-field, Classes.curve-fields-bytes, Classes.operation-fields}
 use Rattle.seal.specs.Steps.{Kept, ByteCall, byte-calls, BytesGiven, operations, seal-field, seal-fields, kept, decode-kept, newest-decoded, last-decoded, decoded-calls, InStoredForm}
-use Rattle.seal.proofs.{ByteCarried.newest-carried, ByteCarried.last-carried, ByteCarried.operations-stored, ByteCarried.seals-stored, ByteCalls.last-stored, Decoding.seal-stored}
+use Rattle.seal.proofs.{ByteCarried.newest-carried, ByteCarried.last-carried, ByteCarried.operations-stored, ByteCarried.seals-stored, ByteSteps.last-stored, Decoding.seal-stored}
 use Rattle.seal_register.specs.RowWalk.{row-walk-answer}
 use Rattle.seal_register.proofs.RowWalk.{row-walk-by-value}
 use Rattle.archive.specs.Archive.{Archive, read-archive}

@@ -3,7 +3,8 @@
 -- `undo-after-release`: an undo right after an accepted release is refused with 121, or with 113 at count 0.
 -- `released-kept`: where no release of a list was accepted, the released step after it is that of the first register.
 -- `released-grows`: no list of calls makes the released step smaller.
--- `none-behind`: after an accepted release no list of calls leads to a smaller count.
+-- `above-released`: from a register that passes its checks no list of calls leads to a count below its released step.
+-- `none-behind`: so after an accepted release no list of calls leads to a smaller count.
 use Prim.Native.Nat.{ℕ, _≤_}
 use mathlib.Core.Path.{_≡_, refl, _∙_, ap}
 use mathlib.Core.Bool.{Bool, true, false, cond}
@@ -14,7 +15,7 @@ use borrow.Author.Tests.{eqb-true, eqb-false}
 use Rattle.lists.specs.Lists.{more}
 use Rattle.jacobian.specs.{Answer.Verdict, Answer.accepted, Answer.refused, Answer.Accepts, Answer.refusal-of-two, declared.Class.Class}
 use Rattle.jacobian.proofs.{Representation.accepts-both, Calls.accepts-two}
-use Rattle.history.specs.Register.{RegisterReply, with-count-and-seal, with-released, stepped, undo-answer, release-answer}
+use Rattle.history.specs.Register.{RegisterReply, register-refusal, with-count-and-seal, with-released, stepped, undo-answer, release-answer}
 use Rattle.history.specs.Machine as definition
 use Rattle.history.specs.Calls.{Call, step, release, answer, registers, Event, last, newest, NoReleases}
 use Rattle.history.specs.declared.{Register.Register, Step.Step, Step.the-variants.Commit, Step.the-variants.Undo}
@@ -79,11 +80,15 @@ call-grows r c = go (answer r c .outcome) refl
 pub released-grows : (r : Register) (cs : List Call) → r .released ≤ last r cs .released
 released-grows r cs = last-holds registers (λ t. r .released ≤ t .released) (λ t c h. let more = call-grows t c in omega arith) cs (omega arith)
 
+pub above-released : (r : Register) (cs : List Call) → register-refusal r ≡ 0 → r .released ≤ last r cs .count
+above-released r cs ok =
+    let more = released-grows r cs in
+    let within = register-passes (last r cs) (last-passes r cs ok) .released-passes in
+    omega arith
+
 pub none-behind : (r : Register) (cs : List Call) → release-answer r .outcome ≡ accepted → r .count ≤ last (release-answer r .register) cs .count
 unfolding answer
 none-behind r cs e =
-    let next = release-answer r .register in
     let is = ap (λ (x : Register). x .released) (release-sets r e) in
-    let more = released-grows next cs in
-    let within = register-passes (last next cs) (last-passes next cs (passes-register next (accepted-passes r release e))) .released-passes in
+    let above = above-released (release-answer r .register) cs (passes-register _ (accepted-passes r release e)) in
     omega arith

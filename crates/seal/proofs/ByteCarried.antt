@@ -3,10 +3,13 @@
 -- into any outputs, and calls may be refused. The register calls are the accepted ones, decoded (`decoded-calls`).
 -- `newest-carried`: the accepted byte calls, decoded, are the accepted calls of these register calls.
 -- `last-carried`: what is kept after the list decodes to the register after these register calls.
+-- `released-grows`: no list of byte calls makes the released step that is kept smaller.
+-- `above-released`: none leads to a count below it, so after an accepted release none to a smaller count.
 -- `operations-stored`: the operations of the accepted steps are the fields of the classes that they decode to.
 -- `seals-stored`: the seal fields that were kept are the fields of the seals that they decode to.
 -- So the theorems of the crate history on lists of calls hold of byte calls. What is kept is the stored form of the
 -- register that it decodes to (`last-stored` of ByteSteps).
+use Prim.Native.Nat.{_≤_}
 use mathlib.Core.Path.{_≡_, refl, sym, ap, ap₂, _∙_}
 use mathlib.Core.List.{List, _∷_, map}
 use Rattle.lists.specs.Lists.{All, none, more}
@@ -18,6 +21,7 @@ use Rattle.history.specs.Calls as history
 use Rattle.history.specs.Calls.{answer, registers}
 use Rattle.history.specs.declared.Register.{Register}
 use Rattle.history.proofs.{Registers.passes-register, OneCall.accepted-register, OneCall.accepted-class, OneCall.accepted-passes}
+use Rattle.history.proofs.Releases as releases
 use Rattle.history.proofs.Machine.{Run.all-accepted, Accepted.accepted-newest, Accepted.accepted-last}
 use Rattle.stored_form.specs.Classes.{class-field}
 use Rattle.seal.specs.Steps.{Kept, Request, step, release, operation, ByteCall, byte-calls, ByteEvent, BytesGiven, operations, seal-field, seals-before, seal-fields, encode-call, decode-kept, decode-request, decode-call, decoded, newest-decoded, last-decoded, decoded-calls, InStoredForm}
@@ -95,6 +99,12 @@ module _ (k : Kept) (form : InStoredForm k) (cs : List ByteCall) (bytes : BytesG
   pub last-carried : last-decoded k cs ≡ history.last (decode-kept k) (decoded-calls k cs)
   unfolding last-decoded decoded-calls
   last-carried = accepted-last decode-kept decode-call byte-calls registers refused-stays k cs accepted-agree
+
+  pub released-grows : decode-kept k .released ≤ last-decoded k cs .released
+  released-grows = rw last-carried (releases.released-grows (decode-kept k) (decoded-calls k cs))
+
+  pub above-released : decode-kept k .released ≤ last-decoded k cs .count
+  above-released = rw last-carried (releases.above-released (decode-kept k) (decoded-calls k cs) (form .passes))
 
   pub operations-stored : operations (newest byte-calls k cs) ≡ map (class-field 0x44) (history.classes (newest-decoded k cs))
   unfolding newest event newest-decoded

@@ -11,10 +11,11 @@ use lib.{Dec.ltb, Dec.leb}
 use borrow.Author.Tests.{ltb-true, ltb-false, lt-ltb}
 use Rattle.jacobian.specs.{Checks.Check, Checks.check, Checks.unless, Checks._or-else_, Checks.AllHold, Checks.RefusalOf, Refusals.listed, Curves.f-row, Curves.curve-refusal, Answer.Result, Answer.accepted, Answer.refused, Answer.result, Answer.verdict-of, declared.Curve.Curve, declared.Class.Class}
 use Rattle.jacobian.proofs.{Checking.refusal-none, Checking.refusal-unless, Checking.refusal-or-else, Representation.accepts-curve, Representation.accepts-class, Representation.accepts-both}
+use Rattle.history.specs.Calls.{call-refusal}
 use Rattle.history.specs.{Register.register-refusal, Register.step-refusal, Register.RegisterReply, Register.step-answer, Register.release-answer, Calls.answer, Checking.edge-checks}
 use Rattle.history.specs.Calls as history
 use Rattle.history.specs.declared.{Register.Register, Step.Step, Step.the-variants.Commit, Step.the-variants.Undo}
-use Rattle.history.proofs.{Registers.passes-register, Registers.follows-outcome, OneCall.accepted-passes, Checking.call-refusal, Checking.answer-follows, Checking.edge-checked}
+use Rattle.history.proofs.{Registers.passes-register, Registers.follows-outcome, OneCall.accepted-passes, Checking.answer-follows, Checking.edge-checked}
 use Rattle.stamps.specs.Stamps.{first-class, stamp-refusal, stamped, stamp-answer, SomeRoot}
 use Rattle.stamps.proofs.Theorems.{stamp-gives, stamp-accepts, stamp-too-large, stamp-rootless}
 use Rattle.stored_form.specs.{Fields.count-limit, Reader.curve-layout, Reader.class-layout, Reader.sum-layout, Reader.register-layout, Reader.step-layout, Passing.CountPasses, Passing.ReleasedPasses, Passing.ClassPasses, declared.Record.Record}

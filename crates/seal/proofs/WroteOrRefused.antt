@@ -15,9 +15,10 @@ use mathlib.Core.{Bool.true, List.List}
 use lib.{Dec.leb, Dec.ltb, ListN.length}
 use Rattle.jacobian.specs.{Refusals.listed, Refusals.IsRefusal, Refusals.ValidRefusal, Answer.Verdict, Answer.accepted, Answer.refused}
 use Rattle.jacobian.proofs.Refusals.{refused-valid}
+use Rattle.history.specs.Calls.{call-refusal}
 use Rattle.history.specs.Calls as history
 use Rattle.history.specs.Calls.{answer}
-use Rattle.history.proofs.{Checking.call-refusal, Valid.call-refusal-valid}
+use Rattle.history.proofs.Valid.{call-refusal-valid}
 use Rattle.history.specs.declared.{Register.Register, Step.the-variants.Commit, Step.the-variants.Undo}
 use Rattle.stored_form.specs.{Reading.Reading, Reading.found, Reading.refused as unread, Reader.read-record, Reader.class-layout, declared.Record.Record}
 use Rattle.written_form.specs.Effect.{Effect, refuse, register-room, WroteOrRefused, AnswerDecides, longest-answer}
