@@ -19,7 +19,7 @@ use Rattle.jacobian.proofs.{ByValue.Checks.then-zero, ByValue.Checks.both, ByVa
 use Rattle.count_limit.specs.{Limit.count-limit, Limit.count-refusal, Limit.released-refusal, Checking.count-check, Checking.released-check}
 use Rattle.count_limit.proofs.Checking.{count-checked, released-checked}
 use Rattle.history.specs.Register.{RegisterReply, register-reply, register-refusal, edge-refusal, step-refusal, follows, step-answer, release-answer}
-use Rattle.history.specs.Calls.{Call, step, release, answer, call-refusal, called}
+use Rattle.history.specs.Calls.{Call, step, release, answer, call-refusal, next-register}
 use Rattle.history.specs.Checking.{register-checks, edge-checks, call-checks, check-numbers, call-numbers, CheckedAnswer}
 use Rattle.history.specs.declared.{Register.Register, RegisterAnswer.RegisterAnswer, Step.Step, Step.the-variants.Commit, Step.the-variants.Undo}
 use Rattle.history.proofs.Registers.{follows-outcome, follows-refused}
@@ -66,8 +66,8 @@ step-checked k r a =
     refusal-or-else (register-checks r) (class-checks c a ++ last) (register-refusal r) _ (register-checked r)
     (λ h. refusal-or-else (class-checks c a) last (class-refusal c a) _ (class-checked c a (then-zero _ _ (refusal-held (register-checked r) h) .0)) (λ m. edge-checked k (r .count) (r .released)))
 
-pub answer-follows : (r : Register) (c : Call) → answer r c ≡ follows (call-refusal r c) r (called r c)
-unfolding answer step-answer release-answer call-refusal called
+pub answer-follows : (r : Register) (c : Call) → answer r c ≡ follows (call-refusal r c) r (next-register r c)
+unfolding answer step-answer release-answer call-refusal next-register
 answer-follows r (step k a) = refl
 answer-follows r release = refl
 
@@ -80,10 +80,10 @@ pub answer-checked : (r : Register) (c : Call) (x : RegisterAnswer) → register
 answer-checked r c x e =
     let n = call-refusal r c in
     let f = e ∙ answer-follows r c in
-    let is : outcome-refusal (x .outcome) ≡ n = outcome-refusal-is (x .outcome) n (ap (λ (y : RegisterReply). y .outcome) f ∙ follows-outcome n r (called r c)) in
+    let is : outcome-refusal (x .outcome) ≡ n = outcome-refusal-is (x .outcome) n (ap (λ (y : RegisterReply). y .outcome) f ∙ follows-outcome n r (next-register r c)) in
     record {
       refusal = subst (RefusalOf (call-checks r c)) (sym is) (call-checked r c);
-      kept = λ h. ap (λ (y : RegisterReply). y .register) (f ∙ follows-refused n r (called r c) (λ z. h (is ∙ z)));
+      kept = λ h. ap (λ (y : RegisterReply). y .register) (f ∙ follows-refused n r (next-register r c) (λ z. h (is ∙ z)));
     }
 
 -- ---- the numbers

@@ -1,23 +1,23 @@
--- The refusals 109, 113, 114, 120 and 121 by the counts, where curve, seal and class are accepted
--- (docs/SPECIFICATION.md, 6); the limit is written as a number here.
--- With a released step up to the count:
+-- The refusals 109, 113, 114, 120 and 121 by the counts (docs/SPECIFICATION.md, 6); the limit is written as a number here.
+-- Where curve, seal and class are accepted and the released step is up to the count:
 -- `commit-below-limit`: a commit is accepted at a count up to 1,023.
 -- `commit-to-limit`: a commit at 1,023 gives 1,024.
 -- `commit-at-limit`: a commit at 1,024 is refused with 114.
 -- `undo-above-released`: an undo is accepted at a count up to 1,024 above the released step.
 -- `undo-at-released`: an undo at the released step is refused with 121, if the count is not 0.
 -- `undo-at-zero`: an undo at 0 is refused with 113.
+-- Where curve and seal are accepted and the released step is up to the count:
 -- `release-within-limit`: a release is accepted at a count up to 1,024, and sets the released step to it.
--- With any released step:
+-- Where the curve is accepted, whatever the seal and the class:
 -- `above-limit-refused`: at 1,025 or more every call is refused with 109.
 -- `released-above-count`: at a count up to 1,024 with a released step above it every call is refused with 120.
 use Prim.Native.Nat.{ℕ, _+_, _≤_, _<_}
 use mathlib.Core.Path.{_≡_, refl, sym, _∙_, ap, ap₂}
 use native.Mathlib.Omega.{arith}
 use borrow.Author.Tests.{eq-eqb, ne-eqb}
-use Rattle.jacobian.specs.{Checks._or-else_, Curves.curve-refusal, Classes.class-refusal, Answer.accepted, Answer.refused, Answer.refusal-of-two}
+use Rattle.jacobian.specs.{Checks._or-else_, Curves.curve-refusal, Classes.class-refusal, Answer.accepted, Answer.refused, Answer.refusal, Answer.refusal-of-two}
 use Rattle.jacobian.specs.declared.Class.{Class}
-use Rattle.jacobian.proofs.{Representation.accepts-curve, Representation.accepts-class, Calls.two-accept}
+use Rattle.jacobian.proofs.ByValue.Checks.{then-zero}
 use Rattle.count_limit.specs.Limit.{count-limit, count-refusal, released-refusal}
 use Rattle.count_limit.proofs.Limit.{within-limit, above-limit, released-within, released-above}
 use Rattle.history.specs.Register.{register-refusal, edge-refusal, commit-seal, with-count-and-seal, with-released, stepped, follows, step-answer, commit-answer, undo-answer, release-answer}
@@ -26,9 +26,6 @@ use Rattle.history.specs.declared.{Register.Register, Step.Step, Step.th
 use Rattle.history.proofs.{Registers.follows-zero, Registers.off-edge, Registers.OffEdge, Registers.passes-register, Numbers.step-within, Failing.failing-answer}
 
 module _ (r : Register) (a : Class) (none : refusal-of-two (r .curve) (r .seal) a ≡ 0) where
-  curve-ok : curve-refusal (r .curve) ≡ 0
-  curve-ok = accepts-curve (two-accept (r .curve) (r .seal) a none .0)
-
   -- ---- a released step up to the count, which is up to the limit
   module _ (few : r .count ≤ count-limit) (behind : r .released ≤ r .count) where
     counts : count-refusal (r .count) or-else released-refusal (r .count) (r .released) ≡ 0
@@ -42,12 +39,6 @@ module _ (r : Register) (a : Class) (none : refusal-of-two (r .curve) (r .seal) 
     at : (k : Step) {n : ℕ} → edge-refusal k (r .count) (r .released) ≡ n → step-answer k r a ≡ follows n r (stepped k r a)
     unfolding step-answer _or-else_
     at k e = ap (λ m. follows m r (stepped k r a)) (step-within k r a counts ∙ ap₂ _or-else_ none e)
-
-    pub release-within-limit : release-answer r ≡ record { outcome = accepted; register = with-released (r .count) r }
-    unfolding release-answer
-    release-within-limit =
-        follows-zero _ r (with-released (r .count) r)
-        (passes-register r (record { curve-passes = curve-ok; count-passes = few; released-passes = behind; seal-passes = accepts-class (two-accept (r .curve) (r .seal) a none .0) }))
 
     -- ---- an undo
     pub undo-above-released : r .released < r .count → undo-answer r a ≡ record { outcome = accepted; register = stepped Undo r a }
@@ -86,15 +77,24 @@ module _ (r : Register) (a : Class) (none : refusal-of-two (r .curve) (r .seal) 
     unfolding count-limit
     commit-at-limit e = commit-at (omega arith) behind e
 
-  -- ---- counts that are refused
-  module _ (c : Call) where
-    fails : (n : ℕ) → register-refusal r ≡ n → ¬ (n ≡ 0) → answer r c ≡ record { outcome = refused n; register = r }
-    fails n e nz = failing-answer r (λ z. nz (sym e ∙ z)) c ∙ ap (λ m. record { outcome = refused m; register = r }) e
+-- ---- a release
+module _ (r : Register) (none : refusal (r .curve) (r .seal) ≡ 0) where
+  pub release-within-limit : r .count ≤ 1024 → r .released ≤ r .count → release-answer r ≡ record { outcome = accepted; register = with-released (r .count) r }
+  unfolding release-answer refusal count-limit
+  release-within-limit few behind =
+      let p = then-zero (curve-refusal (r .curve)) (class-refusal (r .curve) (r .seal)) none in
+      follows-zero _ r (with-released (r .count) r)
+      (passes-register r (record { curve-passes = p .0; count-passes = omega arith; released-passes = behind; seal-passes = p .1 }))
 
-    pub above-limit-refused : 1025 ≤ r .count → answer r c ≡ record { outcome = refused 109; register = r }
-    unfolding register-refusal _or-else_ count-limit
-    above-limit-refused h = fails 109 (rw (curve-ok, above-limit (r .count) (omega arith))) (λ z. omega arith)
+-- ---- counts that are refused, whatever seal and class are
+module _ (r : Register) (none : curve-refusal (r .curve) ≡ 0) (c : Call) where
+  fails : (n : ℕ) → register-refusal r ≡ n → ¬ (n ≡ 0) → answer r c ≡ record { outcome = refused n; register = r }
+  fails n e nz = failing-answer r (λ z. nz (sym e ∙ z)) c ∙ ap (λ m. record { outcome = refused m; register = r }) e
 
-    pub released-above-count : r .count ≤ 1024 → r .count < r .released → answer r c ≡ record { outcome = refused 120; register = r }
-    unfolding register-refusal _or-else_ count-limit
-    released-above-count h l = fails 120 (rw (curve-ok, within-limit (r .count) (omega arith), released-above (r .count) (r .released) l)) (λ z. omega arith)
+  pub above-limit-refused : 1025 ≤ r .count → answer r c ≡ record { outcome = refused 109; register = r }
+  unfolding register-refusal _or-else_ count-limit
+  above-limit-refused h = fails 109 (rw (none, above-limit (r .count) (omega arith))) (λ z. omega arith)
+
+  pub released-above-count : r .count ≤ 1024 → r .count < r .released → answer r c ≡ record { outcome = refused 120; register = r }
+  unfolding register-refusal _or-else_ count-limit
+  released-above-count h l = fails 120 (rw (none, within-limit (r .count) (omega arith), released-above (r .count) (r .released) l)) (λ z. omega arith)

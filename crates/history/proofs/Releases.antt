@@ -1,6 +1,7 @@
 -- What releases do to a register, and what no call does after them (docs/SPECIFICATION.md, 4 and 11).
 -- `release-sets`: an accepted release makes the count the released step; curve, count and seal stay.
--- `undo-after-release`: an undo right after an accepted release is refused with 121, or with 113 at count 0.
+-- `undo-after-release`: an undo of an accepted class right after an accepted release is refused with 121, at count 0 with
+-- 113.
 -- `released-kept`: where no release of a list was accepted, the released step after it is that of the first register.
 -- `released-grows`: no list of calls makes the released step smaller.
 -- `above-released`: from a register that passes its checks no list of calls leads to a count below its released step.
@@ -36,7 +37,7 @@ module _ (r : Register) (a : Class) (e : release-answer r .outcome ≡ accepted)
   abbrev next : Register
   next = record { curve = r .curve; count = r .count; seal = r .seal; released = r .count }
 
-  -- curve, seal and class are accepted, and the count is within the limit
+  -- the register passed its checks
   passes : Passes r
   passes = released-passes r e
 

@@ -12,23 +12,19 @@
 -- In a list of two parts, where no release of the second part was accepted:
 -- `after-turned`, `after-accepted`, `after-registers`, `after-counts`: the same of the second part's accepted calls.
 -- `after-all`: after taking all of them back the register is that between the two parts.
-use Prim.Native.Nat.{ℕ}
-use mathlib.Core.Path.{_≡_, refl, sym, _∙_, ap, subst}
-use mathlib.Core.List.{List, [], _∷_, _++_, map}
-use native.Mathlib.Omega.{arith}
-use Rattle.lists.specs.{Lists.All, Lists.none, Lists.more, Walk.foldl}
-use Rattle.jacobian.specs.Answer.{Verdict, accepted, refused}
-use Rattle.jacobian.specs.declared.Class.{Class}
-use Rattle.history.specs.Register.{RegisterReply, with-count-and-seal, with-released, stepped}
-use Rattle.history.specs.Calls.{Call, step, release, back, answer, registers, Event, run, last, newest, backs, taken-back, turned, NoReleases, taken-back-after, EndsInRelease, empty, ends, LastRelease}
+use mathlib.Core.Path.{_≡_, refl, _∙_, ap}
+use mathlib.Core.List.{List, _++_, map}
+use mathlib.Core.Logic.{_⊎_, inl, inr}
+use Rattle.lists.specs.Lists.{All}
+use Rattle.jacobian.specs.Answer.{accepted}
+use Rattle.history.specs.Calls.{Call, step, release, back, registers, run, last, newest, backs, taken-back, turned, NoReleases, taken-back-after, LastRelease}
 use Rattle.history.specs.Machine as definition
-use Rattle.history.specs.declared.{Register.Register, Step.Step, Step.the-variants.Commit, Step.the-variants.Undo}
+use Rattle.history.specs.declared.Register.{Register}
 use Rattle.lists.proofs.Lists.{all-reverse}
-use Rattle.history.proofs.Machine.Run.{last-append, run-all, last-holds, accepted-fit, all-oldest, by-accepted}
+use Rattle.history.proofs.Machine.Run.{last-append, run-all, last-holds, accepted-fit, all-oldest}
 use Rattle.history.proofs.Machine.TakingBack as machine
-use Rattle.history.proofs.OneStep.{step-taken, release-taken}
 use Rattle.history.proofs.Classes.{step-no-release}
-use Rattle.history.proofs.OneCall.{answer-curve, refused-stays, reversible}
+use Rattle.history.proofs.OneCall.{answer-curve, reversible}
 
 pub curve-kept : (r : Register) (cs : List Call) → All (λ e. e .left .curve ≡ r .curve) (run r cs)
 unfolding definition.event
@@ -85,43 +81,9 @@ module _ (r : Register) (cs ds : List Call) (only : NoReleases (newest (last r c
   after-all = ap (λ t. last t (backs (newest (last r cs) ds))) (last-append registers r cs ds) ∙ taken-back-all (last r cs) ds only
 
 -- ---- the last accepted release of a list
--- a call that is no accepted release, before calls without one
-then-no-release : (r : Register) (c : Call) (ds : List Call) → (answer r c .outcome ≡ accepted → ¬ (c ≡ release)) → NoReleases (newest (answer r c .register) ds)
-    → NoReleases (newest r (c ∷ ds))
-unfolding definition.newest definition.run definition.event definition.accepted-of
-then-no-release r c ds no-release h = all-reverse (go (answer r c .outcome) refl)
-  where
-    rest : List Event
-    rest = definition.accepted-of (run (answer r c .register) ds)
-
-    hs : NoReleases rest
-    hs = all-oldest registers (answer r c .register) ds h
-
-    go : (v : Verdict) → answer r c .outcome ≡ v → NoReleases (elim v [ accepted ↦ definition.event registers r c ∷ rest | refused n ↦ rest ])
-    go accepted e = more (no-release e) hs
-    go (refused n) e = hs
-
--- the first call of a list in which no later release is accepted
-at-first : (r : Register) (c : Call) (ds : List Call) → NoReleases (newest (answer r c .register) ds) → LastRelease r (c ∷ ds)
-unfolding definition.last foldl
-at-first r (step k a) ds h =
-    record { before = []; after = step k a ∷ ds; parts = refl; at-release = empty; none-after = then-no-release r (step k a) ds (λ e. step-no-release k a) h }
-at-first r release ds h = go (answer r release .outcome) refl
-  where
-    go : (v : Verdict) → answer r release .outcome ≡ v → LastRelease r (release ∷ ds)
-    go accepted e = record { before = release ∷ []; after = ds; parts = refl; at-release = ends [] e; none-after = h }
-    go (refused n) e =
-        record { before = []; after = release ∷ ds; parts = refl; at-release = empty; none-after = then-no-release r release ds (λ q. let z : _≡_ {A = ℕ} 0 1 = cc in absurd (omega arith)) h }
-
--- one call before a list
-extended : (r : Register) (c : Call) {cs before : List Call} (after : List Call) → cs ≡ before ++ after → EndsInRelease (answer r c .register) before
-    → NoReleases (newest (last (answer r c .register) before) after) → LastRelease r (c ∷ cs)
-unfolding definition.last foldl
-extended r c after e empty h = subst (λ cs. LastRelease r (c ∷ cs)) (sym e) (at-first r c after h)
-extended r c after e (ends ds q) h =
-    record { before = c ∷ (ds ++ (release ∷ [])); after = after; parts = ap (λ cs. c ∷ cs) e; at-release = ends (c ∷ ds) q; none-after = h }
+is-release : (c : Call) → (c ≡ release) ⊎ (¬ (c ≡ release))
+is-release (step k a) = inr (step-no-release k a)
+is-release release = inl refl
 
 pub last-release : (r : Register) (cs : List Call) → LastRelease r cs
-unfolding definition.newest definition.run definition.accepted-of
-last-release r [] = record { before = []; after = []; parts = refl; at-release = empty; none-after = none }
-last-release r (c ∷ cs) = let p = last-release (answer r c .register) cs in extended r c (p .after) (p .parts) (p .at-release) (p .none-after)
+last-release = machine.last-final registers is-release

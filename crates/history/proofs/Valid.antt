@@ -16,7 +16,7 @@ use Rattle.jacobian.proofs.{Refusals.valid-or-else, Valid.curve-refusal-valid, 
 use Rattle.count_limit.specs.Limit.{count-limit}
 use Rattle.count_limit.proofs.Valid.{count-refusal-valid, released-refusal-valid}
 use Rattle.history.specs.Register.{RegisterReply, register-refusal, edge-refusal, step-refusal, follows, commit-answer, undo-answer, release-answer}
-use Rattle.history.specs.Calls.{Call, step, release, commit, undo, answer, call-refusal, called}
+use Rattle.history.specs.Calls.{Call, step, release, commit, undo, answer, call-refusal, next-register}
 use Rattle.history.specs.Checking.{call-numbers, ValidRegisterReply}
 use Rattle.history.specs.Checking as checking
 use Rattle.history.specs.declared.{Register.Register, Step.Step, Step.the-variants.Commit, Step.the-variants.Undo}
@@ -54,11 +54,11 @@ follows-valid ns (suc n) given next h = checking.ValidRegisterReply.refusal (suc
 
 module _ (r : Register) (c : Call) where
   pub call-valid : ValidRegisterReply (call-numbers c) r (answer r c)
-  call-valid = rw (answer-follows r c) (follows-valid (call-numbers c) _ r (called r c) (call-listed r c))
+  call-valid = rw (answer-follows r c) (follows-valid (call-numbers c) _ r (next-register r c) (call-listed r c))
 
   pub call-never : (n : ℕ) → listed n (call-numbers c) ≡ false → ¬ (answer r c .outcome ≡ refused n)
   call-never n out e =
-      let z = follows-number (call-refusal r c) r (called r c) n (sym (ap (λ (x : RegisterReply). x .outcome) (answer-follows r c)) ∙ e) in
+      let z = follows-number (call-refusal r c) r (next-register r c) n (sym (ap (λ (x : RegisterReply). x .outcome) (answer-follows r c)) ∙ e) in
       true≢false (sym (subst (λ m. listed m (call-numbers c) ≡ true) (z .0) (call-listed r c (z .1))) ∙ out)
 
 pub call-never-117 : (r : Register) (c : Call) → ¬ (answer r c .outcome ≡ refused 117)

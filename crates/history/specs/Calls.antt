@@ -39,9 +39,9 @@ call-refusal r (step k a) = step-refusal k r a
 call-refusal r release = register-refusal r
 
 -- the register after a call that no check refuses
-unfoldable pub called : Register → Call → Register
-called r (step k a) = stepped k r a
-called r release = with-released (r .count) r
+unfoldable pub next-register : Register → Call → Register
+next-register r (step k a) = stepped k r a
+next-register r release = with-released (r .count) r
 
 -- ---- the register as a machine
 -- the machine whose states are registers and whose calls are commits, undos and releases
@@ -94,18 +94,9 @@ OnlyCommits es = All (λ e. (a : Class) × (e .call ≡ commit a)) es
 abbrev pub taken-back-after : Register → List Call → List Call → List Event
 taken-back-after r cs ds = run (last r (cs ++ ds)) (backs (newest (last r cs) ds))
 
--- the list is empty, or it ends in a release that is accepted
-pub data EndsInRelease (r : Register) : List Call → Type 0 where
-  empty : EndsInRelease r []
-  ends : (cs : List Call) → answer (last r cs) release .outcome ≡ accepted → EndsInRelease r (cs ++ (release ∷ []))
-
 -- a list in two parts: the first up to its last accepted release, or empty where there is none, and the calls after it
-pub record LastRelease (r : Register) (cs : List Call) : Type 0 where
-  pub before : List Call
-  pub after : List Call
-  pub parts : cs ≡ before ++ after
-  pub at-release : EndsInRelease r before
-  pub none-after : NoReleases (newest (last r before) after)
+abbrev pub LastRelease : Register → List Call → Type 0
+LastRelease = machine.LastFinal registers (λ c. c ≡ release)
 
 -- ---- steps and their classes
 -- these calls without the releases

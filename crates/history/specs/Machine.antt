@@ -2,8 +2,8 @@
 -- A register is a machine, by value or in place.
 use Prim.Native.Nat.{ℕ}
 use mathlib.Core.Path.{_≡_}
-use mathlib.Core.List.{List, [], _∷_, map, reverse}
-use Rattle.lists.specs.Walk.{foldl}
+use mathlib.Core.List.{List, [], _∷_, _++_, map, reverse}
+use Rattle.lists.specs.{Lists.All, Walk.foldl}
 use Rattle.jacobian.specs.Answer.{Verdict, accepted, refused}
 
 -- a machine: for each state and call an outcome and the next state
@@ -45,7 +45,7 @@ module _ {State Call : Type 0} (M : Machine State Call) where
   unfoldable pub accepted-calls : State → List Call → List Call
   accepted-calls s cs = map (λ e. e .call) (accepted-of (run s cs))
 
--- ---- taking back, where each call has a call that takes it back
+-- ---- taking back, by a function that names for each call the one that takes it back
 module _ {State Call : Type 0} (back : Call → Call) where
   -- the calls that take these back
   unfoldable pub backs : List (Event State Call) → List Call
@@ -68,6 +68,21 @@ module _ {State Call : Type 0} (M : Machine State Call) (back : Call → Call) w
     pub stays : (s : State) (c : Call) (n : ℕ) → M .outcome s c ≡ refused n → M .next s c ≡ s
     pub keeps : (s : State) (c : Call) → Holds s → Fits c → M .outcome s c ≡ accepted → Holds (M .next s c)
     pub returns : (s : State) (c : Call) → Holds s → Fits c → M .outcome s c ≡ accepted → event M (M .next s c) (back c) ≡ turned back (event M s c)
+
+-- ---- calls that have no way back, which are final
+module _ {State Call : Type 0} (M : Machine State Call) (Final : Call → Type 0) where
+  -- the list is empty, or it ends in an accepted call that is final
+  pub data EndsFinal (s : State) : List Call → Type 0 where
+    empty : EndsFinal s []
+    ends : (cs : List Call) (c : Call) → Final c → M .outcome (last M s cs) c ≡ accepted → EndsFinal s (cs ++ (c ∷ []))
+
+  -- a list in two parts: the first up to its last accepted final call, or empty where there is none, and the calls after
+  pub record LastFinal (s : State) (cs : List Call) : Type 0 where
+    pub before : List Call
+    pub after : List Call
+    pub parts : cs ≡ before ++ after
+    pub at-final : EndsFinal s before
+    pub none-after : All (λ e. ¬ Final (e .call)) (newest M (last M s before) after)
 
 -- ---- one machine mapped to another, by a function on states and one on calls
 module _ {State Call State' Call' : Type 0} (state : State → State') (call : Call → Call') where

@@ -49,7 +49,7 @@ pub fn count_refusal(curve: Curve, count: u64) -> u32
 }
 
 // The count's refusal, else that of the released step; 0 where neither is refused.
-fn counts_refusal(count: u64, released: u64) -> u32
+fn count_and_released_refusal(count: u64, released: u64) -> u32
     ensures { λ r. ⌜ r ≡ count-refusal count or-else released-refusal count released ⌝ }
 {
     let n = count_limit::count_refusal(count);
@@ -69,7 +69,7 @@ fn register_refusal(given: Register) -> u32
     if n != 0 {
         return n;
     }
-    let m = counts_refusal(given.count, given.released);
+    let m = count_and_released_refusal(given.count, given.released);
     if m != 0 {
         return m;
     }
@@ -155,7 +155,7 @@ impl Register {
         let curve = self.curve;
         let count = self.count;
         let seal = self.seal;
-        if counts_refusal(count, self.released) != 0 {
+        if count_and_released_refusal(count, self.released) != 0 {
             return kept(self, register_refusal(self));
         }
         let edge = edge_refusal(step, count, self.released);

@@ -7,11 +7,12 @@
 -- `as-requested`: a record with a register and a call's class makes that call on that register.
 -- `call-answers`: a call on the encoded values, which pass, writes what the register call answers for them.
 -- `call-accepts`: it is accepted if the register call accepts the encoded values.
+-- `release-twice-bytes`: a second release, of the register that an accepted one gave, writes that register again.
 -- `undo-of-commit-bytes`: undo on the record rebuilt from a commit's output writes the record's register.
 -- `commit-of-undo-bytes`: commit on the record rebuilt from an undo's output does the same.
 use Prim.Native.Nat.{ℕ, _≤_}
-use mathlib.Core.Path.{_≡_, refl, ap, _∙_}
-use mathlib.Core.List.{List, [], _++_}
+use mathlib.Core.Path.{_≡_, refl, sym, ap, _∙_}
+use mathlib.Core.List.{List, [], _++_, append-nil}
 use native.Mathlib.Omega.{arith}
 use lib.ListN.{length, length-append}
 use Rattle.jacobian.specs.{Answer.accepted, Answer.refused, declared.Class.Class}
@@ -20,7 +21,7 @@ use Rattle.history.specs.declared.{Register.Register, Step.Step, Step.the-varia
 use Rattle.history.specs.Register.{RegisterReply, other, commit-answer, undo-answer, release-answer}
 use Rattle.history.specs.Calls as history
 use Rattle.history.specs.Calls.{answer}
-use Rattle.history.proofs.{Registers.Passes, Registers.passes-register, OneStep.step-taken-back, OneCall.answer-curve, OneCall.accepted-register, OneCall.accepted-class, OneCall.accepted-passes}
+use Rattle.history.proofs.{Registers.Passes, Registers.passes-register, OneStep.step-taken-back, OneStep.release-twice, OneCall.answer-curve, OneCall.accepted-register, OneCall.accepted-class, OneCall.accepted-passes}
 use Rattle.stored_form.specs.{Reading.found, Fields.count-field, Fields.released-field, Classes.class-field, Reader.read-record, Reader.register-layout, Reader.step-layout}
 use Rattle.written_form.specs.Effect.{Effect, refuse, write, put, register-room}
 use Rattle.stored_form.specs.declared.Record.{Record}
@@ -111,6 +112,18 @@ module _ (g : Register) (c : history.Call) (e : answer g c .outcome ≡ accepted
       class-passes : (x : history.Call) → answer g x .outcome ≡ accepted → CallClassPasses g x
       class-passes (history.step k a) f = accepts-both (g .curve) a (accepted-register g (history.step k a) f .curve-passes) (accepted-class g k a f)
       class-passes history.release f = tt
+
+-- ---- a second release
+
+pub release-twice-bytes : (g : Register) → release-answer g .outcome ≡ accepted → (out : List ℕ) → register-room ≤ length out →
+    release-call (register-record-bytes (release-answer g .register)) out ≡ write (register-fields (release-answer g .register)) out
+unfolding answer encode-call operation
+release-twice-bytes g e out room =
+    let next = release-answer g .register in
+    let same = release-twice g e in
+    ap (λ (s : List ℕ). release-call s out) (sym (append-nil (register-record-bytes next)))
+    ∙ call-accepts next history.release (ap (λ (x : RegisterReply). x .outcome) same ∙ e) out room
+    ∙ ap (λ (x : RegisterReply). write (register-fields (x .register)) out) same
 
 -- ---- taking back
 

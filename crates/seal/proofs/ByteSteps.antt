@@ -8,6 +8,7 @@
 -- `taken-back-all`: at the end everything kept is as at the start.
 -- `after-accepted`, `after-kept`, `after-all`: the same of the second of two lists, made one after the other, if no
 -- release of the second was accepted; at the end everything kept is as between the two.
+-- `last-release`: every list is in two parts, the first empty or up to its last accepted release.
 -- `buffer-takes-back`: calls that reuse one buffer with room, each as the call before left it, are such calls.
 -- `buffer-reused`: their outputs are the buffer, and then what each of them left of it, in order.
 -- `any-outputs`, `any-outputs-last`: a list whose calls all have room does the same with other outputs that have room.
@@ -15,7 +16,7 @@
 -- `last-stored`: what is kept after the list is the stored form of a register that no check refuses.
 use Prim.Native.Nat.{ℕ, _≤_}
 use mathlib.Core.Path.{_≡_, refl, sym, ap, ap₂, _∙_, subst}
-use mathlib.Core.{Bool.true, List.List, List.[], List._∷_, List._++_, List.map, List.map-map}
+use mathlib.Core.{Bool.true, List.List, List.[], List._∷_, List._++_, List.map, List.map-map, Logic._⊎_, Logic.inl, Logic.inr}
 use native.Mathlib.Omega.{arith}
 use lib.Dec.{leb, lit≤}
 use borrow.Author.Tests.{leb-true}
@@ -202,6 +203,18 @@ module _ (k : Kept) (form : InStoredForm k) (cs ds : List ByteCall) (bytes : Byt
 
   pub after-all : last byte-calls (last byte-calls k (cs ++ ds)) bs ≡ last byte-calls k cs
   after-all = rw (last-append byte-calls k cs ds) (taken-back-all (last byte-calls k cs) between ds bytes' only bs takes)
+
+-- ---- the last accepted release
+
+is-release : (c : ByteCall) → (c .request ≡ release) ⊎ (¬ (c .request ≡ release))
+is-release c = go (c .request)
+  where
+    go : (q : Request) → (q ≡ release) ⊎ (¬ (q ≡ release))
+    go (step k op) = inr (λ e. let z : _≡_ {A = ℕ} 0 1 = cc in omega arith)
+    go release = inl refl
+
+pub last-release : (k : Kept) (cs : List ByteCall) → machine.LastFinal byte-calls (λ c. c .request ≡ release) k cs
+last-release = law.last-final byte-calls is-release
 
 -- ---- one buffer for all calls
 

@@ -11,10 +11,11 @@
 -- `release-length`: it writes 13 bytes and 16 more for each degree of the seal.
 -- `call-at-1025`: a commit, an undo or a release at count 1,025 is refused with 109, whatever follows.
 -- `released-past-count`: one whose released step is one above the count is refused with 120, whatever follows.
+-- `without-released`: one whose 0x42 is followed by 0x43, as before there was 0x45, is refused with 103.
 use Prim.Native.Nat.{ℕ, _+_, _*_, _-_, _≤_, _<_}
 use mathlib.Core.{Path._≡_, Path.refl, Path.sym, Path.ap, Path.subst, Path._∙_, Bool.true, Bool.true≢false, List.List, List.[], List._∷_, List._++_, Logic.inl, Logic.inr}
 use native.Mathlib.Omega.{arith}
-use lib.{Dec.leb, ListN.length, ListN.length-append}
+use lib.{Dec.leb, ListN.length, ListN.getD, ListN.length-append}
 use borrow.Author.Tests.{leb-true}
 use Rattle.jacobian.specs.{Refusals.listed, Answer.refusal-of-two, Answer.accepted}
 use Rattle.jacobian.proofs.{Calls.accepts-two, Checking.among, Checking.fails-among}
@@ -23,9 +24,9 @@ use Rattle.history.specs.Calls as history
 use Rattle.history.specs.Calls.{answer}
 use Rattle.history.proofs.Edges as edges
 use Rattle.history.proofs.Edges.{commit-to-limit, commit-at-limit, undo-at-zero, release-within-limit}
-use Rattle.stored_form.specs.{Reading.found, Reading.refused as unread, Head.BytesAt, Fields.count-field, Fields.released-field, Classes.encode-class, Classes.class-field, Record.empty-record, declared.Record.Record}
-use Rattle.stored_form.specs.Reader.{read-field, read-fields, read-record, curve-layout, register-layout, step-layout}
-use Rattle.stored_form.proofs.{Lengths.length-stored, Lengths.length-count, Lengths.length-released, Readings.then-found, Readings.then-refused, Readers.fields-append}
+use Rattle.stored_form.specs.{Reading.found, Reading.refused as unread, Head.BytesAt, Fields.count-limit, Fields.count-field, Fields.released-field, Classes.encode-class, Classes.class-field, Record.empty-record, declared.Record.Record}
+use Rattle.stored_form.specs.Reader.{read-body, read-field, read-fields, read-record, curve-layout, register-layout, step-layout}
+use Rattle.stored_form.proofs.{Heads.head-103, Lengths.length-stored, Lengths.length-count, Lengths.length-released, Readings.then-found, Readings.then-refused, Readers.fields-append}
 use Rattle.stored_form_theorems.specs.{Checking.record-checks, Checking.record-values, Numbers.OneOf}
 use Rattle.stored_form_theorems.proofs.{FieldEdges.count-of-1025, ClassRoundTrips.length-encoded}
 use Rattle.stored_form_theorems.proofs.FieldEdges as field
@@ -152,11 +153,11 @@ module _ (s out : List ℕ) (long : 61 ≤ length out) where
   -- of a release's record that is read
   module _ {h : Record} {end : ℕ} (read : read-record register-layout s ≡ found h end) where
     pub release-at : (n : ℕ) → h .count ≡ n → release-call s out ≡ write (count-field n ++ released-field n ++ class-field 0x43 (h .class)) out
-    unfolding answer with-released
+    unfolding answer with-released count-limit
     release-at n e =
         let g = register h in
         let p = register-holds s read in
-        let next : release-answer g ≡ record { outcome = accepted; register = with-released (h .count) g } = release-within-limit g (h .class) (accepts-two (h .curve) (p .2) (p .2)) (p .0) (p .1) in
+        let next : release-answer g ≡ record { outcome = accepted; register = with-released (h .count) g } = release-within-limit g (p .2 .none) (p .0) (p .1) in
         release-of-record s out long read
         ∙ call-written g history.release (ap (λ (x : RegisterReply). x .outcome) next) out long
         ∙ ap (λ (x : RegisterReply). write (register-fields (x .register)) out) next
@@ -193,3 +194,9 @@ module _ (s out : List ℕ) (long : 61 ≤ length out) where
   pub released-past-count : (q : Request) {h : Record} {at : ℕ} (high low : ℕ) → read-fields (curve-layout ++ 0x42 ∷ []) empty-record s 0 ≡ found h at
       → high * 256 + low ≡ h .count + 1 → BytesAt s at (0x45 ∷ 0x00 ∷ 0x02 ∷ high ∷ low ∷ []) → called (request-call q) s out ≡ refuse 120 out
   released-past-count q {h} {at} high low first one-more stands = refused-behind q (curve-layout ++ 0x42 ∷ []) (0x43 ∷ []) 0x45 refl first (field.released-past-count h s at high low one-more stands)
+
+  pub without-released : (q : Request) {h : Record} {at : ℕ} → read-fields (curve-layout ++ 0x42 ∷ []) empty-record s 0 ≡ found h at → at + 3 ≤ length s → getD s at 0 ≡ 0x43
+      → called (request-call q) s out ≡ refuse 103 out
+  unfolding read-field read-body
+  without-released q {h} {at} first fits seal =
+      refused-behind q (curve-layout ++ 0x42 ∷ []) (0x43 ∷ []) 0x45 refl first (then-refused _ (then-refused _ (head-103 0x45 h s at fits (λ e. omega (arith, seal, e)))))

@@ -8,7 +8,7 @@ use mathlib.Core.{Path._≡_, Path.refl, Path.sym, Path._∙_, Path.ap, Bool.not
 use lib.Dec.{T, eqb}
 use Rattle.jacobian.specs.{Answer.Verdict, Answer.accepted, Answer.refused, Answer.verdict, Answer.verdict-of, Answer.outcome-refusal, declared.Class.Class}
 use Rattle.jacobian.proofs.ByValue.Answers.{outcome-refusal-is}
-use Rattle.history.specs.{Register.RegisterReply, Register.register-reply, Register.follows, Register.StepAnswers, Calls.Call, Calls.step, Calls.answer, Calls.called}
+use Rattle.history.specs.{Register.RegisterReply, Register.register-reply, Register.follows, Register.StepAnswers, Calls.Call, Calls.step, Calls.answer, Calls.next-register}
 use Rattle.history.specs.declared.{Register.Register, RegisterAnswer.RegisterAnswer, Step.Step}
 use Rattle.history.proofs.{Registers.follows-outcome, Checking.answer-follows, Promises.step-promised, Promises.step-answered}
 use Rattle.seal_register.specs.InPlace.{in-place}
@@ -38,7 +38,7 @@ follows-in-place m given next x n e h =
 
 module _ (r : Register) (c : Call) where
   pub call-in-place : (x : RegisterAnswer) (n : ℕ) → register-reply x ≡ answer r c → n ≡ outcome-refusal (x .outcome) → in-place n (x .register) ≡ answer r c
-  call-in-place x n e h = follows-in-place _ r (called r c) x n (e ∙ answer-follows r c) h ∙ sym (answer-follows r c)
+  call-in-place x n e h = follows-in-place _ r (next-register r c) x n (e ∙ answer-follows r c) h ∙ sym (answer-follows r c)
 
   pub call-unchanged : (n : ℕ) (told : Register) → in-place n told ≡ answer r c → T (not (eqb n 0)) → in-place n r ≡ answer r c
   call-unchanged zero told e h = absurd h

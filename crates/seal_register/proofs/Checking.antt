@@ -15,7 +15,7 @@ use Rattle.jacobian.specs.{Checks.RefusalOf, Refusals.listed, Curves.curve-refu
 use Rattle.jacobian.proofs.Checking.{curve-checked, class-checked, refusal-none, refusal-or-else, refusal-held, among, refusal-listed}
 use Rattle.count_limit.specs.{Limit.count-refusal, Checking.count-check}
 use Rattle.count_limit.proofs.Checking.{count-checked}
-use Rattle.history.specs.{Register.RegisterReply, Calls.Call, Calls.answer, Calls.call-refusal, Calls.called, Calls.walk-back, Checking.call-checks, Checking.check-numbers, Checking.call-numbers, Checking.CheckedAnswer, declared.Register.Register}
+use Rattle.history.specs.{Register.RegisterReply, Calls.Call, Calls.answer, Calls.call-refusal, Calls.next-register, Calls.walk-back, Checking.call-checks, Checking.check-numbers, Checking.call-numbers, Checking.CheckedAnswer, declared.Register.Register}
 use Rattle.history.proofs.{Registers.follows-outcome, Registers.follows-refused, Answers.sealed-outcome, Checking.answer-follows, Checking.call-checked, Checking.call-listed, Checking.all-listed, Checking.listed-within}
 use Rattle.seal_register.specs.{InPlace.in-place, RowWalk.classes-refusal, RowWalk.row-refusal, RowWalk.reached, RowWalk.row-walk-answer, Checking.classes-checks, Checking.row-checks, Checking.row-numbers, declared.walk.RowWalk.RowWalk}
 use Rattle.seal_register.proofs.{Answer.verdict-number, RowSteps.refused-is}
@@ -24,13 +24,13 @@ use Rattle.seal_register.proofs.{Answer.verdict-number, RowSteps.refuse
 module _ (r : Register) (c : Call) (n : ℕ) (left : Register) (e : in-place n left ≡ answer r c) where
   pub number-is : n ≡ call-refusal r c
   unfolding in-place
-  number-is = verdict-number n _ (ap (λ (x : RegisterReply). x .outcome) (e ∙ answer-follows r c) ∙ follows-outcome (call-refusal r c) r (called r c))
+  number-is = verdict-number n _ (ap (λ (x : RegisterReply). x .outcome) (e ∙ answer-follows r c) ∙ follows-outcome (call-refusal r c) r (next-register r c))
 
   pub lent-checked : CheckedAnswer (call-checks r c) n r left
   unfolding in-place
   lent-checked = record {
     refusal = subst (RefusalOf (call-checks r c)) (sym number-is) (call-checked r c);
-    kept = λ h. ap (λ (x : RegisterReply). x .register) (e ∙ answer-follows r c ∙ follows-refused _ r (called r c) (λ z. h (number-is ∙ z)));
+    kept = λ h. ap (λ (x : RegisterReply). x .register) (e ∙ answer-follows r c ∙ follows-refused _ r (next-register r c) (λ z. h (number-is ∙ z)));
   }
 
   pub lent-listed : ¬ (n ≡ 0) → listed n (call-numbers c) ≡ true

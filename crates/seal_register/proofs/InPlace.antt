@@ -8,6 +8,8 @@
 -- `curve-kept`: no call changes degree or curve.
 -- `failing`: a register that itself fails a check is refused by every call with that check's number.
 -- `failing-stays`: such a register stays as it was.
+-- `last-passes`: a register that passes its checks still does so after a list of calls.
+-- `last-release`: every list is in two parts, the first empty or up to its last accepted release.
 -- `released-grows`: no list of calls makes the released step smaller.
 -- `none-behind`: after an accepted release no list of calls leads to a smaller count.
 -- `steps-only`: in a list of commits and undos no release is accepted.
@@ -27,17 +29,19 @@
 -- the last seal.
 -- `walk-part`: no step of the walk over the k newest classes is refused.
 use Prim.Native.Nat.{ℕ, suc, _≤_}
-use mathlib.Core.{Path._≡_, Path.refl, Path.sym, Path._∙_, Path.ap, List.List, List.[], List._∷_, List._++_, List.map, List.map-map}
+use mathlib.Core.{Path._≡_, Path.refl, Path.sym, Path._∙_, Path.ap, List.List, List.[], List._∷_, List._++_, List.map, List.map-map, Logic._⊎_, Logic.inl, Logic.inr}
 use lib.ListN.{length, take, getD}
 use Rattle.lists.specs.{Lists.All, Lists.none, Lists.more, Walk.walk}
 use Rattle.jacobian.specs.Answer.{accepted, refused, verdict-of}
-use Rattle.history.specs.{Register.RegisterReply, Register.register-refusal, Register.undo-seal, Register.release-answer, Calls.Call, Calls.release, Calls.answer, Calls.registers, Calls.Event, Calls.run, Calls.last, Calls.newest, Calls.backs, Calls.turned, Calls.NoReleases, Calls.NoUndos, Calls.steps, Calls.classes, Calls.walk-back, Calls.steps-back, Calls.met, Calls.seals-met}
+use Rattle.history.specs.{Register.RegisterReply, Register.register-refusal, Register.undo-seal, Register.release-answer, Calls.Call, Calls.step, Calls.release, Calls.answer, Calls.registers, Calls.Event, Calls.run, Calls.last, Calls.newest, Calls.backs, Calls.turned, Calls.NoReleases, Calls.NoUndos, Calls.steps, Calls.classes, Calls.walk-back, Calls.steps-back, Calls.met, Calls.seals-met}
 use Rattle.history.specs.Machine as machine
 use Rattle.history.specs.declared.Register.{Register}
 use Rattle.history.proofs.{OneCall.refused-stays, Failing.failing-run, Failing.failing-last, Machine.Run.run-append, Machine.Run.last-append, Machine.Carried.run-carried, Machine.Carried.last-carried, Machine.Carried.newest-carried}
 use Rattle.lists.proofs.Lists.{all-map, all-split}
 use Rattle.history.proofs.TakingBack as history
 use Rattle.history.proofs.Releases as releases
+use Rattle.history.proofs.Preserved as preserved
+use Rattle.history.proofs.{Classes.step-no-release, Machine.TakingBack.last-final}
 use Rattle.history.proofs.WalkingBack as walking
 use Rattle.seal_register.specs.InPlace.{in-place, RecordedCall, call, recorded-reply, calls, replay, Session, happened, left-by, newest-recorded, seals-recorded}
 
@@ -80,7 +84,20 @@ module _ (r : Register) (fails : ¬ (register-refusal r ≡ 0)) (ms : List Recor
   pub failing-stays : left-by r ms ≡ r
   failing-stays = left-by-last r ms s ∙ failing-last r fails (calls ms)
 
+pub last-passes : (r : Register) (ms : List RecordedCall) → Session r ms → register-refusal r ≡ 0 → register-refusal (left-by r ms) ≡ 0
+last-passes r ms s ok = rw (left-by-last r ms s) (preserved.last-passes r (calls ms) ok)
+
 -- ---- releases
+is-release : (m : RecordedCall) → (call m ≡ release) ⊎ (¬ (call m ≡ release))
+is-release m = go (call m)
+  where
+    go : (c : Call) → (c ≡ release) ⊎ (¬ (c ≡ release))
+    go (step k a) = inr (step-no-release k a)
+    go release = inl refl
+
+pub last-release : (r : Register) (ms : List RecordedCall) → machine.LastFinal replay (λ m. call m ≡ release) r ms
+last-release = last-final replay is-release
+
 pub released-grows : (r : Register) (ms : List RecordedCall) → Session r ms → r .released ≤ left-by r ms .released
 released-grows r ms s = rw (left-by-last r ms s) (releases.released-grows r (calls ms))
 

@@ -8,14 +8,14 @@ use mathlib.Core.{Path._≡_, Path.refl, Path.sym, Path._∙_, Path.ap, Path.sub
 use native.Mathlib.Omega.{arith}
 use Rattle.jacobian.specs.{Refusals.listed, declared.Curve.Curve, declared.Class.Class}
 use Rattle.jacobian.specs.Answer.{accepted, verdict-of, neutral-class, Result, membership-answer}
-use Rattle.history.specs.{Register.RegisterReply, Calls.Call, Calls.answer, Calls.called, Calls.walk-back, Checking.call-numbers, declared.Register.Register}
+use Rattle.history.specs.{Register.RegisterReply, Calls.Call, Calls.answer, Calls.next-register, Calls.walk-back, Checking.call-numbers, declared.Register.Register}
 use Rattle.history.proofs.{Registers.follows-zero, Checking.answer-follows, Seals.walk-is-only}
 use Rattle.seal_register.specs.{InPlace.in-place, RowWalk.row-refusal, RowWalk.reached, RowWalk.row-walk-answer, Checking.row-numbers, declared.walk.RowWalk.RowWalk}
 use Rattle.seal_register.proofs.{RowSteps.accepted-is, Promises.row-accepts, Checking.number-is, Checking.lent-checked, Checking.lent-listed, Checking.row-number, Checking.row-listed, Checking.row-walk-checked}
 
 -- ---- a call in place
 pub lent-valid : (r : Register) (c : Call) (n : ℕ) (left : Register) → in-place n left ≡ answer r c
-    → ((n ≡ 0) × (left ≡ called r c)) ⊎ ((listed n (call-numbers c) ≡ true) × (left ≡ r))
+    → ((n ≡ 0) × (left ≡ next-register r c)) ⊎ ((listed n (call-numbers c) ≡ true) × (left ≡ r))
 unfolding in-place
 lent-valid r c zero left e = inl (refl, ap (λ (x : RegisterReply). x .register) (e ∙ answer-follows r c ∙ follows-zero _ r _ (sym (number-is r c zero left e))))
 lent-valid r c (suc n) left e = inr (lent-listed r c (suc n) left e (λ z. omega arith), lent-checked r c (suc n) left e .kept (λ z. omega arith))

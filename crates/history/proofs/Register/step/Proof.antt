@@ -18,14 +18,14 @@ use Rattle.history.proofs.Register.step.Tie as tie
 kept-requires : tie.Need-kept-requires
 kept-requires c κs z =
     let due = c .before in
-    counts-refused _ (λ e. due .if1 .taken (due .before .counts-refusal .ensures ∙ e)) (sym (c .register-refusal .ensures) ∙ z)
+    counts-refused _ (λ e. due .if1 .taken (due .before .count-and-released-refusal .ensures ∙ e)) (sym (c .register-refusal .ensures) ∙ z)
 
 returns : tie.Need-returns
 unfolding step-answer
 returns c =
     let due = c .before .before in
     let s = due .before .before .before .before .args in
-    let fails = step-failing (s .step) (s .self) (s .class) (counts-refused _ (λ e. due .if1 .taken (due .before .counts-refusal .ensures ∙ e))) in
+    let fails = step-failing (s .step) (s .self) (s .class) (counts-refused _ (λ e. due .if1 .taken (due .before .count-and-released-refusal .ensures ∙ e))) in
     step-promised (s .self) (s .class) (s .step) (at-number (s .self) _ (c .before .register-refusal .ensures ∙ sym fails) (c .kept .ensures _))
 
 kept-requires-2 : tie.Need-kept-requires-2
@@ -37,7 +37,7 @@ returns-2 c =
     let m = c .before .before in
     let due = m .before .before in
     let s = due .before .before .before .before .args in
-    let counts = sym (due .before .counts-refusal .ensures) ∙ due .if1 .left in
+    let counts = sym (due .before .count-and-released-refusal .ensures) ∙ due .if1 .left in
     let edge = ap (λ n. refusal-of-two (s .self .curve) (s .self .seal) (s .class) or-else n) (m .before .edge-refusal .ensures) in
     step-promised (s .self) (s .class) (s .step)
     (at-number (s .self) _ (c .before .classes-refusal .ensures ∙ edge ∙ sym (step-within (s .step) (s .self) (s .class) counts)) (c .kept2 .ensures _))
@@ -46,7 +46,7 @@ add-followed : tie.Need-add-followed
 unfolding count-limit
 add-followed c =
     let due = c .before .before .before .before in
-    let within = limit-keeps _ (then-zero _ _ (sym (due .before .counts-refusal .ensures) ∙ due .if1 .left) .0) in
+    let within = limit-keeps _ (then-zero _ _ (sym (due .before .count-and-released-refusal .ensures) ∙ due .if1 .left) .0) in
     omega (arith, within)
 
 sub-followed : tie.Need-sub-followed
@@ -63,7 +63,7 @@ returns-3 c =
     let m = c .before .before .before .before in
     let due = m .before .before in
     let s = due .before .before .before .before .args in
-    let counts = sym (due .before .counts-refusal .ensures) ∙ due .if1 .left in
+    let counts = sym (due .before .count-and-released-refusal .ensures) ∙ due .if1 .left in
     step-promised (s .self) (s .class) (s .step)
     (step-follows (s .step) (s .self) (s .class) counts (sym (m .before .edge-refusal .ensures) ∙ m .if2 .left)
     (sym (ap (λ k. stepped k (s .self) (s .class)) (c .before .before .enum-told .given .1)))
@@ -75,7 +75,7 @@ returns-4 c =
     let m = c .before .before .before .before in
     let due = m .before .before in
     let s = due .before .before .before .before .args in
-    let counts = sym (due .before .counts-refusal .ensures) ∙ due .if1 .left in
+    let counts = sym (due .before .count-and-released-refusal .ensures) ∙ due .if1 .left in
     step-promised (s .self) (s .class) (s .step)
     (step-follows (s .step) (s .self) (s .class) counts (sym (m .before .edge-refusal .ensures) ∙ m .if2 .left)
     (sym (ap (λ k. stepped k (s .self) (s .class)) (c .before .before .enum-told2 .given .1)))
