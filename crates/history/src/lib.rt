@@ -194,21 +194,22 @@ impl Register {
     pub fn release(self) -> RegisterAnswer
         ensures { λ r. ⌜ register-reply r ≡ release-answer self ⌝ }
     {
+        let curve = self.curve;
+        let count = self.count;
+        let seal = self.seal;
+        let released = Register {
+            curve,
+            count,
+            seal,
+            released: count,
+        };
         let n = register_refusal(self);
         if n != 0 {
             return kept(self, n);
         }
-        let curve = self.curve;
-        let count = self.count;
-        let seal = self.seal;
         RegisterAnswer {
             outcome: Outcome::Accepted,
-            register: Register {
-                curve,
-                count,
-                seal,
-                released: count,
-            },
+            register: released,
         }
     }
 }

@@ -13,8 +13,7 @@ returns c = at-number _ _ (c .before .before .register-refusal .ensures) (c .kep
 returns-2 : tie.Need-returns-2
 unfolding release-answer with-released
 returns-2 c =
-    let s = c .before .before in
-    at-none _ _ (sym (s .before .register-refusal .ensures) ∙ s .if1 .left) refl
+    at-none _ _ (sym (c .before .register-refusal .ensures) ∙ c .if1 .left) refl
 
 pub release-spec : {M : Type 1} → statement M
 release-spec = tie.close (tie.spec (λ c κs. search needs) (λ c κs. search needs) returns returns-2)
