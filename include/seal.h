@@ -12,7 +12,7 @@
  *     0x40   degree d of the field, 5 or 61                             1
  *     0x41   f3, f1, f0 of the curve y^2 + y = x^7 + f3 x^3 + f1 x + f0 24
  *     0x42   count of operations, at most 1,024                         2
- *     0x45   released step: the count at the last release, at most     2
+ *     0x45   released step: the count at the last release, at most      2
  *            the count, and 0 where there was none
  *     0x43   a class: the coefficients of u without the leading 1, from 0, 16, 32, 48
  *            the highest power on, then those of v; neutral: length 0
@@ -92,8 +92,10 @@ uint32_t seal_commit(const uint8_t *in, size_t in_len, uint8_t *out, size_t out_
  * Refusals: 101 to 107, 109 to 113, 120, 121. */
 uint32_t seal_undo(const uint8_t *in, size_t in_len, uint8_t *out, size_t out_len);
 
-/* The register after a release: the released step becomes the count, and count and seal are kept. From then on no undo
- * goes behind this count. Any count may be released, 0 and 1,024 too, and again: a second release writes the same.
+/* The register after a release: the released step becomes the count, and count and seal are kept. No undo of the
+ * register that is written, nor of what later calls make of it, goes behind this count; a caller may still hand over
+ * an older register, which has the released step of its time. Any count may be released, 0 and 1,024 too, and again: a
+ * second release writes the same.
  * Reads 0x40, 0x41, 0x42, 0x45, 0x43 (the seal), and no 0x44; writes 0x42, 0x45, 0x43: 13, 29, 45 or 61 bytes.
  * Refusals: 101 to 107, 109 to 112, 120. */
 uint32_t seal_release(const uint8_t *in, size_t in_len, uint8_t *out, size_t out_len);

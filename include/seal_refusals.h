@@ -17,12 +17,13 @@
 /* The most operations that a register counts, and the most classes of a row. */
 #define SEAL_COUNT_LIMIT 1024
 
-/* So many bytes of stack are enough for any call. The most that a call was measured to take is 16,260
+/* So many bytes of stack are enough for any call. The most that a call was measured to take is 17,808
  * (bench/stack.txt, which `bash bench/stack` makes); tests/run fails where a call takes more than half of this. */
 #define SEAL_STACK 65536
 
-/* The refusals, by number; the order of checks is this but for 120, which comes after 109 (docs/SPECIFICATION.md,
- * section 6). 117 is not among them: it is of calls on elements alone, and no call for C answers it. */
+/* The refusals, by number. By bytes they are checked field by field, as seal.h says, and 120 comes when 0x45 is read;
+ * in place the order is seal_register.h's (docs/SPECIFICATION.md, section 6). 117 is not among them: it is of calls on
+ * elements alone, and no call for C answers it. */
 #define SEAL_OUTPUT_TOO_SHORT 101    /* the output is shorter than 51 bytes; for commit, undo and release, than 61 */
 #define SEAL_HEAD_CUT 102            /* fewer than three bytes are left where a field's head is due */
 #define SEAL_WRONG_TAG 103           /* a field has another tag than the one due */
