@@ -32,7 +32,7 @@ static const struct operation flange = {
 /* What the user is told where a call is refused. */
 static const char *told(uint32_t refusal) {
     switch (refusal) {
-    case SEAL_UNDO_AT_RELEASED: return "This step is released. To change it, add an operation.";
+    case SEAL_UNDO_AT_RELEASED: return "The model is released up to here. To change it, add an operation.";
     case SEAL_UNDO_AT_ZERO: return "There is nothing to undo.";
     case SEAL_COMMIT_AT_LIMIT: return "The model has as many operations as it can have.";
     default: return "The model's seal does not fit. Ask the support.";
@@ -113,10 +113,12 @@ int main(void) {
     /* The released step is stored with the model, so that it holds in the next session too. */
     size_t length = stored(record, &model);
     uint32_t answer = seal_release(record, length, out, sizeof out);
-    printf("stored again by a release: %" PRIu32 " bytes, %s\n", answer,
-           answer == length - sizeof curve && memcmp(out, record + sizeof curve, answer) == 0 ? "the same" : "others");
+    int same = answer == length - sizeof curve && memcmp(out, record + sizeof curve, answer) == 0;
+    printf("stored again by a release: %" PRIu32 " bytes, %s\n", answer, same ? "the same" : "others");
+    as_said &= same;
     length += put_class(record + length, SEAL_TAG_OPERATION, &bend.class);
     answer = seal_undo(record, length, out, sizeof out);
     printf("undo %s of the stored model: %" PRIu32 "\n        \"%s\"\n", bend.name, answer, told(answer));
-    return as_said && answer == SEAL_UNDO_AT_RELEASED ? 0 : 1;
+    as_said &= answer == SEAL_UNDO_AT_RELEASED;
+    return as_said ? 0 : 1;
 }
