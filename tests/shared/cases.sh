@@ -18,8 +18,8 @@ answers() { # FOLDER KIND LINES [F3 F1 F0]
 
 # The lists of commits, undos and releases that `history_vectors` makes, each with refused calls in it, and how many
 # lines it has, one for each call but a start. They are run by value (tests/history_trial), in place
-# (tests/register_calls) and walked back (tests/row_walk). A list is taken back as far as its last accepted release,
-# behind which an undo is refused with 121; about every second list has none.
+# (tests/register_calls) and by bytes (tests/seal_calls), and walked back (tests/row_walk). A list is taken back as far
+# as its last accepted release, behind which an undo is refused with 121; about every second list has none.
 #
 # The last has lists of 1 to 64 commits, each once more with operation k alone changed from D to E (document 02,
 # request 7), with refused calls at other places. What is expected of a changed list is what the first one came to,
