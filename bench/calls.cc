@@ -166,8 +166,8 @@ static void draw() {
     }
 }
 
-// The record of an undo: degree, curve, count, released step, seal and operation. That of a release ends after the seal, which
-// has degree 3.
+// The record of an undo: degree, curve, count, released step, seal and operation. That of a release ends after the
+// seal, which has degree 3.
 enum { RELEASE_RECORD = CURVE_FIELDS + SEAL_REGISTER_OUTPUT };
 static std::vector<uint8_t> record_of(uint64_t count, const Class &seal, const Class &operation) {
     std::vector<uint8_t> bytes = {0x40, 0, 1, DEGREE, 0x41, 0, 24};
@@ -249,9 +249,11 @@ static void compare() {
         records.push_back(record_of(8, r, classes[j]));
         hold(register_undo(DEGREE, curve, 8, r.numbers, b, back.numbers) == 0 && back == classes[i], "undo", i);
         hold(plain_subtract_and_halve(curve, r.numbers, b, plain.numbers) == 0 && back == plain, "undo", i);
-        hold(seal_undo(records[i].data(), records[i].size(), out, sizeof out) == sizeof out && out[4] == 7 && out[9] == 0, "undo by bytes", i);
+        hold(seal_undo(records[i].data(), records[i].size(), out, sizeof out) == sizeof out, "undo by bytes", i);
+        hold(out[4] == 7 && out[9] == 0, "count and released step of an undo by bytes", i);
         hold(register_release(DEGREE, curve, 8, a, back.numbers) == 0 && back == classes[i], "release", i);
-        hold(seal_release(records[i].data(), RELEASE_RECORD, out, sizeof out) == sizeof out && out[4] == 8 && out[9] == 8, "release by bytes", i);
+        hold(seal_release(records[i].data(), RELEASE_RECORD, out, sizeof out) == sizeof out, "release by bytes", i);
+        hold(out[4] == 8 && out[9] == 8, "count and released step of a release by bytes", i);
         hold(seal_stamp(records[i].data(), CURVE_FIELDS, stamps[i], out, sizeof out) == 19, "stamp by bytes", i);
     }
 }
@@ -305,7 +307,8 @@ static GF2E element_step_by_ntl(int operation, const GF2E &x, const GF2E &y) {
 
 static bool is_made(int operation, int maker) {
     if (maker == PROVED) return operation != LOOP_PRODUCT;
-    if (maker == PLAIN) return operation != RELEASE && operation != BYTE_UNDO && operation != BYTE_RELEASE && operation != BYTE_STAMP;
+    if (maker == PLAIN)
+        return operation != RELEASE && operation != BYTE_UNDO && operation != BYTE_RELEASE && operation != BYTE_STAMP;
     return operation == PRODUCT || operation == SQUARE || operation == INVERSE || operation == DOUBLE || operation == SUM ||
         operation == COMMIT || operation == MULTIPLE;
 }
