@@ -188,8 +188,8 @@ impl Iterator for Mutated {
     }
 }
 
-/// Releases with one byte changed: records that are accepted, over both fields and with seals of degree 0 and 3, each byte
-/// of which takes every other value.
+/// Releases with one byte changed: records that are accepted, over both fields and with seals of degree 0 and 3, each
+/// byte of which takes every other value.
 pub fn changed_releases() -> impl Iterator<Item = ByteCase> {
     let mut records = vec![];
     for field in [BENCH, WIDE] {
@@ -288,7 +288,8 @@ mod tests {
         }
     }
 
-    /// A release with one byte changed meets every refusal but 101 and 102, and where it is accepted the step is the count.
+    /// A release with one byte changed meets every refusal but 101 and 102, and where it is accepted the released step
+    /// is the count.
     #[test]
     fn releases_with_one_byte_changed() {
         let cases: Vec<ByteCase> = changed_releases().collect();

@@ -3,62 +3,63 @@
 #include "count.h"
 #include "lent.h"
 
-static struct seal_register released(int degree, uint64_t count, uint64_t step, struct seal_class seal) {
+static struct seal_register with_released(int degree, uint64_t count, uint64_t released, struct seal_class seal) {
     struct seal_register r = of(degree, count, seal);
-    r.released = step;
+    r.released = released;
     return r;
 }
 
 /* Released steps beside a count: none, half of it, one below it and the count itself. */
-#define STEPS 4
-static uint64_t step_below(uint64_t count, int which) {
-    const uint64_t steps[STEPS] = {0, count / 2, count == 0 ? 0 : count - 1, count};
-    return steps[which];
+#define RELEASED_STEPS 4
+static uint64_t released_below(uint64_t count, int which) {
+    const uint64_t released[RELEASED_STEPS] = {0, count / 2, count == 0 ? 0 : count - 1, count};
+    return released[which];
 }
 
 #define COUNTS 7
 static const uint64_t counts[COUNTS] = {0, 1, 2, 255, 512, LIMIT - 1, LIMIT};
 
-static void release_at(int degree, uint64_t count, uint64_t step) {
+static void release_at(int degree, uint64_t count, uint64_t released) {
     const struct seal_class seals[4] = {neutral, x_1, xx_0, xxx_1};
     for (int i = 0; i < 4; i++) {
-        leaves(RELEASE, released(degree, count, step, seals[i]), off, released(degree, count, count, seals[i]));
-        leaves(RELEASE, released(degree, count, count, seals[i]), off, released(degree, count, count, seals[i]));
+        struct seal_register all = with_released(degree, count, count, seals[i]);
+        leaves(RELEASE, with_released(degree, count, released, seals[i]), off, all);
+        leaves(RELEASE, all, off, all);
     }
 }
 
 static void releases(void) {
     for (int d = 0; d < 2; d++)
         for (int i = 0; i < COUNTS; i++)
-            for (int which = 0; which < STEPS; which++)
-                release_at(degrees[d], counts[i], step_below(counts[i], which));
-    end_test("a release sets the step to the count, at 0 and at 1,024 too, and a second one changes nothing");
+            for (int which = 0; which < RELEASED_STEPS; which++)
+                release_at(degrees[d], counts[i], released_below(counts[i], which));
+    end_test("a release sets the released step to the count, at 0 and at 1,024 too, and a second one changes nothing");
 }
 
 /* twice [x, 0] plus neutral is [x^2, 0], and half of [x^2, 0] less neutral is [x, 0] */
-static void steps_kept(void) {
+static void released_kept(void) {
     for (int d = 0; d < 2; d++)
         for (int i = 0; i < COUNTS; i++)
-            for (int which = 0; which < STEPS; which++) {
+            for (int which = 0; which < RELEASED_STEPS; which++) {
                 int degree = degrees[d];
-                uint64_t count = counts[i], step = step_below(count, which);
-                struct seal_register r = released(degree, count, step, xx_0);
+                uint64_t count = counts[i], released = released_below(count, which);
+                struct seal_register r = with_released(degree, count, released, xx_0);
                 if (count == LIMIT)
                     refuses(COMMIT, r, neutral, 114);
                 else
-                    leaves(COMMIT, released(degree, count, step, x_0), neutral,
-                           released(degree, count + 1, step, xx_0));
+                    leaves(COMMIT, with_released(degree, count, released, x_0), neutral,
+                           with_released(degree, count + 1, released, xx_0));
                 if (count == 0)
                     refuses(UNDO, r, neutral, 113);
-                else if (count == step)
+                else if (count == released)
                     refuses(UNDO, r, neutral, 121);
                 else
-                    leaves(UNDO, r, neutral, released(degree, count - 1, step, x_0));
+                    leaves(UNDO, r, neutral, with_released(degree, count - 1, released, x_0));
             }
-    end_test("commit and undo keep the step; an undo at it is 121, one above it passes, and at count 0 it is 113");
+    end_test("commit and undo keep the released step; an undo at it is 121, one above passes, at count 0 it is 113");
 }
 
-static void steps_above(void) {
+static void released_above(void) {
     for (int d = 0; d < 2; d++)
         for (int i = 0; i < COUNTS; i++)
             for (int call = COMMIT; call < CALLS; call++) {
@@ -66,18 +67,18 @@ static void steps_above(void) {
                 uint64_t count = counts[i];
                 uint64_t above[5] = {count + 1, count + 2, LIMIT + 1, ((uint64_t)1 << 32) + count, UINT64_MAX};
                 for (int j = 0; j < 5; j++) {
-                    refuses(call, released(degree, count, above[j], x_0), neutral, 120);
+                    refuses(call, with_released(degree, count, above[j], x_0), neutral, 120);
                     for (int kind = 0; kind < 3; kind++)
-                        refuses(call, released(degree, count, above[j], wrong(kind, degree)), off, 120);
+                        refuses(call, with_released(degree, count, above[j], wrong(kind, degree)), off, 120);
                 }
-                struct seal_register r = released(degree, LIMIT + 1, LIMIT + 2, off);
+                struct seal_register r = with_released(degree, LIMIT + 1, LIMIT + 2, off);
                 refuses(call, r, off, 109);
                 r.curve.f1 = (uint64_t)1 << degree;
                 refuses(call, r, off, 107);
                 r.curve.degree = 6;
                 refuses(call, r, off, 106);
             }
-    end_test("120: a step of one above the count and more, after 106, 107 and 109, before the seal");
+    end_test("120: a released step of one above the count and more, after 106, 107 and 109, before the seal");
 }
 
 /* A release asks 104, 110 and 111 of the seal, and never 113, 114 or 121; an undo asks 121 last. */
@@ -87,10 +88,10 @@ static void classes(void) {
             for (int kind = 0; kind < 3; kind++) {
                 int degree = degrees[d];
                 uint64_t count = counts[i];
-                refuses(RELEASE, released(degree, count, count, wrong(kind, degree)), x_0, wrong_numbers[kind]);
-                refuses(RELEASE, released(degree, count, 0, wrong(kind, degree)), x_0, wrong_numbers[kind]);
-                refuses(UNDO, released(degree, count, count, x_0), wrong(kind, degree), wrong_numbers[kind]);
-                refuses(UNDO, released(degree, count, count, wrong(kind, degree)), x_0, wrong_numbers[kind]);
+                refuses(RELEASE, with_released(degree, count, count, wrong(kind, degree)), x_0, wrong_numbers[kind]);
+                refuses(RELEASE, with_released(degree, count, 0, wrong(kind, degree)), x_0, wrong_numbers[kind]);
+                refuses(UNDO, with_released(degree, count, count, x_0), wrong(kind, degree), wrong_numbers[kind]);
+                refuses(UNDO, with_released(degree, count, count, wrong(kind, degree)), x_0, wrong_numbers[kind]);
             }
     end_test("104, 110 and 111 of the seal refuse a release, and of seal and class an undo before 121");
 }
@@ -123,8 +124,8 @@ static void sessions(void) {
 
 void test_releases(void) {
     releases();
-    steps_kept();
-    steps_above();
+    released_kept();
+    released_above();
     classes();
     sessions();
 }

@@ -71,17 +71,17 @@ static void released_steps(void) {
     static const int counts[3] = {0, 7, 1024};
     for (int call = COMMIT; call <= RELEASE; call++)
         for (int i = 0; i < 3; i++)
-            for (int step = 0; step < 65536; step += step < 1030 || step > 65500 ? 1 : 331) {
+            for (int released = 0; released < 65536; released += released < 1030 || released > 65500 ? 1 : 331) {
                 struct record r = accepted(call, 61);
                 struct bytes b = {0};
                 append_fields(&b, &r, 0, 2);
                 put_count(&b, counts[i]);
-                put_released(&b, step);
-                refused(call, &b, step > counts[i] ? 120 : 102);
+                put_released(&b, released);
+                refused(call, &b, released > counts[i] ? 120 : 102);
                 put(&b, 0xff);
                 put(&b, 0xff);
                 put(&b, 0xff);
-                refused(call, &b, step > counts[i] ? 120 : 103);
+                refused(call, &b, released > counts[i] ? 120 : 103);
             }
     end_test("120: released steps above the count, before the seal; the count itself passes");
 }

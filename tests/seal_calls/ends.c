@@ -21,9 +21,9 @@ static void bytes_remain(void) {
             }
         }
     for (int call = COMMIT; call <= RELEASE; call++)
-        for (int step = 0; step < 2; step++) {
-            int count = call == COMMIT || step == 1 ? 1024 : 0;
-            struct bytes b = register_record(call, 5, count, count * step, x_0, x_0);
+        for (int all = 0; all < 2; all++) { /* nothing is released, or all */
+            int count = call == COMMIT || all ? 1024 : 0;
+            struct bytes b = register_record(call, 5, count, count * all, x_0, x_0);
             put(&b, 0);
             refused(call, &b, 112);
         }

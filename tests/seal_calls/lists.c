@@ -1,6 +1,6 @@
-/* Lists of commits, undos and releases by bytes, each on the register that the last accepted call wrote. The records and
- * the lines are those of the program history_trial (crates/history_trial/src/main.rt), where the register goes by value;
- * so what is printed has to be what the second implementation writes (reference/, `history_vectors`). */
+/* Lists of commits, undos and releases by bytes, each on the register that the last accepted call wrote. The records
+ * and the lines are those of the program history_trial (crates/history_trial/src/main.rt), where the register goes by
+ * value; so what is printed has to be what the second implementation writes (reference/, `history_vectors`). */
 #include "area.h"
 #include "edges.h"
 #include "example.h"
@@ -13,8 +13,8 @@
 /* The register: the fields of degree and curve, and those that the last accepted call wrote. */
 static struct bytes on_curve, kept;
 
-/* An operation's field. What has another shape than a class cannot be stored: it gets a length that is not allowed, which
- * is 104 too. */
+/* An operation's field. What has another shape than a class cannot be stored: it gets a length that is not allowed,
+ * which is 104 too. */
 static void put_operation(struct bytes *b, struct seal_class a) {
     int shaped = a.degree <= 3;
     for (uint64_t i = a.degree; i < 3; i++)
@@ -37,8 +37,8 @@ static void print_counts(void) {
     printf("%" PRIu64 " %" PRIu64 " ", number_at(kept.at + HEAD, 2), number_at(next_field(kept.at) + HEAD, 2));
 }
 
-/* Makes a call and prints its line. A refusal that changed a byte of the output, and an acceptance that changed one after
- * those it wrote, are faults. */
+/* Makes a call and prints its line. A refusal that changed a byte of the output, and an acceptance that changed one
+ * after those it wrote, are faults. */
 static void answer(enum call call, struct seal_class operation) {
     static uint8_t out[PAGE];
     struct bytes in = on_curve;

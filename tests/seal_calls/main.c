@@ -8,7 +8,8 @@
  *     seal_calls group                the laws of the group alone
  *     seal_calls lists < RECORDS      answers lists of calls on a register (lists.c)
  *
- * A line is printed for each test, of lists for each call. The last line of tests is 'N passed, M failed', and the status is 0 where nothing failed.
+ * A line is printed for each test, of lists for each call. The last line of tests is 'N passed, M failed', and the
+ * status is 0 where nothing failed.
  */
 #include "check.h"
 #include "edges.h"

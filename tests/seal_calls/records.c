@@ -39,10 +39,10 @@ void put_count(struct bytes *b, int count) {
     put(b, count & 0xff);
 }
 
-void put_released(struct bytes *b, int step) {
+void put_released(struct bytes *b, int released) {
     put_head(b, SEAL_TAG_RELEASED, 2);
-    put(b, step >> 8);
-    put(b, step & 0xff);
+    put(b, released >> 8);
+    put(b, released & 0xff);
 }
 
 /* u below its leading term from the highest power down, then v likewise */
@@ -54,9 +54,9 @@ void put_class(struct bytes *b, int tag, struct seal_class class) {
         put_number(b, class.v[i]);
 }
 
-void put_register(struct bytes *b, int count, int step, struct seal_class seal) {
+void put_register(struct bytes *b, int count, int released, struct seal_class seal) {
     put_count(b, count);
-    put_released(b, step);
+    put_released(b, released);
     put_class(b, SEAL_TAG_CLASS, seal);
 }
 
@@ -131,12 +131,12 @@ struct bytes with_row(const struct record *r, int f, const uint64_t *row, int nu
     return b;
 }
 
-struct bytes register_record(enum call call, int d, int count, int step, struct seal_class seal,
+struct bytes register_record(enum call call, int d, int count, int released, struct seal_class seal,
                              struct seal_class operation) {
     struct bytes b = {0};
     put_degree(&b, d);
     put_curve(&b, 0, 0, 0);
-    put_register(&b, count, step, seal);
+    put_register(&b, count, released, seal);
     if (call != RELEASE)
         put_class(&b, SEAL_TAG_OPERATION, operation);
     return b;

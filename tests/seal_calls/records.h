@@ -17,13 +17,13 @@ void put_number(struct bytes *b, uint64_t n);
 void put_degree(struct bytes *b, int d);
 void put_curve(struct bytes *b, uint64_t f3, uint64_t f1, uint64_t f0);
 void put_count(struct bytes *b, int count);
-void put_released(struct bytes *b, int step);
+void put_released(struct bytes *b, int released);
 void append(struct bytes *b, const struct bytes *more);
 
 void put_class(struct bytes *b, int tag, struct seal_class class);
 
 /* The fields of a register: count, released step and seal. */
-void put_register(struct bytes *b, int count, int step, struct seal_class seal);
+void put_register(struct bytes *b, int count, int released, struct seal_class seal);
 
 /* The fields of an accepted record on f = x^7, one by one: classes [x, 0], count 7, released step 3; for STAMP no
  * class. */
@@ -48,7 +48,7 @@ struct bytes expected_of_accepted(enum call call);
 struct bytes with_row(const struct record *r, int f, const uint64_t *row, int numbers);
 
 /* The record of a call on a register on f = x^7; that of RELEASE has no operation. */
-struct bytes register_record(enum call call, int d, int count, int step, struct seal_class seal,
+struct bytes register_record(enum call call, int d, int count, int released, struct seal_class seal,
                              struct seal_class operation);
 
 /* Holds a call to a refusal by its input, with an output that is just long enough; one that takes a number also with a

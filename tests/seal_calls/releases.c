@@ -9,17 +9,17 @@
 static const int counts[COUNTS] = {0, 1, 2, 255, 512, 1023, 1024};
 
 /* Released steps beside a count: none, half of it, one below it and the count itself. */
-#define STEPS 4
-static int step_below(int count, int which) {
-    const int steps[STEPS] = {0, count / 2, count == 0 ? 0 : count - 1, count};
-    return steps[which];
+#define RELEASED_STEPS 4
+static int released_below(int count, int which) {
+    const int released[RELEASED_STEPS] = {0, count / 2, count == 0 ? 0 : count - 1, count};
+    return released[which];
 }
 
 /* The call has to write this register, in an output that is just long enough and in a longer one; in one of 60 bytes it
  * is refused. */
-static void writes(enum call call, const struct bytes *in, int count, int step, struct seal_class seal) {
+static void writes(enum call call, const struct bytes *in, int count, int released, struct seal_class seal) {
     struct bytes out = {0};
-    put_register(&out, count, step, seal);
+    put_register(&out, count, released, seal);
     expect(call, in->at, in->length, SEAL_REGISTER_OUTPUT, (uint32_t)out.length, out.at);
     expect(call, in->at, in->length, 200, (uint32_t)out.length, out.at);
     expect(call, in->at, in->length, 60, 101, NULL);
@@ -30,39 +30,39 @@ static void releases(void) {
     const struct seal_class seals[4] = {neutral, x_1, xx_0, xxx_1};
     for (int d = 0; d < 2; d++)
         for (int i = 0; i < COUNTS; i++)
-            for (int which = 0; which < STEPS; which++)
+            for (int which = 0; which < RELEASED_STEPS; which++)
                 for (int degree = 0; degree < 4; degree++) {
-                    int count = counts[i], step = step_below(count, which);
-                    struct bytes once = register_record(RELEASE, degrees[d], count, step, seals[degree], off);
+                    int count = counts[i], released = released_below(count, which);
+                    struct bytes once = register_record(RELEASE, degrees[d], count, released, seals[degree], off);
                     struct bytes again = register_record(RELEASE, degrees[d], count, count, seals[degree], off);
                     writes(RELEASE, &once, count, count, seals[degree]);
                     writes(RELEASE, &again, count, count, seals[degree]);
                     if (again.length != 31 + lengths[degree])
                         fault("a register of other than 13, 29, 45 or 61 bytes");
                 }
-    end_test("a release writes the count as the step, at 0 and at 1,024 too, and a second one writes the same");
+    end_test("a release writes the count as the released step, at 0 and 1,024 too, and a second one writes the same");
 }
 
 /* twice [x, 0] plus neutral is [x^2, 0], and half of [x^2, 0] less neutral is [x, 0] */
-static void steps_kept(void) {
+static void released_kept(void) {
     for (int d = 0; d < 2; d++)
         for (int i = 0; i < COUNTS; i++)
-            for (int which = 0; which < STEPS; which++) {
-                int count = counts[i], step = step_below(count, which);
-                struct bytes commit = register_record(COMMIT, degrees[d], count, step, x_0, neutral);
-                struct bytes undo = register_record(UNDO, degrees[d], count, step, xx_0, neutral);
+            for (int which = 0; which < RELEASED_STEPS; which++) {
+                int count = counts[i], released = released_below(count, which);
+                struct bytes commit = register_record(COMMIT, degrees[d], count, released, x_0, neutral);
+                struct bytes undo = register_record(UNDO, degrees[d], count, released, xx_0, neutral);
                 if (count == 1024)
                     refused(COMMIT, &commit, SEAL_COMMIT_AT_LIMIT);
                 else
-                    writes(COMMIT, &commit, count + 1, step, xx_0);
+                    writes(COMMIT, &commit, count + 1, released, xx_0);
                 if (count == 0)
                     refused(UNDO, &undo, SEAL_UNDO_AT_ZERO);
-                else if (count == step)
+                else if (count == released)
                     refused(UNDO, &undo, SEAL_UNDO_AT_RELEASED);
                 else
-                    writes(UNDO, &undo, count - 1, step, x_0);
+                    writes(UNDO, &undo, count - 1, released, x_0);
             }
-    end_test("commit and undo keep the step; an undo at it is 121, one above it passes, and at count 0 it is 113");
+    end_test("commit and undo keep the released step; an undo at it is 121, one above passes, at count 0 it is 113");
 }
 
 /* 120 before anything of seal and operation, after 109; 121 and 113 after these and after 112. */
@@ -197,7 +197,7 @@ static void sessions(void) {
 
 void test_releases(void) {
     releases();
-    steps_kept();
+    released_kept();
     order();
     places();
     truncations();

@@ -61,18 +61,19 @@ fn counts(trial: &mut Trial, field: Field) {
 }
 
 /// Released steps beside a count at their edges.
-fn edge_steps(count: u64) -> Vec<u64> {
-    let mut steps = vec![0, count.saturating_sub(1), count];
-    steps.dedup();
-    steps
+fn edge_released(count: u64) -> Vec<u64> {
+    let mut released = vec![0, count.saturating_sub(1), count];
+    released.dedup();
+    released
 }
 
-/// A release at each edge of the count and of the step before it, and a second one. Behind it no undo goes, 121, at count 0
-/// 113, each after the class's own refusal; a commit after it is taken back, and no more. Commit and undo keep the step.
+/// A release at each edge of the count and of the released step before it, and a second one. Behind it no undo goes,
+/// 121, at count 0 113, each after the class's own refusal; a commit after it is taken back, and no more. Commit and
+/// undo keep the released step.
 fn releases(trial: &mut Trial, field: Field) {
     let (x, square) = (Class::new(vec![0, 1], vec![]), ClassValues { degree: 2, ..X });
     for count in [0, 1, 7, LIMIT] {
-        for released in edge_steps(count) {
+        for released in edge_released(count) {
             let register = RegisterValues { released, ..on_a(field, count, square) };
             trial.start(register);
             if register.is_undo_barred() {

@@ -62,7 +62,7 @@ fn walk_of_the_document() {
 }
 
 /// A session with a release, written out by hand: what is committed after it can be undone, and no more; a second release
-/// changes nothing; the commit and the undo keep the step.
+/// changes nothing; the commit and the undo keep the released step.
 #[test]
 fn session_with_a_release() {
     let mut trial = Trial::new();
@@ -121,8 +121,8 @@ fn refusals_by_hand() {
     assert_eq!(commit(released(7, 8, NONSENSE), NONSENSE), Err(120));
     assert_eq!(commit(released(1024, 1024, X), X), Err(114));
     assert_eq!(commit(released(1025, 1026, X), X), Err(109));
-    for (count, step) in [(0, 0), (7, 7), (7, 0), (1024, 0), (1024, 1024)] {
-        assert_eq!(released(count, step, X).release(), Ok(released(count, count, X)));
+    for (count, before) in [(0, 0), (7, 7), (7, 0), (1024, 0), (1024, 1024)] {
+        assert_eq!(released(count, before, X).release(), Ok(released(count, count, X)));
         assert_eq!(released(count, count + 1, X).release(), Err(120));
     }
     for (bad, number) in no_classes(BENCH).into_iter().zip(numbers) {
@@ -167,11 +167,11 @@ fn no_further_than_the_last_release() {
     for make in [lists::bench, lists::known_halves, lists::wide, lists::full] {
         let mut trial = Trial::new();
         make(&mut trial);
-        let (mut step, mut releases, mut undone) = (0, 0, 0);
+        let (mut last, mut releases, mut undone) = (0, 0, 0);
         let mut lines = trial.output.lines();
         for record in trial.input.chunks_exact(RECORD) {
             if record[0] == START {
-                step = u64::from_be_bytes(record[90..98].try_into().unwrap());
+                last = u64::from_be_bytes(record[90..98].try_into().unwrap());
                 continue;
             }
             let line = lines.next().expect("a line is expected");
@@ -181,11 +181,11 @@ fn no_further_than_the_last_release() {
             let mut numbers = line.split(' ').map_while(|word| word.parse::<u64>().ok());
             let (count, released) = (numbers.next().unwrap(), numbers.next().unwrap());
             if record[0] == RELEASE {
-                step = count;
+                last = count;
                 releases += 1;
             }
             undone += (record[0] == UNDO) as u64;
-            assert!(released == step && count >= step, "{line}");
+            assert!(released == last && count >= last, "{line}");
         }
         assert!(releases > 3 && undone > 20, "{releases} {undone}");
     }

@@ -45,17 +45,17 @@ use std::sync::OnceLock;
 /// - `register-room`: 60 bytes of output are enough for commit, undo and release where they hold what is written.
 /// - `commit-clears`: a commit writes the released step 0.
 /// - `undo-clears`: an undo does.
-/// - `release-one-more`: a release writes one more than the count as the step.
-/// - `release-keeps`: a release writes the step that it read.
+/// - `release-one-more`: a release writes one more than the count as the released step.
+/// - `release-keeps`: a release writes the released step that it read.
 /// - `release-doubles`: a release writes the double of the seal.
 /// - `refused-release-writes`: a release with bytes after its record is refused, and writes the register all the same.
 /// - `zero-late`: 121 comes before 113.
 /// - `undo-behind`: an undo is accepted at the released step.
 /// - `early-stop`: an undo is refused with 121 also one above the released step.
-/// - `step-unchecked`: a released step above the count is read as if it were the count.
-/// - `step-late`: 120 comes after the checks of the seal.
+/// - `released-unchecked`: no call refuses a released step above the count.
+/// - `released-late`: 120 comes after the checks of the seal.
 /// - `seal-first`: commit, undo and release write 0x45 after 0x43.
-/// - `step-left-out`: they write no 0x45.
+/// - `released-left-out`: they write no 0x45.
 /// - `reads-old`: they take a record without 0x45 as one of which nothing is released.
 /// - `release-at-limit`: a release is refused with 114 at count 1,024.
 /// - `release-at-zero`: a release is refused with 113 at count 0.
@@ -101,10 +101,10 @@ const FAULTS: [&str; 48] = [
     "zero-late",
     "undo-behind",
     "early-stop",
-    "step-unchecked",
-    "step-late",
+    "released-unchecked",
+    "released-late",
     "seal-first",
-    "step-left-out",
+    "released-left-out",
     "reads-old",
     "release-at-limit",
     "release-at-zero",
@@ -218,28 +218,28 @@ fn faulty_commit(input: &[u8]) -> Result<Vec<u8>, Refusal> {
 }
 
 /// The places of the fields 0x45 and 0x43 in a record of a register that is read so far.
-const STEP_AT: usize = 36;
+const RELEASED_AT: usize = 36;
 const SEAL_AT: usize = 41;
 
-/// The answer to a record with another released step, which is written as the step.
-fn with_step(call: Call, input: &[u8], step: u16, length: usize) -> (u32, Vec<u8>) {
+/// The answer to a record with another released step; what is written has the record's own.
+fn with_released(call: Call, input: &[u8], released: u16, length: usize) -> (u32, Vec<u8>) {
     let mut other = input.to_vec();
-    other[STEP_AT..SEAL_AT].copy_from_slice(&released_field(step));
+    other[RELEASED_AT..SEAL_AT].copy_from_slice(&released_field(released));
     let (number, mut bytes) = answer(call, &other, length);
     if number <= 100 {
-        bytes[5..10].copy_from_slice(&input[STEP_AT..SEAL_AT]);
+        bytes[5..10].copy_from_slice(&input[RELEASED_AT..SEAL_AT]);
     }
     (number, bytes)
 }
 
 /// What an accepted call on a register writes, with one of the faults of the released step; none where it does not show.
 fn faulty_written(call: Call, right: &[u8], input: &[u8]) -> Option<Vec<u8>> {
-    let with = |step: &[u8]| Some([&right[..5], step, &right[10..]].concat());
+    let with = |released: &[u8]| Some([&right[..5], released, &right[10..]].concat());
     let count = u16::from_be_bytes([right[3], right[4]]);
     match (fault(), call) {
         ("commit-clears", Call::Commit) | ("undo-clears", Call::Undo) => with(&released_field(0)),
         ("release-one-more", Call::Release) => with(&released_field(count + 1)),
-        ("release-keeps", Call::Release) => with(&input[STEP_AT..SEAL_AT]),
+        ("release-keeps", Call::Release) => with(&input[RELEASED_AT..SEAL_AT]),
         ("release-doubles", Call::Release) => {
             let mut reader = Reader::new(input);
             let curve = reader.curve().ok()?;
@@ -248,7 +248,7 @@ fn faulty_written(call: Call, right: &[u8], input: &[u8]) -> Option<Vec<u8>> {
             Some([&right[..10], &doubled].concat())
         }
         ("seal-first", _) => Some([&right[..5], &right[10..], &right[5..10]].concat()),
-        ("step-left-out", _) => with(&[]),
+        ("released-left-out", _) => with(&[]),
         _ => None,
     }
 }
@@ -272,15 +272,15 @@ fn faulty_register(call: Call, right: &(u32, Vec<u8>), input: &[u8], length: usi
             (bytes.len() <= length).then_some((number, bytes))
         }
         ("zero-late", 113) => Some((121, vec![])),
-        ("undo-behind", 121) => Some(with_step(call, input, 0, length)),
-        ("step-unchecked", 120) => Some(with_step(call, input, 0, length)),
-        ("step-late", 120) => {
-            let (number, _) = with_step(call, input, 0, length);
+        ("undo-behind", 121) => Some(with_released(call, input, 0, length)),
+        ("released-unchecked", 120) => Some(with_released(call, input, 0, length)),
+        ("released-late", 120) => {
+            let (number, _) = with_released(call, input, 0, length);
             [102, 103, 104, 105, 110, 111].contains(&number).then_some((number, vec![]))
         }
-        ("reads-old", 103) if input.len() > STEP_AT && input[STEP_AT] == 0x43 => {
-            let with_step = [&input[..STEP_AT], &released_field(0), &input[STEP_AT..]].concat();
-            Some(answer(call, &with_step, length))
+        ("reads-old", 103) if input.len() > RELEASED_AT && input[RELEASED_AT] == 0x43 => {
+            let with_released = [&input[..RELEASED_AT], &released_field(0), &input[RELEASED_AT..]].concat();
+            Some(answer(call, &with_released, length))
         }
         ("release-takes-operation", 112) if call == Call::Release => {
             let seal_end = SEAL_AT + 3 + input[SEAL_AT + 2] as usize;

@@ -11,15 +11,15 @@
  * - all-neutral: an acceptance leaves the neutral seal.
  * - commit-clears: a commit sets the released step to 0.
  * - undo-clears: an undo does.
- * - one-more: a release sets the step to one more than the count.
- * - step-kept: a release leaves the step as it was.
+ * - one-more: a release sets the released step to one more than the count.
+ * - released-kept: a release leaves the released step as it was.
  * - release-doubles: a release doubles the seal.
- * - refused-sets: a release that is refused sets the step all the same.
+ * - refused-sets: a release that is refused sets the released step all the same.
  * - zero-late: 121 comes before 113.
  * - undo-behind: an undo is accepted at the released step.
  * - early-stop: an undo is refused with 121 also one above the released step.
- * - step-unchecked: no call refuses a released step above the count.
- * - step-late: 120 comes after the checks of the seal.
+ * - released-unchecked: no call refuses a released step above the count.
+ * - released-late: 120 comes after the checks of the seal.
  * - release-at-limit: a release is refused with 114 at count 1,024.
  * - release-at-zero: a release is refused with 113 at count 0.
  */
@@ -61,10 +61,10 @@ static struct seal_class other(struct seal_curve curve, struct seal_class operat
 }
 
 /* A call with another released step in the register's place; what is refused stays as it was. */
-static uint32_t with_step(uint64_t step, uint32_t (*call)(struct seal_register *, struct seal_class),
+static uint32_t with_released(uint64_t released, uint32_t (*call)(struct seal_register *, struct seal_class),
                           struct seal_register *lent, struct seal_class operation) {
     struct seal_register r = *lent;
-    r.released = step;
+    r.released = released;
     uint32_t answer = call(&r, operation);
     r.released = lent->released;
     if (answer == 0)
@@ -78,12 +78,12 @@ static uint32_t release_anyhow(struct seal_register *lent, struct seal_class ope
 }
 
 /* The call where its checks of the released step are faulty. */
-static uint32_t step_fault(uint32_t (*call)(struct seal_register *, struct seal_class), struct seal_register *lent,
+static uint32_t released_fault(uint32_t (*call)(struct seal_register *, struct seal_class), struct seal_register *lent,
                            struct seal_class operation) {
     int above = lent->released > lent->count;
-    if (above && has("step-unchecked"))
-        return with_step(0, call, lent, operation);
-    if (above && has("step-late")) {
+    if (above && has("released-unchecked"))
+        return with_released(0, call, lent, operation);
+    if (above && has("released-late")) {
         struct seal_register r = *lent;
         r.released = 0;
         uint32_t seal = __real_seal_register_release(&r);
@@ -94,7 +94,7 @@ static uint32_t step_fault(uint32_t (*call)(struct seal_register *, struct seal_
 
 uint32_t __wrap_seal_register_commit(struct seal_register *lent, struct seal_class operation) {
     struct seal_register before = *lent;
-    uint32_t answer = step_fault(__real_seal_register_commit, lent, other(lent->curve, operation));
+    uint32_t answer = released_fault(__real_seal_register_commit, lent, other(lent->curve, operation));
     if (answer == 0 && has("commit-clears"))
         lent->released = 0;
     return faulty(answer, lent, &before);
@@ -105,10 +105,10 @@ uint32_t __wrap_seal_register_undo(struct seal_register *lent, struct seal_class
     if (has("undo-commits"))
         return __real_seal_register_commit(lent, operation);
     if (has("undo-behind") && lent->count == lent->released && lent->count > 0)
-        return with_step(0, __real_seal_register_undo, lent, operation);
+        return with_released(0, __real_seal_register_undo, lent, operation);
     if (has("early-stop") && lent->count == lent->released + 1 && lent->released > 0)
-        return with_step(lent->count, __real_seal_register_undo, lent, operation);
-    uint32_t answer = step_fault(__real_seal_register_undo, lent, other(lent->curve, operation));
+        return with_released(lent->count, __real_seal_register_undo, lent, operation);
+    uint32_t answer = released_fault(__real_seal_register_undo, lent, other(lent->curve, operation));
     if (answer == 113 && has("zero-late"))
         return 121;
     if (answer == 0 && has("undo-clears"))
@@ -122,12 +122,12 @@ uint32_t __wrap_seal_register_release(struct seal_register *lent) {
         return 114;
     if (has("release-at-zero") && lent->count == 0 && __real_seal_register_release(&copy) == 0)
         return 113;
-    uint32_t answer = step_fault(release_anyhow, lent, neutral);
+    uint32_t answer = released_fault(release_anyhow, lent, neutral);
     if (answer != 0 && has("refused-sets"))
         lent->released = lent->count;
     if (answer == 0 && has("one-more"))
         lent->released++;
-    if (answer == 0 && has("step-kept"))
+    if (answer == 0 && has("released-kept"))
         lent->released = before.released;
     if (answer == 0 && has("release-doubles") && __real_seal_register_commit(&before, neutral) == 0)
         lent->seal = before.seal;
