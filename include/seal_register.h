@@ -54,8 +54,9 @@ struct seal_class {
 
 /* The count of operations is at most SEAL_COUNT_LIMIT. The released step is the count at the last release, at most
  * the count; a register starts with released 0. It came with SEAL_VERSION 4 and is the last member, so that an
- * initialiser by position written before keeps its meaning: it leaves released 0. The struct is 8 bytes longer, so
- * that whatever was compiled with the header before has to be compiled again. */
+ * initialiser by position written before keeps its meaning: it leaves released 0 (gcc -Wextra tells of that; a 0 at
+ * the end quiets it). The struct is 8 bytes longer, so that whatever was compiled with the header before has to be
+ * compiled again. */
 struct seal_register {
     struct seal_curve curve;
     uint64_t count;
