@@ -74,7 +74,7 @@ uint32_t seal_register_commit(struct seal_register *lent, struct seal_class oper
 uint32_t seal_register_undo(struct seal_register *lent, struct seal_class operation);
 
 /* A release: the released step becomes the count, and all else stays. Any count may be released, 0 and 1,024 too, and
- * again.
+ * a second release leaves the register equal.
  * Refusals: 104, 106, 107, 109 to 111, 120. */
 uint32_t seal_register_release(struct seal_register *lent);
 

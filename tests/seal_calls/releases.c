@@ -120,6 +120,45 @@ static void places(void) {
     end_test("103: no 0x45, or 0x45 in another place than between 0x42 and 0x43");
 }
 
+/* A record as it was before 0x45: the fields of degree, curve and count are 36 bytes, and the seal's follows. */
+static struct bytes of_version_3(enum call call, int d, int count, struct seal_class seal) {
+    struct bytes b = register_record(call, d, count, 0, seal, neutral);
+    memmove(b.at + 36, b.at + 41, b.length - 41);
+    b.length -= 5;
+    return b;
+}
+
+/* The same with the five bytes of include/seal.h between count and seal. */
+static struct bytes migrated(const struct bytes *before) {
+    static const uint8_t released[5] = {0x45, 0x00, 0x02, 0x00, 0x00};
+    struct bytes b = {0};
+    memcpy(b.at, before->at, 36);
+    memcpy(b.at + 36, released, 5);
+    memcpy(b.at + 41, before->at + 36, before->length - 36);
+    b.length = before->length + 5;
+    return b;
+}
+
+/* twice [x, 0] plus neutral is [x^2, 0] */
+static void migration(void) {
+    for (int d = 0; d < 2; d++)
+        for (int i = 0; i < COUNTS; i++) {
+            int count = counts[i];
+            struct bytes release = of_version_3(RELEASE, degrees[d], count, x_0);
+            struct bytes undo = of_version_3(UNDO, degrees[d], count, xx_0);
+            refused(RELEASE, &release, SEAL_WRONG_TAG);
+            refused(UNDO, &undo, SEAL_WRONG_TAG);
+            release = migrated(&release);
+            undo = migrated(&undo);
+            writes(RELEASE, &release, count, count, x_0);
+            if (count == 0)
+                refused(UNDO, &undo, SEAL_UNDO_AT_ZERO);
+            else
+                writes(UNDO, &undo, count - 1, 0, x_0);
+        }
+    end_test("a record of version 3 is 103, and with 45 00 02 00 00 between 0x42 and 0x43 it has the released step 0");
+}
+
 /* What is in an accepted record of a release when it is cut at every byte: the head or the body of a field. */
 static void truncations(void) {
     const struct seal_class seals[4] = {neutral, x_1, xx_0, xxx_1};
@@ -200,6 +239,7 @@ void test_releases(void) {
     released_kept();
     order();
     places();
+    migration();
     truncations();
     sessions();
 }

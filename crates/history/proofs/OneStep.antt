@@ -54,24 +54,24 @@ module _ (r : Register) (a : Class) where
   stepped-passes Commit p =
       let l = p .register .count-passes in
       let m = p .register .released-passes in
-      next-passes _ _ r (p .register) (omega (arith, p .at-count)) (omega arith) (commit-sound (seal-sound p) (class-sound p))
+      next-passes _ _ r (p .register) (omega (arith, p .off-edges)) (omega arith) (commit-sound (seal-sound p) (class-sound p))
   stepped-passes Undo p =
       let l = p .register .count-passes in
       let m = p .register .released-passes in
-      next-passes _ _ r (p .register) (omega arith) (omega (arith, p .at-count .0, p .at-count .1)) (undo-sound (seal-sound p) (class-sound p))
+      next-passes _ _ r (p .register) (omega arith) (omega (arith, p .off-edges .0, p .off-edges .1)) (undo-sound (seal-sound p) (class-sound p))
 
   other-edge : (k : Step) → Passing k r a → OffEdge (other k) (stepped k r a .count) (stepped k r a .released)
   unfolding stepped with-count-and-seal OffEdge other
   other-edge Commit p = let m = p .register .released-passes in (λ e. omega arith, λ e. omega arith)
-  other-edge Undo p = let l = p .register .count-passes in λ e. omega (arith, p .at-count .0)
+  other-edge Undo p = let l = p .register .count-passes in λ e. omega (arith, p .off-edges .0)
 
   other-passes : (k : Step) → Passing k r a → Passing (other k) (stepped k r a) a
-  other-passes k p = record { register = stepped-passes k p; class-passes = rw (stepped-curve k r a) (p .class-passes); at-count = other-edge k p }
+  other-passes k p = record { register = stepped-passes k p; class-passes = rw (stepped-curve k r a) (p .class-passes); off-edges = other-edge k p }
 
   stepped-back : (k : Step) → Passing k r a → stepped (other k) (stepped k r a) a ≡ r
   unfolding stepped with-count-and-seal OffEdge other
   stepped-back Commit p = register-itself _ _ r (omega arith) (undo-of-commit (seal-sound p) (class-sound p))
-  stepped-back Undo p = register-itself _ _ r (omega (arith, p .at-count .0)) (commit-of-undo (seal-sound p) (class-sound p))
+  stepped-back Undo p = register-itself _ _ r (omega (arith, p .off-edges .0)) (commit-of-undo (seal-sound p) (class-sound p))
 
   pub step-taken-back : (k : Step) → step-answer k r a .outcome ≡ accepted → step-answer (other k) (step-answer k r a .register) a ≡ taken r
   unfolding step-answer

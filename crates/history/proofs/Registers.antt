@@ -68,7 +68,7 @@ off-edge Undo n released h = rw (ne-eqb n 0 (h .0), ne-eqb n released (h .1))
 pub record Passing (k : Step) (r : Register) (a : Class) : Type 0 where
   pub register : Passes r
   pub class-passes : class-refusal (r .curve) a ≡ 0
-  pub at-count : OffEdge k (r .count) (r .released)
+  pub off-edges : OffEdge k (r .count) (r .released)
 
 module _ (k : Step) (r : Register) (a : Class) where
   pub step-passes : step-refusal k r a ≡ 0 → Passing k r a
@@ -76,11 +76,11 @@ module _ (k : Step) (r : Register) (a : Class) where
   step-passes e =
       let h = then-zero _ _ e in
       let l = then-zero _ _ (h .1) in
-      record { register = register-passes r (h .0); class-passes = l .0; at-count = edge-off k (r .count) (r .released) (l .1) }
+      record { register = register-passes r (h .0); class-passes = l .0; off-edges = edge-off k (r .count) (r .released) (l .1) }
 
   pub passes-step : Passing k r a → step-refusal k r a ≡ 0
   unfolding step-refusal _or-else_
-  passes-step p = rw (passes-register r (p .register), p .class-passes, off-edge k (r .count) (r .released) (p .at-count))
+  passes-step p = rw (passes-register r (p .register), p .class-passes, off-edge k (r .count) (r .released) (p .off-edges))
 
 -- ---- what a call answers
 module _ (n : ℕ) (given next : Register) where

@@ -2,6 +2,7 @@
 -- `curve-kept`: no call of a list changes degree or curve.
 -- `last-curve`: the register after a list has the degree and the curve of the first.
 -- `steps-only`: in a list of commits and undos no release is accepted.
+-- `is-release`: a call is a release or not.
 -- `last-release`: every list is in two parts, the first empty or up to its last accepted release.
 -- Where no release of the list was accepted:
 -- `taken-back-turned`: taking the accepted calls back, newest first, does to each call what `turned` says.
@@ -81,7 +82,7 @@ module _ (r : Register) (cs ds : List Call) (only : NoReleases (newest (last r c
   after-all = ap (λ t. last t (backs (newest (last r cs) ds))) (last-append registers r cs ds) ∙ taken-back-all (last r cs) ds only
 
 -- ---- the last accepted release of a list
-is-release : (c : Call) → (c ≡ release) ⊎ (¬ (c ≡ release))
+pub is-release : (c : Call) → (c ≡ release) ⊎ (¬ (c ≡ release))
 is-release (step k a) = inr (step-no-release k a)
 is-release release = inl refl
 

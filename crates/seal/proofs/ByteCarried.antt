@@ -4,19 +4,21 @@
 -- `newest-carried`: the accepted byte calls, decoded, are the accepted calls of these register calls.
 -- `last-carried`: what is kept after the list decodes to the register after these register calls.
 -- `released-grows`: no list of byte calls makes the released step that is kept smaller.
--- `above-released`: none leads to a count below it, so after an accepted release none to a smaller count.
+-- `above-released`: none leads to a count below it.
+-- `none-behind`: after an accepted release no list of byte calls leads to a smaller count.
 -- `operations-stored`: the operations of the accepted steps are the fields of the classes that they decode to.
 -- `seals-stored`: the seal fields that were kept are the fields of the seals that they decode to.
 -- So the theorems of the crate history on lists of calls hold of byte calls. What is kept is the stored form of the
 -- register that it decodes to (`last-stored` of ByteSteps).
-use Prim.Native.Nat.{_≤_}
-use mathlib.Core.Path.{_≡_, refl, sym, ap, ap₂, _∙_}
+use Prim.Native.Nat.{ℕ, _≤_}
+use mathlib.Core.Path.{_≡_, refl, sym, ap, ap₂, _∙_, subst}
 use mathlib.Core.List.{List, _∷_, map}
+use lib.Dec.{lit<}
 use Rattle.lists.specs.Lists.{All, none, more}
 use Rattle.lists.proofs.Lists.{all-reverse}
 use Rattle.jacobian.specs.Answer.{Verdict, accepted}
 use Rattle.jacobian.proofs.Representation.{accepts-both}
-use Rattle.history.specs.{Register.RegisterReply, Machine.event, Machine.last, Machine.newest, Machine.run, Machine.carried, Machine.Agrees}
+use Rattle.history.specs.{Register.RegisterReply, Register.release-answer, Machine.event, Machine.last, Machine.newest, Machine.run, Machine.carried, Machine.Agrees}
 use Rattle.history.specs.Calls as history
 use Rattle.history.specs.Calls.{answer, registers}
 use Rattle.history.specs.declared.Register.{Register}
@@ -26,7 +28,7 @@ use Rattle.history.proofs.Machine.{Run.all-accepted, Accepted.accepted-newest, 
 use Rattle.stored_form.specs.Classes.{class-field}
 use Rattle.seal.specs.Steps.{Kept, Request, step, release, operation, ByteCall, byte-calls, ByteEvent, BytesGiven, operations, seal-field, seals-before, seal-fields, encode-call, decode-kept, decode-request, decode-call, decoded, newest-decoded, last-decoded, decoded-calls, InStoredForm}
 use Rattle.stored_form.specs.Number.{Bytes}
-use Rattle.seal.proofs.{OneByteStep.Done, OneByteStep.done, OneByteStep.refused-stays, ByteSteps.of-each, ByteSteps.last-stored, Decoding.seal-stored, Decoding.class-decoded, Decoding.decode-stored}
+use Rattle.seal.proofs.{OneByteStep.Done, OneByteStep.done, OneByteStep.refused-stays, OneByteStep.kept-stored, ByteSteps.of-each, ByteSteps.last-stored, Decoding.seal-stored, Decoding.class-decoded, Decoding.decode-stored}
 
 -- ---- an accepted call
 
@@ -117,3 +119,18 @@ module _ (k : Kept) (form : InStoredForm k) (cs : List ByteCall) (bytes : BytesG
   pub seals-stored : seal-fields k cs ≡ map (class-field 0x43) (history.seals-met (last-decoded k cs) (newest-decoded k cs))
   unfolding seal-fields newest-decoded last-decoded history.seals-met
   seals-stored = ap₂ _∷_ (seal-stored (last byte-calls k cs) (last-stored k form bytes .stored)) (seals-are before-stored)
+
+-- ---- after a release
+
+pub none-behind : (k : Kept) → InStoredForm k → (c : ByteCall) → c .request ≡ release → byte-calls .outcome k c ≡ accepted → (cs : List ByteCall) → BytesGiven cs
+    → decode-kept k .count ≤ last-decoded (byte-calls .next k c) cs .count
+unfolding Agrees carried event answer decode-request operation
+none-behind k form c is ok cs bytes =
+    let no-bytes : Bytes (operation (c .request)) = subst (λ q. Bytes (operation q)) (sym is) (λ i. lit< tt) in
+    let after = byte-calls .next k c in
+    let same = agrees k form c no-bytes ok in
+    let call : decode-call c ≡ history.release = ap decode-request is in
+    let accepts = ap (λ x. answer (decode-kept k) x .outcome) (sym call) ∙ ap (λ (e : history.Event). e .outcome) same ∙ ok in
+    let left : release-answer (decode-kept k) .register ≡ decode-kept after = ap (λ x. answer (decode-kept k) x .register) (sym call) ∙ ap (λ (e : history.Event). e .left) same in
+    let behind = releases.none-behind (decode-kept k) (decoded-calls after cs) accepts in
+    rw (last-carried after (kept-stored k form c no-bytes ok) cs bytes, ← left) behind

@@ -7,23 +7,24 @@
 -- `as-requested`: a record with a register and a call's class makes that call on that register.
 -- `call-answers`: a call on the encoded values, which pass, writes what the register call answers for them.
 -- `call-accepts`: it is accepted if the register call accepts the encoded values.
--- `release-twice-bytes`: a second release, of the register that an accepted one gave, writes that register again.
+-- `release-twice-bytes`: a second release, of the record rebuilt from what the first wrote, writes the same bytes.
 -- `undo-of-commit-bytes`: undo on the record rebuilt from a commit's output writes the record's register.
 -- `commit-of-undo-bytes`: commit on the record rebuilt from an undo's output does the same.
 use Prim.Native.Nat.{ℕ, _≤_}
-use mathlib.Core.Path.{_≡_, refl, sym, ap, _∙_}
+use mathlib.Core.Path.{_≡_, refl, sym, ap, ap₂, _∙_}
 use mathlib.Core.List.{List, [], _++_, append-nil}
 use native.Mathlib.Omega.{arith}
 use lib.ListN.{length, length-append}
-use Rattle.jacobian.specs.{Answer.accepted, Answer.refused, declared.Class.Class}
+use Rattle.jacobian.specs.{Answer.accepted, Answer.refused, declared.Curve.Curve, declared.Class.Class}
 use Rattle.jacobian.proofs.Representation.{accepts-both}
 use Rattle.history.specs.declared.{Register.Register, Step.Step, Step.the-variants.Commit, Step.the-variants.Undo}
 use Rattle.history.specs.Register.{RegisterReply, other, commit-answer, undo-answer, release-answer}
 use Rattle.history.specs.Calls as history
 use Rattle.history.specs.Calls.{answer}
 use Rattle.history.proofs.{Registers.Passes, Registers.passes-register, OneStep.step-taken-back, OneStep.release-twice, OneCall.answer-curve, OneCall.accepted-register, OneCall.accepted-class, OneCall.accepted-passes}
-use Rattle.stored_form.specs.{Reading.found, Fields.count-field, Fields.released-field, Classes.class-field, Reader.read-record, Reader.register-layout, Reader.step-layout}
+use Rattle.stored_form.specs.{Reading.found, Fields.count-field, Fields.released-field, Classes.curve-fields-bytes, Classes.class-field, Reader.read-record, Reader.register-layout, Reader.step-layout}
 use Rattle.written_form.specs.Effect.{Effect, refuse, write, put, register-room}
+use Rattle.written_form.specs.Wrote.{wrote}
 use Rattle.stored_form.specs.declared.Record.{Record}
 use Rattle.stored_form_theorems.proofs.ClassRoundTrips.{class-short}
 use Rattle.stored_form.proofs.Lengths.{length-count, length-released}
@@ -115,15 +116,29 @@ module _ (g : Register) (c : history.Call) (e : answer g c .outcome ≡ accepted
 
 -- ---- a second release
 
-pub release-twice-bytes : (g : Register) → release-answer g .outcome ≡ accepted → (out : List ℕ) → register-room ≤ length out →
+-- a release of the register that an accepted one gave
+again : (g : Register) → release-answer g .outcome ≡ accepted → (out : List ℕ) → register-room ≤ length out →
     release-call (register-record-bytes (release-answer g .register)) out ≡ write (register-fields (release-answer g .register)) out
 unfolding answer encode-call operation
-release-twice-bytes g e out room =
+again g e out room =
     let next = release-answer g .register in
     let same = release-twice g e in
     ap (λ (s : List ℕ). release-call s out) (sym (append-nil (register-record-bytes next)))
     ∙ call-accepts next history.release (ap (λ (x : RegisterReply). x .outcome) same ∙ e) out room
     ∙ ap (λ (x : RegisterReply). write (register-fields (x .register)) out) same
+
+module _ (s out last : List ℕ) (room : register-room ≤ length out) (room' : register-room ≤ length last) {h : Record} {end : ℕ} where
+  pub release-twice-bytes : read-record register-layout s ≡ found h end → release-answer (register h) .outcome ≡ accepted →
+      release-call (curve-fields-bytes (h .curve) ++ wrote (release-call s out)) last ≡ write (wrote (release-call s out)) last
+  unfolding answer register-record-bytes
+  release-twice-bytes read e =
+      let g = register h in
+      let next = release-answer g .register in
+      let short = call-fits g history.release e in
+      let is : wrote (release-call s out) ≡ register-fields next = ap wrote (release-of-record s out room read ∙ call-written g history.release e out room) ∙ wrote-write (register-fields next) out (omega arith) in
+      ap₂ (λ (c : Curve) (fields : List ℕ). release-call (curve-fields-bytes c ++ fields) last) (sym (answer-curve g history.release)) is
+      ∙ again g e last room'
+      ∙ ap (λ (fields : List ℕ). write fields last) (sym is)
 
 -- ---- taking back
 

@@ -8,6 +8,7 @@
 -- `taken-back-all`: at the end everything kept is as at the start.
 -- `after-accepted`, `after-kept`, `after-all`: the same of the second of two lists, made one after the other, if no
 -- release of the second was accepted; at the end everything kept is as between the two.
+-- `steps-only`: in a list of commits and undos no release is accepted.
 -- `last-release`: every list is in two parts, the first empty or up to its last accepted release.
 -- `buffer-takes-back`: calls that reuse one buffer with room, each as the call before left it, are such calls.
 -- `buffer-reused`: their outputs are the buffer, and then what each of them left of it, in order.
@@ -22,6 +23,7 @@ use lib.Dec.{leb, lit≤}
 use borrow.Author.Tests.{leb-true}
 use lib.ListN.{length, getD, take, drop, replicate, length-append, length-drop}
 use Rattle.lists.specs.{Lists.All, Lists.none, Lists.more, Walk.foldl}
+use Rattle.lists.proofs.Lists.{all-reverse}
 use Rattle.jacobian.specs.{Answer.Verdict, Answer.accepted, Answer.refused}
 use Rattle.history.specs.Machine.{Machine, Event, event, accepted-of, run, newest, last, accepted-calls, carried, Agrees, Reversible}
 use Rattle.history.specs.Machine as machine
@@ -204,7 +206,11 @@ module _ (k : Kept) (form : InStoredForm k) (cs ds : List ByteCall) (bytes : Byt
   pub after-all : last byte-calls (last byte-calls k (cs ++ ds)) bs ≡ last byte-calls k cs
   after-all = rw (last-append byte-calls k cs ds) (taken-back-all (last byte-calls k cs) between ds bytes' only bs takes)
 
--- ---- the last accepted release
+-- ---- releases in a list
+
+pub steps-only : (k : Kept) {cs : List ByteCall} → All (λ c. ¬ (c .request ≡ release)) cs → NoReleases (newest byte-calls k cs)
+unfolding newest
+steps-only k h = all-reverse (accepted-fit byte-calls k h)
 
 is-release : (c : ByteCall) → (c .request ≡ release) ⊎ (¬ (c .request ≡ release))
 is-release c = go (c .request)

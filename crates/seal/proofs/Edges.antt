@@ -5,7 +5,7 @@
 -- `commit-at-1023`: a commit at count 1,023 writes the count 1,024. `commit-at-1024`: at 1,024 it is refused with 114.
 -- `undo-at-0`: an undo at count 0 is refused with 113, where the released step is 0 too.
 -- `undo-at-released`: an undo at the released step, if that is not 0, is refused with 121.
--- `undo-above-released`: at the step after it, an undo writes the released step as the count.
+-- `undo-above-released`: one above it, an undo writes the released step as the count.
 -- `release-at`: a release at a count n writes n as count and as released step, with the seal as it was.
 -- `release-at-0`, `release-at-1024`: so it does at 0 and at 1,024.
 -- `release-length`: it writes 13 bytes and 16 more for each degree of the seal.

@@ -29,11 +29,11 @@
 -- the last seal.
 -- `walk-part`: no step of the walk over the k newest classes is refused.
 use Prim.Native.Nat.{ℕ, suc, _≤_}
-use mathlib.Core.{Path._≡_, Path.refl, Path.sym, Path._∙_, Path.ap, List.List, List.[], List._∷_, List._++_, List.map, List.map-map, Logic._⊎_, Logic.inl, Logic.inr}
+use mathlib.Core.{Path._≡_, Path.refl, Path.sym, Path._∙_, Path.ap, List.List, List.[], List._∷_, List._++_, List.map, List.map-map}
 use lib.ListN.{length, take, getD}
 use Rattle.lists.specs.{Lists.All, Lists.none, Lists.more, Walk.walk}
 use Rattle.jacobian.specs.Answer.{accepted, refused, verdict-of}
-use Rattle.history.specs.{Register.RegisterReply, Register.register-refusal, Register.undo-seal, Register.release-answer, Calls.Call, Calls.step, Calls.release, Calls.answer, Calls.registers, Calls.Event, Calls.run, Calls.last, Calls.newest, Calls.backs, Calls.turned, Calls.NoReleases, Calls.NoUndos, Calls.steps, Calls.classes, Calls.walk-back, Calls.steps-back, Calls.met, Calls.seals-met}
+use Rattle.history.specs.{Register.RegisterReply, Register.register-refusal, Register.undo-seal, Register.release-answer, Calls.Call, Calls.release, Calls.answer, Calls.registers, Calls.Event, Calls.run, Calls.last, Calls.newest, Calls.backs, Calls.turned, Calls.NoReleases, Calls.NoUndos, Calls.steps, Calls.classes, Calls.walk-back, Calls.steps-back, Calls.met, Calls.seals-met}
 use Rattle.history.specs.Machine as machine
 use Rattle.history.specs.declared.Register.{Register}
 use Rattle.history.proofs.{OneCall.refused-stays, Failing.failing-run, Failing.failing-last, Machine.Run.run-append, Machine.Run.last-append, Machine.Carried.run-carried, Machine.Carried.last-carried, Machine.Carried.newest-carried}
@@ -41,7 +41,7 @@ use Rattle.lists.proofs.Lists.{all-map, all-split}
 use Rattle.history.proofs.TakingBack as history
 use Rattle.history.proofs.Releases as releases
 use Rattle.history.proofs.Preserved as preserved
-use Rattle.history.proofs.{Classes.step-no-release, Machine.TakingBack.last-final}
+use Rattle.history.proofs.Machine.TakingBack.{last-final}
 use Rattle.history.proofs.WalkingBack as walking
 use Rattle.seal_register.specs.InPlace.{in-place, RecordedCall, call, recorded-reply, calls, replay, Session, happened, left-by, newest-recorded, seals-recorded}
 
@@ -88,15 +88,16 @@ pub last-passes : (r : Register) (ms : List RecordedCall) → Session r ms → r
 last-passes r ms s ok = rw (left-by-last r ms s) (preserved.last-passes r (calls ms) ok)
 
 -- ---- releases
-is-release : (m : RecordedCall) → (call m ≡ release) ⊎ (¬ (call m ≡ release))
-is-release m = go (call m)
-  where
-    go : (c : Call) → (c ≡ release) ⊎ (¬ (c ≡ release))
-    go (step k a) = inr (step-no-release k a)
-    go release = inl refl
+-- the accepted calls that are no releases, as calls on a register
+none-recorded : {es : List (machine.Event Register RecordedCall)} → All (λ e. ¬ (call (e .call) ≡ release)) es → NoReleases (map (machine.carried (λ t. t) call) es)
+unfolding machine.carried
+none-recorded none = none
+none-recorded (more h hs) = more h (none-recorded hs)
 
-pub last-release : (r : Register) (ms : List RecordedCall) → machine.LastFinal replay (λ m. call m ≡ release) r ms
-last-release = last-final replay is-release
+pub last-release : (r : Register) (ms : List RecordedCall) →
+    (p : machine.LastFinal replay (λ m. call m ≡ release) r ms) × NoReleases (newest-recorded (left-by r (p .before)) (p .after))
+unfolding newest-recorded
+last-release r ms = let p = last-final replay (λ m. history.is-release (call m)) r ms in (p, none-recorded (p .none-after))
 
 pub released-grows : (r : Register) (ms : List RecordedCall) → Session r ms → r .released ≤ left-by r ms .released
 released-grows r ms s = rw (left-by-last r ms s) (releases.released-grows r (calls ms))

@@ -4,7 +4,6 @@
 -- `taken-back-accepted`: no call that takes a call back is refused.
 -- `taken-back-states`: any function of the states just before the accepted calls comes back, newest first.
 -- `taken-back-all`: after all of them the state is the first one.
--- Where a first part of a list cannot be taken back, this holds of the calls after it (`last-append`, `last-holds`).
 -- `last-final`: every list is in two parts, the first empty or up to its last accepted call that has no way back.
 use Prim.Native.Nat.{ℕ}
 use mathlib.Core.Path.{_≡_, refl, sym, _∙_, ap, ap₂, subst}
