@@ -1,10 +1,10 @@
 //! The cases of the program `history_trial`: commits, undos and releases on one register (document 01, 'The register';
 //! document 02, request 8), in the bytes that it reads, and the lines that are expected of it.
 //!
-//! A record is 154 bytes: the call, the degree d, f3, f1 and f0, the count, the seal, the released step and an operation's
-//! class. A class is its degree, u0, u1, u2, v0, v1 and v2. All numbers but d take eight bytes, high byte first. A start
-//! sets the register and has no line; a commit, an undo and a release are made on the register that the call before
-//! handed back, a release without the class; a show prints all that the register holds.
+//! A record is 154 bytes: the call, the degree d, f3, f1 and f0, the count, the seal, the released step and an
+//! operation's class. A class is its degree, u0, u1, u2, v0, v1 and v2. All numbers but d take eight bytes, high byte
+//! first. A start sets the register and has no line; a commit, an undo and a release are made on the register that the
+//! call before handed back, a release without the class; a show prints all that the register holds.
 //!
 //! - `edges`: document 01's walk, every refusal at its edges and in its order, registers that fail a check; releases.
 //! - `lists`: lists of calls drawn at random, each taken back call by call, as far as its last release.
@@ -52,8 +52,8 @@ const UNREAD: RegisterValues = RegisterValues {
 };
 
 impl RegisterValues {
-    /// The curve and the seal, or the refusal: the curve's, 109 for a count above 1,024, 120 for a released step above the
-    /// count, the seal's.
+    /// The curve and the seal, or the refusal: the curve's, 109 for a count above 1,024, 120 for a released step above
+    /// the count, the seal's.
     fn checked(&self) -> Result<(Curve, Class), u32> {
         let curve = self.curve.curve()?;
         if self.count > LIMIT {
@@ -80,8 +80,8 @@ impl RegisterValues {
         Ok(self.moved(self.count + 1, &curve.sum(&curve.double(&seal), &operation)))
     }
 
-    /// The half of the seal less the class, and one operation fewer; 113 at count 0, after all other checks, then 121 at the
-    /// released step. The half is found by the function given, and held to its definition.
+    /// The half of the seal less the class, and one operation fewer; 113 at count 0, after all other checks, then 121
+    /// at the released step. The half is found by the function given, and held to its definition.
     fn undo(&self, class: ClassValues, half: impl FnOnce(&Class) -> Class) -> Result<RegisterValues, u32> {
         let (curve, seal) = self.checked()?;
         let operation = class.class(&curve)?;

@@ -1,5 +1,6 @@
 /* The layout of struct seal_register, and what an initialiser by position means that was written before the released
- * step came, with SEAL_VERSION 3: curve, count and seal. The status is 0 where it gives these and the released step 0. */
+ * step came, with SEAL_VERSION 3: curve, count and seal. The status is 0 where it gives these and the released step
+ * 0. */
 #include "seal_register.h"
 
 #include <string.h>

@@ -2,7 +2,8 @@
 -- `register-checked`: the refusal of a register is that of the curve, then 109 of the count, then 120 of the released
 -- step, then that of the seal.
 -- `edge-checked`: that of a step at its edges is 114 of a commit, 113 and then 121 of an undo.
--- `step-checked`: that of a step is the register's, then that of the class, then 114 of a commit, 113 and 121 of an undo.
+-- `step-checked`: that of a step is the register's, then that of the class, then 114 of a commit, 113 and 121 of an
+-- undo.
 -- `answer-follows`: a call answers its next register, or its refusal with the register given.
 -- `call-checked`: that of a call is a step's, or for a release the register's.
 -- `answer-checked`: the number of the code's answer is that refusal, and a refused call returns the register given.

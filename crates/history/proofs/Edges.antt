@@ -1,4 +1,5 @@
--- The refusals 109, 113, 114, 120 and 121 by the counts (docs/SPECIFICATION.md, 6); the limit is written as a number here.
+-- The refusals 109, 113, 114, 120 and 121 by the counts (docs/SPECIFICATION.md, 6); the limit is written as a number
+-- here.
 -- Where curve, seal and class are accepted and the released step is up to the count:
 -- `commit-below-limit`: a commit is accepted at a count up to 1,023.
 -- `commit-to-limit`: a commit at 1,023 gives 1,024.

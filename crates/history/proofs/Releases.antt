@@ -1,7 +1,7 @@
 -- What releases do to a register, and what no call does after them (docs/SPECIFICATION.md, 4 and 11).
 -- `release-sets`: an accepted release makes the count the released step; curve, count and seal stay.
--- `undo-after-release`: an undo of an accepted class right after an accepted release is refused with 121, at count 0 with
--- 113.
+-- `undo-after-release`: an undo of an accepted class right after an accepted release is refused with 121, at count 0
+-- with 113.
 -- `released-kept`: where no release of a list was accepted, the released step after it is that of the first register.
 -- `released-grows`: no list of calls makes the released step smaller.
 -- `above-released`: from a register that passes its checks no list of calls leads to a count below its released step.

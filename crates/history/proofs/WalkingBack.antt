@@ -1,5 +1,5 @@
--- Demand 3 on walks (docs/SPECIFICATION.md, 11): where the accepted calls of a list are commits and releases, a walk from
--- the last seal over the commits' classes, newest first, meets the seals just before the commits.
+-- Demand 3 on walks (docs/SPECIFICATION.md, 11): where the accepted calls of a list are commits and releases, a walk
+-- from the last seal over the commits' classes, newest first, meets the seals just before the commits.
 -- `commits-end`: the last seal is the end of the commit rule over the classes, oldest first.
 -- `walk-meets`: the seals of the walk are the last seal, then those just before the commits, newest first.
 -- `walk-steps`: no step of the walk is refused, and each answers the seal just before its commit.
@@ -26,8 +26,8 @@ use Rattle.history.proofs.{Seals.reversible, Registers.Passes, Register
 use Rattle.history.proofs.{Classes.steps-reverse, Classes.classes-reverse, Preserved.last-passes, Preserved.operations-accept, Preserved.none-or-passes, Steps.steps-accepted, Steps.steps-walk, Steps.walk-at, Steps.steps-take}
 
 -- ---- in order of time
--- what these commits and releases do between two registers: the seals before the commits and the last one are the states
--- of the commit rule over the classes, and each commit adds 1 to the count
+-- what these commits and releases do between two registers: the seals before the commits and the last one are the
+-- states of the commit rule over the classes, and each commit adds 1 to the count
 record Committed (s : Register) (es : List Event) (t : Register) : Type 0 where
   states : walk (commit-seal (s .curve)) (s .seal) (classes es) ≡ map (λ e. e .before .seal) (steps es) ++ (t .seal ∷ [])
   end : t .seal ≡ foldl (commit-seal (s .curve)) (s .seal) (classes es)

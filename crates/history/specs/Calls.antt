@@ -110,8 +110,8 @@ classes [] = []
 classes (e ∷ es) = elim (e .call) [ step k a ↦ a ∷ classes es | release ↦ classes es ]
 
 -- ---- the walk
--- the seals that a walk back meets from the register after these accepted calls, newest first: its seal, then those just
--- before the steps
+-- the seals that a walk back meets from the register after these accepted calls, newest first: its seal, then those
+-- just before the steps
 unfoldable pub seals-met : Register → List Event → List Class
 seals-met t es = t .seal ∷ map (λ e. e .before .seal) (steps es)
 

@@ -76,7 +76,8 @@ module _ {State Call : Type 0} (M : Machine State Call) (Final : Call → Type 0
     empty : EndsFinal s []
     ends : (cs : List Call) (c : Call) → Final c → M .outcome (last M s cs) c ≡ accepted → EndsFinal s (cs ++ (c ∷ []))
 
-  -- a list in two parts: the first up to its last accepted final call, or empty where there is none, and the calls after
+  -- a list in two parts: the first up to its last accepted final call, or empty where there is none, and the calls
+  -- after
   pub record LastFinal (s : State) (cs : List Call) : Type 0 where
     pub before : List Call
     pub after : List Call

@@ -25,8 +25,8 @@ sealed zero seal = record { outcome = accepted; class = seal }
 sealed (suc n) seal = record { outcome = refused (suc n); class = neutral-class }
 
 -- ---- checks, in the stored order; 0 where every check passes
--- 106 or 107 of the curve, then 109 for a count above the limit, then 120 for a released step above the count, then 104,
--- 110 or 111 of the seal
+-- 106 or 107 of the curve, then 109 for a count above the limit, then 120 for a released step above the count, then
+-- 104, 110 or 111 of the seal
 unfoldable pub register-refusal : Register → ℕ
 register-refusal r =
     curve-refusal (r .curve)

@@ -1,6 +1,6 @@
-// The history register by value: a commit, an undo and a release return the next register, or a refusal and the register
-// given. The refusal is that of the first check that fails, in the stored order: 106 and 107 of the curve, 109 of the
-// count, 120 of the released step, 104, 110 and 111 of the seal and then of the class, last 114, or 113 and 121.
+// The history register by value: a commit, an undo and a release return the next register, or a refusal and the
+// register given. The refusal is that of the first check that fails, in the stored order: 106 and 107 of the curve, 109
+// of the count, 120 of the released step, 104, 110 and 111 of the seal and then of the class, last 114, or 113 and 121.
 // One step of a walk, which has no register, is jacobian::subtract_and_halve.
 ghost use Prim.Native.Nat.{ℕ};
 ghost use mathlib.Core.Path.{_≡_};
@@ -15,8 +15,8 @@ use jacobian::Curve;
 use jacobian::Outcome;
 
 // The degree and the curve, the count of operations, the seal and the count at the last release; the operations are not
-// kept. In C's layout, since a host keeps a register and lends it; `released` is last, so that an initialiser by position
-// that was written before it came keeps its meaning.
+// kept. In C's layout, since a host keeps a register and lends it; `released` is last, so that an initialiser by
+// position that was written before it came keeps its meaning.
 #[repr(C)]
 pub struct Register {
     pub curve: Curve,

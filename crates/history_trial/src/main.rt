@@ -1,14 +1,15 @@
 // Answers calls on one history register that it reads from standard input, one line for each.
 //
 // A case is 154 bytes: the call (0 start, 1 commit, 2 undo, 3 show, 4 release), the degree d, f3, f1 and f0, the count,
-// the seal, the released step and an operation's class. A class is its degree, u0, u1, u2, v0, v1 and v2. All numbers but
-// d take eight bytes, high byte first. A start takes d to the released step as the register and ignores the class; a
-// commit and an undo take the class alone, and a release nothing, on the register that the call before returned, also
+// the seal, the released step and an operation's class. A class is its degree, u0, u1, u2, v0, v1 and v2. All numbers
+// but d take eight bytes, high byte first. A start takes d to the released step as the register and ignores the class;
+// a commit and an undo take the class alone, and a release nothing, on the register that the call before returned, also
 // after a refusal. Before the first start the register has degree 0.
 //
 // For a commit, an undo and a release the line is the count, the released step and the seal, or `refused` and the
-// refusal's number; the seal is printed as degree, u and v with colons between, coefficients from the highest power down
-// in hexadecimal with commas between. For a show it is every number of the register, whether or not it passes the checks.
+// refusal's number; the seal is printed as degree, u and v with colons between, coefficients from the highest power
+// down in hexadecimal with commas between. For a show it is every number of the register, whether or not it passes the
+// checks.
 // A start has no line. Any other first byte is answered by `no such call`, and fewer than 154 bytes at the end by
 // `cut short`.
 ghost use Prim.Native.Nat.{_≤_};

@@ -1,6 +1,6 @@
 -- Demand 3 for archives (docs/SPECIFICATION.md, 10.1).
--- The accepted calls of a list are commits and releases; an accepted archive with any drawing number keeps the register's
--- curve, its last seal and the classes of all these commits, newest first.
+-- The accepted calls of a list are commits and releases; an accepted archive with any drawing number keeps the
+-- register's curve, its last seal and the classes of all these commits, newest first.
 -- `archive-seals`: the walk's seals are the last seal and those just before each commit, newest first.
 -- `archive-seal`: with k operations undone the seal is the one just before the k-th newest commit, the last for k = 0.
 -- `archive-exists`: if no check refuses the register, such an archive exists for every allowed drawing number.

@@ -138,8 +138,8 @@ module _ (r : Register) (ms : List RecordedCall) (s : Session r ms) (no-releases
         left-by-last (left-by r ms) bs back ∙ ap (last (left-by r ms)) takes
         ∙ as-by-value r ms s (λ es t. last t (backs es) ≡ r) (history.taken-back-all r (calls ms) no-releases-by-value)
 
--- ---- the same after a first part of the list: of the calls ns that follow ms, none is an accepted release, and bs takes
--- the accepted ones back
+-- ---- the same after a first part of the list: of the calls ns that follow ms, none is an accepted release, and bs
+-- takes the accepted ones back
 module _ (r : Register) (ms ns : List RecordedCall) (s : Session r (ms ++ ns)) (no-releases : NoReleases (newest-recorded (left-by r ms) ns))
     (bs : List RecordedCall) (back : Session (left-by r (ms ++ ns)) bs) (takes : calls bs ≡ backs (newest-recorded (left-by r ms) ns)) where
   follows : left-by r (ms ++ ns) ≡ left-by (left-by r ms) ns

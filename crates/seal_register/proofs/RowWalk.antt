@@ -2,8 +2,8 @@
 -- place, on a register that passes its checks, where the accepted calls are commits and releases.
 -- `unrefused`: the refusal of a row's classes is 0 where none of them is refused.
 -- `row-answered`: where no check fails, the walk answers its end.
--- `row-walk-meets`: the walk from the last seal over the k newest classes of commits is not refused and answers the seal
--- just before the k-th newest commit, for k = 0 the last seal, whatever releases are among them.
+-- `row-walk-meets`: the walk from the last seal over the k newest classes of commits is not refused and answers the
+-- seal just before the k-th newest commit, for k = 0 the last seal, whatever releases are among them.
 -- `row-walk-by-value`: the same of a list of calls by value.
 -- `row-walk-answers`: the code's walk over the k newest classes answers 0 and that seal.
 use Prim.Native.Nat.{ℕ, _≤_}

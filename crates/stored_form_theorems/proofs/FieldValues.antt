@@ -1,5 +1,6 @@
 -- The laws of the tags: fields, and values that no check refuses, determine each other.
--- `degree-law`, `curve-law`, `drawing-law`, `count-law`, `released-law`, `class-law`, `operation-law`: the law of each tag.
+-- `degree-law`, `curve-law`, `drawing-law`, `count-law`, `released-law`, `class-law`, `operation-law`: the law of each
+-- tag.
 -- The law of a released step is that after a count that passes, up to which it fits the bytes of a count.
 -- `curve-more`, `first-curve`: the same of the first two fields of a record and its curve.
 use Prim.Native.Nat.{ℕ, _^_, _≤_, _<_}

@@ -249,8 +249,8 @@ fn counts() {
     assert_eq!(answered(Call::Commit, &register(Call::Commit, 1024, 0, &off_curve, &x)), 111);
 }
 
-/// Document 02's edges of the released step: a release sets it to the count, at any count and again; commit and undo keep
-/// it; 121 at it, 113 at count 0; 120 above the count, before the seal and after 109.
+/// Document 02's edges of the released step: a release sets it to the count, at any count and again; commit and undo
+/// keep it; 121 at it, 113 at count 0; 120 above the count, before the seal and after 109.
 #[test]
 fn released_steps() {
     let (x, neutral) = (x(), Class::neutral());

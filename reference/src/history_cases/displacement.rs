@@ -4,8 +4,8 @@
 //! changed list is made so from the first list's seals, and the multiple from sums by decimal digits: it is neither
 //! committed nor doubled.
 //!
-//! Refused calls stand at other places in the two lists, and they start from other counts and released steps, since none
-//! of these moves a seal.
+//! Refused calls stand at other places in the two lists, and they start from other counts and released steps, since
+//! none of these moves a seal.
 
 use super::ground::{drawn_values, Ground};
 use super::{RegisterValues, Trial, COMMIT, LIMIT, UNDO};
@@ -122,8 +122,8 @@ impl<'a> Variants<'a> {
     }
 }
 
-/// Some calls that are surely refused, or none: with what is no class; at count 0 and at the released step undos, at 1,024
-/// commits, with any class.
+/// Some calls that are surely refused, or none: with what is no class; at count 0 and at the released step undos, at
+/// 1,024 commits, with any class.
 fn refused_calls(trial: &mut Trial, random: &mut Random, ground: &Ground) {
     while random.below(8) == 0 {
         let barred = [(COMMIT, trial.register.count == LIMIT), (UNDO, trial.register.is_undo_barred())];

@@ -1,5 +1,6 @@
 //! Calls whose answers are known by hand or are refusals: document 01's walk, each refusal at its edges and in its order
-//! (the curve's, 109, 120, the seal's, the class's, then 114, or 113 and 121), releases, and registers that fail a check.
+//! (the curve's, 109, 120, the seal's, the class's, then 114, or 113 and 121), releases, and registers that fail a
+//! check.
 
 use super::{RegisterValues, Trial, COMMIT, LIMIT, RELEASE, UNDO};
 use crate::class_cases::edges::NONSENSE;

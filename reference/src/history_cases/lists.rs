@@ -1,6 +1,6 @@
-//! Lists of calls drawn at random, commits and undos in any order, refused ones among them, some with releases; after each
-//! list the accepted calls are taken back as far as the last accepted release, behind which an undo is refused. Where only
-//! commits were accepted, the walk over their classes is these same undos; a walk goes past releases.
+//! Lists of calls drawn at random, commits and undos in any order, refused ones among them, some with releases; after
+//! each list the accepted calls are taken back as far as the last accepted release, behind which an undo is refused.
+//! Where only commits were accepted, the walk over their classes is these same undos; a walk goes past releases.
 //!
 //! The half that an undo needs is known on the curve (`ground`), or from the answer: the new seal is drawn first, and the
 //! class is what leads to it.
@@ -71,8 +71,8 @@ fn list(trial: &mut Trial, random: &mut Random, ground: &Ground, shape: Shape) {
     }
 }
 
-/// Lists on one curve: commits alone, with releases or without, both, mostly undos; from counts at both ends and between,
-/// released or not.
+/// Lists on one curve: commits alone, with releases or without, both, mostly undos; from counts at both ends and
+/// between, released or not.
 fn on_curve(trial: &mut Trial, random: &mut Random, values: CurveValues, lists: usize, calls: usize) {
     let curve = values.curve().expect("the curve is accepted");
     let ground = Ground::new(values, &curve);
@@ -126,8 +126,8 @@ pub fn wide(trial: &mut Trial) {
     }
 }
 
-/// As many commits as there can be, over both fields: from count 0 to 1,024, 114 there, and all the way back, 113; then a
-/// release, commits once more with releases among them, and the way back to the last one, 121.
+/// As many commits as there can be, over both fields: from count 0 to 1,024, 114 there, and all the way back, 113; then
+/// a release, commits once more with releases among them, and the way back to the last one, 121.
 pub fn full(trial: &mut Trial) {
     let mut random = Random::new(95);
     for values in [CurveValues::new(BENCH, 12, 25, 6), drawn_values(&mut random, WIDE)] {

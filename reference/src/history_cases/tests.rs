@@ -61,8 +61,8 @@ fn walk_of_the_document() {
     }
 }
 
-/// A session with a release, written out by hand: what is committed after it can be undone, and no more; a second release
-/// changes nothing; the commit and the undo keep the released step.
+/// A session with a release, written out by hand: what is committed after it can be undone, and no more; a second
+/// release changes nothing; the commit and the undo keep the released step.
 #[test]
 fn session_with_a_release() {
     let mut trial = Trial::new();
@@ -160,8 +160,8 @@ fn every_outcome_of_the_three_calls() {
     }
 }
 
-/// No list is taken back behind its last accepted release: behind it every undo is refused. Lists with releases and without
-/// have calls taken back.
+/// No list is taken back behind its last accepted release: behind it every undo is refused. Lists with releases and
+/// without have calls taken back.
 #[test]
 fn no_further_than_the_last_release() {
     for make in [lists::bench, lists::known_halves, lists::wide, lists::full] {

@@ -1,4 +1,5 @@
-//! The eleven byte calls of the reference under the C names of include/seal.h and include/seal_licence.h, as a static library.
+//! The eleven byte calls of the reference under the C names of include/seal.h and include/seal_licence.h, as a static
+//! library.
 //! It stands in for the two proved libraries where tests/seal_calls is tested itself: the variable SEAL_FAULT, one of
 //! `FAULTS`, makes the calls wrong in one way, and that test has to fail.
 
@@ -232,7 +233,8 @@ fn with_released(call: Call, input: &[u8], released: u16, length: usize) -> (u32
     (number, bytes)
 }
 
-/// What an accepted call on a register writes, with one of the faults of the released step; none where it does not show.
+/// What an accepted call on a register writes, with one of the faults of the released step; none where it does not
+/// show.
 fn faulty_written(call: Call, right: &[u8], input: &[u8]) -> Option<Vec<u8>> {
     let with = |released: &[u8]| Some([&right[..5], released, &right[10..]].concat());
     let count = u16::from_be_bytes([right[3], right[4]]);
@@ -253,8 +255,8 @@ fn faulty_written(call: Call, right: &[u8], input: &[u8]) -> Option<Vec<u8>> {
     }
 }
 
-/// The answer of a call on a register, with one of the faults of the released step; none where it does not show. `right`
-/// is what should be answered.
+/// The answer of a call on a register, with one of the faults of the released step; none where it does not show.
+/// `right` is what should be answered.
 fn faulty_register(call: Call, right: &(u32, Vec<u8>), input: &[u8], length: usize) -> Option<(u32, Vec<u8>)> {
     if right.0 <= 100 {
         let count = u16::from_be_bytes([input[34], input[35]]);

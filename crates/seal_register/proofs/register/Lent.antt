@@ -1,8 +1,8 @@
 -- What the calls in place share, whatever their arguments besides the register. The code copies the register out of the
 -- borrow, calls the function that answers a number and a register, writes that register back where the number is 0, and
 -- answers the number.
--- `works`: the body keeps the promise of the function that it calls, where for a number other than 0 the promise holds of
--- the register as it was.
+-- `works`: the body keeps the promise of the function that it calls, where for a number other than 0 the promise holds
+-- of the register as it was.
 -- `exits`: what is left when the body has returned is what the call in place owes its caller.
 -- `meets`: the call in place meets its contract where its code runs from what it is lent.
 use mathlib.Core.{Path._≡_, Path.refl, Path.sym, Path.subst, Bool.Bool, Bool.not, List.List, List.[], List._∷_, List._++_}
@@ -53,7 +53,8 @@ body n operands says-name =
     (seq (assign (place (after n 2) []) (op2 eq (copy (place (after n 0) (field 0 ∷ []))) (int w32 0)))
     (seq (cond (copy (place (after n 2) [])) (assign (place 1 (deref R′.mir ∷ [])) (rvOpd (copy (place (after n 0) (field 1 ∷ []))))) skip) (rest n))))
 
--- the code of a call in place over the function of this name, where the arguments besides the register have these locals
+-- the code of a call in place over the function of this name, where the arguments besides the register have these
+-- locals
 abbrev pub function : List Local → List Operand → Name → Fn
 function others operands says-name = record {
   lifetimes = 1;
@@ -88,8 +89,8 @@ abbrev cells : {M : Type 1} {𝓤 : URA M} → List Other → List (Item 𝓤)
 cells [] = []
 cells (x ∷ xs) = full (x .0) (x .1) (x .2) (cells xs)
 
--- ---- the contract of the function that is called: what it promises of the register, the other arguments, the number and
--- the register left
+-- ---- the contract of the function that is called: what it promises of the register, the other arguments, the number
+-- and the register left
 abbrev pub Promise : List (Slot 0) → Type 1
 Promise ss = Register → Denots (typesAt ss tt) → ℕ → Register → Type 0
 
@@ -139,8 +140,8 @@ module _ {M : Type 1} (𝓤 : URA M) (H : Heap 𝓤) (𝓐 : Atoms 𝓤) (W : Gi
     finds : (i : ℕ) {Γ : List (Item 𝓤)} {st : List PlaceStep} {sp : Spot 𝓤 H} → Walks Go W Γ E (spotOf 𝓤 H F i) st sp → Finds Go W Γ E (place (after (length xs) i) st) sp
     finds i {Γ} {st} {sp} w = from ! (subst (λ (e : Ty × ℕ). Walks Go W Γ E (e .0, e .1, 0) st sp) (sym (passed-by xs i _)) w)
 
-    -- after the branch, with this register in the lent place: its cell, what it owned, the open borrow, what observes and
-    -- what holds the register, then the locals from the last to the first, those of the other arguments at the end
+    -- after the branch, with this register in the lent place: its cell, what it owned, the open borrow, what observes
+    -- and what holds the register, then the locals from the last to the first, those of the other arguments at the end
     abbrev After : Register → Changed → Bool → List (Item 𝓤)
     After left y t =
         ‵ (cellAt fullShare (R.the-row .mir) (register-vals left) b o) ∷ ‵ (R.the-row .own r (register-vals r))
@@ -204,8 +205,8 @@ module _ {M : Type 1} (𝓤 : URA M) (H : Heap 𝓤) (𝓐 : Atoms 𝓤) (W : Gi
         (λ other. skips ! $ exec ! (𝓣 .C) (𝓣 .Λ) E (rest (length xs)) (atRet E Post) $
         answers r y _ is-register (rw (S.tells X.the-type X′.the-laws y (v ∷ []) is-changed) at is-changed) (refused-keeps (y .refusal) (y .left) promised other)))))
 
--- ---- the contract of a call in place with these arguments besides the register, of each of which it owes the caller what
--- `hs` says
+-- ---- the contract of a call in place with these arguments besides the register, of each of which it owes the caller
+-- what `hs` says
 module _ (ss : List (Slot 1)) (ks : Kepts ss) (hs : Stays ss ks) where
   abbrev pub ended : Ended
   ended = record {
@@ -239,8 +240,8 @@ module _ (ss : List (Slot 1)) (ks : Kepts ss) (hs : Stays ss ks) where
           use0 W (‵ (hasOf (κ, tt) ss ks hs a ws vss)) has $ move ! (1 ∷ 0 ∷ []) $ fjoin ! $
           owned ! u32 (Is u32) (uint-makes 𝓤 H 𝓐 W w32) n _ is-number $ move ! (1 ∷ 0 ∷ []) $ done !
 
-    -- the call in place meets its contract where its code runs from what observes the register, the borrow and the token
-    -- of its lifetime, for the other arguments at the values `sp`
+    -- the call in place meets its contract where its code runs from what observes the register, the borrow and the
+    -- token of its lifetime, for the other arguments at the values `sp`
     module _ (W : Given 𝓤 H 𝓐) (𝓣 : Tables 𝓤 H) (f : Fn) (go-on : AllGo 𝓤 H 𝓐 W 1 ss ks hs) (sp : (κs : Lfts 1) → Spells (typesAt ss κs))
         (tell : (κs : Lfts 1) → Tellss (typesAt ss κs) (Ises (typesAt ss κs)) (sp κs)) where
       abbrev pub Runs : Type 1
