@@ -5,10 +5,10 @@ use mathlib.Core.List.{List}
 use lib.Dec.{ltb}
 use lib.ListN.{length, getD}
 use Rattle.stored_form.specs.{Reading.Reading, Reading.found, Reading.refused, Reading._then_, Record.empty-record}
-use Rattle.stored_form.specs.{Reader.read-field, Reader.read-fields, Reader.header-layout, declared.Record.Record}
+use Rattle.stored_form.specs.{Fields.ended, Reader.read-field, Reader.read-fields, Reader.header-layout, Pairs.read-pairs, declared.Record.Record}
 use Rattle.stored_form.specs.declared.Offset.the-variants.{Next, Refused}
-use Rattle.archive.specs.{Archive.read-tail, declared.Expected.Expected, declared.Reader.Reader, declared.Advance.Advance}
-use Rattle.archive.specs.declared.Expected.the-variants.{Header, Operations, End, Nothing}
+use Rattle.archive.specs.{declared.Expected.Expected, declared.Reader.Reader, declared.Advance.Advance}
+use Rattle.archive.specs.declared.Expected.the-variants.{Header, Operations, Pairs, End, Nothing}
 
 -- a reader's state: what is expected next, and the record of what was read
 abbrev pub reader : Expected → Record → Reader
@@ -20,9 +20,9 @@ start = reader (Header 0) empty-record
 
 -- ---- what is expected next
 
--- what is expected if this many operations are left: the next one, or the end
+-- what is expected if this many operations are left: the next one, or the pairs
 unfoldable pub operations-expected : ℕ → Expected
-operations-expected zero = End
+operations-expected zero = Pairs
 operations-expected (suc n) = Operations (suc n)
 
 -- what is expected after field i of the header: its next field, or the operations
@@ -39,14 +39,19 @@ read-header-field i h s at = read-field (getD header-layout i 0) h s at then λ 
 unfoldable pub read-operation : ℕ → Record → List ℕ → ℕ → Reading Reader
 read-operation n h s at = read-field 0x44 h s at then λ more next. found (reader (operations-expected (n - 1)) more) next
 
--- reads what follows the operations
+-- reads the pairs of the operations, of which there are as many as the count says
+unfoldable pub read-pairs-expected : Record → List ℕ → ℕ → Reading Reader
+read-pairs-expected h s at = read-pairs (h .count) s at then λ pairs next. found (reader End h) next
+
+-- reads the end of the bytes
 unfoldable pub read-end : Record → List ℕ → ℕ → Reading Reader
-read-end h s at = read-tail s at then λ tail end. found (reader Nothing h) end
+read-end h s at = ended s (reader Nothing h) at
 
 -- reads what is expected at an offset
 abbrev pub read-expected : Expected → Record → List ℕ → ℕ → Reading Reader
 read-expected (Header i) h s at = read-header-field i h s at
 read-expected (Operations n) h s at = read-operation n h s at
+read-expected Pairs h s at = read-pairs-expected h s at
 read-expected End h s at = read-end h s at
 read-expected Nothing h s at = found (reader Nothing h) at
 
@@ -54,10 +59,11 @@ read-expected Nothing h s at = found (reader Nothing h) at
 unfoldable pub read-next : Reader → List ℕ → ℕ → Reading Reader
 read-next r s at = read-expected (r .expected) (r .values) s at
 
--- whether a field or the end is expected
+-- whether a field, the pairs or the end are expected
 unfoldable pub pending : Expected → Bool
 pending (Header i) = true
 pending (Operations n) = true
+pending Pairs = true
 pending End = true
 pending Nothing = false
 

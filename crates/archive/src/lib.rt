@@ -4,7 +4,7 @@ ghost use lib.ListN.{getD};
 ghost use Rattle.stored_form.specs.Reading.{found, refused};
 ghost use Rattle.stored_form.specs.Reader.{header-layout};
 ghost use Rattle.archive.specs.Archive.{archive-refusal};
-ghost use Rattle.archive.specs.Reader.{reader, start, after-header, operations-expected, read-header-field, read-operation, read-end, read-next, pending, read-header, advance-of};
+ghost use Rattle.archive.specs.Reader.{reader, start, after-header, operations-expected, read-header-field, read-operation, read-pairs-expected, read-end, read-next, pending, read-header, advance-of};
 use stored_form::Cursor;
 use stored_form::HEADER_FIELDS;
 use stored_form::HEADER_LAYOUT;
@@ -17,6 +17,8 @@ pub enum Expected {
     Header(usize),
     // This many operations, at least one.
     Operations(u64),
+    // The pairs, or nothing in their place.
+    Pairs,
     // The end of the input.
     End,
     // Nothing: the whole archive was read.
@@ -83,7 +85,7 @@ fn operations_expected(left: u64) -> Expected
     ensures { λ r. ⌜ r ≡ operations-expected left ⌝ }
 {
     if left == 0 {
-        return Expected::End;
+        return Expected::Pairs;
     }
     Expected::Operations(left)
 }
@@ -122,9 +124,20 @@ fn read_operation(left: u64, h: Record, s: &[u8], at: Cursor) -> Advance
     };
     let values = r.values;
     if left == 0 {
-        return advance_to(Expected::End, values, next);
+        return advance_to(Expected::Pairs, values, next);
     }
     advance_to(operations_expected(left - 1), values, next)
+}
+
+// Reads the pairs of the operations.
+fn read_pairs(h: Record, s: &[u8], at: Cursor) -> Advance
+    ensures { λ r. ⌜ r ≡ advance-of (read-pairs-expected h (now (s .entry)) (at .at)) ⌝ }
+{
+    let offset = stored_form::pairs::read_pairs(h.count, s, at);
+    let Offset::Next(next) = offset else {
+        return stopped(stored_form::offset_refusal(offset));
+    };
+    advance_to(Expected::End, h, next)
 }
 
 // Reads the end of the input.
@@ -147,12 +160,13 @@ pub fn read_next(r: Reader, s: &[u8], at: Cursor) -> Advance
     match expected {
         Expected::Header(i) => read_header_field(i, values, s, at),
         Expected::Operations(left) => read_operation(left, values, s, at),
+        Expected::Pairs => read_pairs(values, s, at),
         Expected::End => read_end(values, s, at),
         Expected::Nothing => advance_to(Expected::Nothing, values, at),
     }
 }
 
-// Whether a field or the end is expected.
+// Whether a field, the pairs or the end are expected.
 fn pending(r: Reader) -> bool
     ensures { λ b. ⌜ b ≡ pending (r .expected) ⌝ }
 {
@@ -160,6 +174,7 @@ fn pending(r: Reader) -> bool
     match expected {
         Expected::Header(_) => true,
         Expected::Operations(_) => true,
+        Expected::Pairs => true,
         Expected::End => true,
         Expected::Nothing => false,
     }

@@ -5,7 +5,7 @@ use mathlib.Core.List.{List, _++_}
 use native.Mathlib.Omega.{arith}
 use lib.ListN.{length, length-append}
 use Rattle.jacobian.specs.{Curves.coefficients, declared.Curve.Curve}
-use Rattle.stored_form.specs.{Number.encode-number, Number.Bytes, Reading.found, Head.degree-length, Head.curve-length, Head.head-bytes, Head.encode-field, Elements.encode-elements}
+use Rattle.stored_form.specs.{Number.encode-numbers, Number.encode-number, Number.Bytes, Reading.found, Head.degree-length, Head.curve-length, Head.head-bytes, Head.encode-field, Elements.encode-elements}
 use Rattle.stored_form.specs.{Fields.degree-field, Fields.drawing-field, Fields.count-field, Fields.count-limit}
 use Rattle.stored_form.specs.Classes.{curve-field, curve-fields-bytes, class-field, operation-fields}
 use Rattle.stored_form.proofs.Lengths.{length-stored, length-count}
@@ -15,7 +15,7 @@ use Rattle.archive_theorems.specs.Written.{archive-bytes, Storable}
 use Rattle.archive_theorems.proofs.ArchiveRoundTrips.{archive-written}
 
 first-length : (c : Curve) → length (curve-fields-bytes c) ≡ 3 + degree-length + (3 + curve-length)
-unfolding curve-fields-bytes degree-field curve-field coefficients encode-field head-bytes encode-elements encode-number
+unfolding curve-fields-bytes degree-field curve-field coefficients encode-field head-bytes encode-numbers encode-number
 first-length c = refl
 
 stored-short : (a : Archive) → Storable a → length (archive-bytes a) < 65536

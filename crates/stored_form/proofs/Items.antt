@@ -1,55 +1,30 @@
 -- Elements decoded from a part of the bytes, and the curves and classes that the code decodes from them.
--- `elements-take`: bytes after the elements do not matter.
--- `elements-add`: j + k elements are j elements, then k elements.
 -- `element-more`, `curve-is`: a turn of the loop that decodes a curve's coefficients, and its end.
 -- `row-0` to `row-3`: the rows of up to three elements.
 -- `class-is`: two rows that were decoded make the class that the body decodes to.
-use Prim.Native.Nat.{ℕ, zero, suc, _+_, _*_, _-_, _/_, _≤_}
-use mathlib.Core.Path.{_≡_, refl, sym, ap, ap₂, _∙_}
+use Prim.Native.Nat.{ℕ, _+_, _*_, _-_, _/_, _≤_}
+use mathlib.Core.Path.{_≡_, sym, ap, _∙_}
 use mathlib.Core.List.{List, [], _∷_, _++_, append-nil}
-use native.Mathlib.Nat.{suc-add}
 use native.Mathlib.Omega.{arith}
 use mathlib.Core.Bool.{true}
 use lib.Dec.{lit≤}
 use lib.ListN.{length, take, drop, set, replicate}
-use lib.Seq.{sets, take-take, drop-drop, take-at, drop-at}
-use Rattle.stored_form.specs.{Number.decode-number, Number.part, Elements.element-length, Elements.decode-elements, Classes.decode-curve, Classes.decode-row, Classes.decode-class}
+use lib.Seq.{sets, drop-drop, take-at, drop-at}
+use Rattle.stored_form.specs.{Number.decode-numbers, Number.decode-number, Number.part, Elements.element-length, Elements.decode-elements, Classes.decode-curve, Classes.decode-row, Classes.decode-class}
 use Rattle.stored_form.specs.{Head.class-length, Head.class-limit, Head.curve-length}
 use Rattle.jacobian.specs.{Curves.coefficient-count, Curves.curve-with, declared.Class.Class}
-use Rattle.stored_form.proofs.{Parts.drop-take, Parts.length-part, Lengths.class-length-le, Stores.store-next, Stores.filled}
-
-pub length-elements : (k : ℕ) (s : List ℕ) → length (decode-elements k s) ≡ k
-unfolding decode-elements
-length-elements zero s = refl
-length-elements (suc k) s = ap suc (length-elements k (drop 8 s))
-
-pub elements-take : (k m : ℕ) (s : List ℕ) → 8 * k ≤ m → decode-elements k (take m s) ≡ decode-elements k s
-unfolding decode-elements
-elements-take zero m s h = refl
-elements-take (suc k) m s h =
-    ap₂ (λ (x : ℕ) (xs : List ℕ). x ∷ xs)
-    (ap decode-number (take-take 8 m s (omega arith)))
-    (ap (decode-elements k) (drop-take 8 m s) ∙ elements-take k (m - 8) (drop 8 s) (omega arith))
-
-pub elements-add : (j k : ℕ) (s : List ℕ) → decode-elements (j + k) s ≡ decode-elements j s ++ decode-elements k (drop (8 * j) s)
-unfolding decode-elements
-elements-add zero k s = let e : 0 + k ≡ k = omega arith in rw e
-elements-add (suc j) k s =
-    let e : suc j + k ≡ suc (j + k) = suc-add j k in
-    let f : 8 + 8 * j ≡ 8 * suc j = omega arith in
-    rw e (ap (λ (xs : List ℕ). decode-number (take 8 s) ∷ xs)
-    (elements-add j k (drop 8 s) ∙ ap (λ (t : List ℕ). decode-elements j (drop 8 s) ++ decode-elements k t) (drop-drop (8 * j) 8 s ∙ ap (λ (i : ℕ). drop i s) f)))
+use Rattle.stored_form.proofs.{Parts.length-part, Lengths.class-length-le, Stores.store-next, Stores.filled, NumberLists.length-decoded, NumberLists.decoded-take, NumberLists.decoded-add}
 
 -- ---- what the code decodes
 
 pub element-more : (s : List ℕ) (at i x : ℕ) (d : List ℕ) {r : List ℕ} → r ≡ sets d 0 (decode-elements i (drop at s)) → x ≡ decode-number (part s (at + element-length * i) element-length) →
     set r i x ≡ sets d 0 (decode-elements (i + 1) (drop at s))
-unfolding decode-elements
+unfolding decode-numbers
 element-more s at i x d {r} e f =
-    store-next d (decode-elements i (drop at s)) i x (length-elements i (drop at s)) e
+    store-next d (decode-elements i (drop at s)) i x (length-decoded 8 i (drop at s)) e
     ∙ ap (sets d 0)
     (ap (λ (y : ℕ). decode-elements i (drop at s) ++ y ∷ []) (f ∙ ap (λ (t : List ℕ). decode-number (take element-length t)) (sym (drop-drop (element-length * i) at s)))
-    ∙ sym (elements-add i 1 (drop at s)))
+    ∙ sym (decoded-add 8 i 1 (drop at s)))
 
 pub curve-is : (s : List ℕ) (at d i : ℕ) {r : List ℕ} → coefficient-count ≤ i → i ≤ coefficient-count → r ≡ sets (replicate coefficient-count 0) 0 (decode-elements i (drop at s)) →
     curve-with d r ≡ decode-curve d (part s at curve-length)
@@ -57,32 +32,32 @@ unfolding decode-curve
 curve-is s at d i {r} h₁ h₂ e =
     let z : i ≡ coefficient-count = omega arith in
     let es = decode-elements coefficient-count (drop at s) in
-    let long : length es ≡ coefficient-count = length-elements coefficient-count (drop at s) in
+    let long : length es ≡ coefficient-count = length-decoded 8 coefficient-count (drop at s) in
     let none : coefficient-count - length es ≡ 0 = omega arith in
     ap (curve-with d)
     (e ∙ ap (λ (k : ℕ). sets (replicate coefficient-count 0) 0 (decode-elements k (drop at s))) z
     ∙ filled es coefficient-count (omega arith)
     ∙ ap (λ (k : ℕ). es ++ replicate k 0) none
     ∙ append-nil es
-    ∙ sym (elements-take coefficient-count curve-length (drop at s) (lit≤ tt)))
+    ∙ sym (decoded-take 8 coefficient-count curve-length (drop at s) (lit≤ tt)))
 
 module _ (s : List ℕ) (at : ℕ) {n : ℕ} where
   pub row-0 : n ≡ 0 → 0 ∷ 0 ∷ 0 ∷ [] ≡ decode-row (decode-elements n (drop at s))
-  unfolding decode-row decode-elements
+  unfolding decode-row decode-numbers
   row-0 h = rw h
 
   pub row-1 : {a : ℕ} → a ≡ decode-number (part s at 8) → n ≡ 1 → a ∷ 0 ∷ 0 ∷ [] ≡ decode-row (decode-elements n (drop at s))
-  unfolding decode-row decode-elements
+  unfolding decode-row decode-numbers
   row-1 e h = rw (h, e)
 
   pub row-2 : {a b : ℕ} → a ≡ decode-number (part s at 8) → b ≡ decode-number (part s (at + 8) 8) → n ≡ 2 →
       b ∷ a ∷ 0 ∷ [] ≡ decode-row (decode-elements n (drop at s))
-  unfolding decode-row decode-elements
+  unfolding decode-row decode-numbers
   row-2 e f h = rw (h, e, f, drop-drop 8 at s)
 
   pub row-3 : {a b c : ℕ} → a ≡ decode-number (part s at 8) → b ≡ decode-number (part s (at + 8) 8) → c ≡ decode-number (part s (at + 16) 8) → n ≡ 3 →
       c ∷ b ∷ a ∷ [] ≡ decode-row (decode-elements n (drop at s))
-  unfolding decode-row decode-elements
+  unfolding decode-row decode-numbers
   row-3 e f g h = let i : at + 8 + 8 ≡ at + 16 = omega arith in rw (h, e, f, g, drop-drop 8 at s, drop-drop 8 (at + 8) s, i)
 
 -- two rows make a class
@@ -96,8 +71,8 @@ module _ (s : List ℕ) (at len : ℕ) (ok : class-length len ≡ true) (within 
   body-elements : decode-elements (len / 16 + len / 16) (part s at len) ≡ decode-elements (len / 16) (drop at s) ++ decode-elements (len / 16) (drop (at + 8 * (len / 16)) s)
   body-elements =
       let n = len / 16 in
-      elements-take (n + n) len (drop at s) (omega arith)
-      ∙ elements-add n n (drop at s)
+      decoded-take 8 (n + n) len (drop at s) (omega arith)
+      ∙ decoded-add 8 n n (drop at s)
       ∙ ap (λ (t : List ℕ). decode-elements n (drop at s) ++ decode-elements n t) (drop-drop (8 * n) at s)
 
   pub class-is : {u v : List ℕ} → u ≡ decode-row (decode-elements (len / 16) (drop at s)) → v ≡ decode-row (decode-elements (len / 16) (drop (at + 8 * (len / 16)) s)) →
@@ -107,4 +82,4 @@ module _ (s : List ℕ) (at len : ℕ) (ok : class-length len ≡ true) (within 
       let n = len / 16 in
       let xs = decode-elements n (drop at s) in
       let ys = decode-elements n (drop (at + 8 * n) s) in
-      rw (length-part s at len within, body-elements, take-at xs ys n (length-elements n (drop at s)), drop-at xs ys n (length-elements n (drop at s)), e, f)
+      rw (length-part s at len within, body-elements, take-at xs ys n (length-decoded 8 n (drop at s)), drop-at xs ys n (length-decoded 8 n (drop at s)), e, f)

@@ -8,7 +8,8 @@ pub mod Stores
 pub mod DrawingBytes
 pub mod Readers
 pub mod Passing
+pub mod NumberLists
 pub mod Items
-pub mod ElementBytes
+pub mod PairBytes
 pub mod ClassBytes
 pub mod Valid

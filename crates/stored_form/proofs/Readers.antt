@@ -64,13 +64,13 @@ module _ (tag : ℕ) (h : Record) (s : List ℕ) (at : ℕ) where
   unfolding read-body
   field-within e =
       let q = both-found _ (read-head tag h s at) (field-found e .body-read) in
-      let w = head-found tag h s at (q .2) in
+      let w = head-found tag (rules tag .allows h) s at (q .2) in
       let m = same-found (q .3) .1 in
       omega (arith, w .ends, w .fits, m)
 
   module _ {n next : ℕ} (e : read-head tag h s at ≡ found n next) where
     pub field-asks : (rules tag .allows h n ≡ true) × (at + 3 + n ≤ length s)
-    field-asks = let w = head-found tag h s at e in (w .allows, omega arith)
+    field-asks = let w = head-found tag (rules tag .allows h) s at e in (w .allows, omega arith)
 
     length-body : length (part s (at + 3) n) ≡ n
     length-body = length-part s (at + 3) n (field-asks .1)

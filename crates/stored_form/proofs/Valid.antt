@@ -1,19 +1,21 @@
 -- Every reading finds a value or refuses with a valid number (docs/SPECIFICATION.md, 6).
 -- `drawing-refusal-valid` and its like: every check gives a valid refusal, which is 0 or a listed number.
--- `record-valid`, `fields-valid`, `operations-valid`: every reading of a record, of fields, of operations is valid.
+-- `record-valid`, `fields-valid`, `operations-valid`, `pairs-valid`: every reading of a record, of fields, of
+-- operations, of pairs is valid.
 -- `reading-valid`: its number is then a valid refusal.
 -- `reading-found`: where the number is 0, the reading finds a value.
 use Prim.Native.Nat.{ℕ, zero, suc, _+_}
 use mathlib.Core.Path.{_≡_, refl}
 use mathlib.Core.{Bool.Bool, Bool.true, Bool.false, Bool.cond, Bool.not, List.List, List.[], List._∷_, Logic.inl, Logic.inr}
 use native.Mathlib.Omega.{arith}
-use lib.{Dec.eqb, Dec.ltb, ListN.length, ListN.getD}
+use lib.{Dec.eqb, Dec.leb, Dec.ltb, ListN.length, ListN.getD}
 use Rattle.jacobian.specs.{Refusals.refusals, Refusals.listed, Refusals.IsRefusal, Refusals.ValidRefusal, Curves.degree-refusal}
 use Rattle.count_limit.proofs.Valid.{count-refusal-valid, released-refusal-valid}
 use Rattle.jacobian.proofs.{Refusals.valid-unless, Refusals.above-100, Valid.curve-refusal-valid, Valid.refusal-valid}
 use Rattle.stored_form.specs.{Reading.Reading, Reading.found, Reading.refused, Reading.refuse, Reading.checked, Reading._then_, Reading.reading-refusal}
 use Rattle.stored_form.specs.{Head.body-length, Fields.drawing-refusal, Fields.end-refusal, Fields.ended, Record.empty-record, Tags.Rules, Tags.rules}
-use Rattle.stored_form.specs.Reader.{read-head, read-body, read-field, read-fields, read-record, read-operations}
+use Rattle.stored_form.specs.Reader.{read-head-by, read-head, read-body, read-field, read-fields, read-record, read-operations}
+use Rattle.stored_form.specs.Pairs.{pairs-length, pairs-refusal, read-pairs-field, read-pairs}
 use Rattle.stored_form.specs.declared.Record.{Record}
 
 -- ---- the checks
@@ -90,17 +92,19 @@ module _ {A : Type 0} where
   unfolding ended
   end-tells s a at = checked-valid _ _ (end-refusal-valid s at) (found-valid a at)
 
-body-valid : (tag : ℕ) (h : Record) (s : List ℕ) (at : ℕ) → ValidReading (read-body tag h s at)
-unfolding read-body read-head IsRefusal refusals listed
-body-valid tag h s at =
+head-valid : (tag : ℕ) (allows : ℕ → Bool) (s : List ℕ) (at : ℕ) → ValidReading (read-head-by tag allows s at)
+unfolding read-head-by IsRefusal refusals listed
+head-valid tag allows s at =
     let n = body-length s at in
-    then-valid (read-head tag h s at) _
-    (refuse-valid 102 (ltb (length s) (at + 3)) _ refl
+    refuse-valid 102 (ltb (length s) (at + 3)) _ refl
     (refuse-valid 103 (not (eqb (getD s at 0) tag)) _ refl
-    (refuse-valid 104 (not (rules tag .allows h n)) _ refl
+    (refuse-valid 104 (not (allows n)) _ refl
     (refuse-valid 105 (ltb (length s) (at + 3 + n)) _ refl
-    (found-valid n (at + 3 + n))))))
-    (λ n next. found-valid _ _)
+    (found-valid n (at + 3 + n)))))
+
+body-valid : (tag : ℕ) (h : Record) (s : List ℕ) (at : ℕ) → ValidReading (read-body tag h s at)
+unfolding read-body
+body-valid tag h s at = then-valid (read-head tag h s at) _ (head-valid tag (rules tag .allows h) s at) (λ n next. found-valid _ _)
 
 field-valid : (tag : ℕ) (h : Record) (s : List ℕ) (at : ℕ) → ValidReading (read-field tag h s at)
 unfolding read-field
@@ -117,6 +121,14 @@ operations-valid zero h s at = found-valid _ at
 operations-valid (suc n) h s at =
     then-valid (read-field 0x44 h s at) _ (field-valid 0x44 h s at)
     (λ more next. then-valid (read-operations n more s next) _ (operations-valid n more s next) (λ older end. found-valid _ end))
+
+pub pairs-valid : (n : ℕ) (s : List ℕ) (at : ℕ) → ValidReading (read-pairs n s at)
+unfolding read-pairs read-pairs-field pairs-refusal IsRefusal refusals listed
+pairs-valid n s at =
+    either ValidReading (leb (length s) at) (found-valid [] at)
+    (refuse-valid 112 (not (eqb (getD s at 0) 0x48)) _ refl
+    (then-valid (read-head-by 0x48 pairs-length s at) _ (head-valid 0x48 pairs-length s at)
+    (λ len next. checked-valid _ _ (valid-unless _ 122 refl) (found-valid _ next))))
 
 pub record-valid : (tags s : List ℕ) → ValidReading (read-record tags s)
 unfolding read-record

@@ -1,10 +1,10 @@
 -- The lengths of bodies, and the head of a field (docs/SPECIFICATION.md, 5).
 use Prim.Native.Nat.{ℕ, _+_, _*_}
 use mathlib.Core.Path.{_≡_}
-use mathlib.Core.Bool.{Bool, _||_}
+use mathlib.Core.Bool.{Bool, cond, _||_}
 use mathlib.Core.List.{List, _∷_, _++_}
 use lib.ListN.{length}
-use lib.Dec.{eqb}
+use lib.Dec.{eqb, ltb}
 use Rattle.jacobian.specs.Curves.{coefficient-count}
 use Rattle.stored_form.specs.{Number.decode-number, Number.encode-number, Number.part, Elements.element-length}
 
@@ -38,11 +38,19 @@ class-limit = 48
 abbrev pub class-room : ℕ
 class-room = 3 + class-limit
 
+-- the length of the longest body of pairs, 0x48: 2,048 of them
+abbrev pub pairs-limit : ℕ
+pairs-limit = 8192
+
 -- ---- the head
 
 -- the body's length that the head at an offset gives
 unfoldable pub body-length : List ℕ → ℕ → ℕ
 body-length s at = decode-number (part s (at + 1) 2)
+
+-- the same, and 0 if fewer than three bytes are left
+unfoldable pub length-at : List ℕ → ℕ → ℕ
+length-at s at = cond (ltb (length s) (at + 3)) 0 (body-length s at)
 
 -- a head encoded: the tag, and the body's length in two bytes
 unfoldable pub head-bytes : ℕ → ℕ → List ℕ

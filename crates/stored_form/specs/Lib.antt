@@ -9,4 +9,5 @@ pub mod Classes
 pub mod Record
 pub mod Tags
 pub mod Reader
+pub mod Pairs
 pub mod Passing

@@ -1,6 +1,6 @@
 -- Layouts of records, which list the tags that are expected, and how records are read (docs/SPECIFICATION.md, 5 and 6).
 use Prim.Native.Nat.{ℕ, zero, suc, _+_}
-use mathlib.Core.Bool.{not}
+use mathlib.Core.Bool.{Bool, not}
 use mathlib.Core.List.{List, [], _∷_, _++_}
 use lib.Dec.{eqb, ltb}
 use lib.ListN.{length, getD}
@@ -13,15 +13,20 @@ use Rattle.stored_form.specs.declared.head.Head.the-variants as head
 
 -- ---- one field
 
--- the head at an offset, where this tag is expected after the record h: the body's length and the offset after the body
-unfoldable pub read-head : ℕ → Record → List ℕ → ℕ → Reading ℕ
-read-head tag h s at =
+-- the head at an offset, where this tag is expected with a length that is allowed: the body's length and the offset
+-- after the body
+unfoldable pub read-head-by : ℕ → (ℕ → Bool) → List ℕ → ℕ → Reading ℕ
+read-head-by tag allows s at =
     let n = body-length s at in
     refuse 102 (ltb (length s) (at + 3))
     (refuse 103 (not (eqb (getD s at 0) tag))
-    (refuse 104 (not (rules tag .allows h n))
+    (refuse 104 (not (allows n))
     (refuse 105 (ltb (length s) (at + 3 + n))
     (found n (at + 3 + n)))))
+
+-- the head at an offset, where this tag is expected after the record h
+abbrev pub read-head : ℕ → Record → List ℕ → ℕ → Reading ℕ
+read-head tag h s at = read-head-by tag (rules tag .allows h) s at
 
 -- the body of the field at an offset, with the offset after it
 unfoldable pub read-body : ℕ → Record → List ℕ → ℕ → Reading (List ℕ)

@@ -6,7 +6,7 @@ use lib.Dec.{eqb, leb}
 use Rattle.jacobian.specs.{Curves.coefficients, Curves.degree-refusal, Curves.curve-refusal, Answer.refusal}
 use Rattle.jacobian.specs.declared.Class.{Class}
 use Rattle.stored_form.specs.{Number.decode-number, Number.encode-number, Elements.encode-elements, Fields.count-refusal, Fields.released-refusal, Fields.drawing-refusal}
-use Rattle.stored_form.specs.Head.{degree-length, curve-length, count-length, drawing-limit, class-length, class-limit, encode-field}
+use Rattle.stored_form.specs.Head.{degree-length, curve-length, count-length, drawing-limit, class-length, class-limit, pairs-limit, encode-field}
 use Rattle.stored_form.specs.Classes.{decode-curve, decode-class, encode-class}
 use Rattle.stored_form.specs.Record.{decode-drawing, drawing-name, curve-of-degree, with-curve, with-drawing, with-count, with-released, with-class, with-operation}
 use Rattle.stored_form.specs.declared.Record.{Record}
@@ -92,9 +92,9 @@ rules tag =
     (cond (eqb tag 0x44) (class-rules with-operation (λ h. h .operation))
     no-rules))))))
 
--- the length of the longest body that any tag allows
+-- the length of the longest body that any tag allows, 0x48 included
 abbrev pub longest-body : ℕ
-longest-body = max drawing-limit class-limit
+longest-body = max (max drawing-limit class-limit) pairs-limit
 
 -- the field with this tag that encodes its value of the record
 unfoldable pub field-bytes : ℕ → Record → List ℕ

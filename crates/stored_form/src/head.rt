@@ -3,7 +3,7 @@ ghost use mathlib.Core.Path.{_≡_};
 ghost use Prim.Native.Nat.{_-_};
 ghost use lib.ListN.{length};
 ghost use Rattle.stored_form.specs.Reading.{reading-refusal};
-ghost use Rattle.stored_form.specs.{Head.class-length, Tags.rules, Reader.read-head, Reader.head-reading};
+ghost use Rattle.stored_form.specs.{Head.class-length, Head.length-at, Tags.rules, Reader.read-head-by, Reader.read-head, Reader.head-reading};
 use crate::Cursor;
 use crate::Record;
 use crate::numbers;
@@ -68,9 +68,19 @@ fn left(s: &[u8], at: usize) -> usize
     s.len() - at
 }
 
-// The head of the field at an offset, where this tag is expected after the record h.
-pub(crate) fn read_head(tag: u8, h: Record, s: &[u8], at: Cursor) -> Head
-    ensures { λ r. ⌜ head-reading r ≡ read-head tag h (now (s .entry)) (at .at) ⌝ }
+// The length that the head at an offset gives, and 0 if fewer than three bytes are left.
+pub fn length_at(s: &[u8], at: usize) -> usize
+    ensures { λ r. ⌜ r ≡ length-at (now (s .entry)) at ⌝ }
+{
+    if left(s, at) < 3 {
+        return 0;
+    }
+    numbers::decode_number(s, at + 1, 2) as usize
+}
+
+// The head of the field at an offset, where this tag is expected; whether its length is allowed is known.
+pub(crate) fn read_head_by(tag: u8, allowed: bool, s: &[u8], at: Cursor) -> Head
+    ensures { λ r. ⌜ head-reading r ≡ read-head-by tag (λ n. allowed) (now (s .entry)) (at .at) ⌝ }
 {
     let i = at.at;
     let n = left(s, i);
@@ -80,10 +90,10 @@ pub(crate) fn read_head(tag: u8, h: Record, s: &[u8], at: Cursor) -> Head
     if s[i] != tag {
         return Head::Refused(103);
     }
-    let len = numbers::decode_number(s, i + 1, 2) as usize;
-    if !allows(tag, h, len) {
+    if !allowed {
         return Head::Refused(104);
     }
+    let len = numbers::decode_number(s, i + 1, 2) as usize;
     if n - 3 < len {
         return Head::Refused(105);
     }
@@ -91,6 +101,14 @@ pub(crate) fn read_head(tag: u8, h: Record, s: &[u8], at: Cursor) -> Head
         len,
         next: Cursor { at: i + 3 + len },
     }
+}
+
+// The head of the field at an offset, where this tag is expected after the record h.
+pub(crate) fn read_head(tag: u8, h: Record, s: &[u8], at: Cursor) -> Head
+    ensures { λ r. ⌜ head-reading r ≡ read-head tag h (now (s .entry)) (at .at) ⌝ }
+{
+    let len = length_at(s, at.at);
+    read_head_by(tag, allows(tag, h, len), s, at)
 }
 
 // The number of a head's refusal, and 0 if there is none.

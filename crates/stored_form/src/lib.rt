@@ -9,8 +9,9 @@ ghost use Rattle.stored_form.specs.Reader.{read-field, read-fields, read
 pub mod classes;
 mod drawings;
 mod fields;
-mod head;
+pub mod head;
 mod numbers;
+pub mod pairs;
 
 use head::Head;
 use jacobian::Class;
@@ -31,6 +32,8 @@ pub const OPERATION: u8 = 0x44;
 pub const RELEASED: u8 = 0x45;
 
 pub const DRAWING: u8 = 0x46;
+
+pub const PAIRS: u8 = 0x48;
 
 // The layouts of records: the tags that are expected, in order.
 pub const CURVE_LAYOUT: [u8; 2] = [DEGREE, CURVE];
@@ -65,6 +68,11 @@ pub const DRAWING_LIMIT: usize = 38;
 pub const CLASS_LIMIT: usize = 6 * ELEMENT_LENGTH;
 
 pub const CLASS_ROOM: usize = 3 + CLASS_LIMIT;
+
+// The number of bytes of a pair, and the length of the longest body of pairs.
+pub const PAIR_LENGTH: usize = 4;
+
+pub const PAIRS_LIMIT: usize = 8192;
 
 // An offset in the input.
 pub struct Cursor {

@@ -17,7 +17,7 @@ use Rattle.jacobian.proofs.ByValue.Checks.{both, blank-past}
 use Rattle.stored_form.specs.{Number.part, Reading.found, Reading.reading-refusal}
 use Rattle.stored_form.specs.{Head.body-length, Head.class-length, Fields.printable, Fields.drawing-refusal, Fields.count-limit, Fields.count-refusal, Fields.released-refusal, Fields.end-refusal, Fields.ended, Passing.CurvePasses}
 use Rattle.stored_form.specs.{Cuts.fields-end, Elements.decode-elements, Classes.decode-curve, Classes.decode-row, Classes.decode-class, Record.empty-record, Record.curve-of-degree, Tags.rules, Reader.read-head, Reader.read-body, Reader.read-field, Reader.read-fields, Reader.read-record, declared.Record.Record}
-use Rattle.stored_form.proofs.{Parts.length-part, Lengths.by-tag, Lengths.by-class-length, Lengths.class-length-le, Items.length-elements}
+use Rattle.stored_form.proofs.{Parts.length-part, Lengths.by-tag, Lengths.by-class-length, Lengths.class-length-le, NumberLists.length-decoded}
 use Rattle.stored_form_theorems.specs.Checking.{ClassLength, LengthAllowed, Printable, value-checks, after-field, with-field-at, field-checks, with-fields-at, fields-checks, end-check, record-checks, record-values}
 use Rattle.stored_form_theorems.specs.Checking as table
 use Rattle.stored_form_theorems.proofs.CheckedReadings.{Reads, found-reads, refuse-reads, checked-reads, then-reads}
@@ -76,7 +76,7 @@ decoded-form body l =
     let n = length body / 16 in
     let es = decode-elements (n + n) body in
     let low : n ≤ 3 = omega (arith, class-length-le (length body) (class-length-decides (length body) .1 l)) in
-    let all : length es ≡ n + n = length-elements (n + n) body in
+    let all : length es ≡ n + n = length-decoded 8 (n + n) body in
     let first : length (take n es) ≡ n = length-take n es ∙ omega arith in
     let second : length (drop n es) ≡ n = length-drop n es ∙ omega arith in
     (low, subst (λ (k : ℕ). Padded k (decode-row (take n es))) first (row-padded (take n es) (omega arith)), subst (λ (k : ℕ). Padded k (decode-row (drop n es))) second (row-padded (drop n es) (omega arith)))

@@ -10,7 +10,7 @@ use lib.Dec.{lit≤}
 use lib.ListN.{length, take, drop, length-take, length-drop, take-append-drop}
 use lib.Seq.{getD-drop}
 use Rattle.lists.specs.Lists.{All, more}
-use Rattle.stored_form.specs.{Number.decode-number, Number.encode-number, Number.Bytes, Elements.decode-elements, Elements.encode-elements}
+use Rattle.stored_form.specs.{Number.decode-numbers, Number.encode-numbers, Number.decode-number, Number.encode-number, Number.Bytes, Elements.decode-elements, Elements.encode-elements}
 use Rattle.stored_form.proofs.Digits.{part-bytes}
 use Rattle.stored_form_theorems.proofs.Numbers.{bytes-number, number-bytes-small}
 
@@ -19,12 +19,12 @@ abbrev pub Small : List ℕ → Type 0
 Small = All (λ x. x < 2 ^ 64)
 
 pub elements-bytes : (xs : List ℕ) → Small xs → decode-elements (length xs) (encode-elements xs) ≡ xs
-unfolding decode-elements encode-elements encode-number
+unfolding decode-numbers encode-numbers encode-number
 elements-bytes [] h = refl
 elements-bytes (x ∷ xs) (more h r) = ap₂ (λ (y : ℕ) (ys : List ℕ). y ∷ ys) (number-bytes-small 8 x h) (elements-bytes xs r)
 
 pub bytes-elements : (k : ℕ) (s : List ℕ) → length s ≡ 8 * k → Bytes s → encode-elements (decode-elements k s) ≡ s
-unfolding decode-elements encode-elements
+unfolding decode-numbers encode-numbers
 bytes-elements zero [] h b = refl
 bytes-elements zero (x ∷ s) h b = absurd (omega arith)
 bytes-elements (suc k) s h b =

@@ -11,7 +11,7 @@ use lib.{Dec.lit<, ListN.length, ListN.getD, ListN.replicate}
 use borrow.Author.Tests.{le-leb, lt-leb}
 use Rattle.binary_field.specs.Answer.{below}
 use Rattle.jacobian.specs.{Checks.unless, Checks._or-else_, Curves.coefficients, Curves.curve-with, Curves.degree-refusal, Curves.coefficient-refusal, Curves.curve-refusal}
-use Rattle.stored_form.specs.{Number.decode-number, Number.encode-number, Reading.found, Reading.refused, Reading.checked, Head.BytesAt, Head.body-length, Head.encode-field, Head.head-bytes}
+use Rattle.stored_form.specs.{Number.decode-numbers, Number.decode-number, Number.encode-number, Reading.found, Reading.refused, Reading.checked, Head.BytesAt, Head.body-length, Head.encode-field, Head.head-bytes}
 use Rattle.stored_form.specs.{Fields.printable, Fields.drawing-refusal, Fields.count-limit, Fields.count-refusal, Fields.released-refusal, Elements.decode-elements, Classes.decode-curve, Record.with-curve, Record.with-count, Record.with-released, Record.with-drawing, Record.decode-drawing, Tags.rules, Reader.read-field, declared.Record.Record}
 use Rattle.stored_form.proofs.{Readings.then-found, Heads.head-104, Readers.field-refused, DrawingBytes.name-decoded}
 use Rattle.stored_form_theorems.proofs.Bodies.{body-read}
@@ -53,11 +53,11 @@ module _ (h : Record) (s : List ℕ) (at : ℕ) where
 
   pub f3-of-31 : h .curve .degree ≡ 5 → BytesAt s at (0x41 ∷ 0 ∷ 24 ∷ (replicate 7 0 ++ (31 ∷ replicate 16 0))) →
       read-field 0x41 h s at ≡ found (with-curve (record { degree = 5; f3 = 31; f1 = 0; f0 = 0 }) h) (at + 27)
-  unfolding rules encode-field head-bytes encode-number decode-number decode-elements decode-curve curve-with coefficients curve-refusal degree-refusal coefficient-refusal below unless _or-else_ checked
+  unfolding rules encode-field head-bytes encode-number decode-number decode-numbers decode-curve curve-with coefficients curve-refusal degree-refusal coefficient-refusal below unless _or-else_ checked
   f3-of-31 e stands = field-at 0x41 (replicate 7 0 ++ (31 ∷ replicate 16 0)) refl (lit< tt) stands ∙ rw e refl
 
   pub f3-of-32 : h .curve .degree ≡ 5 → BytesAt s at (0x41 ∷ 0 ∷ 24 ∷ (replicate 7 0 ++ (32 ∷ replicate 16 0))) → read-field 0x41 h s at ≡ refused 107
-  unfolding rules encode-field head-bytes encode-number decode-number decode-elements decode-curve curve-with coefficients curve-refusal degree-refusal coefficient-refusal below unless _or-else_ checked
+  unfolding rules encode-field head-bytes encode-number decode-number decode-numbers decode-curve curve-with coefficients curve-refusal degree-refusal coefficient-refusal below unless _or-else_ checked
   f3-of-32 e stands = field-at 0x41 (replicate 7 0 ++ (32 ∷ replicate 16 0)) refl (lit< tt) stands ∙ rw e refl
 
   -- ---- the drawing number

@@ -9,7 +9,7 @@ use mathlib.Core.Path.{_≡_, refl}
 use mathlib.Core.List.{[], _∷_, _++_}
 use lib.ListN.{replicate}
 use Rattle.jacobian.specs.Curves.{coefficients}
-use Rattle.stored_form.specs.{Number.encode-number, Head.head-bytes, Head.encode-field, Elements.encode-elements}
+use Rattle.stored_form.specs.{Number.encode-numbers, Number.encode-number, Head.head-bytes, Head.encode-field, Elements.encode-elements}
 use Rattle.stored_form.specs.{Fields.degree-field, Fields.count-field, Fields.released-field, Fields.drawing-field, Classes.curve-field, Classes.encode-row, Classes.class-field}
 
 pub degree-in-numbers : degree-field 61 ≡ 0x40 ∷ 0 ∷ 1 ∷ 61 ∷ []
@@ -30,10 +30,10 @@ drawing-in-numbers = refl
 
 pub curve-in-numbers : curve-field (record { degree = 61; f3 = 1; f1 = 2; f0 = 3 })
     ≡ 0x41 ∷ 0 ∷ 24 ∷ (replicate 7 0 ++ 1 ∷ (replicate 7 0 ++ 2 ∷ (replicate 7 0 ++ 3 ∷ [])))
-unfolding curve-field encode-field head-bytes encode-number encode-elements coefficients
+unfolding curve-field encode-field head-bytes encode-number encode-numbers coefficients
 curve-in-numbers = refl
 
 pub class-in-numbers : class-field 0x43 (record { degree = 2; u = 1 ∷ 2 ∷ 0 ∷ []; v = 3 ∷ 4 ∷ 0 ∷ [] })
     ≡ 0x43 ∷ 0 ∷ 32 ∷ (replicate 7 0 ++ 2 ∷ (replicate 7 0 ++ 1 ∷ (replicate 7 0 ++ 4 ∷ (replicate 7 0 ++ 3 ∷ []))))
-unfolding class-field encode-field head-bytes encode-number encode-elements encode-row
+unfolding class-field encode-field head-bytes encode-number encode-numbers encode-row
 class-in-numbers = refl

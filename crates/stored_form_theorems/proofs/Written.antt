@@ -8,7 +8,7 @@ use native.Mathlib.Nat.{mod-lt}
 use lib.Dec.{lit<}
 use lib.ListN.{length}
 use Rattle.jacobian.specs.declared.{Curve.Curve, Class.Class}
-use Rattle.stored_form.specs.{Number.encode-number, Number.Bytes, Head.degree-length, Head.head-bytes, Head.encode-field, Elements.encode-elements, Fields.degree-field}
+use Rattle.stored_form.specs.{Number.encode-numbers, Number.encode-number, Number.Bytes, Head.degree-length, Head.head-bytes, Head.encode-field, Elements.encode-elements, Fields.degree-field}
 use Rattle.stored_form.specs.Classes.{curve-field, curve-fields-bytes, encode-row, class-field}
 
 pub bytes-append : (xs ys : List ℕ) → Bytes xs → Bytes ys → Bytes (xs ++ ys)
@@ -23,7 +23,7 @@ number-bytes (suc k) n zero = mod-lt (n / 256 ^ k) (lit< tt)
 number-bytes (suc k) n (suc i) = number-bytes k n i
 
 elements-are-bytes : (xs : List ℕ) → Bytes (encode-elements xs)
-unfolding encode-elements
+unfolding encode-numbers
 elements-are-bytes [] i = lit< tt
 elements-are-bytes (x ∷ xs) i = bytes-append (encode-number 8 x) (encode-elements xs) (number-bytes 8 x) (elements-are-bytes xs) i
 

@@ -5,7 +5,7 @@ use mathlib.Core.Path.{_≡_, refl, _∙_}
 use lib.ListN.{drop, replicate}
 use lib.Seq.{sets}
 use Rattle.jacobian.specs.Curves.{coefficient-count}
-use Rattle.stored_form.specs.Elements.{decode-elements}
+use Rattle.stored_form.specs.{Number.decode-numbers, Elements.decode-elements}
 use Rattle.stored_form.proofs.Items.{element-more, curve-is}
 use Rattle.stored_form.proofs.classes.decode_curve.Statement.{statement}
 use Rattle.stored_form.proofs.classes.decode_curve.Tie as tie
@@ -17,7 +17,7 @@ abbrev μ-loop : tie.MeasureT-loop
 μ-loop s at d cs₀ i₀ cs i = coefficient-count - i
 
 loop-holds : tie.Need-loop-holds Inv-loop μ-loop
-unfolding decode-elements
+unfolding decode-numbers
 loop-holds c = (search needs, refl)
 
 loop-again : tie.Need-loop-again Inv-loop μ-loop
