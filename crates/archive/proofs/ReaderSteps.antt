@@ -11,32 +11,37 @@ use lib.Dec.{ltb}
 use lib.ListN.{length, getD, drop, drop-of-length-le}
 use lib.Seq.{drop-cons}
 use borrow.Author.Tests.{lt-ltb, le-ltb, ltb-true, ltb-false}
-use Rattle.stored_form.specs.{Reading.Reading, Reading.found, Reading.refused, Reading._then_, Reading.reading-refusal, Record.empty-record}
+use Rattle.stored_form.specs.{Reading.Reading, Reading.found, Reading.refused, Reading.checked, Reading._then_, Reading.reading-refusal, Fields.end-refusal, Fields.ended, Record.empty-record, Pairs.read-pairs}
 use Rattle.stored_form.specs.Reader.{read-field, read-fields, read-operations, header-layout, offset-refusal}
 use Rattle.stored_form.specs.declared.{Record.Record, Cursor.Cursor}
 use Rattle.stored_form.specs.declared.Offset.the-variants.{Next, Refused}
-use Rattle.stored_form.proofs.Readings.{then-found, then-refused, both-found, same-found, then-same, then-assoc, found-refusal, same-refusal}
-use Rattle.stored_form.proofs.Readers.{placed, answer-found, answer-refused, answer-refusal, field-within}
-use Rattle.archive.specs.Archive.{Tail, read-tail, archive-of, read-archive, archive-refusal}
+use Rattle.stored_form.proofs.Readings.{then-found, then-refused, both-found, checked-found, same-found, then-same, then-where, then-assoc, found-refusal, same-refusal}
+use Rattle.stored_form.proofs.Readers.{placed, answer-found, answer-refused, answer-refusal, field-within, with-field-operation}
+use Rattle.archive.specs.Archive.{read-tail, archive-of, read-archive, archive-refusal}
 use Rattle.archive.specs.declared.{Expected.Expected, Reader.Reader, Advance.Advance}
-use Rattle.archive.specs.declared.Expected.the-variants.{Header, Operations, End, Nothing}
-use Rattle.archive.proofs.Tail.{tail-onward}
-use Rattle.archive.specs.Reader.{reader, start, operations-expected, after-header, read-header-field, read-operation, read-end, read-expected, pending, advance-of}
+use Rattle.archive.specs.declared.Expected.the-variants.{Header, Operations, Pairs, End, Nothing}
+use Rattle.archive.proofs.Tail.{pairs-onward}
+use Rattle.archive.specs.Reader.{reader, start, operations-expected, after-header, read-header-field, read-operation, read-pairs-expected, read-end, read-expected, pending, advance-of}
 
 -- ---- what is left to read, and one step of it
 
 module _ (s : List ℕ) where
-  from-operations : ℕ → Record → ℕ → Reading Tail
-  from-operations n h at = read-operations n h s at then λ ops end. read-tail s end
+  -- the pairs and the end, without what the pairs are
+  from-pairs : ℕ → ℕ → Reading (Unit {0})
+  from-pairs n at = read-pairs n s at then λ pairs next. ended s tt next
 
-  from-header : List ℕ → Record → ℕ → Reading Tail
+  from-operations : ℕ → Record → ℕ → Reading (Unit {0})
+  from-operations n h at = read-operations n h s at then λ ops end. from-pairs (h .count) end
+
+  from-header : List ℕ → Record → ℕ → Reading (Unit {0})
   from-header tags h at = read-fields tags h s at then λ h next. from-operations (h .count) h next
 
   -- the reading of all that is left, by what is expected next
-  pub left : Expected → Record → ℕ → Reading Tail
+  pub left : Expected → Record → ℕ → Reading (Unit {0})
   left (Header i) h at = read-field (getD header-layout i 0) h s at then λ more next. from-header (drop (suc i) header-layout) more next
   left (Operations n) h at = read-field 0x44 h s at then λ more next. from-operations (n - 1) more next
-  left End h at = read-tail s at
+  left Pairs h at = from-pairs (h .count) at
+  left End h at = ended s tt at
   left Nothing h at = found tt at
 
   operations-next : (n : ℕ) (h : Record) (at : ℕ) → from-operations n h at ≡ left (operations-expected n) h at
@@ -45,7 +50,9 @@ module _ (s : List ℕ) where
   operations-next (suc n) h at =
       let e : suc n - 1 ≡ n = omega arith in
       then-assoc (read-field 0x44 h s at) _ _
-      ∙ then-same _ (read-field 0x44 h s at) (λ more next. then-assoc (read-operations n more s next) _ _)
+      ∙ then-where _ (read-field 0x44 h s at)
+      (λ more next found. then-assoc (read-operations n more s next) _ _
+      ∙ then-same _ (read-operations n more s next) (λ ops end. ap (λ (r : Record). from-pairs (r .count) end) (sym (with-field-operation h s at found))))
       ∙ ap (λ (k : ℕ). read-field 0x44 h s at then λ more next. from-operations k more next) (sym e)
 
   module _ (i : ℕ) (h : Record) (at : ℕ) where
@@ -71,28 +78,36 @@ module _ (s : List ℕ) where
       go false e = last i h at (ltb-false (suc i) (length header-layout) e)
 
   pub one-step : (d : Expected) (h : Record) (at : ℕ) → left d h at ≡ (read-expected d h s at then λ r next. left (r .expected) (r .values) next)
-  unfolding left read-header-field read-operation read-end _then_
+  unfolding left from-pairs read-header-field read-operation read-pairs-expected read-end ended checked _then_
   one-step (Header i) h at = then-same _ (read-field (getD header-layout i 0) h s at) (λ more next. header-next i more next) ∙ sym (then-assoc (read-field (getD header-layout i 0) h s at) _ _)
   one-step (Operations n) h at = then-same _ (read-field 0x44 h s at) (λ more next. operations-next (n - 1) more next) ∙ sym (then-assoc (read-field 0x44 h s at) _ _)
-  one-step End h at = sym (then-assoc (read-tail s at) _ _ ∙ then-found-same (read-tail s at))
+  one-step Pairs h at = sym (then-assoc (read-pairs (h .count) s at) _ _)
+  one-step End h at = go (end-refusal s at)
     where
-      then-found-same : (x : Reading Tail) → (x then λ t end. found tt end) ≡ x
-      then-found-same (found tt n) = refl
-      then-found-same (refused n) = refl
+      go : (n : ℕ) → checked n (found tt at) ≡ (checked n (found (reader Nothing h) at) then λ r next. left (r .expected) (r .values) next)
+      go zero = refl
+      go (suc n) = refl
   one-step Nothing h at = refl
 
   pub nothing-left : (d : Expected) (h : Record) (at : ℕ) → pending d ≡ false → left d h at ≡ found tt at
   unfolding left pending
   nothing-left (Header i) h at e = absurd (true≢false e)
   nothing-left (Operations n) h at e = absurd (true≢false e)
+  nothing-left Pairs h at e = absurd (true≢false e)
   nothing-left End h at e = absurd (true≢false e)
   nothing-left Nothing h at e = refl
 
+  end-same : (n : ℕ) (a : List ℕ) (at : ℕ) → reading-refusal (checked n (found a at)) ≡ reading-refusal (checked n (found (tt {0}) at))
+  unfolding checked
+  end-same zero a at = refl
+  end-same (suc n) a at = refl
+
   pub begun : {r : Reader} → r ≡ start → archive-refusal s ≡ reading-refusal (left (r .expected) (r .values) 0)
-  unfolding archive-refusal read-archive start left from-header from-operations read-fields
+  unfolding archive-refusal read-archive read-tail ended start left from-header from-operations from-pairs read-fields
   begun e =
       same-refusal (read-fields header-layout empty-record s 0) _ (λ h next. from-operations (h .count) h next)
-      (λ h first. same-refusal (read-operations (h .count) h s first) _ (λ ops end. read-tail s end) (λ ops end. found-refusal (read-tail s end) (λ tail. archive-of h ops)))
+      (λ h first. same-refusal (read-operations (h .count) h s first) _ (λ ops end. from-pairs (h .count) end)
+      (λ ops end. found-refusal (read-tail (h .count) s end) (archive-of h ops) ∙ same-refusal (read-pairs (h .count) s end) _ (λ pairs next. ended s tt next) (λ pairs next. end-same (end-refusal s next) pairs next)))
       ∙ ap reading-refusal (then-assoc (read-field 0x40 empty-record s 0) _ _)
       ∙ ap (λ (r : Reader). reading-refusal (left (r .expected) (r .values) 0)) (sym e)
 
@@ -125,18 +140,23 @@ module _ (tag : ℕ) (expected : Record → Expected) (h : Record) (s : List ℕ
 
 -- ---- a step leaves less to read
 
+-- how many steps can be left that read no byte
 weight : Expected → ℕ
-weight d = cond (pending d) 1 0
+weight (Header i) = 1
+weight (Operations n) = 1
+weight Pairs = 2
+weight End = 1
+weight Nothing = 0
 
-light : (d : Expected) → weight d ≤ 1
+light : (d : Expected) → weight d ≤ 2
 unfolding weight
-light d = go (pending d)
-  where
-    go : (b : Bool) → cond b 1 0 ≤ 1
-    go true = omega arith
-    go false = omega arith
+light (Header i) = omega arith
+light (Operations n) = omega arith
+light Pairs = omega arith
+light End = omega arith
+light Nothing = omega arith
 
--- twice the bytes that are left, and one if something is expected
+-- twice the bytes that are left, and the steps that read none
 pub rank : List ℕ → Expected → ℕ → ℕ
 rank s d at = weight d + 2 * (length s - at)
 
@@ -149,14 +169,18 @@ module _ (s : List ℕ) (h : Record) (at : ℕ) {r : Reader} {next : ℕ} where
       omega (arith, w .0, w .1, n, light (r .expected))
 
   pub less-left : (d : Expected) → pending d ≡ true → read-expected d h s at ≡ found r next → rank s (r .expected) next < rank s d at
-  unfolding rank weight pending read-header-field read-operation read-end
+  unfolding rank weight pending read-header-field read-operation read-pairs-expected read-end ended
   less-left (Header i) p e = field-less (getD header-layout i 0) _ e
   less-left (Operations n) p e = field-less 0x44 _ e
-  less-left End p e =
-      let t = both-found _ (read-tail s at) e in
+  less-left Pairs p e =
+      let t = both-found _ (read-pairs (h .count) s at) e in
       let c = same-found (t .3) in
+      let end : weight (r .expected) ≡ 1 = ap (λ (q : Reader). weight (q .expected)) (sym (c .0)) in
+      omega (arith, end, c .1, pairs-onward (h .count) s at (t .2))
+  less-left End p e =
+      let c = same-found (checked-found (end-refusal s at) _ e .1) in
       let none : weight (r .expected) ≡ 0 = ap (λ (q : Reader). weight (q .expected)) (sym (c .0)) in
-      omega (arith, none, c .1, tail-onward s at (t .2))
+      omega (arith, none, c .1)
   less-left Nothing p e = absurd (false≢true p)
 
 -- ---- the reading that a code's answer stands for

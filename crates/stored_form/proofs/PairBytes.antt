@@ -4,6 +4,7 @@
 -- `pair-refused`, `pair-passed`, `pairs-none`: a turn of the loop that checks the pairs, and its end.
 -- `no-pairs`, `other-byte`, `field-due`: what follows the operations is nothing, another byte, the field.
 -- `field-cut`, `field-checked`: the field is refused at its head, or by its pairs; else it is found.
+-- `offset-found`, `offset-refused`: the reading that the code's offset stands for.
 -- `pair-beyond`, `pair-there`: a pair at which the input ends, and one that is there.
 use Prim.Native.Nat.{ℕ, zero, suc, _+_, _*_, _-_, _/_, _%_, _≤_, _<_}
 use mathlib.Core.Path.{_≡_, refl, sym, ap, _∙_}
@@ -19,7 +20,7 @@ use Rattle.jacobian.proofs.ByValue.Checks.{both}
 use Rattle.stored_form.specs.Number.{decode-number, decode-numbers, part}
 use Rattle.stored_form.specs.{Reading.Reading, Reading.found, Reading.refused, Reading.checked, Reading.reading-refusal, Head.pairs-limit, Reader.read-head-by}
 use Rattle.stored_form.specs.Pairs.{pair-length, later, earlier, pairs-length, pair-within, pairs-after, pairs-refusal, decode-pairs, read-pairs-field, read-pairs, offset-of, pair-at}
-use Rattle.stored_form.specs.declared.Offset.the-variants.{Next, Refused}
+use Rattle.stored_form.specs.declared.{Cursor.Cursor, Offset.the-variants.Next, Offset.the-variants.Refused}
 use Rattle.stored_form.proofs.{Readings.then-found, Readings.then-refused, Readings.checked-none, Readings.checked-some, Heads.head-found, Parts.length-part, NumberLists.decoded-take}
 
 -- ---- lengths
@@ -117,6 +118,18 @@ module _ (n : ℕ) (s : List ℕ) (at : ℕ) where
       read-pairs-field n s at ≡ checked m (found (decode-numbers 4 (len / 4) (drop (at + 3) s)) next)
   unfolding read-pairs-field
   field-checked e f = then-found _ e ∙ rw (f, decoded s at e)
+
+-- ---- the reading that the code's offset stands for
+
+pub offset-found : {A : Type 0} (x : Reading A) {next : Cursor} → offset-of x ≡ Next next → (a : A) × (x ≡ found a (next .at))
+unfolding offset-of
+offset-found (found a n) e = (a, ap (found a) cc)
+offset-found (refused k) e = let z : _≡_ {A = ℕ} 0 1 = cc in absurd (omega arith)
+
+pub offset-refused : {A : Type 0} (x : Reading A) {n : ℕ} → offset-of x ≡ Refused n → x ≡ refused n
+unfolding offset-of
+offset-refused (found a n) e = let z : _≡_ {A = ℕ} 0 1 = cc in absurd (omega arith)
+offset-refused (refused k) e = ap refused cc
 
 -- ---- a pair by its place
 

@@ -1,6 +1,7 @@
 -- Readings that follow each other: what a check that passed and a value that was found imply.
 -- `checked-found`, `refuse-found`, `test-passed`: a check that passed.
 -- `then-found`, `then-refused`, `both-found`: the first of two readings, and both if both found a value.
+-- `then-same`, `then-where`: readings that agree after the first one, for all values or for what it finds.
 -- `then-assoc`: readings group either way.
 -- `found-refusal`, `same-refusal`: when two readings have the same refusal.
 use Prim.Native.Nat.{ℕ, zero, suc, _<_}
@@ -58,6 +59,12 @@ module _ {A B : Type 0} (f : A → ℕ → Reading B) where
   unfolding _then_
   then-same (found a n) e = e a n
   then-same (refused k) e = refl
+
+-- the same after a reading for what it finds alone
+pub then-where : {A B : Type 0} (f : A → ℕ → Reading B) (x : Reading A) {g : A → ℕ → Reading B} → ((a : A) (n : ℕ) → x ≡ found a n → f a n ≡ g a n) → (x then f) ≡ (x then g)
+unfolding _then_
+then-where f (found a n) h = h a n refl
+then-where f (refused k) h = refl
 
 pub then-assoc : {A B C : Type 0} (x : Reading A) (f : A → ℕ → Reading B) (g : B → ℕ → Reading C) →
     (x then f then g) ≡ (x then λ a n. f a n then g)

@@ -21,5 +21,9 @@ returns-4 : tie.Need-returns-4
 unfolding pending
 returns-4 c = sym (ap pending (c .enum-told4 .given .1))
 
+returns-5 : tie.Need-returns-5
+unfolding pending
+returns-5 c = sym (ap pending (c .enum-told5 .given .1))
+
 pub pending-spec : {M : Type 1} → statement M
-pending-spec = tie.close (tie.spec (λ c. search needs) (λ c. search needs) (λ c. search needs) (λ c. search needs) returns returns-2 returns-3 returns-4)
+pending-spec = tie.close (tie.spec (λ c. search needs) (λ c. search needs) (λ c. search needs) (λ c. search needs) (λ c. search needs) returns returns-2 returns-3 returns-4 returns-5)

@@ -22,13 +22,19 @@ returns-3 : tie.Need-returns-3
 unfolding read-next
 returns-3 c =
     let a = c .before .before .before .before .before .args in
-    c .read-end .ensures ∙ ap (λ (d : Expected). advance-of (read-expected d (a .r .values) (a .s .now) (a .at .at))) (sym (c .before .enum-told .given .1))
+    c .read-pairs .ensures ∙ ap (λ (d : Expected). advance-of (read-expected d (a .r .values) (a .s .now) (a .at .at))) (sym (c .before .enum-told .given .1))
 
 returns-4 : tie.Need-returns-4
 unfolding read-next
 returns-4 c =
     let a = c .before .before .before .before .before .args in
-    c .advance-to .ensures ∙ ap (λ (d : Expected). advance-of (read-expected d (a .r .values) (a .s .now) (a .at .at))) (sym (c .before .enum-told2 .given .1))
+    c .read-end .ensures ∙ ap (λ (d : Expected). advance-of (read-expected d (a .r .values) (a .s .now) (a .at .at))) (sym (c .before .enum-told2 .given .1))
+
+returns-5 : tie.Need-returns-5
+unfolding read-next
+returns-5 c =
+    let a = c .before .before .before .before .before .args in
+    c .advance-to .ensures ∙ ap (λ (d : Expected). advance-of (read-expected d (a .r .values) (a .s .now) (a .at .at))) (sym (c .before .enum-told3 .given .1))
 
 pub read-next-spec : {M : Type 1} → statement M
 read-next-spec =
@@ -42,7 +48,10 @@ read-next-spec =
     (λ c κs. search needs)
     (λ c. search needs)
     (λ c κs. search needs)
+    (λ c. search needs)
+    (λ c κs. search needs)
     returns
     returns-2
     returns-3
-    returns-4)
+    returns-4
+    returns-5)
