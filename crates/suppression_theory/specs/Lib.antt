@@ -1,0 +1,2 @@
+-- Suppressing one operation of a list of operations.
+pub mod Suppression
