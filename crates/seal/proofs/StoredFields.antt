@@ -14,7 +14,7 @@ use Rattle.history.specs.{Register.register-refusal, declared.Register.Register
 use Rattle.stored_form.specs.{Number.encode-number, Reading.Reading, Reading.found, Reading.refused as unread, Reading.checked, Reading._then_, Head.degree-length, Head.count-length, Head.class-length, Head.encode-field, Elements.encode-elements}
 use Rattle.stored_form.specs.{Fields.degree-field, Fields.count-field, Fields.released-field, Fields.count-refusal, Fields.released-refusal, Classes.curve-field, Classes.curve-fields-bytes, Classes.decode-class, Classes.decode-row, Classes.encode-row, Classes.encode-class, Classes.class-field, Classes.decode-curve}
 use Rattle.stored_form.specs.{Record.empty-record, Record.curve-of-degree, Tags.rules, Reader.read-field, Reader.read-fields, Reader.register-layout, declared.Record.Record}
-use Rattle.stored_form.proofs.{Digits.length-bytes, NumberLists.length-encoded, Lengths.allows-short, Readings.then-found}
+use Rattle.stored_form.proofs.{Digits.length-bytes, NumberLists.length-encode-numbers, Lengths.allows-short, Readings.then-found}
 use Rattle.stored_form_theorems.specs.Fields.{Field}
 use Rattle.stored_form_theorems.proofs.{Bodies.body-read, Places.apart, Places.whole, ClassRoundTrips.class-length-of}
 use Rattle.seal.specs.Records.{register-fields, register-record-bytes}
@@ -62,8 +62,8 @@ class-allowed a e =
     let v : length vs ≡ min n 3 = row-length n (a .v) (subst (λ (x : Class). length (x .v) ≡ 3) e (row-three _)) in
     let long : length (encode-class a) ≡ length (encode-elements us) + length (encode-elements vs) = length-append (encode-elements us) (encode-elements vs) in
     let d : length (encode-class a) / 16 ≡ n = ap (λ (x : Class). x .degree) e in
-    let x : length (encode-elements us) ≡ 8 * length us = length-encoded 8 us in
-    let y : length (encode-elements vs) ≡ 8 * length vs = length-encoded 8 vs in
+    let x : length (encode-elements us) ≡ 8 * length us = length-encode-numbers 8 us in
+    let y : length (encode-elements vs) ≡ 8 * length vs = length-encode-numbers 8 vs in
     let all : length (encode-class a) ≡ 16 * n = omega arith in
     ap class-length all ∙ class-length-of n (omega arith)
 
@@ -114,7 +114,7 @@ module _ (g : Register) (same : of-bodies g ≡ g) (fails : ¬ (register-refusal
       let p = stands in
       next-fails 0x40 (0x41 ∷ 0x42 ∷ 0x45 ∷ 0x43 ∷ []) empty-record s 0 (encode-number degree-length (g .curve .degree)) (rw (length-bytes degree-length (g .curve .degree)) refl) (p .5)
       (λ x.
-      next-fails 0x41 (0x42 ∷ 0x45 ∷ 0x43 ∷ []) _ s _ (encode-elements (coefficients (g .curve))) (rw (length-encoded 8 (coefficients (g .curve))) refl) (p .6)
+      next-fails 0x41 (0x42 ∷ 0x45 ∷ 0x43 ∷ []) _ s _ (encode-elements (coefficients (g .curve))) (rw (length-encode-numbers 8 (coefficients (g .curve))) refl) (p .6)
       (λ y.
       next-fails 0x42 (0x45 ∷ 0x43 ∷ []) _ s _ (encode-number count-length (g .count)) (rw (length-bytes count-length (g .count)) refl) (p .7)
       (λ z.

@@ -13,7 +13,7 @@ use lib.Seq.{sets, drop-drop, take-at, drop-at}
 use Rattle.stored_form.specs.{Number.decode-numbers, Number.decode-number, Number.part, Elements.element-length, Elements.decode-elements, Classes.decode-curve, Classes.decode-row, Classes.decode-class}
 use Rattle.stored_form.specs.{Head.class-length, Head.class-limit, Head.curve-length}
 use Rattle.jacobian.specs.{Curves.coefficient-count, Curves.curve-with, declared.Class.Class}
-use Rattle.stored_form.proofs.{Parts.length-part, Lengths.class-length-le, Stores.store-next, Stores.filled, NumberLists.length-decoded, NumberLists.decoded-take, NumberLists.decoded-add}
+use Rattle.stored_form.proofs.{Parts.length-part, Lengths.class-length-le, Stores.store-next, Stores.filled, NumberLists.length-decode-numbers, NumberLists.decode-numbers-take, NumberLists.decode-numbers-add}
 
 -- ---- what the code decodes
 
@@ -21,10 +21,10 @@ pub element-more : (s : List ℕ) (at i x : ℕ) (d : List ℕ) {r : List ℕ} �
     set r i x ≡ sets d 0 (decode-elements (i + 1) (drop at s))
 unfolding decode-numbers
 element-more s at i x d {r} e f =
-    store-next d (decode-elements i (drop at s)) i x (length-decoded 8 i (drop at s)) e
+    store-next d (decode-elements i (drop at s)) i x (length-decode-numbers 8 i (drop at s)) e
     ∙ ap (sets d 0)
     (ap (λ (y : ℕ). decode-elements i (drop at s) ++ y ∷ []) (f ∙ ap (λ (t : List ℕ). decode-number (take element-length t)) (sym (drop-drop (element-length * i) at s)))
-    ∙ sym (decoded-add 8 i 1 (drop at s)))
+    ∙ sym (decode-numbers-add 8 i 1 (drop at s)))
 
 pub curve-is : (s : List ℕ) (at d i : ℕ) {r : List ℕ} → coefficient-count ≤ i → i ≤ coefficient-count → r ≡ sets (replicate coefficient-count 0) 0 (decode-elements i (drop at s)) →
     curve-with d r ≡ decode-curve d (part s at curve-length)
@@ -32,14 +32,14 @@ unfolding decode-curve
 curve-is s at d i {r} h₁ h₂ e =
     let z : i ≡ coefficient-count = omega arith in
     let es = decode-elements coefficient-count (drop at s) in
-    let long : length es ≡ coefficient-count = length-decoded 8 coefficient-count (drop at s) in
+    let long : length es ≡ coefficient-count = length-decode-numbers 8 coefficient-count (drop at s) in
     let none : coefficient-count - length es ≡ 0 = omega arith in
     ap (curve-with d)
     (e ∙ ap (λ (k : ℕ). sets (replicate coefficient-count 0) 0 (decode-elements k (drop at s))) z
     ∙ filled es coefficient-count (omega arith)
     ∙ ap (λ (k : ℕ). es ++ replicate k 0) none
     ∙ append-nil es
-    ∙ sym (decoded-take 8 coefficient-count curve-length (drop at s) (lit≤ tt)))
+    ∙ sym (decode-numbers-take 8 coefficient-count curve-length (drop at s) (lit≤ tt)))
 
 module _ (s : List ℕ) (at : ℕ) {n : ℕ} where
   pub row-0 : n ≡ 0 → 0 ∷ 0 ∷ 0 ∷ [] ≡ decode-row (decode-elements n (drop at s))
@@ -71,8 +71,8 @@ module _ (s : List ℕ) (at len : ℕ) (ok : class-length len ≡ true) (within 
   body-elements : decode-elements (len / 16 + len / 16) (part s at len) ≡ decode-elements (len / 16) (drop at s) ++ decode-elements (len / 16) (drop (at + 8 * (len / 16)) s)
   body-elements =
       let n = len / 16 in
-      decoded-take 8 (n + n) len (drop at s) (omega arith)
-      ∙ decoded-add 8 n n (drop at s)
+      decode-numbers-take 8 (n + n) len (drop at s) (omega arith)
+      ∙ decode-numbers-add 8 n n (drop at s)
       ∙ ap (λ (t : List ℕ). decode-elements n (drop at s) ++ decode-elements n t) (drop-drop (8 * n) at s)
 
   pub class-is : {u v : List ℕ} → u ≡ decode-row (decode-elements (len / 16) (drop at s)) → v ≡ decode-row (decode-elements (len / 16) (drop (at + 8 * (len / 16)) s)) →
@@ -82,4 +82,4 @@ module _ (s : List ℕ) (at len : ℕ) (ok : class-length len ≡ true) (within 
       let n = len / 16 in
       let xs = decode-elements n (drop at s) in
       let ys = decode-elements n (drop (at + 8 * n) s) in
-      rw (length-part s at len within, body-elements, take-at xs ys n (length-decoded 8 n (drop at s)), drop-at xs ys n (length-decoded 8 n (drop at s)), e, f)
+      rw (length-part s at len within, body-elements, take-at xs ys n (length-decode-numbers 8 n (drop at s)), drop-at xs ys n (length-decode-numbers 8 n (drop at s)), e, f)

@@ -21,7 +21,7 @@ use Rattle.stored_form.specs.Number.{decode-number, decode-numbers, part
 use Rattle.stored_form.specs.{Reading.Reading, Reading.found, Reading.refused, Reading.checked, Reading.reading-refusal, Head.pairs-limit, Reader.read-head-by}
 use Rattle.stored_form.specs.Pairs.{pair-length, later, earlier, pairs-length, pair-within, pairs-after, pairs-refusal, decode-pairs, read-pairs-field, read-pairs, offset-of, pair-at}
 use Rattle.stored_form.specs.declared.{Cursor.Cursor, Offset.the-variants.Next, Offset.the-variants.Refused}
-use Rattle.stored_form.proofs.{Readings.then-found, Readings.then-refused, Readings.checked-none, Readings.checked-some, Heads.head-found, Parts.length-part, NumberLists.decoded-take}
+use Rattle.stored_form.proofs.{Readings.then-found, Readings.then-refused, Readings.checked-none, Readings.checked-some, Heads.head-found, Parts.length-part, NumberLists.decode-numbers-take}
 
 -- ---- lengths
 
@@ -90,7 +90,7 @@ module _ (s : List ℕ) (at : ℕ) {len next : ℕ} (e : read-head-by 0x48 pairs
   unfolding decode-pairs
   decoded =
       let w = head-found 0x48 pairs-length s at e in
-      rw (length-part s (at + 3) len (omega (arith, w .ends, w .fits))) (decoded-take 4 (len / 4) len (drop (at + 3) s) (omega arith))
+      rw (length-part s (at + 3) len (omega (arith, w .ends, w .fits))) (decode-numbers-take 4 (len / 4) len (drop (at + 3) s) (omega arith))
 
   pub field-asks : at + 3 + 4 * (len / 4) ≤ length s
   field-asks = let w = head-found 0x48 pairs-length s at e in omega (arith, w .ends, w .fits)

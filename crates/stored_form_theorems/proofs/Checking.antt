@@ -1,5 +1,6 @@
 -- Each refusal of a record's bytes, under its condition and in its order (docs/SPECIFICATION.md, 5 and 6).
 -- `length-decides`: the lengths that a tag allows are those of the table, in numbers.
+-- `head-reads`: a head is read by its checks.
 -- `record-checked`: the refusal of a record is that of its fields' checks, field by field, then 112.
 -- `record-found`: where every check holds, the record that is read is what its bytes say.
 use Prim.Native.Nat.{ℕ, _+_, _≤_, _<_, _/_, _^_}
@@ -16,9 +17,9 @@ use Rattle.jacobian.proofs.Checking.{refusal-none, refusal-unless, refusal-held
 use Rattle.jacobian.proofs.ByValue.Checks.{both, blank-past}
 use Rattle.stored_form.specs.{Number.part, Reading.found, Reading.reading-refusal}
 use Rattle.stored_form.specs.{Head.body-length, Head.class-length, Fields.printable, Fields.drawing-refusal, Fields.count-limit, Fields.count-refusal, Fields.released-refusal, Fields.end-refusal, Fields.ended, Passing.CurvePasses}
-use Rattle.stored_form.specs.{Cuts.fields-end, Elements.decode-elements, Classes.decode-curve, Classes.decode-row, Classes.decode-class, Record.empty-record, Record.curve-of-degree, Tags.rules, Reader.read-head, Reader.read-body, Reader.read-field, Reader.read-fields, Reader.read-record, declared.Record.Record}
-use Rattle.stored_form.proofs.{Parts.length-part, Lengths.by-tag, Lengths.by-class-length, Lengths.class-length-le, NumberLists.length-decoded}
-use Rattle.stored_form_theorems.specs.Checking.{ClassLength, LengthAllowed, Printable, value-checks, after-field, with-field-at, field-checks, with-fields-at, fields-checks, end-check, record-checks, record-values}
+use Rattle.stored_form.specs.{Cuts.fields-end, Elements.decode-elements, Classes.decode-curve, Classes.decode-row, Classes.decode-class, Record.empty-record, Record.curve-of-degree, Tags.rules, Reader.read-head-by, Reader.read-head, Reader.read-body, Reader.read-field, Reader.read-fields, Reader.read-record, declared.Record.Record}
+use Rattle.stored_form.proofs.{Parts.length-part, Lengths.by-tag, Lengths.by-class-length, Lengths.class-length-le, NumberLists.length-decode-numbers}
+use Rattle.stored_form_theorems.specs.Checking.{ClassLength, LengthAllowed, Printable, value-checks, after-field, with-field-at, head-checks, field-checks, with-fields-at, fields-checks, end-check, record-checks, record-values}
 use Rattle.stored_form_theorems.specs.Checking as table
 use Rattle.stored_form_theorems.proofs.CheckedReadings.{Reads, found-reads, refuse-reads, checked-reads, then-reads}
 
@@ -76,7 +77,7 @@ decoded-form body l =
     let n = length body / 16 in
     let es = decode-elements (n + n) body in
     let low : n ≤ 3 = omega (arith, class-length-le (length body) (class-length-decides (length body) .1 l)) in
-    let all : length es ≡ n + n = length-decoded 8 (n + n) body in
+    let all : length es ≡ n + n = length-decode-numbers 8 (n + n) body in
     let first : length (take n es) ≡ n = length-take n es ∙ omega arith in
     let second : length (drop n es) ≡ n = length-drop n es ∙ omega arith in
     (low, subst (λ (k : ℕ). Padded k (decode-row (take n es))) first (row-padded (take n es) (omega arith)), subst (λ (k : ℕ). Padded k (decode-row (drop n es))) second (row-padded (drop n es) (omega arith)))
@@ -145,14 +146,13 @@ module _ (h : Record) (ok : CurvePasses (h .curve)) (body : List ℕ) where
 
 -- ---- the head
 
-module _ (tag : ℕ) (h : Record) (s : List ℕ) (at : ℕ) where
-  head-reads : Reads (check 102 (at + 3 ≤ length s) ∷ check 103 (getD s at 0 ≡ tag) ∷ check 104 (LengthAllowed tag (body-length s at)) ∷ check 105 (after-field s at ≤ length s) ∷ [])
-      (body-length s at) (after-field s at) (read-head tag h s at)
-  unfolding read-head
+module _ (tag : ℕ) (allowed : ℕ → Bool) (Allowed : ℕ → Type 0) (decides : (n : ℕ) → (allowed n ≡ true) ↔ Allowed n) (s : List ℕ) (at : ℕ) where
+  pub head-reads : Reads (head-checks tag Allowed s at) (body-length s at) (after-field s at) (read-head-by tag allowed s at)
+  unfolding read-head-by
   head-reads =
       refuse-reads 102 (ltb (length s) (at + 3)) (λ e. omega arith) (within (at + 3))
       (λ _. refuse-reads 103 (not (eqb (getD s at 0) tag)) (λ e. omega arith) (λ e. eqb-true _ _ (not-false _ e), λ p. rw (eq-eqb (getD s at 0) tag p) refl)
-      (λ _. refuse-reads 104 (not (rules tag .allows h (body-length s at))) (λ e. omega arith) (λ e. length-decides tag (body-length s at) h .0 (not-false _ e), λ p. rw (length-decides tag (body-length s at) h .1 p) refl)
+      (λ _. refuse-reads 104 (not (allowed (body-length s at))) (λ e. omega arith) (λ e. decides (body-length s at) .0 (not-false _ e), λ p. rw (decides (body-length s at) .1 p) refl)
       (λ _. refuse-reads 105 (ltb (length s) (after-field s at)) (λ e. omega arith) (within (after-field s at))
       (λ _. found-reads refusal-none))))
     where
@@ -169,7 +169,7 @@ module _ (tag : ℕ) (h : Record) (ok : CurvePasses (h .curve)) (s : List ℕ) (
   field-reads : Reads (field-checks tag h s at) (with-field-at tag h s at) (after-field s at) (read-field tag h s at)
   unfolding read-field read-body
   field-reads =
-      then-reads _ (read-body tag h s at) (then-reads (λ n next. found (part s (at + 3) n) next) (read-head tag h s at) (head-reads tag h s at) (λ _. found-reads refusal-none))
+      then-reads _ (read-body tag h s at) (then-reads (λ n next. found (part s (at + 3) n) next) (read-head tag h s at) (head-reads tag (rules tag .allows h) (LengthAllowed tag) (λ n. length-decides tag n h) s at) (λ _. found-reads refusal-none))
       (λ held. checked-reads _ (value-checked h ok (part s (at + 3) (body-length s at)) tag (length-allowed (held .1 .1 .1 .0) (held .1 .1 .0))))
 
   -- after a field whose checks hold the curve is still one that no check refuses

@@ -18,9 +18,9 @@ use Rattle.jacobian.specs.{Answer.refusal, declared.Curve.Curve, declared.Class
 use Rattle.jacobian.proofs.{ByValue.Degrees.by-degree, ByValue.Threes.by-three, ByValue.Answers.passes}
 use Rattle.stored_form.specs.{Number.Bytes, Head.class-room, Head.class-limit, Head.class-length, Head.encode-field, Elements.decode-elements, Elements.encode-elements}
 use Rattle.stored_form.specs.Classes.{decode-row, decode-class, encode-row, encode-class, class-field}
-use Rattle.stored_form.proofs.{Lengths.class-length-le, Lengths.class-length-even, Lengths.length-stored, NumberLists.length-decoded, NumberLists.length-encoded, NumberLists.encoded-append}
+use Rattle.stored_form.proofs.{Lengths.class-length-le, Lengths.class-length-even, Lengths.length-stored, NumberLists.length-decode-numbers, NumberLists.length-encode-numbers, NumberLists.encode-numbers-append}
 use Rattle.stored_form.proofs.ClassBytes.{length-row}
-use Rattle.stored_form_theorems.proofs.Elements.{Small, elements-bytes, bytes-elements, fits}
+use Rattle.stored_form_theorems.proofs.Elements.{Small, numbers-bytes, bytes-numbers, fits}
 
 -- ---- rows, and the order in which they are stored
 
@@ -54,7 +54,7 @@ encode-decode-class body ok b =
     let es = decode-elements (n + n) body in
     let low : length body ≤ class-limit = class-length-le (length body) ok in
     let even : 16 * n ≡ length body = class-length-even (length body) ok in
-    let all : length es ≡ n + n = length-decoded 8 (n + n) body in
+    let all : length es ≡ n + n = length-decode-numbers 8 (n + n) body in
     let first : length (take n es) ≡ n = length-take n es ∙ omega arith in
     let second : length (drop n es) ≡ n = length-drop n es ∙ omega arith in
     let u : encode-row n (decode-row (take n es)) ≡ take n es =
@@ -62,9 +62,9 @@ encode-decode-class body ok b =
     let v : encode-row n (decode-row (drop n es)) ≡ drop n es =
     ap (λ (k : ℕ). encode-row k (decode-row (drop n es))) (sym second) ∙ row-back (drop n es) (omega arith) in
     ap₂ (λ (xs ys : List ℕ). encode-elements xs ++ encode-elements ys) u v
-    ∙ sym (encoded-append 8 (take n es) (drop n es))
+    ∙ sym (encode-numbers-append 8 (take n es) (drop n es))
     ∙ ap encode-elements (take-append-drop n es)
-    ∙ bytes-elements (n + n) body (omega arith) b
+    ∙ bytes-numbers 8 (n + n) body (omega arith) b
 
 -- a class whose rows have three coefficients that fit eight bytes, 0 from its degree on
 record Shaped (a : Class) : Type 0 where
@@ -94,9 +94,9 @@ length-body : (a : Class) → Shaped a → length (encode-class a) ≡ 16 * a .d
 length-body a h =
     let n = a .degree in
     let x : length (encode-elements (encode-row n (a .u))) ≡ 8 * n =
-    length-encoded 8 (encode-row n (a .u)) ∙ ap (λ (k : ℕ). 8 * k) (length-row n (a .u) (h .u-three) (h .low)) in
+    length-encode-numbers 8 (encode-row n (a .u)) ∙ ap (λ (k : ℕ). 8 * k) (length-row n (a .u) (h .u-three) (h .low)) in
     let y : length (encode-elements (encode-row n (a .v))) ≡ 8 * n =
-    length-encoded 8 (encode-row n (a .v)) ∙ ap (λ (k : ℕ). 8 * k) (length-row n (a .v) (h .v-three) (h .low)) in
+    length-encode-numbers 8 (encode-row n (a .v)) ∙ ap (λ (k : ℕ). 8 * k) (length-row n (a .v) (h .v-three) (h .low)) in
     length-append (encode-elements (encode-row n (a .u))) (encode-elements (encode-row n (a .v))) ∙ omega arith
 
 row-small : (n : ℕ) (r : List ℕ) → Small r → Small (encode-row n r)
@@ -113,8 +113,8 @@ body-elements a h =
     let u : length us ≡ n = length-row n (a .u) (h .u-three) (h .low) in
     let v : length vs ≡ n = length-row n (a .v) (h .v-three) (h .low) in
     let both : length (us ++ vs) ≡ n + n = length-append us vs ∙ omega arith in
-    ap₂ (λ (k : ℕ) (bs : List ℕ). decode-elements k bs) (sym both) (sym (encoded-append 8 us vs))
-    ∙ elements-bytes (us ++ vs) (all-append (row-small n (a .u) (h .u-fits)) (row-small n (a .v) (h .v-fits)))
+    ap₂ (λ (k : ℕ) (bs : List ℕ). decode-elements k bs) (sym both) (sym (encode-numbers-append 8 us vs))
+    ∙ numbers-bytes 8 (us ++ vs) (all-append (row-small n (a .u) (h .u-fits)) (row-small n (a .v) (h .v-fits)))
 
 decode-encode-class : (a : Class) → Shaped a → decode-class (encode-class a) ≡ a
 unfolding decode-class

@@ -11,7 +11,7 @@ use lib.{Dec.lit≤, ListN.length, ListN.take-append-drop, Seq.take-at, Seq.drop
 use Rattle.jacobian.specs.{Curves.coefficients, declared.Curve.Curve}
 use Rattle.stored_form.specs.{Number.encode-number, Head.degree-length, Head.count-length, Head.body-length, Head.encode-field, Elements.encode-elements, Fields.degree-field, Fields.count-field, Fields.released-field}
 use Rattle.stored_form.specs.{Classes.curve-field, Classes.curve-fields-bytes, Cuts.fields-end, Cuts.take-fields, Cuts.drop-fields}
-use Rattle.stored_form.proofs.{Digits.length-bytes, NumberLists.length-encoded, Lengths.length-stored}
+use Rattle.stored_form.proofs.{Digits.length-bytes, NumberLists.length-encode-numbers, Lengths.length-stored}
 use Rattle.stored_form_theorems.specs.Fields.{Field}
 use Rattle.stored_form_theorems.proofs.{Bodies.stored-length, Places.apart, Places.whole}
 
@@ -66,4 +66,4 @@ module _ (rest : List ℕ) where
   curve-cut c =
       let f = apart (degree-field (c .degree)) (curve-field c) (front (curve-fields-bytes c)) in
       field 0x40 (encode-number degree-length (c .degree)) (omega (arith, length-bytes degree-length (c .degree))) (f .1)
-      (field 0x41 (encode-elements (coefficients c)) (omega (arith, length-encoded 8 (coefficients c))) (f .2) none)
+      (field 0x41 (encode-elements (coefficients c)) (omega (arith, length-encode-numbers 8 (coefficients c))) (f .2) none)

@@ -70,7 +70,7 @@ module _ (h : Record) (s : List ℕ) (at : ℕ) where
 
   pub drawing-of-39 : at + 3 ≤ length s → getD s at 0 ≡ 0x46 → body-length s at ≡ 39 → read-field 0x46 h s at ≡ refused 104
   unfolding rules
-  drawing-of-39 fits expected long = field-refused 0x46 h s at (head-104 0x46 h s at (sym long) fits expected refl)
+  drawing-of-39 fits expected long = field-refused 0x46 h s at (head-104 0x46 (rules 0x46 .allows h) s at (sym long) fits expected refl)
 
 pub space-and-tilde : printable (0x20 ∷ 0x7E ∷ []) ≡ true
 unfolding printable

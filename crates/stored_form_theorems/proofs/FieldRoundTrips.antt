@@ -13,7 +13,7 @@ use Rattle.stored_form.specs.{Head.degree-length, Head.count-length, Head.encod
 use Rattle.stored_form.proofs.{Lengths.is-degree-length, Lengths.is-curve-length, Lengths.is-count-length, Lengths.is-released-length, Lengths.class-lengths, Lengths.operation-lengths, Lengths.by-tag, Lengths.allows-short}
 use Rattle.stored_form.proofs.{DrawingBytes.name-decoded, Readings.then-found, Readings.checked-none, Readers.field-found}
 use Rattle.stored_form_theorems.specs.Fields.{Field, FieldEncodes}
-use Rattle.stored_form_theorems.proofs.{Numbers.bytes-number, Elements.bytes-elements, ClassRoundTrips.encode-decode-class, Bodies.body-written, Bodies.body-read}
+use Rattle.stored_form_theorems.proofs.{Numbers.bytes-number, Elements.bytes-numbers, ClassRoundTrips.encode-decode-class, Bodies.body-written, Bodies.body-read}
 
 -- a number encoded in as many bytes as it was decoded from
 number-body : (k : ℕ) (body : List ℕ) → length body ≡ k → Bytes body → encode-number k (decode-number body) ≡ body
@@ -25,7 +25,7 @@ unfolding rules curve-of-degree curve-with decode-curve coefficients decode-numb
 encode-with-field tag body h a b =
     by-tag h (λ t. rules t .allows h (length body) ≡ true → rules t .body (rules t .with-field body h) ≡ body)
     (λ e. number-body degree-length body (is-degree-length h e) b)
-    (λ e. bytes-elements coefficient-count body (is-curve-length h e) b)
+    (λ e. bytes-numbers 8 coefficient-count body (is-curve-length h e) b)
     (λ e. name-decoded body)
     (λ e. number-body count-length body (is-count-length h e) b)
     (λ e. number-body count-length body (is-released-length h e) b)

@@ -19,9 +19,9 @@ use Rattle.stored_form.specs.Fields.{degree-field, count-field, released-field,
 use Rattle.stored_form.specs.Classes.{decode-curve, curve-field, curve-fields-bytes, decode-class, encode-class, class-field}
 use Rattle.stored_form.specs.Record.{decode-drawing, drawing-name, empty-record, curve-of-degree, with-curve, with-drawing, with-count, with-released, with-class, with-operation}
 use Rattle.stored_form.specs.{Tags.rules, declared.Record.Record}
-use Rattle.stored_form.proofs.{Digits.length-bytes, NumberLists.length-encoded, Readings.test-passed, DrawingBytes.name-decoded, Lengths.class-lengths, Lengths.operation-lengths, Lengths.is-drawing-length}
+use Rattle.stored_form.proofs.{Digits.length-bytes, NumberLists.length-encode-numbers, Readings.test-passed, DrawingBytes.name-decoded, Lengths.class-lengths, Lengths.operation-lengths, Lengths.is-drawing-length}
 use Rattle.stored_form_theorems.specs.{Fields.FieldLaw, Records.RecordEncodes}
-use Rattle.stored_form_theorems.proofs.{Numbers.number-bytes-small, Elements.Small, Elements.elements-bytes, Elements.fits, ClassRoundTrips.decode-body, ClassRoundTrips.body-allowed}
+use Rattle.stored_form_theorems.proofs.{Numbers.number-bytes-small, Elements.Small, Elements.numbers-bytes, Elements.fits, ClassRoundTrips.decode-body, ClassRoundTrips.body-allowed}
 use Rattle.stored_form_theorems.proofs.FieldLaws.{field-law, more, first-value}
 
 -- ---- values that pass fit their bytes
@@ -46,7 +46,7 @@ curve-fits c ok =
 
 decode-encode-curve : (c : Curve) → CurvePasses c → decode-curve (c .degree) (encode-elements (coefficients c)) ≡ c
 unfolding decode-curve coefficients curve-with
-decode-encode-curve c ok = rw (elements-bytes (coefficients c) (curve-fits c ok))
+decode-encode-curve c ok = rw (numbers-bytes 8 (coefficients c) (curve-fits c ok))
 
 pub degree-passes : (c : Curve) → CurvePasses c → DegreePasses (c .degree)
 unfolding curve-refusal degree-refusal
@@ -70,7 +70,7 @@ module _ (h : Record) where
       (λ m. refl) (λ c. refl) (λ b. refl)
       (λ c ok.
       let said = ap (λ (d : ℕ). decode-curve d (encode-elements (coefficients c))) (sym (ok .0)) ∙ decode-encode-curve c (ok .1) in
-      (said, ok .1, rw (length-encoded 8 (coefficients c)) refl))
+      (said, ok .1, rw (length-encode-numbers 8 (coefficients c)) refl))
       (λ b none fits. (refl, none))
 
   pub drawing-law : FieldLaw 0x46 h DrawingPasses drawing-field (λ xs. with-drawing (decode-drawing xs) h) (λ m. drawing-name (m .drawing))

@@ -1,5 +1,6 @@
 -- What is encoded is a list of numbers below 256.
--- `number-bytes`: the bytes of a number are. `bytes-append`: two such lists together are.
+-- `number-bytes`, `numbers-are-bytes`: the bytes of a number are, and those of numbers one after the other.
+-- `bytes-append`: two such lists together are.
 -- `field-bytes`: so is a field whose tag and body are bytes.
 -- `class-bytes`, `first-bytes`: so are the field of a class, and the fields of degree and curve.
 use Prim.Native.Nat.{ℕ, zero, suc, _/_, _^_, _<_}
@@ -22,10 +23,10 @@ number-bytes zero n i = lit< tt
 number-bytes (suc k) n zero = mod-lt (n / 256 ^ k) (lit< tt)
 number-bytes (suc k) n (suc i) = number-bytes k n i
 
-elements-are-bytes : (xs : List ℕ) → Bytes (encode-elements xs)
+pub numbers-are-bytes : (w : ℕ) (xs : List ℕ) → Bytes (encode-numbers w xs)
 unfolding encode-numbers
-elements-are-bytes [] i = lit< tt
-elements-are-bytes (x ∷ xs) i = bytes-append (encode-number 8 x) (encode-elements xs) (number-bytes 8 x) (elements-are-bytes xs) i
+numbers-are-bytes w [] i = lit< tt
+numbers-are-bytes w (x ∷ xs) i = bytes-append (encode-number w x) (encode-numbers w xs) (number-bytes w x) (numbers-are-bytes w xs) i
 
 pub field-bytes : (tag : ℕ) (body : List ℕ) → tag < 256 → Bytes body → Bytes (encode-field tag body)
 unfolding encode-field head-bytes
@@ -36,11 +37,11 @@ pub class-bytes : (tag : ℕ) (a : Class) → tag < 256 → Bytes (class-field t
 unfolding class-field
 class-bytes tag a t =
     field-bytes tag _ t
-    (bytes-append (encode-elements (encode-row (a .degree) (a .u))) _ (elements-are-bytes (encode-row (a .degree) (a .u)))
-    (elements-are-bytes (encode-row (a .degree) (a .v))))
+    (bytes-append (encode-elements (encode-row (a .degree) (a .u))) _ (numbers-are-bytes 8 (encode-row (a .degree) (a .u)))
+    (numbers-are-bytes 8 (encode-row (a .degree) (a .v))))
 
 pub first-bytes : (c : Curve) → Bytes (curve-fields-bytes c)
 unfolding curve-fields-bytes degree-field curve-field
 first-bytes c =
     bytes-append (degree-field (c .degree)) (curve-field c) (field-bytes 0x40 _ (lit< tt) (number-bytes degree-length (c .degree)))
-    (field-bytes 0x41 _ (lit< tt) (elements-are-bytes _))
+    (field-bytes 0x41 _ (lit< tt) (numbers-are-bytes 8 _))

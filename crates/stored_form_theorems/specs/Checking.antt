@@ -47,14 +47,18 @@ after-field s at = at + 3 + body-length s at
 abbrev pub with-field-at : ℕ → Record → List ℕ → ℕ → Record
 with-field-at tag h s at = rules tag .with-field (part s (at + 3) (body-length s at)) h
 
--- the checks of the field at an offset, where this tag is expected after the record h
-abbrev pub field-checks : ℕ → Record → List ℕ → ℕ → List Check
-field-checks tag h s at =
+-- the checks of the head at an offset, where this tag is expected with a length that is allowed
+abbrev pub head-checks : ℕ → (ℕ → Type 0) → List ℕ → ℕ → List Check
+head-checks tag Allowed s at =
     check 102 (at + 3 ≤ length s)
     ∷ check 103 (getD s at 0 ≡ tag)
-    ∷ check 104 (LengthAllowed tag (body-length s at))
+    ∷ check 104 (Allowed (body-length s at))
     ∷ check 105 (after-field s at ≤ length s)
-    ∷ value-checks tag (with-field-at tag h s at)
+    ∷ []
+
+-- the checks of the field at an offset, where this tag is expected after the record h
+abbrev pub field-checks : ℕ → Record → List ℕ → ℕ → List Check
+field-checks tag h s at = head-checks tag (LengthAllowed tag) s at ++ value-checks tag (with-field-at tag h s at)
 
 -- ---- fields with these tags, one after the other
 

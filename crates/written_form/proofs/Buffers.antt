@@ -8,7 +8,7 @@ use lib.ListN.{length, getD, take, drop, set, replicate, length-append, length-r
 use Rattle.jacobian.specs.{Answer.verdict, declared.Class.Class, declared.Outcome.Outcome, declared.Outcome.the-variants.Accepted, declared.Outcome.the-variants.Refused}
 use Rattle.stored_form.specs.{Number.encode-numbers, Number.encode-number, Head.class-room, Head.head-bytes, Head.encode-field, Elements.encode-elements, Classes.encode-row, Classes.class-field}
 use Rattle.written_form.specs.{Effect.Response, Effect.response, Effect.bytes-response, Effect.refusal-response, Effect.on-outcome, Effect.response-of, Effect.room, internal.Buffers.filled, declared.effect.Output.Output}
-use Rattle.stored_form.proofs.{Digits.length-bytes, NumberLists.length-encoded, NumberLists.encoded-append, Stores.sets-append, Stores.store-more, Lengths.length-stored, ClassBytes.length-row, ClassBytes.below-three}
+use Rattle.stored_form.proofs.{Digits.length-bytes, NumberLists.length-encode-numbers, NumberLists.encode-numbers-append, Stores.sets-append, Stores.store-more, Lengths.length-stored, ClassBytes.length-row, ClassBytes.below-three}
 
 -- ---- the bytes of a number
 
@@ -80,11 +80,11 @@ module _ (d : List ℕ) (at n : ℕ) (r : List ℕ) (long : length r ≡ 3) (le 
       let next : from (i - 1) ≡ xs ++ x ∷ [] =
       ap reverse (drop-cons (take n r) (i - 1) 0 (omega arith) ∙ ap₂ (λ (y j : ℕ). y ∷ drop j (take n r)) (getD-take n r (i - 1) 0 (omega arith)) s) ∙ reverse-cons x (drop i (take n r)) in
       let many : length xs ≡ n - i = length-reverse (drop i (take n r)) ∙ length-drop i (take n r) ∙ ap (λ (k : ℕ). k - i) l in
-      let offset : at + 8 * (n - i) ≡ at + length (encode-elements xs) = omega (arith, length-encoded 8 xs) in
+      let offset : at + 8 * (n - i) ≡ at + length (encode-elements xs) = omega (arith, length-encode-numbers 8 xs) in
       f
       ∙ ap₂ (λ (l : List ℕ) (k : ℕ). sets l k (encode-number 8 x)) e offset
       ∙ sets-append d at (encode-elements xs) (encode-number 8 x)
-      ∙ ap (sets d at) (sym (ap encode-elements next ∙ encoded-append 8 xs (x ∷ []) ∙ ap (λ (l : List ℕ). encode-elements xs ++ l) (append-nil (encode-number 8 x))))
+      ∙ ap (sets d at) (sym (ap encode-elements next ∙ encode-numbers-append 8 xs (x ∷ []) ∙ ap (λ (l : List ℕ). encode-elements xs ++ l) (append-nil (encode-number 8 x))))
 
   pub all-stored : {i : ℕ} {t : List ℕ} → i ≤ 0 → t ≡ sets d at (encode-elements (from i)) → t ≡ sets d at (encode-elements (encode-row n r))
   unfolding encode-row
@@ -103,7 +103,7 @@ module _ (buffer : List ℕ) (at : ℕ) (a : Class) (n : ℕ) (low : n ≡ min (
   Y = encode-elements (encode-row n (a .v))
 
   length-half : (r : List ℕ) → length r ≡ 3 → length (encode-elements (encode-row n r)) ≡ 8 * n
-  length-half r l = length-encoded 8 (encode-row n r) ∙ ap (λ (k : ℕ). 8 * k) (length-row n r l (omega arith))
+  length-half r l = length-encode-numbers 8 (encode-row n r) ∙ ap (λ (k : ℕ). 8 * k) (length-row n r l (omega arith))
 
   length-body : length (X ++ Y) ≡ 8 * n + 8 * n
   length-body = length-append X Y ∙ ap₂ (λ (i j : ℕ). i + j) (length-half (a .u) (f .1)) (length-half (a .v) (g .1))
