@@ -20,5 +20,6 @@ pub mod Operations
 -- The checks of a record, each under its condition; which numbers they refuse with; the lengths that are written.
 pub mod CheckedReadings
 pub mod Checking
+pub mod Pairs
 pub mod ClassLengths
 pub mod FieldEdges

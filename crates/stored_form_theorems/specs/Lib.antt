@@ -3,4 +3,5 @@
 pub mod Fields
 pub mod Records
 pub mod Checking
+pub mod Pairs
 pub mod Numbers
