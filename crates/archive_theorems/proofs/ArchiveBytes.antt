@@ -8,8 +8,8 @@ use lib.Dec.{leb, lit<}
 use lib.ListN.{length, getD}
 use borrow.Author.Tests.{leb-true}
 use Rattle.jacobian.proofs.ByValue.Checks.{both}
-use Rattle.stored_form.specs.{Number.Bytes, Head.count-length, Fields.printable, Fields.count-field, Fields.drawing-field, Classes.curve-fields-bytes, Classes.class-field, Classes.operation-fields}
-use Rattle.stored_form_theorems.proofs.{Written.bytes-append, Written.number-bytes, Written.field-bytes, Written.class-bytes, Written.first-bytes, Operations.operations-bytes}
+use Rattle.stored_form.specs.{Number.Bytes, Head.count-length, Fields.printable, Fields.count-field, Fields.drawing-field, Classes.curve-fields-bytes, Classes.class-field, Classes.operation-fields, Pairs.pairs-field}
+use Rattle.stored_form_theorems.proofs.{Written.bytes-append, Written.number-bytes, Written.field-bytes, Written.class-bytes, Written.first-bytes, Operations.operations-bytes, Pairs.pairs-are-bytes}
 use Rattle.archive.specs.Archive.{Archive}
 use Rattle.archive_theorems.specs.Written.{archive-bytes}
 
@@ -35,4 +35,6 @@ archive-is-bytes a ok =
     bytes-append (curve-fields-bytes (a .curve)) (drawing-field (a .drawing)) (first-bytes (a .curve)) (field-bytes 0x46 _ (lit< tt) (printable-bytes (a .drawing) ok)) in
     let counted : Bytes (name ++ count) = bytes-append name count named (field-bytes 0x42 _ (lit< tt) (number-bytes count-length (length (a .operations)))) in
     let sealed : Bytes (name ++ count ++ seal) = bytes-append (name ++ count) seal counted (class-bytes 0x43 (a .seal) (lit< tt)) in
-    bytes-append (name ++ count ++ seal) (operation-fields (a .operations)) sealed (operations-bytes (a .operations))
+    let ops : List ℕ = operation-fields (a .operations) in
+    let told : Bytes (name ++ count ++ seal ++ ops) = bytes-append (name ++ count ++ seal) ops sealed (operations-bytes (a .operations)) in
+    bytes-append (name ++ count ++ seal ++ ops) (pairs-field (a .pairs)) told (pairs-are-bytes (a .pairs))

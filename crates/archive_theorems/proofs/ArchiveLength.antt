@@ -5,11 +5,11 @@ use mathlib.Core.List.{List, _++_}
 use native.Mathlib.Omega.{arith}
 use lib.ListN.{length, length-append}
 use Rattle.jacobian.specs.{Curves.coefficients, declared.Curve.Curve}
-use Rattle.stored_form.specs.{Number.encode-numbers, Number.encode-number, Number.Bytes, Reading.found, Head.degree-length, Head.curve-length, Head.head-bytes, Head.encode-field, Elements.encode-elements}
-use Rattle.stored_form.specs.{Fields.degree-field, Fields.drawing-field, Fields.count-field, Fields.count-limit}
+use Rattle.stored_form.specs.{Number.encode-numbers, Number.encode-number, Number.Bytes, Reading.found, Head.degree-length, Head.curve-length, Head.head-bytes, Head.encode-field}
+use Rattle.stored_form.specs.{Fields.degree-field, Fields.drawing-field, Fields.count-field, Fields.count-limit, Pairs.pairs-field}
 use Rattle.stored_form.specs.Classes.{curve-field, curve-fields-bytes, class-field, operation-fields}
 use Rattle.stored_form.proofs.Lengths.{length-stored, length-count}
-use Rattle.stored_form_theorems.proofs.{ClassRoundTrips.class-short, Operations.operations-short}
+use Rattle.stored_form_theorems.proofs.{ClassRoundTrips.class-short, Operations.operations-short, Pairs.pairs-short}
 use Rattle.archive.specs.Archive.{Archive, read-archive}
 use Rattle.archive_theorems.specs.Written.{archive-bytes, Storable}
 use Rattle.archive_theorems.proofs.ArchiveRoundTrips.{archive-written}
@@ -26,17 +26,20 @@ stored-short a ok =
     let count : List ℕ = count-field (length (a .operations)) in
     let seal : List ℕ = class-field 0x43 (a .seal) in
     let ops : List ℕ = operation-fields (a .operations) in
+    let pairs : List ℕ = pairs-field (a .pairs) in
     omega (
       arith,
       length-append first name,
       length-append (first ++ name) count,
       length-append (first ++ name ++ count) seal,
       length-append (first ++ name ++ count ++ seal) ops,
+      length-append (first ++ name ++ count ++ seal ++ ops) pairs,
       first-length (a .curve),
       length-stored 0x46 (a .drawing),
       length-count (length (a .operations)),
       class-short 0x43 (a .curve) (a .seal) (ok .seal-allowed .none),
       operations-short (a .curve) (a .operations) (ok .operations-allowed),
+      pairs-short (a .pairs) (ok .pairs-few),
     )
 
 pub archive-short : (s : List ℕ) {a : Archive} {end : ℕ} → Bytes s → read-archive s ≡ found a end → length s < 65536

@@ -20,4 +20,4 @@ module _ (s : List ℕ) {h : Record} {at : ℕ} (first : read-fields curve-layou
 
   pub drawing-above-limit : drawing-limit < body-length s at → archive-refusal s ≡ 104
   unfolding rules
-  drawing-above-limit e = archive-refused (field-refused 0x46 h s at (head-104 0x46 h s at refl fits expected (lt-leb _ _ e)))
+  drawing-above-limit e = archive-refused (field-refused 0x46 h s at (head-104 0x46 (rules 0x46 .allows h) s at refl fits expected (lt-leb _ _ e)))

@@ -10,7 +10,7 @@ use Rattle.jacobian.specs.Answer.{Accepts}
 use Rattle.stored_form.specs.{Reading.found, Record.empty-record, Tags.rules, Reader.read-fields, Reader.read-operations, Reader.header-layout, declared.Record.Record}
 use Rattle.stored_form.proofs.{Readings.both-found, Readings.same-found, Passing.Holds, Passing.fields-hold}
 use Rattle.stored_form_theorems.proofs.Operations.{operations-sound}
-use Rattle.archive.specs.Archive.{Archive, Tail, read-tail, archive-of, read-archive}
+use Rattle.archive.specs.Archive.{Archive, read-tail, archive-of, read-archive}
 
 -- the readings of an archive's header, of its operations and of what follows them
 pub record Parts (s : List ℕ) (a : Archive) (end : ℕ) : Type 0 where
@@ -18,11 +18,11 @@ pub record Parts (s : List ℕ) (a : Archive) (end : ℕ) : Type 0 where
   pub first : ℕ
   pub operations : List Class
   pub last : ℕ
-  pub tail : Tail
+  pub pairs : List ℕ
   pub header-read : read-fields header-layout empty-record s 0 ≡ found values first
   pub operations-read : read-operations (values .count) values s first ≡ found operations last
-  pub tail-read : read-tail s last ≡ found tail end
-  pub archive : a ≡ archive-of values operations
+  pub tail-read : read-tail (values .count) s last ≡ found pairs end
+  pub archive : a ≡ archive-of values operations pairs
 
 module _ (s : List ℕ) {a : Archive} {end : ℕ} (e : read-archive s ≡ found a end) where
   pub parts-of : Parts s a end
@@ -30,14 +30,14 @@ module _ (s : List ℕ) {a : Archive} {end : ℕ} (e : read-archive s ≡ found 
   parts-of =
       let h = both-found _ (read-fields header-layout empty-record s 0) e in
       let ops = both-found _ (read-operations (h .0 .count) (h .0) s (h .1)) (h .3) in
-      let t = both-found _ (read-tail s (ops .1)) (ops .3) in
+      let t = both-found _ (read-tail (h .0 .count) s (ops .1)) (ops .3) in
       let same = same-found (t .3) in
       record {
         values = h .0;
         first = h .1;
         operations = ops .0;
         last = ops .1;
-        tail = t .0;
+        pairs = t .0;
         header-read = h .2;
         operations-read = ops .2;
         tail-read = t .2 ∙ ap (found (t .0)) (same .1);

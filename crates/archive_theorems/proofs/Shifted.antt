@@ -2,8 +2,8 @@
 use Prim.Native.Nat.{ℕ, zero, suc, _+_, _≤_, _<_}
 use mathlib.Core.Path.{_≡_, refl}
 use mathlib.Core.Bool.{Bool, true, false}
-use lib.Dec.{ltb}
-use borrow.Author.Tests.{lt-ltb, le-ltb, ltb-true, ltb-false}
+use lib.Dec.{leb}
+use borrow.Author.Tests.{le-leb, lt-leb, leb-true, leb-false}
 use Rattle.stored_form.specs.{Reading.Reading, Reading.found, Reading.refused, Reading.checked, Reading._then_}
 use Rattle.archive_theorems.specs.Places.{shift}
 
@@ -18,9 +18,9 @@ unfolding shift _then_
 then-shift k (found a n) F G e h = rw e (h a n)
 then-shift k (refused n) F G e h = rw e
 
-pub same-test : (a b c d : ℕ) → (c < d → a < b) → (d ≤ c → b ≤ a) → ltb a b ≡ ltb c d
-same-test a b c d less most = go (ltb c d) refl
+pub same-test : (a b c d : ℕ) → (c ≤ d → a ≤ b) → (d < c → b < a) → leb a b ≡ leb c d
+same-test a b c d most less = go (leb c d) refl
   where
-    go : (t : Bool) → ltb c d ≡ t → ltb a b ≡ t
-    go true h = lt-ltb a b (less (ltb-true c d h))
-    go false h = le-ltb a b (most (ltb-false c d h))
+    go : (t : Bool) → leb c d ≡ t → leb a b ≡ t
+    go true h = le-leb a b (most (leb-true c d h))
+    go false h = lt-leb a b (less (leb-false c d h))

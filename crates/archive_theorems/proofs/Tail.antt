@@ -1,35 +1,26 @@
--- What follows the operations.
--- `tail-written`: if it is read, no byte follows.
--- `tail-read-back`: if no byte follows, it is read.
--- `tail-after`, `tail-within`: it is read from a part of the input as from the whole.
-use Prim.Native.Nat.{ℕ, _+_, _≤_}
-use mathlib.Core.Path.{_≡_}
+-- What follows the operations: their pairs, and the end.
+-- `tail-written`: pairs that are read with the end break no rule, stand there as their field, and no byte follows.
+-- `tail-read-back`: pairs that break no rule, whose field is the rest of the input, are read back.
+use Prim.Native.Nat.{ℕ, _≤_, _<_}
+use mathlib.Core.Path.{_≡_, subst₂, _∙_}
 use mathlib.Core.List.{List}
+use native.Mathlib.Nat.{le-refl}
 use native.Mathlib.Omega.{arith}
-use lib.ListN.{length, take, drop, length-take, length-drop}
-use Rattle.stored_form.specs.{Reading.found, Fields.end-refusal, Fields.ended, Tags.longest-body}
-use Rattle.stored_form_theorems.proofs.Places.{end-found, end-read-back}
-use Rattle.archive.specs.Archive.{Tail, read-tail}
-use Rattle.archive_theorems.specs.Places.{shift}
-use Rattle.archive_theorems.proofs.Shifted.{checked-shift, same-test}
+use lib.ListN.{length}
+use Rattle.stored_form.specs.{Number.Bytes, Reading.found, Pairs.pairs-field, Pairs.read-pairs}
+use Rattle.stored_form.proofs.Readings.{then-found, both-found}
+use Rattle.stored_form_theorems.specs.{Fields.Field, Pairs.PairsAllowed}
+use Rattle.stored_form_theorems.proofs.{Pairs.PairsWritten, Pairs.pairs-written, Pairs.pairs-read-back, Places.end-found, Places.end-read-back}
+use Rattle.archive.specs.Archive.{read-tail}
 
-module _ (s : List ℕ) (at : ℕ) where
-  pub tail-written : {t : Tail} {end : ℕ} → read-tail s at ≡ found t end → (at ≡ end) × (length s ≤ at)
+module _ (n : ℕ) (s : List ℕ) (at : ℕ) {pairs : List ℕ} where
+  pub tail-written : {end : ℕ} → Bytes s → read-tail n s at ≡ found pairs end → PairsWritten n s at pairs end × (length s ≤ end)
   unfolding read-tail
-  tail-written e = let f = end-found s tt at e in (f .1, f .2)
+  tail-written b e =
+      let p = both-found _ (read-pairs n s at) e in
+      let f = end-found s (p .0) (p .1) (p .3) in
+      (subst₂ (λ (x : List ℕ) (y : ℕ). PairsWritten n s at x y) (f .0) (f .1) (pairs-written n s at b (p .2)), omega (arith, f .1, f .2))
 
-  pub tail-read-back : length s ≤ at → read-tail s at ≡ found tt at
+  pub tail-read-back : n < 65536 → PairsAllowed n pairs → length pairs ≤ 2048 → Field s at (pairs-field pairs) (length s) → read-tail n s at ≡ found pairs (length s)
   unfolding read-tail
-  tail-read-back h = end-read-back s tt at h
-
-  -- with offsets shifted by k
-  pub tail-after : (k : ℕ) → read-tail s (k + at) ≡ shift k (read-tail (drop k s) at)
-  unfolding read-tail ended end-refusal
-  tail-after k =
-      rw (same-test (k + at) (length s) at (length (drop k s)) (λ h. omega (arith, length-drop k s)) (λ h. omega (arith, length-drop k s)))
-      (checked-shift k (end-refusal (drop k s) at) tt at)
-
-  -- from the first m bytes, if they have room for the longest field
-  pub tail-within : (m : ℕ) → at + (3 + longest-body) ≤ m → read-tail (take m s) at ≡ read-tail s at
-  unfolding read-tail ended end-refusal
-  tail-within m room = rw (same-test at (length (take m s)) at (length s) (λ h. omega (arith, length-take m s)) (λ h. omega (arith, length-take m s)))
+  tail-read-back under ok few f = then-found _ (pairs-read-back n s at pairs under ok few (f .stands) (f .ends)) ∙ end-read-back s pairs (length s) (le-refl _)

@@ -7,9 +7,11 @@ use lib.ListN.{length}
 use Rattle.lists.specs.Lists.{All}
 use Rattle.stored_form.specs.{Head.drawing-limit, Fields.drawing-field, Fields.count-field, Fields.printable}
 use Rattle.stored_form.specs.{Classes.curve-fields-bytes, Classes.class-field, Classes.operation-fields, Passing.CurvePasses, Passing.CountPasses, Passing.ClassPasses}
+use Rattle.stored_form.specs.Pairs.{pairs-field}
+use Rattle.stored_form_theorems.specs.Pairs.{PairsAllowed}
 use Rattle.archive.specs.Archive.{Archive}
 
--- an archive encoded: 0x40, 0x41, 0x46, 0x42, 0x43 and one 0x44 for each operation
+-- an archive encoded: 0x40, 0x41, 0x46, 0x42, 0x43, one 0x44 for each operation, and 0x48 if there are pairs
 unfoldable pub archive-bytes : Archive → List ℕ
 archive-bytes a =
     curve-fields-bytes (a .curve)
@@ -17,6 +19,7 @@ archive-bytes a =
     ++ count-field (length (a .operations))
     ++ class-field 0x43 (a .seal)
     ++ operation-fields (a .operations)
+    ++ pairs-field (a .pairs)
 
 -- an archive whose values no check refuses
 pub record Storable (a : Archive) : Type 0 where
@@ -26,3 +29,5 @@ pub record Storable (a : Archive) : Type 0 where
   pub count-within : CountPasses (length (a .operations))
   pub seal-allowed : ClassPasses (a .curve) (a .seal)
   pub operations-allowed : All (ClassPasses (a .curve)) (a .operations)
+  pub pairs-allowed : PairsAllowed (length (a .operations)) (a .pairs)
+  pub pairs-few : length (a .pairs) ≤ 2048

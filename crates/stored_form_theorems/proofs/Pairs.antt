@@ -1,23 +1,23 @@
 -- The pairs of an archive and their bytes (docs/SPECIFICATION.md, 5, 6 and 9).
 -- `before-decides`: the order of pairs is that of their numbers.
--- `pairs-decide`: the test of the definition is what the rules require.
+-- `pairs-decide`, `pairs-length-decides`: the tests of the definitions are what the rules require.
 -- `pairs-read-back`: pairs that break no rule are read back from their field.
 -- `pairs-written`: pairs that are read break no rule, and stand there as their field.
 -- `pairs-reads`: they are read by their checks in order.
 -- `pairs-are-bytes`, `pairs-short`: their field is a list of bytes, of which there are at most 8,195.
 use Prim.Native.Nat.{ℕ, zero, suc, _+_, _*_, _/_, _%_, _^_, _≤_, _<_}
-use mathlib.Core.{Path._≡_, Path.refl, Path.sym, Path.ap, Path.subst, Path.subst₂, Path._∙_, Bool.Bool, Bool.true, Bool.false, Bool.cond, Bool.not, Bool._&&_, Bool.true≢false}
-use mathlib.Core.{List.List, List.[], List._∷_, List._++_, Logic._↔_, Logic._⊎_, Logic.inl, Logic.inr}
+use mathlib.Core.{Path._≡_, Path.refl, Path.sym, Path.ap, Path.subst, Path.subst₂, Path._∙_, Bool.Bool, Bool.true, Bool.false, Bool.cond, Bool.not, Bool._&&_}
+use mathlib.Core.{List.List, List.[], List._∷_, List._++_, Logic._↔_, Logic.inl, Logic.inr}
 use native.Mathlib.Omega.{arith}
 use native.Mathlib.Nat.{add-zero}
 use lib.{Dec.eqb, Dec.leb, Dec.ltb, Dec.lit<, ListN.length, ListN.getD}
-use borrow.Author.Tests.{lt-ltb, le-ltb, ltb-true, ltb-false, le-leb, lt-leb, leb-true, leb-false, eq-eqb, eqb-true, not-false}
+use borrow.Author.Tests.{lt-ltb, ltb-true, ltb-false, le-leb, leb-true, eq-eqb, eqb-true, not-false}
 use Rattle.lists.specs.Lists.{All, none, more}
 use Rattle.jacobian.specs.Checks.{unless, check}
 use Rattle.jacobian.proofs.{Checking.refusal-none, Checking.refusal-unless, ByValue.Checks.both}
 use Rattle.stored_form.specs.{Number.decode-numbers, Number.encode-numbers, Number.Bytes, Number.part, Reading.found, Reading.refuse, Head.body-length, Head.encode-field, Head.BytesAt, Head.pairs-limit, Reader.read-head-by}
-use Rattle.stored_form.specs.Pairs.{pair-length, later, earlier, pairs-length, pair-within, pairs-after, pairs-refusal, decode-pairs, pairs-field, read-pairs-field, read-pairs}
-use Rattle.stored_form.proofs.{Readings.then-found, Readings.both-found, Readings.same-found, Readings.checked-found, Readings.checked-none, Readings.test-passed, Readings.refuse-found, Heads.head-found, Parts.length-part}
+use Rattle.stored_form.specs.Pairs.{later, earlier, pairs-length, pair-within, pairs-after, pairs-refusal, decode-pairs, pairs-field, read-pairs-field, read-pairs}
+use Rattle.stored_form.proofs.{Readings.then-found, Readings.both-found, Readings.same-found, Readings.checked-found, Readings.checked-none, Readings.test-passed, Readings.refuse-found, Heads.head-found}
 use Rattle.stored_form.proofs.{Lengths.length-stored, NumberLists.length-encode-numbers, NumberLists.length-decode-numbers, PairBytes.no-pairs, PairBytes.field-due}
 use Rattle.stored_form_theorems.specs.{Fields.Field, Checking.after-field, Checking.head-checks}
 use Rattle.stored_form_theorems.specs.Pairs.{PairsLength, PairWithin, Before, PairsAllowed, pairs-said, after-pairs, pairs-checks}
@@ -100,7 +100,7 @@ module _ (n : ℕ) where
           let h = w .earlier-some in
           omega arith
 
-pairs-length-decides : (n : ℕ) → (pairs-length n ≡ true) ↔ PairsLength n
+pub pairs-length-decides : (n : ℕ) → (pairs-length n ≡ true) ↔ PairsLength n
 unfolding pairs-length
 pairs-length-decides n = (
   λ e.
