@@ -1,6 +1,7 @@
 -- The pairs of an archive and their bytes (docs/SPECIFICATION.md, 5, 6 and 9).
 -- `before-decides`: the order of pairs is that of their numbers.
 -- `pairs-decide`, `pairs-length-decides`: the tests of the definitions are what the rules require.
+-- `pairs-small`: pairs of fewer than 65,536 operations fit four bytes. `some-field`: the field of some pairs.
 -- `pairs-read-back`: pairs that break no rule are read back from their field.
 -- `pairs-written`: pairs that are read break no rule, and stand there as their field.
 -- `pairs-reads`: they are read by their checks in order.
@@ -113,12 +114,12 @@ pairs-length-decides n = (
 -- ---- bytes
 
 -- pairs of fewer than 65,536 operations fit four bytes
-small : (n : ℕ) → n < 65536 → {ps : List ℕ} → All (PairWithin n) ps → All (λ p. p < 256 ^ 4) ps
-small n h none = none
-small n h (more {a = p} w r) = let l = w .later-within in more {a = p} (omega arith) (small n h r)
+pub pairs-small : (n : ℕ) → n < 65536 → {ps : List ℕ} → All (PairWithin n) ps → All (λ p. p < 256 ^ 4) ps
+pairs-small n h none = none
+pairs-small n h (more {a = p} w r) = let l = w .later-within in more {a = p} (omega arith) (pairs-small n h r)
 
 -- the field of some pairs
-some-field : (ps : List ℕ) → 0 < length ps → encode-field 0x48 (encode-numbers 4 ps) ≡ pairs-field ps
+pub some-field : (ps : List ℕ) → 0 < length ps → encode-field 0x48 (encode-numbers 4 ps) ≡ pairs-field ps
 unfolding pairs-field
 some-field [] h = absurd (omega arith)
 some-field (p ∷ ps) h = refl
@@ -135,7 +136,7 @@ module _ (n : ℕ) (s : List ℕ) (at : ℕ) where
       let r = head-read 0x48 pairs-length s at body (pairs-length-decides (length body) .1 (omega (arith, len), (omega (arith, len), omega (arith, len)))) (omega (arith, len))
       (subst (BytesAt s at) (sym field) stands) in
       let w = head-found 0x48 pairs-length s at (r .0) in
-      let read = ap (λ (k : ℕ). decode-numbers 4 k body) number ∙ numbers-bytes 4 ps (small n under (ok .within)) in
+      let read = ap (λ (k : ℕ). decode-numbers 4 k body) number ∙ numbers-bytes 4 ps (pairs-small n under (ok .within)) in
       field-due n s at (omega (arith, w .ends, w .fits)) (w .due)
       ∙ then-found _ (r .0)
       ∙ rw (r .1, read, pairs-decide n ps .1 ok, field) (checked-none 0 _ refl)
