@@ -1,6 +1,6 @@
-/* The layout of struct seal_written and of struct seal_register, and what an initialiser by position of the latter means
- * that was written before the released step came, with SEAL_VERSION 3: curve, count and seal. The status is 0 where it
- * gives these and the released step 0. */
+/* The layouts of seal_written and seal_register, and what an initialiser by position of the latter means that was
+ * written before the released step came, with SEAL_VERSION 3: curve, count and seal. The status is 0 where it gives
+ * these and the released step 0. */
 #include "seal_archive.h"
 #include "seal_register.h"
 
