@@ -229,7 +229,7 @@ pub fn archives(number: usize) -> Vec<(Vec<u8>, String)> {
         let drawing: Vec<u8> =
             (0..random.below(DRAWING_LIMIT + 1)).map(|_| 0x20 + random.below(95) as u8).collect();
         let seal = random.pick(&pool.classes).clone();
-        let archive = Archive { curve: pool.curve.clone(), drawing, seal, operations };
+        let archive = Archive { curve: pool.curve.clone(), drawing, seal, operations, pairs: vec![] };
         let bytes = mutated(&mut random, archive.fields(), pool);
         let report = report(&bytes);
         (bytes, report)

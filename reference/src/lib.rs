@@ -17,6 +17,7 @@
 //! - `stored`: the stored form's writer and checking reader.
 //! - `calls`: the eleven calls on byte areas.
 //! - `archive`: the archive, its walk and the walk report.
+//! - `suppression`: an archive with one operation suppressed.
 //! - `byte_cases`: records and archives, mutated or not, and what the byte calls and the walk report have to
 //!   answer for them.
 //! - `samples`: the archives that are kept in examples/.
@@ -40,6 +41,7 @@ pub mod random;
 pub mod samples;
 pub mod stamp;
 pub mod stored;
+pub mod suppression;
 pub mod view_archives;
 
 /// Writes what a program is given to the file stdin of a folder, and what is expected for that to the file stdout.

@@ -18,12 +18,12 @@
 //!   where it should halve them.
 
 use crate::archive::Archive;
-use crate::calls::seal_after_commit;
 use crate::class_cases::printed;
 use crate::field::{BENCH, WIDE};
 use crate::halving::half;
 use crate::jacobian::{Class, Curve};
 use crate::random::Random;
+use crate::suppression::walked_forward;
 
 /// The sum of a number of points of the curve.
 fn of_points(random: &mut Random, curve: &Curve, number: usize) -> Class {
@@ -32,9 +32,9 @@ fn of_points(random: &mut Random, curve: &Curve, number: usize) -> Class {
 
 /// The archive after these operations, oldest first, from a first seal.
 fn committed(curve: Curve, drawing: &str, first: &Class, oldest_first: &[Class]) -> Archive {
-    let seal = oldest_first.iter().fold(first.clone(), |seal, next| seal_after_commit(&curve, &seal, next));
+    let seal = walked_forward(&curve, first, oldest_first);
     let operations = oldest_first.iter().rev().cloned().collect();
-    Archive { curve, drawing: drawing.as_bytes().to_vec(), seal, operations }
+    Archive { curve, drawing: drawing.as_bytes().to_vec(), seal, operations, pairs: vec![] }
 }
 
 fn document_01() -> Archive {
@@ -44,6 +44,7 @@ fn document_01() -> Archive {
         drawing: b"A1".to_vec(),
         seal: class(&[0, 0, 1], &[1]),
         operations: vec![class(&[0, 1], &[1]), class(&[0, 1], &[])],
+        pairs: vec![],
     }
 }
 
