@@ -1,0 +1,37 @@
+/* Archives of many operations, up to the longest. */
+#include "edges.h"
+#include "models.h"
+
+static void many(void) {
+    static const int counts[] = {255, 256, 257, 1023, 1024};
+    for (size_t i = 0; i < sizeof counts / sizeof counts[0]; i++)
+        expect_numbers(degrees[i % 2], counts[i]);
+    end_test("k at 0, 1, n and n + 1, and far outside: 123, for n up to 1,024");
+}
+
+/* 1,024 operations of degree 3, 2,048 pairs and a drawing number of 38 characters. The pairs have the operations up to
+ * 65 as later ones, so that the earlier ones are held. */
+static void longest(void) {
+    for (int d = 0; d < 2; d++) {
+        struct model m = model(degrees[d], LIMIT);
+        m.drawing = "DRAWING NUMBER OF 38 CHARACTERS, ~ !@#";
+        m.seal = 3;
+        for (int k = 1; k <= LIMIT; k++)
+            m.operation[k] = k % 2 == 0 ? 3 : 4;
+        for (int later = 2; m.pairs < MOST_PAIRS; later++)
+            for (int earlier = 1; earlier < later && m.pairs < MOST_PAIRS; earlier++)
+                add_pair(&m, later, earlier);
+        struct bytes in = archive_of(&m);
+        if (in.length != 60547)
+            fault("the longest archive has %zu bytes", in.length);
+        static const uint64_t ks[] = {0, 1, 63, 64, 65, 66, 512, 1023, 1024, 1025};
+        for (size_t i = 0; i < sizeof ks / sizeof ks[0]; i++)
+            expect_without(&m, ks[i]);
+    }
+    end_test("the longest archive, of 60,547 bytes, with 2,048 pairs, and operations that they hold");
+}
+
+void test_limits(void) {
+    many();
+    longest();
+}
