@@ -30,7 +30,7 @@ static uint32_t number_of(const uint8_t *b) {
 }
 
 /* The cases on standard input, which have to be as many as said: k in eight bytes, high byte first; the lengths of
- * output and input, the refusal expected and the length expected, in four each; the input; the bytes expected. The areas
+ * output and input, the refusal and the length expected, in four each; the input; the bytes expected. The areas
  * lie at the one end or at the other, by turns. */
 static void test_cases(unsigned long number) {
     static uint8_t in[AREA], expected[AREA];
