@@ -3,8 +3,10 @@
 //!
 //! - `pool`: curves over both fields with classes of every degree, from which the records are made.
 //! - `mutation`: what is done to the fields and to the bytes of a record.
+//! - `pairs`: pairs of operations, which an archive may end in, in their order and otherwise.
 
 pub mod mutation;
+pub mod pairs;
 pub mod pool;
 
 use crate::archive::{report, Archive};
