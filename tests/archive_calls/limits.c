@@ -1,6 +1,11 @@
-/* Archives of many operations, up to the longest. */
+/* Every archive of three operations, and archives of many, up to the longest. */
 #include "edges.h"
 #include "models.h"
+
+static void three(void) {
+    expect_every_archive(5, 3);
+    end_test("every archive of three operations over the multiples of [x, 0], each operation suppressed");
+}
 
 static void many(void) {
     static const int counts[] = {255, 256, 257, 1023, 1024};
@@ -32,6 +37,7 @@ static void longest(void) {
 }
 
 void test_limits(void) {
+    three();
     many();
     longest();
 }

@@ -2,9 +2,9 @@
  * here from documents 01 and 02 (edges.h), and further cases come from a second implementation (reference/,
  * `archive_vectors`).
  *
- *     archive_calls                  the edges
- *     archive_calls NAME             those of one file, or the laws beside the calls of seal.h
- *     archive_calls cases N < FILE   the N cases of the file
+ *     archive_calls                       the edges
+ *     archive_calls NAME                  those of one file, or the laws beside the calls of seal.h
+ *     archive_calls cases KIND N < FILE   the N cases of the file, all of one kind
  *
  * A line is printed for each test. The last line is 'N passed, M failed', and the status is 0 where nothing failed.
  */
@@ -32,7 +32,7 @@ static uint32_t number_of(const uint8_t *b) {
 /* The cases on standard input, which have to be as many as said: k in eight bytes, high byte first; the lengths of
  * output and input, the refusal and the length expected, in four each; the input; the bytes expected. The areas
  * lie at the one end or at the other, by turns. */
-static void test_cases(unsigned long number) {
+static void test_cases(const char *kind, unsigned long number) {
     static uint8_t in[AREA], expected[AREA];
     uint8_t head[24];
     unsigned long read = 0;
@@ -47,13 +47,15 @@ static void test_cases(unsigned long number) {
     }
     if (read != number || !feof(stdin))
         fault("%lu cases in the file, and not %lu", read, number);
-    end_test("cases made by the second implementation");
+    char name[100];
+    snprintf(name, sizeof name, "cases made by the second implementation: %s", kind);
+    end_test(name);
 }
 
 int main(int words, char **word) {
     make_areas();
-    if (words == 3 && strcmp(word[1], "cases") == 0)
-        test_cases(strtoul(word[2], NULL, 10));
+    if (words == 4 && strcmp(word[1], "cases") == 0)
+        test_cases(word[2], strtoul(word[3], NULL, 10));
     for (size_t i = 0; i < sizeof files / sizeof files[0]; i++)
         if (words == 1 ? files[i].is_edge : words == 2 && strcmp(word[1], files[i].name) == 0)
             files[i].test();

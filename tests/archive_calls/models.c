@@ -35,8 +35,9 @@ void put_pairs(struct bytes *b, const struct model *m) {
 }
 
 struct bytes archive_of(const struct model *m) {
-    struct bytes b = {0};
+    struct bytes b;
     size_t characters = 0;
+    b.length = 0;
     while (m->drawing[characters] != 0)
         characters++;
     put_degree(&b, m->degree);
@@ -92,4 +93,21 @@ void expect_numbers(int degree, int count) {
     };
     for (size_t i = 0; i < sizeof ks / sizeof ks[0]; i++)
         expect_without(&m, ks[i]);
+}
+
+void expect_every_archive(int degree, int count) {
+    long archives = 7;
+    for (int i = 0; i < count; i++)
+        archives *= 7;
+    for (long which = 0; which < archives; which++) {
+        struct model m = model(degree, count);
+        long left = which;
+        for (int k = 1; k <= count; k++) {
+            m.operation[k] = (int)(left % 7);
+            left /= 7;
+        }
+        m.seal = (int)left;
+        for (int k = 1; k <= count; k++)
+            expect_without(&m, (uint64_t)k);
+    }
 }

@@ -45,4 +45,7 @@ void expect_without(const struct model *m, uint64_t k);
 /* The same for k at its edges and far outside, in an archive of so many operations. */
 void expect_numbers(int degree, int count);
 
+/* The same for every archive of so many operations, whose classes are any multiples of [x, 0], and every k. */
+void expect_every_archive(int degree, int count);
+
 #endif
