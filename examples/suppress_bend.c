@@ -1,14 +1,14 @@
-/* Switches off an operation in the middle of an archive and keeps the later ones.
+/* Switches off an operation in the middle of an archive and keeps the later ones, or says why it stays.
  *
  *     rt staticlib seal_archive
  *     cc -Iinclude -o suppress_bend examples/suppress_bend.c target/staticlib/libseal_archive.a
- *     ./suppress_bend examples/bends.bin K                 # what becomes of the seal
- *     ./suppress_bend examples/bends.bin K suppressed.bin  # the new archive is written too
+ *     ./suppress_bend examples/bends.bin 2                 # a bend with a hole beside it, which holds it
+ *     ./suppress_bend examples/bends.bin 3                 # the other bend: prints the old seal and the new one
+ *     ./suppress_bend examples/bends.bin 3 suppressed.bin  # and writes the new archive
  *
- * K counts the operations from 1, the oldest. Where operation K is held, it says which later operations hold it, and
- * where the call is refused for another reason, which one. The status is 0 where the operation was suppressed, 1 where
- * that was refused, 2 where a file is missing. What it prints for two operations of examples/bends.bin is in
- * examples/suppress_bend.txt.
+ * Operations are counted from 1, the oldest. The status is 0 where the operation was suppressed, 1 where that was
+ * refused, 2 where a file cannot be read or written. What it prints for the operations 1, 2, 3 and 7 of
+ * examples/bends.bin, which has six, is in examples/suppress_bend.txt.
  */
 #include "example.h"
 #include "seal_archive.h"
