@@ -1,4 +1,5 @@
-//! The archive, its walk and the walk report (document 01, 'Stored form' and 'The walk report'; document 02, request 9).
+//! The archive, its walk and the walk report (document 01, 'Stored form' and 'The walk report'; document 02, request
+//! 9).
 
 use crate::calls::seal_after_undo;
 use crate::class_cases::printed;

@@ -70,8 +70,8 @@ impl ArchiveCase {
         ArchiveCase::of_made(made, k, made.archive.bytes().len() + GROWTH)
     }
 
-    /// The case in a file: k in eight bytes, high byte first; the lengths of output and input, the refusal or 0, and the
-    /// length that is answered, in four each; the input; the bytes written, which are as many as that length says.
+    /// The case in a file: k in eight bytes, high byte first; the lengths of output and input, the refusal or 0, and
+    /// the length that is answered, in four each; the input; the bytes written, which are as many as that length says.
     pub fn bytes(&self) -> Vec<u8> {
         let lengths = [self.output_length, self.input.len()].map(|length| length as u32);
         let numbers = [lengths[0], lengths[1], self.refusal, self.written.len() as u32].map(u32::to_be_bytes);

@@ -365,7 +365,7 @@ mod tests {
         }
         let with_pairs =
             |(bytes, _): &&(Vec<u8>, String)| Archive::read(bytes).map_or(false, |read| !read.pairs.is_empty());
-        assert!(made.iter().filter(with_pairs).count() > 40);
+        assert!(made.iter().filter(with_pairs).count() > 25);
         for letter in [" . ", " R ", " M ", " - "] {
             assert!(reports.iter().filter(|report| report.contains(letter)).count() > 5, "{letter}");
         }

@@ -8,8 +8,8 @@
 //! - `views`: view changes, which are stored as neutral operations: one after another, after an operation that is not one,
 //!   as the oldest operation and as the newest; operations with their opposites next to them, and one with a view change
 //!   between it and its opposite.
-//! - `bends`: six operations with pairs, of which the oldest two are held. The newest, which is paired to the third, was
-//!   suppressed before and so holds nothing.
+//! - `bends`: six operations with pairs, of which the oldest two are held. The newest, which is paired to the third,
+//!   was suppressed before and so holds nothing.
 //! - `bends-suppressed`: `bends` with its third operation suppressed.
 //!
 //! And those in examples/failures/, which lines of docs/CHECKLIST.md catch:
@@ -120,9 +120,9 @@ fn views() -> (Class, Archive) {
 /// The operation of `bends` that is suppressed in `bends-suppressed`.
 const SUPPRESSED: usize = 3;
 
-/// A sheet: an outline, two bends, a hole beside the first bend, a slot, and a hem on the second bend that was suppressed.
-/// The pairs say which was made on which. With `SUPPRESSED` neutral it is `bends-suppressed`, walked forward from the same
-/// first seal.
+/// A sheet: an outline, two bends, a hole beside the first bend, a slot, and a hem on the second bend that was
+/// suppressed. The pairs say which was made on which. With `SUPPRESSED` neutral it is `bends-suppressed`, walked
+/// forward from the same first seal.
 fn bends(suppressed: bool) -> (Class, Archive) {
     let mut random = Random::new(86);
     let curve = Curve::drawn(&mut random, WIDE);

@@ -1,6 +1,6 @@
-//! Suppressing one operation of an archive (document 02, request 9). The request says both how the last seal changes and
-//! what it must equal: a fresh walk forward from the earliest seal. Here it is that walk. No multiple of a class is taken
-//! and nothing is halved:
+//! Suppressing one operation of an archive (document 02, request 9). The request says both how the last seal changes
+//! and what it must equal: a fresh walk forward from the earliest seal. Here it is that walk. No multiple of a class is
+//! taken and nothing is halved:
 //!
 //! - Where the earliest seal is known, as for archives that were made from it, the walk begins there
 //!   (`suppressed_from`).

@@ -13,8 +13,8 @@ fn pool_of(pools: &[Pool], field: Field) -> &Pool {
     pools.iter().rev().find(|pool| pool.curve.field == field).expect("there is one of each field")
 }
 
-/// Two archives of each field with pairs, of three operations and of six, each cut before each of its bytes. Operation k,
-/// the lowest that is not held, is suppressed.
+/// Two archives of each field with pairs, of three operations and of six, each cut before each of its bytes. Operation
+/// k, the lowest that is not held, is suppressed.
 pub fn truncations() -> Vec<ArchiveCase> {
     let mut random = Random::new(104);
     let pools = pools();
@@ -32,8 +32,8 @@ pub fn truncations() -> Vec<ArchiveCase> {
     cases
 }
 
-/// An archive of each field with three operations, each of one point, and two pairs, of which each byte takes every other
-/// value. Operation 2 is suppressed, which is not held as long as the pairs are as they were.
+/// An archive of each field with three operations, each of one point, and two pairs, of which each byte takes every
+/// other value. Operation 2 is suppressed, which is not held as long as the pairs are as they were.
 pub fn changes() -> Vec<ArchiveCase> {
     let mut random = Random::new(105);
     let pools = pools();

@@ -9,7 +9,8 @@ use crate::jacobian::{Class, Curve};
 use crate::stored::{pairs_field, Pair, COUNT_LIMIT, PAIRS, PAIRS_LIMIT};
 use std::collections::HashSet;
 
-/// 1,024 operations of which most are neutral, so that it stays short; the first and the last two are not.
+/// An archive of n operations without pairs. Of 1,024 most are neutral, so that it stays short; the first three, the
+/// last two and every hundredth are not.
 fn archive(curve: &Curve, n: u16) -> Made {
     let x = curve.point(0).expect("x^7 has a root");
     let class = |i: u16| if i < 4 || i % 100 == 0 || i + 1 >= n { x.clone() } else { Class::neutral() };

@@ -18,8 +18,8 @@ fn bytes_of_a_case() {
     assert_eq!(case, [vec![1, 2, 3, 4, 5, 6, 7, 8], numbers, input].concat());
 }
 
-/// How many cases of each kind there are, and what they meet. What is expected is what `suppress` answers, also where it
-/// comes from the earliest seal, and what is written is an archive with one operation neutral.
+/// How many cases of each kind there are, and what they meet. What is expected is what `suppress` answers, also where
+/// it comes from the earliest seal, and what is written is an archive with one operation neutral.
 #[test]
 fn kinds() {
     let beside_room: Vec<u32> = (102..=112).chain([122]).collect();
@@ -55,8 +55,8 @@ fn kinds() {
     }
 }
 
-/// The last seals of archives and of what becomes of them have every degree, over both fields; so do the operations that
-/// are suppressed.
+/// The last seals of archives and of what becomes of them have every degree, over both fields; so do the operations
+/// that are suppressed.
 #[test]
 fn every_degree() {
     let mut met = HashSet::new();

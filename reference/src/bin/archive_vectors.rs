@@ -1,6 +1,6 @@
-//! Prints cases of the call that suppresses an operation, for tests/archive_calls: `archive_vectors KIND` those of one of
-//! the kinds `all-k`, `full`, `truncations`, `changes`, `pairs` and `held`, `archive_vectors mutated N` the first N drawn
-//! ones (src/archive_cases.rs). Each case is
+//! Prints cases of the call that suppresses an operation, for tests/archive_calls: `archive_vectors KIND` those of one
+//! of the kinds `all-k`, `full`, `truncations`, `changes`, `pairs` and `held`, `archive_vectors mutated N` the first N
+//! drawn ones (src/archive_cases.rs). Each case is
 //!
 //! - k, in eight bytes, high byte first, as every number here;
 //! - the length of the output, the length of the input, the refusal that is expected or 0, and the length that is
