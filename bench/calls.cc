@@ -11,7 +11,8 @@
 //
 // Suppressing is timed on an archive of 1,024 operations of degree 3, the oldest, the middle and the newest one, against the
 // program's walk of the same archive. Reading it takes the same time for each of them; what the others take beyond the newest
-// one is printed as a ratio to n - k doubles, which stays about 1 where the time is linear in n - k.
+// one is printed as a ratio to n - k doubles, which stays about 1 where the time is linear in n - k. The oldest one is also
+// suppressed where all others are neutral and paired to it, so that each of them is looked up, against the same without pairs.
 #include <NTL/GF2EX.h>
 
 #include <algorithm>
@@ -299,11 +300,23 @@ static std::vector<uint8_t> archive_with(const Class &seal, int neutral) {
     return bytes;
 }
 
+// The same with all operations neutral but for the oldest, and with all paired to it, where that is wanted.
+static std::vector<uint8_t> neutral_archive(bool paired) {
+    std::vector<uint8_t> bytes = archive_with(classes[0], 0);
+    bytes.resize(bytes.size() - KEPT * SEAL_CLASS_OUTPUT);
+    for (int k = KEPT; k > 1; k--) put_class(bytes, 0x44, NEUTRAL);
+    put_class(bytes, 0x44, classes[class_of_operation(1)]);
+    if (!paired) return bytes;
+    bytes.insert(bytes.end(), {0x48, uint8_t(4 * (KEPT - 1) >> 8), uint8_t(4 * (KEPT - 1) & 255)});
+    for (int later = 2; later <= KEPT; later++) bytes.insert(bytes.end(), {uint8_t(later >> 8), uint8_t(later), 0, 1});
+    return bytes;
+}
+
 static std::vector<uint8_t> archive, suppressed_archive;
 static const int SUPPRESSED[] = {1, KEPT / 2, KEPT};
 
-static seal_written suppress(int k) {
-    return seal_suppress(archive.data(), archive.size(), k, suppressed_archive.data(), suppressed_archive.size());
+static seal_written suppress(const std::vector<uint8_t> &in, int k) {
+    return seal_suppress(in.data(), in.size(), k, suppressed_archive.data(), suppressed_archive.size());
 }
 
 // The archive, and each suppression of it held to NTL's doubles and sum: the old seal less n - k doubles of the class.
@@ -315,7 +328,7 @@ static void compare_suppressions() {
         for (int i = k; i < KEPT; i++) by = double_by_ntl(by);
         by.v = (by.v + 1) % by.u;
         std::vector<uint8_t> expected = archive_with(class_of(sum_by_ntl(pairs[0], by)), k);
-        seal_written answer = suppress(k);
+        seal_written answer = suppress(archive, k);
         hold(answer.refusal == 0 && answer.length == expected.size(), "suppressing", k);
         hold(std::equal(expected.begin(), expected.end(), suppressed_archive.begin()), "suppressing", k);
     }
@@ -454,12 +467,12 @@ static double program_time(const char *program, const char *name) {
     return least;
 }
 
-// How long suppressing operation k takes.
-static double suppressing_time(int k) {
+// How long suppressing operation k of an archive takes.
+static double suppressing_time(const std::vector<uint8_t> &in, int k) {
     double least = 0;
     for (int round = 0; round < 20; round++) {
         double began = now();
-        if (suppress(k).refusal != 0) exit(1);
+        if (suppress(in, k).refusal != 0) exit(1);
         double took = now() - began;
         if (round == 0 || took < least) least = took;
     }
@@ -488,14 +501,16 @@ static void print_line(const char *name, int operation) {
 }
 
 static void print_suppressions(const char *program) {
-    double walk = walk_time(program), newest = suppressing_time(KEPT);
+    double walk = walk_time(program), newest = suppressing_time(archive, KEPT);
     printf("  suppressing operation k of n = %d: in halves, in walks of the program, and beyond k = n in n - k doubles\n", KEPT);
     for (int k : SUPPRESSED) {
-        double took = suppressing_time(k);
+        double took = suppressing_time(archive, k);
         printf("  %-30s %10.0f %8.3f", ("k = " + std::to_string(k)).c_str(), took / least[HALF][PROVED], took / walk);
         if (k < KEPT) printf(" %8.2f", (took - newest) / ((KEPT - k) * least[DOUBLE][PROVED]));
         printf("\n");
     }
+    printf("  k = 1, with the others neutral and paired to it, takes %.2f of the same without pairs\n",
+        suppressing_time(neutral_archive(true), 1) / suppressing_time(neutral_archive(false), 1));
 }
 
 int main(int words, char **word) {

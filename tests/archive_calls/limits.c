@@ -36,8 +36,30 @@ static void longest(void) {
     end_test("the longest archive, of 60,547 bytes, with 2,048 pairs, and operations that they hold");
 }
 
+/* All operations are paired to 1 and to 2, and all but these two and one are neutral: that one holds them, be its pairs
+ * the first or the last. With it neutral too, 1 is held by 2 alone. */
+static void one_of_many(void) {
+    static const int holding[] = {2, 3, 4, 511, 1023, 1024};
+    for (size_t i = 0; i < sizeof holding / sizeof holding[0]; i++) {
+        struct model m = model(degrees[i % 2], LIMIT);
+        for (int k = 3; k <= LIMIT; k++)
+            m.operation[k] = k == holding[i] ? 3 : 0;
+        for (int later = 2; later <= LIMIT; later++)
+            for (int earlier = 1; earlier <= 2 && earlier < later; earlier++)
+                add_pair(&m, later, earlier);
+        for (int k = 1; k <= 3; k++)
+            expect_without(&m, (uint64_t)k);
+        m.operation[holding[i]] = 0;
+        expect_without(&m, 2);
+        m.operation[2] = 0;
+        expect_without(&m, 1);
+    }
+    end_test("one of 1,023 later operations holds, be its pair the first or the last; neutral ones do not");
+}
+
 void test_limits(void) {
     three();
     many();
     longest();
+    one_of_many();
 }
