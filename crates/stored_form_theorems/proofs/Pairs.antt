@@ -1,6 +1,7 @@
 -- The pairs of an archive and their bytes (docs/SPECIFICATION.md, 5, 6 and 9).
 -- `before-decides`: the order of pairs is that of their numbers.
 -- `pairs-decide`, `pairs-length-decides`: the tests of the definitions are what the rules require.
+-- `later-ascends`: pairs in order have their later numbers in order.
 -- `pairs-small`: pairs of fewer than 65,536 operations fit four bytes. `some-field`: the field of some pairs.
 -- `pairs-read-back`: pairs that break no rule are read back from their field.
 -- `pairs-written`: pairs that are read break no rule, and stand there as their field.
@@ -10,9 +11,9 @@ use Prim.Native.Nat.{ℕ, zero, suc, _+_, _*_, _/_, _%_, _^_, _≤_, _<_}
 use mathlib.Core.{Path._≡_, Path.refl, Path.sym, Path.ap, Path.subst, Path.subst₂, Path._∙_, Bool.Bool, Bool.true, Bool.false, Bool.cond, Bool.not, Bool._&&_}
 use mathlib.Core.{List.List, List.[], List._∷_, List._++_, Logic._↔_, Logic.inl, Logic.inr}
 use native.Mathlib.Omega.{arith}
-use native.Mathlib.Nat.{add-zero}
+use native.Mathlib.Nat.{add-zero, le-refl}
 use lib.{Dec.eqb, Dec.leb, Dec.ltb, Dec.lit<, ListN.length, ListN.getD}
-use borrow.Author.Tests.{lt-ltb, ltb-true, ltb-false, le-leb, leb-true, eq-eqb, eqb-true, not-false}
+use borrow.Author.Tests.{lt-ltb, ltb-true, ltb-false, le-leb, leb-true, eq-eqb, eqb-true, eqb-false, not-false}
 use Rattle.lists.specs.Lists.{All, none, more}
 use Rattle.jacobian.specs.Checks.{unless, check}
 use Rattle.jacobian.proofs.{Checking.refusal-none, Checking.refusal-unless, ByValue.Checks.both}
@@ -110,6 +111,23 @@ pairs-length-decides n = (
       (ltb-true _ _ (y .0), (leb-true _ _ (y .1), eqb-true _ _ (x .1))),
   λ h. rw (lt-ltb 0 n (h .0), le-leb n 8192 (h .1 .0), eq-eqb (n % 4) 0 (h .1 .1)) refl,
 )
+
+-- pairs in order have their later numbers in order
+pub later-ascends : {n : ℕ} {ps : List ℕ} → PairsAllowed n ps → (i j : ℕ) → j ≤ i → i < length ps → later (getD ps j 0) ≤ later (getD ps i 0)
+later-ascends {ps = ps} ok zero j h l = let e : j ≡ 0 = omega arith in rw e (le-refl _)
+later-ascends {ps = ps} ok (suc i) j h l = go (eqb j (suc i)) refl (λ below. later-ascends ok i j below (omega arith))
+  where
+    step : Before (getD ps i 0) (getD ps (suc i) 0) → later (getD ps i 0) ≤ later (getD ps (suc i) 0)
+    step (inl b) = omega arith
+    step (inr b) = let e = b .0 in omega arith
+
+    go : (b : Bool) → eqb j (suc i) ≡ b → (j ≤ i → later (getD ps j 0) ≤ later (getD ps i 0)) → later (getD ps j 0) ≤ later (getD ps (suc i) 0)
+    go true e r = let same = eqb-true j (suc i) e in rw same (le-refl _)
+    go false e r =
+        let other = eqb-false j (suc i) e in
+        let below = r (omega (arith, other)) in
+        let next = step (ok .ascending i l) in
+        omega (arith, below, next)
 
 -- ---- bytes
 
