@@ -2,7 +2,8 @@
 -- `layout`: the fields before the seal, the seal, the operations and the pairs, each with its offset.
 -- `operation-place`: the operations from the i-th on begin where i fields from the first one on end.
 -- `operation-stands`: the field of the operation at a place.
--- `pair-stands`: a pair by its place among the bytes.
+-- `operations-end`, `place-within`: where they end, and that each begins within the bytes.
+-- `pairs-counted`, `pairs-end`, `pair-stands`: how many pairs there are, where they end, and a pair by its place.
 -- `operation-neutral`: the length in its head says whether an operation is neutral.
 use Prim.Native.Nat.{ℕ, zero, suc, _+_, _*_, _-_, _/_, _^_, _≤_, _<_}
 use mathlib.Core.Path.{_≡_, refl, sym, ap, ap₂, _∙_, subst, subst₂}
@@ -157,7 +158,7 @@ module _ {s : List ℕ} {a : Archive} (l : Layout s a) (ok : Storable a) where
       (said ∙ len, ap (part s (l .last + 3)) (sym len) ∙ head-read 0x48 (λ n. true) s (l .last) body refl (omega (arith, len)) stands .1)
 
   -- they end the bytes
-  pairs-end : 0 < length (a .pairs) → length s ≡ l .last + 3 + 4 * length (a .pairs)
+  pub pairs-end : 0 < length (a .pairs) → length s ≡ l .last + 3 + 4 * length (a .pairs)
   pairs-end some =
       let long : length (pairs-field (a .pairs)) ≡ 3 + 4 * length (a .pairs) =
       ap length (sym (some-field (a .pairs) some)) ∙ length-stored 0x48 (encode-numbers 4 (a .pairs)) ∙ ap (λ (k : ℕ). 3 + k) (length-encode-numbers 4 (a .pairs)) in

@@ -1,7 +1,9 @@
 -- Whether an operation is held, as the code finds it out.
 -- `HeldSoFar`: the pairs from the i-th on do not hold operation k, and where the next later operation is looked for.
+-- `pairs-at`, `pairs-number`, `pairs-inside`: where the pairs begin, and how many there are.
+-- `held-empty`: without pairs nothing is held.
 -- `held-begin`, `held-turn`, `held-found`, `held-none`: before the first turn, after a turn, and both ends of the loop.
-use Prim.Native.Nat.{ℕ, zero, suc, _+_, _-_, _≤_, _<_}
+use Prim.Native.Nat.{ℕ, zero, suc, _+_, _-_, _/_, _≤_, _<_}
 use mathlib.Core.Path.{_≡_, refl, sym, ap, ap₂, _∙_, subst}
 use mathlib.Core.Bool.{Bool, true, false, not, _&&_, _||_}
 use mathlib.Core.List.{List, [], _∷_, _++_}
@@ -16,7 +18,7 @@ use Rattle.stored_form_theorems.proofs.Pairs.{later-ascends}
 use Rattle.archive.specs.{Archive.neutral, Skipping.skip-fields}
 use Rattle.archive.proofs.Skipped.{skip-inside, fields-more}
 use Rattle.archive_theorems.specs.Written.{Storable}
-use Rattle.archive_theorems.proofs.FieldPlaces.{Layout, operations-end, place-within, operation-neutral, pairs-counted, pair-stands}
+use Rattle.archive_theorems.proofs.FieldPlaces.{Layout, operations-end, place-within, operation-neutral, pairs-end, pairs-counted, pair-stands}
 use Rattle.suppression_theory.specs.{Suppression.operation-of, Archives.holds, Archives.held-by, Archives.held}
 use Rattle.seal_archive.specs.internal.Accepted.{archive-said, AtOperations, AtPairs}
 use Rattle.seal_archive.proofs.Accepted.{said-stored, said-laid}
@@ -136,6 +138,30 @@ module _ {s : List ℕ} {first n begin m : ℕ} (b : Bytes s) (at : AtPairs s fi
   pub held-none : {place number : ℕ} → HeldSoFar place number 0 → false ≡ held k (archive-said s)
   unfolding held-by
   held-none h = sym (h .so-far)
+
+-- ---- where the pairs begin, as the code finds it out
+
+module _ {s : List ℕ} {first n : ℕ} (b : Bytes s) (at : AtOperations s first n) {end m : ℕ} (skipped : end ≡ skip-fields n s first) (read : m ≡ length-at s end / 4) where
+  fields : Layout s (archive-said s)
+  fields = said-laid s b (at .accepted)
+
+  fine : Storable (archive-said s)
+  fine = said-stored s b (at .accepted) .1
+
+  last-is : fields-end n s first ≡ fields .last
+  last-is = ap₂ (λ (i j : ℕ). fields-end i s j) (at .counted) (at .begins ∙ fields .first-begins) ∙ operations-end fields fine
+
+  end-is : end ≡ fields .last
+  end-is = skipped ∙ skip-inside s n first (omega (arith, last-is, fields .pairs .ends)) ∙ last-is
+
+  pub pairs-number : m ≡ length (archive-said s .pairs)
+  pairs-number = read ∙ ap (λ (x : ℕ). length-at s x / 4) end-is ∙ pairs-counted fields fine
+
+  pub pairs-at : AtPairs s first n (end + 3) m
+  pairs-at = record { operations = at; begins = ap (λ (x : ℕ). x + 3) (end-is ∙ sym last-is); counted = pairs-number }
+
+  pub pairs-inside : ¬ (m ≡ 0) → end + 3 ≤ length s
+  pairs-inside some = omega (arith, end-is, pairs-end fields fine (omega (arith, pairs-number, some)))
 
 -- without pairs nothing is held
 pub held-empty : (s : List ℕ) (k : ℕ) → length (archive-said s .pairs) ≡ 0 → false ≡ held k (archive-said s)
