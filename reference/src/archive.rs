@@ -1,17 +1,21 @@
-//! The archive, its walk and the walk report (document 01, 'Stored form' and 'The walk report').
+//! The archive, its walk and the walk report (document 01, 'Stored form' and 'The walk report'; document 02, request
+//! 9).
 
 use crate::calls::seal_after_undo;
 use crate::class_cases::printed;
 use crate::jacobian::{Class, Curve};
-use crate::stored::{class_field, count_field, curve_fields, drawing_field, operation_field, Reader, Refusal};
+use crate::stored::{class_field, count_field, curve_fields, drawing_field, operation_field, pairs_field};
+use crate::stored::{Pair, Reader, Refusal};
 
-/// What an archive holds; the operations newest first.
+/// What an archive holds; the operations newest first. The pairs are in a field of their own, the last, unless there
+/// are none.
 #[derive(Clone, Debug, PartialEq, Eq)]
 pub struct Archive {
     pub curve: Curve,
     pub drawing: Vec<u8>,
     pub seal: Class,
     pub operations: Vec<Class>,
+    pub pairs: Vec<Pair>,
 }
 
 impl Archive {
@@ -21,6 +25,9 @@ impl Archive {
         let mut fields = curve_fields(&self.curve).to_vec();
         fields.extend([drawing_field(&self.drawing), count_field(count), class_field(&self.seal)]);
         fields.extend(self.operations.iter().map(operation_field));
+        if !self.pairs.is_empty() {
+            fields.push(pairs_field(&self.pairs));
+        }
         fields
     }
 
@@ -35,8 +42,14 @@ impl Archive {
         let count = reader.count()?;
         let seal = reader.class(&curve)?;
         let operations = (0..count).map(|_| reader.operation(&curve)).collect::<Result<_, _>>()?;
+        let pairs = reader.pairs(count)?;
         reader.end()?;
-        Ok(Archive { curve, drawing, seal, operations })
+        Ok(Archive { curve, drawing, seal, operations, pairs })
+    }
+
+    /// The operations in the order in which they are counted.
+    pub fn oldest_first(&self) -> Vec<Class> {
+        self.operations.iter().rev().cloned().collect()
     }
 
     /// The seals, from the last one to the one before the oldest operation kept.
@@ -130,6 +143,7 @@ mod tests {
             drawing: b"A1".to_vec(),
             seal: class(&[0, 0], &[1]),
             operations: vec![class(&[0], &[1]), class(&[0], &[])],
+            pairs: vec![],
         };
         assert_eq!(archive.bytes(), bytes);
         assert_eq!(Archive::read(&bytes), Ok(archive));
@@ -138,7 +152,8 @@ mod tests {
     /// Archives of this many [x, 0] over f = x^7.
     fn of_count(count: usize, drawing: &[u8]) -> Archive {
         let operations = vec![class(&[0], &[]); count];
-        Archive { curve: Curve::new(WIDE, 0, 0, 0), drawing: drawing.to_vec(), seal: Class::neutral(), operations }
+        let (curve, seal) = (Curve::new(WIDE, 0, 0, 0), Class::neutral());
+        Archive { curve, drawing: drawing.to_vec(), seal, operations, pairs: vec![] }
     }
 
     #[test]
@@ -206,13 +221,49 @@ mod tests {
         refused(&[&start, &drawing_field(&[]), &count_field(1024)[..]].concat(), 102);
     }
 
+    /// Pairs are read back from the bytes that store them, and the report is that of the archive without them.
+    #[test]
+    fn pairs() {
+        let without = of_count(3, b"A 1");
+        let archive = Archive { pairs: vec![(2, 1), (3, 1), (3, 2)], ..without.clone() };
+        let bytes = archive.bytes();
+        assert_eq!(bytes, [without.bytes(), pairs_field(&archive.pairs)].concat());
+        assert_eq!(Archive::read(&bytes), Ok(archive));
+        assert_eq!(report(&bytes), report(&without.bytes()));
+        for length in without.bytes().len() + 1..bytes.len() {
+            let number = if length < without.bytes().len() + 3 { 102 } else { 105 };
+            assert_eq!(report(&bytes[..length]), format!("refused {number}\n"));
+        }
+        for (more, number) in [
+            (&[0x48][..], 112),
+            (&[0], 112),
+            (&[0x48, 0, 4, 0, 2, 0, 1], 112),
+            (&[0x48, 0, 4, 0, 9, 0, 9], 112),
+            (&[0x48, 0, 0], 112),
+        ] {
+            assert_eq!(report(&[&bytes, more].concat()), format!("refused {number}\n"), "after the field");
+        }
+        for (field, number) in [
+            (&[0x48, 0, 0][..], 104),
+            (&[0x48, 0, 0, 0x48], 104),
+            (&[0x48, 0, 4, 0, 4, 0, 1], 122),
+            (&[0x48, 0, 4, 0, 4, 0, 1, 0x48], 122),
+            (&[0x48, 0, 4, 0, 4, 0], 105),
+            (&[0x47, 0, 4, 0, 4, 0, 1], 112),
+        ] {
+            assert_eq!(report(&[&without.bytes(), field].concat()), format!("refused {number}\n"));
+        }
+    }
+
     /// The longest archive is shorter than what is read; more is refused by the ordinary checks.
     #[test]
     fn long_inputs() {
         let three = class(&[0, 0, 0], &[1]);
-        let archive = Archive { seal: three.clone(), operations: vec![three; 1024], ..of_count(0, &[b'a'; 38]) };
+        let pairs = (0..2048).map(|i| (100 + i / 99, 1 + i % 99)).collect();
+        let operations = vec![three.clone(); 1024];
+        let archive = Archive { seal: three, operations, pairs, ..of_count(0, &[b'a'; 38]) };
         let bytes = archive.bytes();
-        assert_eq!(bytes.len(), 4 + 27 + 41 + 5 + 51 + 1024 * 51);
+        assert_eq!(bytes.len(), 4 + 27 + 41 + 5 + 51 + 1024 * 51 + 3 + 8192);
         assert!(bytes.len() < REPORT_LIMIT);
         for length in [bytes.len() + 1, 65_535, 65_536, 65_537, 100_000] {
             let mut longer = bytes.clone();

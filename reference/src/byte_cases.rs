@@ -3,8 +3,10 @@
 //!
 //! - `pool`: curves over both fields with classes of every degree, from which the records are made.
 //! - `mutation`: what is done to the fields and to the bytes of a record.
+//! - `pairs`: pairs of operations, which an archive may end in, in their order and otherwise.
 
 pub mod mutation;
+pub mod pairs;
 pub mod pool;
 
 use crate::archive::{report, Archive};
@@ -16,6 +18,7 @@ use crate::random::Random;
 use crate::stamp::stamp_limit;
 use crate::stored::{class_field, curve_fields, operation_field, register_fields, DRAWING_LIMIT};
 use mutation::mutated;
+use pairs::{change_pairs, drawn_pairs};
 use pool::{pools, Pool};
 
 /// A call, and what is expected of it: the answer, and the bytes written, of which a refusal has none.
@@ -210,7 +213,7 @@ pub fn changed_releases() -> impl Iterator<Item = ByteCase> {
     })
 }
 
-/// Some archives, mutated or not, each with its report.
+/// Some archives, mutated or not and with pairs or without, each with its report.
 pub fn archives(number: usize) -> Vec<(Vec<u8>, String)> {
     let mut random = Random::new(72);
     let pools = pools();
@@ -229,7 +232,12 @@ pub fn archives(number: usize) -> Vec<(Vec<u8>, String)> {
         let drawing: Vec<u8> =
             (0..random.below(DRAWING_LIMIT + 1)).map(|_| 0x20 + random.below(95) as u8).collect();
         let seal = random.pick(&pool.classes).clone();
-        let archive = Archive { curve: pool.curve.clone(), drawing, seal, operations };
+        let number = random.below(2 * (count + 1)).saturating_sub(count);
+        let mut pairs = drawn_pairs(&mut random, count as u16, number);
+        if random.below(6) == 0 {
+            change_pairs(&mut random, count as u16, &mut pairs);
+        }
+        let archive = Archive { curve: pool.curve.clone(), drawing, seal, operations, pairs };
         let bytes = mutated(&mut random, archive.fields(), pool);
         let report = report(&bytes);
         (bytes, report)
@@ -350,10 +358,14 @@ mod tests {
     /// Among the first three hundred archives the report meets every refusal that it can give, and every letter.
     #[test]
     fn every_outcome_of_the_report() {
-        let reports: Vec<String> = archives(300).into_iter().map(|(_, report)| report).collect();
-        for number in 102..=112 {
+        let made = archives(300);
+        let reports: Vec<String> = made.iter().map(|(_, report)| report.clone()).collect();
+        for number in (102..=112).chain([122]) {
             assert!(reports.contains(&format!("refused {number}\n")), "{number}");
         }
+        let with_pairs =
+            |(bytes, _): &&(Vec<u8>, String)| Archive::read(bytes).map_or(false, |read| !read.pairs.is_empty());
+        assert!(made.iter().filter(with_pairs).count() > 25);
         for letter in [" . ", " R ", " M ", " - "] {
             assert!(reports.iter().filter(|report| report.contains(letter)).count() > 5, "{letter}");
         }

@@ -17,6 +17,8 @@
 //! - `stored`: the stored form's writer and checking reader.
 //! - `calls`: the eleven calls on byte areas.
 //! - `archive`: the archive, its walk and the walk report.
+//! - `suppression`: an archive with one operation suppressed.
+//! - `archive_cases`: archives, k and output lengths, and what suppressing operation k has to answer for them.
 //! - `byte_cases`: records and archives, mutated or not, and what the byte calls and the walk report have to
 //!   answer for them.
 //! - `samples`: the archives that are kept in examples/.
@@ -24,6 +26,7 @@
 //! - `random`: a small generator with a fixed seed, for cases that are the same in every run.
 
 pub mod archive;
+pub mod archive_cases;
 pub mod bench_classes;
 pub mod byte_cases;
 pub mod calls;
@@ -40,6 +43,7 @@ pub mod random;
 pub mod samples;
 pub mod stamp;
 pub mod stored;
+pub mod suppression;
 pub mod view_archives;
 
 /// Writes what a program is given to the file stdin of a folder, and what is expected for that to the file stdout.

@@ -8,22 +8,26 @@
 //! - `views`: view changes, which are stored as neutral operations: one after another, after an operation that is not one,
 //!   as the oldest operation and as the newest; operations with their opposites next to them, and one with a view change
 //!   between it and its opposite.
+//! - `bends`: six operations with pairs, of which the oldest two are held. The newest, which is paired to the third,
+//!   was suppressed before and so holds nothing.
+//! - `bends-suppressed`: `bends` with its third operation suppressed.
 //!
 //! And those in examples/failures/, which lines of docs/CHECKLIST.md catch:
 //!
 //! - `half-saved`: `dozen`, broken off within the last seal.
 //! - `lost-tail`: `dozen` without the oldest operation that its count says.
 //! - `other-operation`: `dozen` with the opposite of one operation in that one's place.
+//! - `broken-pair`: `dozen` with a pair of an operation and itself.
 //! - `low-degrees.other-report`: the walk of `low-degrees` by a tool that leaves classes of degree under three as they are
 //!   where it should halve them.
 
 use crate::archive::Archive;
-use crate::calls::seal_after_commit;
 use crate::class_cases::printed;
 use crate::field::{BENCH, WIDE};
 use crate::halving::half;
 use crate::jacobian::{Class, Curve};
 use crate::random::Random;
+use crate::suppression::walked_forward;
 
 /// The sum of a number of points of the curve.
 fn of_points(random: &mut Random, curve: &Curve, number: usize) -> Class {
@@ -32,9 +36,9 @@ fn of_points(random: &mut Random, curve: &Curve, number: usize) -> Class {
 
 /// The archive after these operations, oldest first, from a first seal.
 fn committed(curve: Curve, drawing: &str, first: &Class, oldest_first: &[Class]) -> Archive {
-    let seal = oldest_first.iter().fold(first.clone(), |seal, next| seal_after_commit(&curve, &seal, next));
+    let seal = walked_forward(&curve, first, oldest_first);
     let operations = oldest_first.iter().rev().cloned().collect();
-    Archive { curve, drawing: drawing.as_bytes().to_vec(), seal, operations }
+    Archive { curve, drawing: drawing.as_bytes().to_vec(), seal, operations, pairs: vec![] }
 }
 
 fn document_01() -> Archive {
@@ -44,6 +48,7 @@ fn document_01() -> Archive {
         drawing: b"A1".to_vec(),
         seal: class(&[0, 0, 1], &[1]),
         operations: vec![class(&[0, 1], &[1]), class(&[0, 1], &[])],
+        pairs: vec![],
     }
 }
 
@@ -112,8 +117,28 @@ fn views() -> (Class, Archive) {
     (first, archive)
 }
 
+/// The operation of `bends` that is suppressed in `bends-suppressed`.
+const SUPPRESSED: usize = 3;
+
+/// A sheet: an outline, two bends, a hole beside the first bend, a slot, and a hem on the second bend that was
+/// suppressed. The pairs say which was made on which. With `SUPPRESSED` neutral it is `bends-suppressed`, walked
+/// forward from the same first seal.
+fn bends(suppressed: bool) -> (Class, Archive) {
+    let mut random = Random::new(86);
+    let curve = Curve::drawn(&mut random, WIDE);
+    let [outline, bend, other_bend, hole, slot] =
+        [4, 3, 3, 1, 2].map(|number| of_points(&mut random, &curve, number));
+    let mut operations = [outline, bend, other_bend, hole, slot, Class::neutral()];
+    if suppressed {
+        operations[SUPPRESSED - 1] = Class::neutral();
+    }
+    let first = of_points(&mut random, &curve, 3);
+    let archive = committed(curve, "BRACKET 9 / 2 BENDS", &first, &operations);
+    (first, Archive { pairs: vec![(2, 1), (3, 1), (4, 2), (6, 3)], ..archive })
+}
+
 /// The names and the archives.
-pub fn samples() -> [(&'static str, Archive); 6] {
+pub fn samples() -> [(&'static str, Archive); 8] {
     [
         ("document-01", document_01()),
         ("empty", empty()),
@@ -121,6 +146,8 @@ pub fn samples() -> [(&'static str, Archive); 6] {
         ("full", full().1),
         ("low-degrees", low_degrees().1),
         ("views", views().1),
+        ("bends", bends(false).1),
+        ("bends-suppressed", bends(true).1),
     ]
 }
 
@@ -133,14 +160,20 @@ pub fn release_seal() -> String {
 }
 
 /// The names and the bytes of archives that fail a line of the checklist.
-pub fn failures() -> [(&'static str, Vec<u8>); 3] {
+pub fn failures() -> [(&'static str, Vec<u8>); 4] {
     let (_, dozen) = dozen();
     let fields = dozen.fields();
     let half_saved = [fields[..4].concat(), fields[4][..20].to_vec()].concat();
     let lost_tail = fields[..fields.len() - 1].concat();
+    let broken_pair = Archive { pairs: vec![(9, 9)], ..dozen.clone() }.bytes();
     let mut other = dozen;
     other.operations[2] = other.curve.opposite(&other.operations[2]);
-    [("half-saved", half_saved), ("lost-tail", lost_tail), ("other-operation", other.bytes())]
+    [
+        ("half-saved", half_saved),
+        ("lost-tail", lost_tail),
+        ("other-operation", other.bytes()),
+        ("broken-pair", broken_pair),
+    ]
 }
 
 /// The walk report of `low-degrees` by a tool that takes classes of degree under three for their own halves.
@@ -161,11 +194,12 @@ pub fn other_report() -> String {
 mod tests {
     use super::*;
     use crate::archive::report;
+    use crate::suppression::{suppress, GROWTH};
 
     /// The walk of an archive that was committed forward ends in the first seal.
     #[test]
     fn first_seals() {
-        for (first, archive) in [dozen(), full(), low_degrees(), views()] {
+        for (first, archive) in [dozen(), full(), low_degrees(), views(), bends(false), bends(true)] {
             assert_eq!(archive.walk().last(), Some(&first));
         }
         assert_eq!(full().1.operations.len(), 1024);
@@ -174,7 +208,7 @@ mod tests {
 
     #[test]
     fn letters() {
-        let [_, (_, empty), (_, dozen), _, _, (_, views)] = samples();
+        let [_, (_, empty), (_, dozen), _, _, (_, views), ..] = samples();
         assert_eq!(report(&empty.bytes()).lines().count(), 2);
         assert!(report(&empty.bytes()).starts_with("walk 0\n0 . 3:"));
         let dozen = report(&dozen.bytes());
@@ -198,12 +232,25 @@ mod tests {
 
     #[test]
     fn failing_archives() {
-        let [(_, half_saved), (_, lost_tail), (_, other)] = failures();
+        let [(_, half_saved), (_, lost_tail), (_, other), (_, broken_pair)] = failures();
         assert_eq!(report(&half_saved), "refused 105\n");
         assert_eq!(report(&lost_tail), "refused 102\n");
+        assert_eq!(report(&broken_pair), "refused 122\n");
         let good = report(&dozen().1.bytes());
         assert!(good.contains(release_seal().trim_end()));
         assert!(!report(&other).contains(release_seal().trim_end()));
         assert_ne!(other_report(), report(&low_degrees().1.bytes()));
+    }
+
+    /// What the call writes for one of the two archives with pairs is the other; two operations are held and no other.
+    #[test]
+    fn suppressed_bend() {
+        let [before, after] = [false, true].map(|suppressed| bends(suppressed).1.bytes());
+        let answer = |k| suppress(&before, k, before.len() + GROWTH);
+        assert_eq!(answer(SUPPRESSED as u64), Ok(after.clone()));
+        for k in 1..=6 {
+            assert_eq!(answer(k).err(), if k <= 2 { Some(124) } else { None });
+        }
+        assert_eq!(suppress(&after, 1, 1000), Err(124));
     }
 }

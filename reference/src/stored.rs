@@ -1,5 +1,5 @@
-//! The stored form (document 01, 'Stored form' and 'In checking order'; document 02, request 8): a writer, and a reader
-//! that refuses.
+//! The stored form (document 01, 'Stored form' and 'In checking order'; document 02, requests 8 and 9): a writer, and a
+//! reader that refuses.
 //!
 //! A field is a one-byte tag, a two-byte length and a body, high byte first; an element takes eight bytes. The reader
 //! takes the fields in their order and does with each all the checks from 102 to 111 before it begins the next.
@@ -14,6 +14,7 @@ pub const CLASS: u8 = 0x43;
 pub const OPERATION: u8 = 0x44;
 pub const RELEASED: u8 = 0x45;
 pub const DRAWING: u8 = 0x46;
+pub const PAIRS: u8 = 0x48;
 
 /// The most operations that a register counts and an archive keeps.
 pub const COUNT_LIMIT: u16 = 1024;
@@ -21,7 +22,13 @@ pub const COUNT_LIMIT: u16 = 1024;
 /// The longest drawing number (document 02, request 1).
 pub const DRAWING_LIMIT: usize = 38;
 
-/// A refusal's number, 101 to 121.
+/// The most pairs of an archive (document 02, request 9).
+pub const PAIRS_LIMIT: usize = 2048;
+
+/// The numbers of a later operation and of an earlier one, counted from the oldest, which is 1.
+pub type Pair = (u16, u16);
+
+/// A refusal's number, 101 to 124.
 pub type Refusal = u32;
 
 /// May the body of a field with this tag have this length?
@@ -32,6 +39,7 @@ fn allowed(tag: u8, length: usize) -> bool {
         DRAWING => length <= DRAWING_LIMIT,
         COUNT | RELEASED => length == 2,
         CLASS | OPERATION => [0, 16, 32, 48].contains(&length),
+        PAIRS => length > 0 && length % 4 == 0 && length <= 4 * PAIRS_LIMIT,
         _ => panic!("no tag {tag:#x}"),
     }
 }
@@ -65,6 +73,12 @@ pub fn count_field(count: u16) -> Vec<u8> {
 /// The count at the last release (document 02, request 8).
 pub fn released_field(released: u16) -> Vec<u8> {
     field(RELEASED, &released.to_be_bytes())
+}
+
+/// The optional last field of an archive (document 02, request 9).
+pub fn pairs_field(pairs: &[Pair]) -> Vec<u8> {
+    let numbers = pairs.iter().flat_map(|&(later, earlier)| [later, earlier]);
+    field(PAIRS, &numbers.flat_map(u16::to_be_bytes).collect::<Vec<u8>>())
 }
 
 /// A register without its curve, as commit, undo and release read and write it.
@@ -190,6 +204,34 @@ impl<'a> Reader<'a> {
 
     pub fn operation(&mut self, curve: &Curve) -> Result<Class, Refusal> {
         self.class_under(OPERATION, curve)
+    }
+
+    /// The pairs of the optional last field, whatever their numbers; none where nothing is left, and 112 where it is
+    /// another tag.
+    pub fn listed_pairs(&mut self) -> Result<Vec<Pair>, Refusal> {
+        if self.rest.first() != Some(&PAIRS) {
+            return self.end().map(|()| vec![]);
+        }
+        let pair =
+            |bytes: &[u8]| (u16::from_be_bytes([bytes[0], bytes[1]]), u16::from_be_bytes([bytes[2], bytes[3]]));
+        Ok(self.body(PAIRS)?.chunks(4).map(pair).collect())
+    }
+
+    /// 122: the pairs ascend, and each names an operation, of as many as the count says, and an earlier one.
+    pub fn pairs(&mut self, count: u16) -> Result<Vec<Pair>, Refusal> {
+        let pairs = self.listed_pairs()?;
+        let ascending = pairs.windows(2).all(|next| next[0] < next[1]);
+        let of_operations = |&(later, earlier): &Pair| 1 <= earlier && earlier < later && later <= count;
+        if ascending && pairs.iter().all(of_operations) {
+            Ok(pairs)
+        } else {
+            Err(122)
+        }
+    }
+
+    /// What has not been read.
+    pub fn rest(&self) -> &'a [u8] {
+        self.rest
     }
 
     /// 112.
@@ -319,6 +361,67 @@ mod tests {
                 assert_eq!(Reader::new(&bytes[..3]).drawing(), Err(104));
             }
         }
+    }
+
+    /// The pairs that are read from a field, and what is left after it.
+    fn read_pairs(bytes: &[u8], count: u16) -> (Result<Vec<Pair>, Refusal>, usize) {
+        let mut reader = Reader::new(bytes);
+        (reader.pairs(count), reader.rest().len())
+    }
+
+    #[test]
+    fn heads_of_pairs() {
+        assert_eq!(pairs_field(&[(0x0102, 0x0003), (0x0104, 1)]), [0x48, 0, 8, 1, 2, 0, 3, 1, 4, 0, 1]);
+        assert_eq!(read_pairs(&[], 2), (Ok(vec![]), 0), "the field may be left out");
+        for tag in (0..=255).filter(|&tag| tag != 0x48) {
+            assert_eq!(read_pairs(&[tag], 2).0, Err(112), "another byte, even alone");
+            assert_eq!(read_pairs(&[tag, 0, 4, 0, 2, 0, 1], 2).0, Err(112));
+        }
+        for head in [&[0x48][..], &[0x48, 0], &[0x48, 0xff]] {
+            assert_eq!(read_pairs(head, 2).0, Err(102));
+        }
+        for length in (0..9000).chain([32_768, 65_532, 65_535]) {
+            let allowed = length != 0 && length % 4 == 0 && length <= 8192;
+            let expected = Err(if allowed { 105 } else { 104 });
+            let [high, low] = (length as u16).to_be_bytes();
+            assert_eq!(read_pairs(&[0x48, high, low], 1024).0, expected);
+            assert_eq!(read_pairs(&[vec![0x48, high, low], vec![0; 3]].concat(), 1024).0, expected);
+        }
+        let whole = pairs_field(&[(2, 1), (3, 1)]);
+        for length in 3..whole.len() {
+            assert_eq!(read_pairs(&whole[..length], 3).0, Err(105));
+            assert_eq!(read_pairs(&whole[..length], 0).0, Err(105), "the body's end before its pairs");
+        }
+        assert_eq!(read_pairs(&[whole, vec![0x48]].concat(), 3), (Ok(vec![(2, 1), (3, 1)]), 1));
+    }
+
+    #[test]
+    fn pairs_by_their_rules() {
+        let read = |pairs: &[Pair], count| read_pairs(&pairs_field(pairs), count).0;
+        for count in [0, 1, 2, 3, 5] {
+            for later in 0..8 {
+                for earlier in 0..8 {
+                    let good = earlier > 0 && later > earlier && count >= later;
+                    let expected = if good { Ok(vec![(later, earlier)]) } else { Err(122) };
+                    assert_eq!(read(&[(later, earlier)], count), expected);
+                }
+            }
+        }
+        for pairs in [[(3, 1), (3, 2)], [(2, 1), (3, 1)], [(3, 2), (4, 1)]] {
+            assert_eq!(read(&pairs, 4), Ok(pairs.to_vec()));
+            assert_eq!(read(&[pairs[1], pairs[0]], 4), Err(122), "descending");
+            assert_eq!(read(&[pairs[0], pairs[0]], 4), Err(122), "equal");
+            assert_eq!(read(&[pairs[0], pairs[1], pairs[0]], 4), Err(122));
+        }
+        // 256 below 255 by the lower byte alone
+        assert!(read(&[(255, 1), (256, 1)], 256).is_ok());
+        assert!(read(&[(257, 255), (257, 256)], 257).is_ok());
+        assert_eq!(read(&[(257, 256), (257, 255)], 257), Err(122));
+        let most: Vec<Pair> = (0..2048).map(|i| (100 + i / 99, 1 + i % 99)).collect();
+        assert_eq!(read(&most, 1024), Ok(most.clone()));
+        assert_eq!(read(&[&[(2, 1)], &most[..]].concat(), 1024), Err(104));
+        assert_eq!(read(&[(1024, 1023)], 1024), Ok(vec![(1024, 1023)]));
+        assert_eq!(read(&[(1024, 1023)], 1023), Err(122));
     }
 
     #[test]

@@ -22,7 +22,7 @@ fn on_curve(random: &mut Random, curve: Curve, most: u32) -> Vec<(Vec<usize>, Ar
     let archive = |list: Vec<usize>| {
         let operations = list.iter().map(|&i| operations[i].clone()).collect();
         let (curve, seal) = (curve.clone(), seal.clone());
-        (list, Archive { curve, drawing: b"VIEWS".to_vec(), seal, operations })
+        (list, Archive { curve, drawing: b"VIEWS".to_vec(), seal, operations, pairs: vec![] })
     };
     lists(most).into_iter().map(archive).collect()
 }

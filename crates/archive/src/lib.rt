@@ -5,6 +5,8 @@ ghost use Rattle.stored_form.specs.Reading.{found, refused};
 ghost use Rattle.stored_form.specs.Reader.{header-layout};
 ghost use Rattle.archive.specs.Archive.{archive-refusal};
 ghost use Rattle.archive.specs.Reader.{reader, start, after-header, operations-expected, read-header-field, read-operation, read-pairs-expected, read-end, read-next, pending, read-header, advance-of};
+pub mod skipping;
+
 use stored_form::Cursor;
 use stored_form::HEADER_FIELDS;
 use stored_form::HEADER_LAYOUT;

@@ -24,7 +24,7 @@ use Rattle.history.specs.Calls as history
 use Rattle.history.specs.Calls.{answer}
 use Rattle.history.proofs.Edges as edges
 use Rattle.history.proofs.Edges.{commit-to-limit, commit-at-limit, undo-at-zero, release-within-limit}
-use Rattle.stored_form.specs.{Reading.found, Reading.refused as unread, Head.BytesAt, Fields.count-limit, Fields.count-field, Fields.released-field, Classes.encode-class, Classes.class-field, Record.empty-record, declared.Record.Record}
+use Rattle.stored_form.specs.{Tags.rules, Reading.found, Reading.refused as unread, Head.BytesAt, Fields.count-limit, Fields.count-field, Fields.released-field, Classes.encode-class, Classes.class-field, Record.empty-record, declared.Record.Record}
 use Rattle.stored_form.specs.Reader.{read-body, read-field, read-fields, read-record, curve-layout, register-layout, step-layout}
 use Rattle.stored_form.proofs.{Heads.head-103, Lengths.length-stored, Lengths.length-count, Lengths.length-released, Readings.then-found, Readings.then-refused, Readers.fields-append}
 use Rattle.stored_form_theorems.specs.{Checking.record-checks, Checking.record-values, Numbers.OneOf}
@@ -199,4 +199,4 @@ module _ (s out : List ℕ) (long : 61 ≤ length out) where
       → called (request-call q) s out ≡ refuse 103 out
   unfolding read-field read-body
   without-released q {h} {at} first fits seal =
-      refused-behind q (curve-layout ++ 0x42 ∷ []) (0x43 ∷ []) 0x45 refl first (then-refused _ (then-refused _ (head-103 0x45 h s at fits (λ e. omega (arith, seal, e)))))
+      refused-behind q (curve-layout ++ 0x42 ∷ []) (0x43 ∷ []) 0x45 refl first (then-refused _ (then-refused _ (head-103 0x45 (rules 0x45 .allows h) s at fits (λ e. omega (arith, seal, e)))))

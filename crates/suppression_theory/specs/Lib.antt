@@ -1,2 +1,3 @@
--- Suppressing one operation of a list of operations.
+-- Suppressing one operation: of a list of operations, and of an archive.
 pub mod Suppression
+pub mod Archives

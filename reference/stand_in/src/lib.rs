@@ -1,7 +1,10 @@
-//! The eleven byte calls of the reference under the C names of include/seal.h and include/seal_licence.h, as a static
-//! library.
-//! It stands in for the two proved libraries where tests/seal_calls is tested itself: the variable SEAL_FAULT, one of
-//! `FAULTS`, makes the calls wrong in one way, and that test has to fail.
+//! The byte calls of the reference under the C names of include/seal.h, include/seal_licence.h and
+//! include/seal_archive.h, as a static library.
+//! It stands in for the proved libraries where tests/seal_calls and tests/archive_calls are tested themselves: the
+//! variable SEAL_FAULT, one of `FAULTS` or of `archive::FAULTS`, makes the calls wrong in one way, and the test has to
+//! fail.
+
+mod archive;
 
 use reference::calls::{answer, seal_after_commit, Call};
 use reference::jacobian::Class;
@@ -10,7 +13,7 @@ use reference::stamp::{first_class, stamp_limit};
 use reference::stored::{class_field, register_fields, released_field, Reader, Refusal, COUNT_LIMIT};
 use std::sync::OnceLock;
 
-/// The faults, by name.
+/// The faults of the eleven calls on classes, stamps and registers, by name.
 /// - `bound`: an output one byte too short is accepted where it would hold what is written.
 /// - `scratch`: a refusal leaves a byte changed.
 /// - `beyond`: one byte after those written is changed.
@@ -119,7 +122,8 @@ const TOO_OFTEN: u64 = HALVINGS_LIMIT + 1;
 fn fault() -> &'static str {
     static FAULT: OnceLock<String> = OnceLock::new();
     let name = FAULT.get_or_init(|| std::env::var("SEAL_FAULT").unwrap_or_default());
-    assert!(name.is_empty() || FAULTS.contains(&name.as_str()), "SEAL_FAULT is one of {FAULTS:?}");
+    let known = [&FAULTS[..], &archive::FAULTS].concat();
+    assert!(name.is_empty() || known.contains(&name.as_str()), "SEAL_FAULT is one of {known:?}");
     name
 }
 
@@ -362,11 +366,45 @@ fn faulty(call: Call, input: &[u8], length: usize) -> (u32, Vec<u8>) {
     faulty_number(call, right.0, input, length).unwrap_or(right)
 }
 
+/// The bytes of an area. An empty one may be null, which a slice must not be.
+///
+/// # Safety
+/// The area is as long as said.
+unsafe fn bytes_of<'a>(input: *const u8, length: usize) -> &'a [u8] {
+    if length == 0 {
+        &[]
+    } else {
+        std::slice::from_raw_parts(input, length)
+    }
+}
+
+/// Writes a byte of the input and writes it back.
+///
+/// # Safety
+/// The area is as long as said.
+unsafe fn write_input(input: *const u8, length: usize) {
+    if length > 0 {
+        let first = input as *mut u8;
+        let kept = first.read_volatile();
+        first.write_volatile(!kept);
+        first.write_volatile(kept);
+    }
+}
+
+/// Reads one byte after the input.
+///
+/// # Safety
+/// The area is as long as said. What follows it may be no memory at all: that is the fault.
+unsafe fn read_over(input: *const u8, length: usize) {
+    if length > 0 {
+        std::hint::black_box(input.add(length).read_volatile());
+    }
+}
+
 /// # Safety
 /// The areas are as long as said and do not overlap.
 unsafe fn run(call: Call, input: *const u8, input_length: usize, output: *mut u8, output_length: usize) -> u32 {
-    // an empty area may be null, which a slice must not be
-    let bytes = if input_length == 0 { &[] } else { std::slice::from_raw_parts(input, input_length) };
+    let bytes = bytes_of(input, input_length);
     let (answer, written) = faulty(call, bytes, output_length);
     std::ptr::copy_nonoverlapping(written.as_ptr(), output, written.len());
     match fault() {
@@ -377,15 +415,8 @@ unsafe fn run(call: Call, input: *const u8, input_length: usize, output: *mut u8
         }
         "scratch" if answer > 100 && output_length > 0 => *output.add(output_length - 1) ^= 1,
         "beyond" if answer <= 100 && written.len() < output_length => *output.add(written.len()) ^= 1,
-        "input" if input_length > 0 => {
-            let first = input as *mut u8;
-            let kept = first.read_volatile();
-            first.write_volatile(!kept);
-            first.write_volatile(kept);
-        }
-        "over-read" if input_length > 0 => {
-            std::hint::black_box(input.add(input_length).read_volatile());
-        }
+        "input" => write_input(input, input_length),
+        "over-read" => read_over(input, input_length),
         _ => {}
     }
     answer

@@ -1,0 +1,2 @@
+// The calls for C on whole archives.
+pub mod suppress;

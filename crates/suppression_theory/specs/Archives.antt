@@ -1,0 +1,33 @@
+-- An archive with operation k suppressed, and whether operation k is held (docs/SPECIFICATION.md, 9).
+use Prim.Native.Nat.{ℕ}
+use mathlib.Core.Bool.{Bool, false, not, _&&_, _||_}
+use mathlib.Core.List.{List, [], _∷_}
+use lib.Dec.{eqb}
+use Rattle.jacobian.specs.declared.Class.{Class}
+use Rattle.stored_form.specs.Pairs.{later, earlier}
+use Rattle.archive.specs.Archive.{Archive}
+use Rattle.walk_report.specs.Walk.{neutral}
+use Rattle.suppression_theory.specs.Suppression.{operation-of, suppressed-operations, suppressed-seal}
+
+-- the archive with operation k neutral and the seal that follows from that; all else is as it was
+unfoldable pub suppressed : ℕ → Archive → Archive
+suppressed k a = record {
+  curve = a .curve;
+  drawing = a .drawing;
+  seal = suppressed-seal (a .curve) k (a .seal) (a .operations);
+  operations = suppressed-operations k (a .operations);
+  pairs = a .pairs;
+}
+
+-- whether a pair holds operation k: its earlier operation is k, and its later one is not neutral
+unfoldable pub holds : ℕ → List Class → ℕ → Bool
+holds k ops p = eqb (earlier p) k && not (neutral (operation-of (later p) ops))
+
+-- whether one of these pairs holds operation k
+unfoldable pub held-by : ℕ → List Class → List ℕ → Bool
+held-by k ops [] = false
+held-by k ops (p ∷ ps) = holds k ops p || held-by k ops ps
+
+-- whether operation k of an archive is held
+unfoldable pub held : ℕ → Archive → Bool
+held k a = held-by k (a .operations) (a .pairs)
