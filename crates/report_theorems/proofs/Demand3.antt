@@ -3,8 +3,8 @@
 -- keeps the register's curve, its last seal and the classes of all these commits, newest first.
 -- `archive-seals`: the walk's seals are the last seal and those just before each commit, newest first.
 -- `archive-seal`: with k operations undone the seal is the one just before the k-th newest commit, the last for k = 0.
--- `archive-exists`: if no check refuses the register, such an archive exists for every allowed drawing number and for
--- all allowed pairs, none among them.
+-- `archive-exists`: if no check refuses the register, such an archive exists for every allowed drawing number, with any
+-- allowed pairs or without.
 -- `left-archive-seals`, `left-archive-seal`, `left-archive-exists`: the same if each call is by value or in place.
 use Prim.Native.Nat.{ℕ, _≤_}
 use mathlib.Core.Path.{_≡_, refl, ap}
