@@ -5,8 +5,8 @@
 -- was kept just before the i-th newest commit, for i = 0 the one last written.
 -- `archive-seals-bytes`: the seals of the walk of every accepted archive that keeps this have the fields kept.
 -- `archive-seal-bytes`: with i operations undone the seal's field is the one kept just before the i-th newest commit.
--- `archive-exists-bytes`: for every allowed drawing number such an archive exists.
--- `archive-is-fields`: its bytes are the fields that were kept, written and given, one after the other.
+-- `archive-exists-bytes`: for every allowed drawing number such an archive exists, with any allowed pairs or without.
+-- `archive-is-fields`: its bytes are the fields that were kept, written and given, one after the other, and its pairs.
 -- `archive-reads-bytes`: these fields are read as that archive.
 use Prim.Native.Nat.{ℕ, _≤_}
 use mathlib.Core.Path.{_≡_, refl, sym, ap, ap₂, _∙_, subst}
@@ -16,7 +16,8 @@ use lib.ListN.{length, getD, take, length-map, List·getD-map}
 use Rattle.jacobian.specs.{Answer.accepted, Answer.Result, declared.Class.Class}
 use Rattle.history.specs.{Machine.last, Machine.newest, Calls.NoUndos, Calls.classes, Calls.seals-met, declared.Register.Register}
 use Rattle.history.specs.Calls as history
-use Rattle.stored_form.specs.{Reading.found, Head.drawing-limit, Fields.printable, Fields.drawing-field, Fields.count-field, Classes.class-field, Classes.curve-fields-bytes, Classes.operation-fields}
+use Rattle.stored_form.specs.{Reading.found, Head.drawing-limit, Fields.printable, Fields.drawing-field, Fields.count-field, Classes.class-field, Classes.curve-fields-bytes, Classes.operation-fields, Pairs.pairs-field}
+use Rattle.stored_form_theorems.specs.Pairs.{PairsAllowed}
 use Rattle.seal.specs.Steps.{Kept, ByteCall, byte-calls, BytesGiven, operations, seal-field, seal-fields, kept, decode-kept, newest-decoded, last-decoded, decoded-calls, InStoredForm}
 use Rattle.seal.proofs.{ByteCarried.newest-carried, ByteCarried.last-carried, ByteCarried.operations-stored, ByteCarried.seals-stored, ByteSteps.last-stored, Decoding.seal-stored}
 use Rattle.seal_register.specs.RowWalk.{row-walk-answer}
@@ -60,12 +61,12 @@ module _ (k : Kept) (form : InStoredForm k) (cs : List ByteCall) (bytes : BytesG
   unfolding last-decoded
   last-field = sym (seal-stored (last byte-calls k cs) (last-stored k form bytes .stored))
 
-  pub archive-is-fields : (drawing : List ℕ) → archive-bytes (kept-archive (decode-kept k) (last-decoded k cs) (newest-decoded k cs) drawing) ≡ archive-of-fields k cs drawing
+  pub archive-is-fields : (drawing pairs : List ℕ) → archive-bytes (kept-archive (decode-kept k) (last-decoded k cs) (newest-decoded k cs) drawing pairs) ≡ archive-of-fields k cs drawing pairs
   unfolding archive-bytes kept-archive archive-of-fields
-  archive-is-fields drawing =
-      ap₂ (λ (f : List ℕ) (n : ℕ). f ++ drawing-field drawing ++ count-field n ++ class-field 0x43 (last-decoded k cs .seal) ++ operation-fields (classes (newest-decoded k cs))) first-fields
+  archive-is-fields drawing pairs =
+      ap₂ (λ (f : List ℕ) (n : ℕ). f ++ drawing-field drawing ++ count-field n ++ class-field 0x43 (last-decoded k cs .seal) ++ operation-fields (classes (newest-decoded k cs)) ++ pairs-field pairs) first-fields
       many
-      ∙ ap₂ (λ (f o : List ℕ). k .curve ++ drawing-field drawing ++ count-field (length (operations (newest byte-calls k cs))) ++ f ++ o) last-field operations-given
+      ∙ ap₂ (λ (f o : List ℕ). k .curve ++ drawing-field drawing ++ count-field (length (operations (newest byte-calls k cs))) ++ f ++ o ++ pairs-field pairs) last-field operations-given
 
   module _ (only : NoUndos (newest-decoded k cs)) where
     only-by-value : NoUndos (history.newest r xs)
@@ -103,14 +104,16 @@ module _ (k : Kept) (form : InStoredForm k) (cs : List ByteCall) (bytes : BytesG
       pub archive-seal-bytes : (i : ℕ) → class-field 0x43 (getD (seals (a .curve) (a .seal) (a .operations)) i (a .seal)) ≡ getD (seal-fields k cs) i (class-field 0x43 (a .seal))
       archive-seal-bytes i = sym (List·getD-map (class-field 0x43) (seals (a .curve) (a .seal) (a .operations)) i (a .seal)) ∙ ap (λ l. getD l i (class-field 0x43 (a .seal))) archive-seals-bytes
 
-    pub archive-exists-bytes : (drawing : List ℕ) → printable drawing ≡ true → length drawing ≤ drawing-limit →
-        Encodes (decode-kept k) (last-decoded k cs) (newest-decoded k cs) drawing (kept-archive (decode-kept k) (last-decoded k cs) (newest-decoded k cs) drawing)
-    archive-exists-bytes drawing =
-        by-value (λ es t. printable drawing ≡ true → length drawing ≤ drawing-limit → Encodes r t es drawing (kept-archive r t es drawing))
-        (archive-exists r xs only-by-value (form .passes) drawing)
+    module _ (drawing : List ℕ) (clean : printable drawing ≡ true) (short : length drawing ≤ drawing-limit)
+        (pairs : List ℕ) (allowed : PairsAllowed (length (operations (newest byte-calls k cs))) pairs) (few : length pairs ≤ 2048) where
+      pub archive-exists-bytes : Encodes (decode-kept k) (last-decoded k cs) (newest-decoded k cs) drawing pairs (kept-archive (decode-kept k) (last-decoded k cs) (newest-decoded k cs) drawing pairs)
+      archive-exists-bytes =
+          by-value (λ es t. PairsAllowed (length (classes es)) pairs → Encodes r t es drawing pairs (kept-archive r t es drawing pairs))
+          (λ ok. archive-exists r xs only-by-value (form .passes) drawing clean short pairs ok few)
+          (subst (λ (n : ℕ). PairsAllowed n pairs) (sym many) allowed)
 
-    pub archive-reads-bytes : (drawing : List ℕ) → printable drawing ≡ true → length drawing ≤ drawing-limit →
-        read-archive (archive-of-fields k cs drawing) ≡ found (kept-archive (decode-kept k) (last-decoded k cs) (newest-decoded k cs) drawing) (length (archive-of-fields k cs drawing))
-    archive-reads-bytes drawing clean short =
-        subst (λ (l : List ℕ). read-archive l ≡ found (kept-archive r (last-decoded k cs) (newest-decoded k cs) drawing) (length l)) (archive-is-fields drawing)
-        (archive-exists-bytes drawing clean short .reads)
+      pub archive-reads-bytes : read-archive (archive-of-fields k cs drawing pairs)
+          ≡ found (kept-archive (decode-kept k) (last-decoded k cs) (newest-decoded k cs) drawing pairs) (length (archive-of-fields k cs drawing pairs))
+      archive-reads-bytes =
+          subst (λ (l : List ℕ). read-archive l ≡ found (kept-archive r (last-decoded k cs) (newest-decoded k cs) drawing pairs) (length l)) (archive-is-fields drawing pairs)
+          (archive-exists-bytes .reads)

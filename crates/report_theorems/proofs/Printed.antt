@@ -9,6 +9,7 @@ use Rattle.class_group.specs.Moves.{subtract-and-halve}
 use Rattle.jacobian.specs.Classes.{same-row, same-class}
 use Rattle.jacobian.proofs.Computing.{computing}
 use Rattle.stored_form.specs.Fields.{count-limit, printable}
+use Rattle.stored_form_theorems.proofs.Pairs.{none-allowed}
 use Rattle.history.specs.Register.{undo-seal}
 use Rattle.archive_theorems.specs.Written.{archive-bytes, Storable}
 use Rattle.archive_theorems.proofs.ArchiveRoundTrips.{archive-read-back}
@@ -34,6 +35,8 @@ example-storable = record {
   count-within = lit≤ tt;
   seal-allowed = record { none = refl };
   operations-allowed = more (record { none = refl }) (more (record { none = refl }) none);
+  pairs-allowed = none-allowed 2;
+  pairs-few = lit≤ tt;
 }
 
 pub example-printed : report (archive-bytes example-archive) ≡ bytes-of example-output

@@ -18,14 +18,16 @@ pub record Keeps (a : Archive) (r t : Register) (es : List Event) : Type 0 where
   pub seal-kept : a .seal ≡ t .seal
   pub operations-kept : a .operations ≡ classes es
 
--- the archive that keeps this, with a drawing number
-unfoldable pub kept-archive : Register → Register → List Event → List ℕ → Archive
-kept-archive r t es drawing = record { curve = r .curve; drawing = drawing; seal = t .seal; operations = classes es }
+-- the archive that keeps this, with a drawing number and with pairs of its operations, of which there may be none
+unfoldable pub kept-archive : Register → Register → List Event → List ℕ → List ℕ → Archive
+kept-archive r t es drawing pairs = record { curve = r .curve; drawing = drawing; seal = t .seal; operations = classes es; pairs = pairs }
 
--- The archive a has this drawing number and keeps what the list leaves; its encoding is bytes that read back as a.
+-- The archive a has this drawing number and these pairs, and keeps what the list leaves.
+-- Its encoding is bytes that read back as a.
 -- Its walk's seals are the last seal and those just before each accepted step, newest first.
-pub record Encodes (r t : Register) (es : List Event) (drawing : List ℕ) (a : Archive) : Type 0 where
+pub record Encodes (r t : Register) (es : List Event) (drawing pairs : List ℕ) (a : Archive) : Type 0 where
   pub named : a .drawing ≡ drawing
+  pub paired : a .pairs ≡ pairs
   pub keeps : Keeps a r t es
   pub bytes : Bytes (archive-bytes a)
   pub reads : read-archive (archive-bytes a) ≡ found a (length (archive-bytes a))

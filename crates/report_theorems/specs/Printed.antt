@@ -16,13 +16,14 @@ bytes-of (c then s) = code c ∷ bytes-of s
 abbrev pub class : ℕ → List ℕ → List ℕ → Class
 class n u v = record { degree = n; u = u; v = v }
 
--- the example's archive: d = 5, f = x^7, drawing number A1, seal [x^2, 1], operations [x, 1] and [x, 0]
+-- the example's archive: d = 5, f = x^7, drawing number A1, seal [x^2, 1], operations [x, 1] and [x, 0], no pairs
 unfoldable pub example-archive : Archive
 example-archive = record {
   curve = record { degree = 5; f3 = 0; f1 = 0; f0 = 0 };
   drawing = bytes-of "A1";
   seal = class 2 (0 ∷ 0 ∷ 0 ∷ []) (1 ∷ 0 ∷ 0 ∷ []);
   operations = class 1 (0 ∷ 0 ∷ 0 ∷ []) (1 ∷ 0 ∷ 0 ∷ []) ∷ class 1 (0 ∷ 0 ∷ 0 ∷ []) (0 ∷ 0 ∷ 0 ∷ []) ∷ [];
+  pairs = [];
 }
 
 -- the example's output

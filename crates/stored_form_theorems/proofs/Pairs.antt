@@ -3,6 +3,7 @@
 -- `pairs-decide`, `pairs-length-decides`: the tests of the definitions are what the rules require.
 -- `later-ascends`: pairs in order have their later numbers in order.
 -- `pairs-small`: pairs of fewer than 65,536 operations fit four bytes. `some-field`: the field of some pairs.
+-- `none-allowed`: no pairs break no rule.
 -- `pairs-read-back`: pairs that break no rule are read back from their field.
 -- `pairs-written`: pairs that are read break no rule, and stand there as their field.
 -- `pairs-reads`: they are read by their checks in order.
@@ -102,6 +103,9 @@ module _ (n : ℕ) where
           let h = w .earlier-some in
           omega arith
 
+pub none-allowed : (n : ℕ) → PairsAllowed n []
+none-allowed n = record { within = none; ascending = λ i h. absurd (omega arith) }
+
 pub pairs-length-decides : (n : ℕ) → (pairs-length n ≡ true) ↔ PairsLength n
 unfolding pairs-length
 pairs-length-decides n = (
@@ -197,7 +201,7 @@ module _ (n : ℕ) (s : List ℕ) (at : ℕ) {ps : List ℕ} {next : ℕ} where
     where
       -- no pairs at the end
       empty : (ps : List ℕ) (next : ℕ) → ps ≡ [] → next ≡ at → PairsWritten n s at ps next
-      empty ps next f g = rw (f, g) (record { field = record { stands = refl; ends = sym (add-zero at) }; allowed = record { within = none; ascending = λ i h. absurd (omega arith) }; few = omega arith })
+      empty ps next f g = rw (f, g) (record { field = record { stands = refl; ends = sym (add-zero at) }; allowed = none-allowed n; few = omega arith })
 
       go : (t : Bool) → cond t (found [] at) (refuse 112 (not (eqb (getD s at 0) 0x48)) (read-pairs-field n s at)) ≡ found ps next → PairsWritten n s at ps next
       go true e = let same = same-found e in empty ps next (sym (same .0)) (sym (same .1))

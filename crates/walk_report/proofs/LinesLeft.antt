@@ -41,6 +41,7 @@ module _ (s : List ℕ) (at : ℕ) where
   expected-fewer (expected.Header i) stage h seal b = omega arith
   expected-fewer (expected.Operations zero) stage h seal b = omega arith
   expected-fewer (expected.Operations (suc n)) stage h seal b = read-fewer n (report-at stage (reader (expected.Operations (suc n)) h) seal b) (read-field 0x44 h s at)
+  expected-fewer expected.Pairs stage h seal b = omega arith
   expected-fewer expected.End stage h seal b = omega arith
   expected-fewer expected.Nothing stage h seal b = omega arith
 

@@ -31,6 +31,7 @@ progress r at = record { report = r; next = record { at = at } }
 abbrev pub older : Expected → ℕ
 older (expected.Header i) = 0
 older (expected.Operations n) = n
+older expected.Pairs = 0
 older expected.End = 0
 older expected.Nothing = 0
 

@@ -63,6 +63,7 @@ fn older(expected: Expected) -> u64
     match expected {
         Expected::Header(_) => 0,
         Expected::Operations(n) => n,
+        Expected::Pairs => 0,
         Expected::End => 0,
         Expected::Nothing => 0,
     }
