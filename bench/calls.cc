@@ -8,8 +8,14 @@
 // held to NTL's, every half to NTL's double, every stamp to NTL's traces, multiples and repeated halves of a few classes to NTL's
 // sums and doubles, and every answer to that in C. The operations take turns, and the least time of all rounds counts. Calls on elements run as a chain, each on what the last one answered.
 // ARCHIVE has 1,024 operations, and the program WALKREPORT is timed with it on standard input.
+//
+// Suppressing is timed on an archive of 1,024 operations of degree 3, the oldest, the middle and the newest one, against the
+// program's walk of the same archive. Reading it takes the same time for each of them; what the others take beyond the newest
+// one is printed as a ratio to n - k doubles, which stays about 1 where the time is linear in n - k. The oldest one is also
+// suppressed where all others are neutral and paired to it, so that each of them is looked up, against the same without pairs.
 #include <NTL/GF2EX.h>
 
+#include <algorithm>
 #include <cstdint>
 #include <cstdio>
 #include <cstdlib>
@@ -17,10 +23,12 @@
 #include <ctime>
 #include <string>
 #include <sys/resource.h>
+#include <unistd.h>
 #include <vector>
 
 #include "plain.h"
 #include "seal.h"
+#include "seal_archive.h"
 
 using namespace NTL;
 
@@ -166,24 +174,26 @@ static void draw() {
     }
 }
 
+static void put_number(std::vector<uint8_t> &bytes, uint64_t n) {
+    for (int i = 56; i >= 0; i -= 8) bytes.push_back(n >> i);
+}
+
+static void put_class(std::vector<uint8_t> &bytes, uint8_t tag, const Class &a) {
+    int n = a.numbers[0];
+    bytes.insert(bytes.end(), {tag, 0, uint8_t(16 * n)});
+    for (int start : {1, 4})
+        for (int i = n - 1; i >= 0; i--) put_number(bytes, a.numbers[start + i]);
+}
+
 // The record of an undo: degree, curve, count, released step, seal and operation. That of a release ends after the
 // seal, which has degree 3.
 enum { RELEASE_RECORD = CURVE_FIELDS + SEAL_REGISTER_OUTPUT };
 static std::vector<uint8_t> record_of(uint64_t count, const Class &seal, const Class &operation) {
     std::vector<uint8_t> bytes = {0x40, 0, 1, DEGREE, 0x41, 0, 24};
-    auto put = [&bytes](uint64_t n) {
-        for (int i = 56; i >= 0; i -= 8) bytes.push_back(n >> i);
-    };
-    auto put_class = [&](uint8_t tag, const Class &a) {
-        int n = a.numbers[0];
-        bytes.insert(bytes.end(), {tag, 0, uint8_t(16 * n)});
-        for (int start : {1, 4})
-            for (int i = n - 1; i >= 0; i--) put(a.numbers[start + i]);
-    };
-    for (int i = 0; i < 3; i++) put(curve[i]);
+    for (int i = 0; i < 3; i++) put_number(bytes, curve[i]);
     bytes.insert(bytes.end(), {0x42, 0, 2, uint8_t(count >> 8), uint8_t(count), 0x45, 0, 2, 0, 0});
-    put_class(0x43, seal);
-    put_class(0x44, operation);
+    put_class(bytes, 0x43, seal);
+    put_class(bytes, 0x44, operation);
     return bytes;
 }
 
@@ -270,6 +280,57 @@ static void compare_multiples() {
         Pair back = pair_of(r);
         for (int k = 0; k < MOST_HALVINGS; k++) back = double_by_ntl(back);
         hold(classes[i] == class_of(back), "halvings", i);
+    }
+}
+
+// The class of operation k of the archive that is suppressed, counted from the oldest.
+static int class_of_operation(int k) {
+    return k % CLASSES;
+}
+
+static const Class NEUTRAL = {};
+
+// An archive with an empty drawing number, of KEPT operations, of which one, or none where it is 0, is neutral.
+static std::vector<uint8_t> archive_with(const Class &seal, int neutral) {
+    std::vector<uint8_t> bytes = {0x40, 0, 1, DEGREE, 0x41, 0, 24};
+    for (int i = 0; i < 3; i++) put_number(bytes, curve[i]);
+    bytes.insert(bytes.end(), {0x46, 0, 0, 0x42, 0, 2, uint8_t(KEPT >> 8), uint8_t(KEPT & 255)});
+    put_class(bytes, 0x43, seal);
+    for (int k = KEPT; k > 0; k--) put_class(bytes, 0x44, k == neutral ? NEUTRAL : classes[class_of_operation(k)]);
+    return bytes;
+}
+
+// The same with all operations neutral but for the oldest, and with all paired to it, where that is wanted.
+static std::vector<uint8_t> neutral_archive(bool paired) {
+    std::vector<uint8_t> bytes = archive_with(classes[0], 0);
+    bytes.resize(bytes.size() - KEPT * SEAL_CLASS_OUTPUT);
+    for (int k = KEPT; k > 1; k--) put_class(bytes, 0x44, NEUTRAL);
+    put_class(bytes, 0x44, classes[class_of_operation(1)]);
+    if (!paired) return bytes;
+    bytes.insert(bytes.end(), {0x48, uint8_t(4 * (KEPT - 1) >> 8), uint8_t(4 * (KEPT - 1) & 255)});
+    for (int later = 2; later <= KEPT; later++) bytes.insert(bytes.end(), {uint8_t(later >> 8), uint8_t(later), 0, 1});
+    return bytes;
+}
+
+static std::vector<uint8_t> archive, suppressed_archive;
+static const int SUPPRESSED[] = {1, KEPT / 2, KEPT};
+
+static seal_written suppress(const std::vector<uint8_t> &in, int k) {
+    return seal_suppress(in.data(), in.size(), k, suppressed_archive.data(), suppressed_archive.size());
+}
+
+// The archive, and each suppression of it held to NTL's doubles and sum: the old seal less n - k doubles of the class.
+static void compare_suppressions() {
+    archive = archive_with(classes[0], 0);
+    suppressed_archive.resize(archive.size() + SEAL_ARCHIVE_GROWTH);
+    for (int k : SUPPRESSED) {
+        Pair by = pairs[class_of_operation(k)];
+        for (int i = k; i < KEPT; i++) by = double_by_ntl(by);
+        by.v = (by.v + 1) % by.u;
+        std::vector<uint8_t> expected = archive_with(class_of(sum_by_ntl(pairs[0], by)), k);
+        seal_written answer = suppress(archive, k);
+        hold(answer.refusal == 0 && answer.length == expected.size(), "suppressing", k);
+        hold(std::equal(expected.begin(), expected.end(), suppressed_archive.begin()), "suppressing", k);
     }
 }
 
@@ -406,6 +467,28 @@ static double program_time(const char *program, const char *name) {
     return least;
 }
 
+// How long suppressing operation k of an archive takes.
+static double suppressing_time(const std::vector<uint8_t> &in, int k) {
+    double least = 0;
+    for (int round = 0; round < 20; round++) {
+        double began = now();
+        if (suppress(in, k).refusal != 0) exit(1);
+        double took = now() - began;
+        if (round == 0 || took < least) least = took;
+    }
+    return least;
+}
+
+// How long the program's walk of the archive takes that operations are suppressed in.
+static double walk_time(const char *program) {
+    char name[] = "/tmp/archiveXXXXXX";
+    FILE *file = fdopen(mkstemp(name), "wb");
+    if (file == NULL || fwrite(archive.data(), 1, archive.size(), file) != archive.size() || fclose(file) != 0) exit(1);
+    double took = program_time(program, name);
+    unlink(name);
+    return took;
+}
+
 static double least[OPERATIONS][MAKERS];
 
 static void print_line(const char *name, int operation) {
@@ -415,6 +498,19 @@ static void print_line(const char *name, int operation) {
         else printf(" %8s", "");
     }
     printf("\n");
+}
+
+static void print_suppressions(const char *program) {
+    double walk = walk_time(program), newest = suppressing_time(archive, KEPT);
+    printf("  suppressing operation k of n = %d: in halves, in walks of the program, and beyond k = n in n - k doubles\n", KEPT);
+    for (int k : SUPPRESSED) {
+        double took = suppressing_time(archive, k);
+        printf("  %-30s %10.0f %8.3f", ("k = " + std::to_string(k)).c_str(), took / least[HALF][PROVED], took / walk);
+        if (k < KEPT) printf(" %8.2f", (took - newest) / ((KEPT - k) * least[DOUBLE][PROVED]));
+        printf("\n");
+    }
+    printf("  k = 1, with the others neutral and paired to it, takes %.2f of the same without pairs\n",
+        suppressing_time(neutral_archive(true), 1) / suppressing_time(neutral_archive(false), 1));
 }
 
 int main(int words, char **word) {
@@ -429,6 +525,7 @@ int main(int words, char **word) {
     draw_stamps();
     compare();
     compare_multiples();
+    compare_suppressions();
     for (int round = 0; round < ROUNDS; round++) {
         for (int operation = 0; operation < OPERATIONS; operation++) {
             for (int maker = 0; maker < MAKERS; maker++) {
@@ -447,6 +544,7 @@ int main(int words, char **word) {
     for (int operation = 0; operation <= BYTE_STAMP; operation++) print_line(names[operation], operation);
     double program = program_time(word[2], word[1]) / least[HALF][PROVED];
     printf("  the program walkreport on %d operations takes %.0f halves, %.2f for each operation\n", KEPT, program, program / KEPT);
+    print_suppressions(word[2]);
     printf("  NTL's double and sum take %.2f of an undo, a plain loop of 61 turns in C %.2f of a product\n",
         least[COMMIT][NTL_LIBRARY] / least[UNDO][PROVED], least[LOOP_PRODUCT][PLAIN] / least[PRODUCT][PROVED]);
     return 0;

@@ -28,7 +28,7 @@
  * (seal_refusals.h), and has changed no byte. No call changes the input, nor a byte of the output after those it
  * wrote. 101 comes before any byte of the input is looked at. A field must pass its checks of 102 to 111 before the one
  * after it is looked at, and 0x45 that of 120 too; 112 comes after the last field, and 113 to 116 and 121 come last.
- * 108 is of archives, which no call for C reads.
+ * 108 and 122 to 124 are of archives (seal_archive.h).
  *
  * Areas. The input may hold anything: nothing has to be checked before a call. The one duty of the caller is to hand
  * over areas that are his, as long as said, with the output apart from the input: where they overlap, nothing is

@@ -6,7 +6,7 @@
  *     rt staticlib seal_licence
  *     cc -Iinclude licence.c target/staticlib/libseal_licence.a
  *
- * It may be linked together with the libraries of seal.h and seal_register.h.
+ * It may be linked together with the libraries of seal.h, seal_register.h and seal_archive.h.
  *
  * The record. Both calls read the fields 0x40, 0x41 and 0x43, in this order and with nothing after them. A field has a
  * tag of one byte, its body's length in two bytes, and the body. Numbers are stored high byte first, an element in

@@ -9,8 +9,8 @@
  * A commit, an undo or a release answers 0 where it is accepted, and the register is then the one that follows. Else
  * it answers the refusal's number (seal_refusals.h), and every member of the register is as it was; so is its
  * padding, which is how the code is made and is tested, and not a part of the proved contract. The numbers that these
- * calls answer stand at each call. Of the others 101 to 103, 105 and 112 are of byte areas, 108 is of archives, which
- * no call for C reads, 115 and 116 are of stamps, 118 and 119 of multiples and halvings. 104 is SEAL_WRONG_SHAPE
+ * calls answer stand at each call. Of the others 101 to 103, 105 and 112 are of byte areas, 108 and 122 to 124 of
+ * archives (seal_archive.h), 115 and 116 of stamps, 118 and 119 of multiples and halvings. 104 is SEAL_WRONG_SHAPE
  * here: a class's degree is above 3, or a number at or past its degree is not 0. They are checked in this order: 106
  * and 107 of the curve, 109 of the count, 120 of the released step, then 104, 110 and 111 of the seal and of the
  * class, then 114, or 113 and 121. A release has no class and none of the last three.

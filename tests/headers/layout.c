@@ -1,9 +1,14 @@
-/* The layout of struct seal_register, and what an initialiser by position means that was written before the released
- * step came, with SEAL_VERSION 3: curve, count and seal. The status is 0 where it gives these and the released step
- * 0. */
+/* The layouts of seal_written and seal_register, and what an initialiser by position of the latter means that was
+ * written before the released step came, with SEAL_VERSION 3: curve, count and seal. The status is 0 where it gives
+ * these and the released step 0. */
+#include "seal_archive.h"
 #include "seal_register.h"
 
 #include <string.h>
+
+_Static_assert(offsetof(struct seal_written, refusal) == 0, "the refusal is the first member");
+_Static_assert(offsetof(struct seal_written, length) == 8, "the length follows four bytes of padding");
+_Static_assert(sizeof(struct seal_written) == 16, "nothing follows the length");
 
 _Static_assert(offsetof(struct seal_register, curve) == 0, "the curve is the first member");
 _Static_assert(offsetof(struct seal_register, count) == 32, "the count follows the curve");

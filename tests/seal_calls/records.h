@@ -2,25 +2,10 @@
 #ifndef RECORDS_H
 #define RECORDS_H
 
+#include "bytes.h"
 #include "check.h"
-#include "classes.h"
 
-/* Bytes that are put together; a field's head is three bytes. */
-struct bytes {
-    size_t length;
-    uint8_t at[AREA];
-};
-
-void put(struct bytes *b, int byte);
-void put_head(struct bytes *b, int tag, size_t length);
-void put_number(struct bytes *b, uint64_t n);
-void put_degree(struct bytes *b, int d);
-void put_curve(struct bytes *b, uint64_t f3, uint64_t f1, uint64_t f0);
-void put_count(struct bytes *b, int count);
 void put_released(struct bytes *b, int released);
-void append(struct bytes *b, const struct bytes *more);
-
-void put_class(struct bytes *b, int tag, struct seal_class class);
 
 /* The fields of a register: count, released step and seal. */
 void put_register(struct bytes *b, int count, int released, struct seal_class seal);

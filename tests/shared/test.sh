@@ -25,6 +25,15 @@ check() { # NAME COMMAND..
     fi
 }
 
+# Counts the tests of a program as it reports them.
+counted() { # COMMAND WORD..
+    local status
+    "$@" >"$room/said" 2>&1
+    status=$?
+    cat "$room/said"
+    add_counts "$room/said" "$status"
+}
+
 # Runs a command with a folder as its first word, which is removed afterwards.
 in_folder() { # COMMAND WORD..
     local command=$1 folder status

@@ -1,11 +1,12 @@
 /* How much stack each call takes: it is run on a stack of its own that was filled with one byte, and the deepest byte
  * that changed is looked up. The calls are made on classes of every degree over both fields, every two of them where a
- * call takes two, on stamps, on numbers, and on refused records.
+ * call takes two, on stamps, on numbers, on archives up to the longest, and on refused records.
  *
  * Prints a line for each call with the most bytes that it took, the caller's copy of its arguments included, and ends
  * with 1 where one took more than half of SEAL_STACK. */
 #define _XOPEN_SOURCE 700
 #include "seal.h"
+#include "seal_archive.h"
 #include "seal_licence.h"
 #include "seal_register.h"
 
@@ -22,7 +23,7 @@ static uint8_t stack[ROOM];
 static ucontext_t here, there;
 
 /* What the call under measure gets. */
-static uint8_t in[256], out[SEAL_REGISTER_OUTPUT];
+static uint8_t in[SEAL_ARCHIVE_LONGEST], out[SEAL_REGISTER_OUTPUT], archive_out[sizeof in + SEAL_ARCHIVE_GROWTH];
 static size_t in_len;
 static uint64_t number; /* a stamp, n or k */
 static uint32_t answer;
@@ -43,6 +44,7 @@ static void release(void) { answer = seal_release(in, in_len, out, sizeof out); 
 static void stamp(void) { answer = seal_stamp(in, in_len, number, out, sizeof out); }
 static void multiple(void) { answer = seal_multiple(in, in_len, number, out, sizeof out); }
 static void halvings(void) { answer = seal_halvings(in, in_len, number, out, sizeof out); }
+static void suppress(void) { answer = seal_suppress(in, in_len, number, archive_out, sizeof archive_out).refusal; }
 static void commit_in_place(void) { answer = seal_register_commit(&lent, operation); }
 static void undo_in_place(void) { answer = seal_register_undo(&lent, operation); }
 static void release_in_place(void) { answer = seal_register_release(&lent); }
@@ -70,6 +72,7 @@ static struct measure calls[] = {
     {"seal_stamp", stamp, 0, 0, 0},
     {"seal_multiple", multiple, 0, 0, 0},
     {"seal_halvings", halvings, 0, 0, 0},
+    {"seal_suppress", suppress, 0, 0, 0},
     {"seal_register_commit", commit_in_place, 0, 0, 0},
     {"seal_register_undo", undo_in_place, 0, 0, 0},
     {"seal_register_release", release_in_place, 0, 0, 0},
@@ -77,8 +80,8 @@ static struct measure calls[] = {
 };
 
 enum {
-    MEMBERSHIP, OPPOSITE, SUM, TWICE, HALF, COMMIT, UNDO, RELEASE, STAMP, MULTIPLE, HALVINGS, COMMIT_IN_PLACE,
-    UNDO_IN_PLACE, RELEASE_IN_PLACE, WALK_ROW, CALLS
+    MEMBERSHIP, OPPOSITE, SUM, TWICE, HALF, COMMIT, UNDO, RELEASE, STAMP, MULTIPLE, HALVINGS, SUPPRESS,
+    COMMIT_IN_PLACE, UNDO_IN_PLACE, RELEASE_IN_PLACE, WALK_ROW, CALLS
 };
 
 /* How many bytes of the stack a function used, from its top down. */
@@ -223,6 +226,43 @@ static void on_stamps(struct seal_curve c) {
     measure(STAMP);
 }
 
+/* An archive of so many operations, the newest first, by turns of these classes, and of the first so many pairs without
+ * operation 1. */
+static void put_archive(struct seal_curve c, const struct seal_class *turns, unsigned count, unsigned pairs) {
+    put_curve(c);
+    put_head(SEAL_TAG_DRAWING, 38);
+    for (int i = 0; i < 38; i++)
+        put_number('A', 1);
+    put_head(SEAL_TAG_COUNT, 2);
+    put_number(count, 2);
+    put_class(SEAL_TAG_CLASS, turns[0]);
+    for (unsigned i = 0; i < count; i++)
+        put_class(SEAL_TAG_OPERATION, turns[i % 2]);
+    if (pairs > 0)
+        put_head(SEAL_TAG_PAIRS, 4 * pairs);
+    for (unsigned later = 3; pairs > 0; later++)
+        for (unsigned earlier = 2; earlier < later && pairs > 0; earlier++, pairs--) {
+            put_number(later, 2);
+            put_number(earlier, 2);
+        }
+}
+
+/* Operations of every number suppressed that is of interest: the oldest, one that is held, the middle and newest ones,
+ * and none; then a wrong pair, or a wrong last byte, and an archive that is cut. */
+static void on_archive(struct seal_curve c, const struct seal_class *turns, unsigned count, unsigned pairs) {
+    const uint64_t numbers[] = {0, 1, 2, count / 2, count, (uint64_t)count + 1, UINT64_MAX};
+    put_archive(c, turns, count, pairs);
+    for (size_t i = 0; i < sizeof numbers / sizeof numbers[0]; i++) {
+        number = numbers[i];
+        measure(SUPPRESS);
+    }
+    number = count;
+    in[in_len - 1] ^= 0xff;
+    measure(SUPPRESS);
+    in_len--;
+    measure(SUPPRESS);
+}
+
 /* Classes of every degree, made of one of degree 1. */
 static void on_curve(struct seal_curve c, struct seal_class point) {
     on_stamps(c);
@@ -248,6 +288,11 @@ static void on_curve(struct seal_curve c, struct seal_class point) {
     }
     classes = 0;
     measure(WALK_ROW);
+    for (int i = 0; i + 1 < CLASSES - 1; i++)
+        on_archive(c, row + i, 8, (unsigned)i);
+    on_archive(c, row + 3, SEAL_COUNT_LIMIT, 2048); /* both of degree 3: the longest archive */
+    if (in_len + 1 != sizeof in)
+        exit(2);
 }
 
 int main(void) {

@@ -2,10 +2,12 @@
 -- `length-inside`: the length that a whole head gives.
 -- `next-end`, `next-within`: the offset after a field that the bytes end before, and of one that they hold.
 -- `skip-more`: one field more is passed over.
+-- `fields-more`: the offset after fields that follow others.
 -- `skip-inside`: within the bytes the offset is that of `fields-end`.
 use Prim.Native.Nat.{ℕ, zero, suc, _+_, _≤_, _<_, min}
 use mathlib.Core.Path.{_≡_, refl, sym, ap, _∙_}
 use mathlib.Core.List.{List}
+use native.Mathlib.Nat.{zero-add, suc-add}
 use native.Mathlib.Omega.{arith}
 use lib.ListN.{length}
 use borrow.Author.Tests.{le-ltb}
@@ -35,6 +37,12 @@ module _ (s : List ℕ) where
   unfolding fields-end
   fields-onward zero at = omega arith
   fields-onward (suc k) at = omega (arith, fields-onward k (at + 3 + body-length s at))
+
+  -- fields after others
+  pub fields-more : (j k at : ℕ) → fields-end (j + k) s at ≡ fields-end k s (fields-end j s at)
+  unfolding fields-end
+  fields-more zero k at = ap (λ (i : ℕ). fields-end i s at) (zero-add k)
+  fields-more (suc j) k at = ap (λ (i : ℕ). fields-end i s at) (suc-add j k) ∙ fields-more j k (at + 3 + body-length s at)
 
   pub skip-inside : (k at : ℕ) → fields-end k s at ≤ length s → skip-fields k s at ≡ fields-end k s at
   unfolding skip-fields fields-end

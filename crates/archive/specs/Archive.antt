@@ -1,6 +1,8 @@
 -- An archive, and how it is read (docs/SPECIFICATION.md, 6 and 9).
 use Prim.Native.Nat.{ℕ}
+use mathlib.Core.Bool.{Bool}
 use mathlib.Core.List.{List}
+use lib.Dec.{eqb}
 use Rattle.jacobian.specs.declared.{Curve.Curve, Class.Class}
 use Rattle.stored_form.specs.{Reading.Reading, Reading.found, Reading._then_, Reading.reading-refusal, Fields.ended, Record.drawing-name, Record.empty-record}
 use Rattle.stored_form.specs.{Reader.read-fields, Reader.read-operations, Reader.header-layout, Pairs.read-pairs, declared.Record.Record}
@@ -12,6 +14,10 @@ pub record Archive : Type 0 where
   pub seal : Class
   pub operations : List Class
   pub pairs : List ℕ
+
+-- whether a class is neutral
+unfoldable pub neutral : Class → Bool
+neutral a = eqb (a .degree) 0
 
 -- reads what follows the n operations: their pairs, if there are any, and the end of the bytes
 unfoldable pub read-tail : ℕ → List ℕ → ℕ → Reading (List ℕ)

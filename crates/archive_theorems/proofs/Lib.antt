@@ -5,6 +5,7 @@ pub mod Shifted
 pub mod Tail
 pub mod ArchiveRoundTrips
 pub mod ArchiveBytes
+pub mod FieldPlaces
 pub mod ArchiveLength
 pub mod Windows
 pub mod HeaderEdges

@@ -12,7 +12,7 @@ ghost use Rattle.written_form.specs.{Effect.effect, Effect.write, Effect.respon
 ghost use Rattle.suppression_theory.specs.Archives.{held, suppressed};
 ghost use Rattle.archive_theorems.specs.Written.{archive-bytes};
 ghost use Rattle.seal_archive.specs.Suppress.{growth, refusal-written, written-effect, suppress-call};
-ghost use Rattle.seal_archive.specs.internal.Accepted.{archive-said, AtOperations, AtPairs, seal-without, replaced, both-replaced};
+ghost use Rattle.seal_archive.specs.internal.Accepted.{archive-said, AtOperations, AtPairs, Suppressible, seal-without, replaced, both-replaced};
 use archive::skipping;
 use jacobian::Class;
 use jacobian::ClassAnswer;
@@ -148,4 +148,62 @@ fn new_seal(h: Record, s: &[u8], at: usize, n: u64) -> Output
     let curve = h.curve;
     let seal = h.class;
     writing::class_output(seal_less(curve, seal, operation, n))
+}
+
+// Writes an accepted archive with operation k suppressed, and answers the length. Its header was read, and its
+// operations begin at an offset.
+fn put_suppressed(s: &[u8], h: Record, first: usize, k: u64, output: &mut [u8]) -> usize
+    requires { ⌜ Suppressible (now s) h first k (length (now output)) ⌝ }
+    ensures { λ r. ⌜ effect r (now (output .exit)) ≡ write (archive-bytes (suppressed k (archive-said (now (s .entry))))) (now (output .entry)) ⌝ }
+{
+    let newer = h.count - k;
+    let seal = skipping::skip_fields(s, 0, HEADER_FIELDS as u64 - 1);
+    let operation = skipping::skip_fields(s, first, newer);
+    let next = skipping::next_field(s, operation);
+    let o = new_seal(h, s, operation, newer);
+    both_replaced(s, seal, first, operation, next, o, output)
+}
+
+// Suppresses operation k of an accepted archive, which has room in the output.
+fn suppress_accepted(s: &[u8], k: u64, output: &mut [u8]) -> Written
+    requires { ⌜ (archive-refusal (now s) ≡ 0) × (length (now s) + growth ≤ length (now output)) ⌝ }
+    ensures { λ r. ⌜ written-effect r (now (output .exit)) ≡ suppress-call (now (s .entry)) k (now (output .entry)) ⌝ }
+{
+    let t = archive::read_header(s);
+    let reader = t.reader;
+    let h = reader.values;
+    if k < 1 {
+        return refused(123);
+    }
+    if h.count < k {
+        return refused(123);
+    }
+    let first = skipping::skip_fields(s, 0, HEADER_FIELDS as u64);
+    if held(s, first, h.count, k) {
+        return refused(124);
+    }
+    let length = put_suppressed(s, h, first, k, output);
+    Written {
+        refusal: 0,
+        length: length as u64,
+    }
+}
+
+// Suppresses operation k of an archive, counted 1 to n from the oldest: the new archive is written to the output.
+// 101 comes first, then every check of the archive, then 123 of k, and last 124 of an operation that is held.
+#[no_mangle]
+pub extern "C" fn seal_suppress(input: &[u8], k: u64, output: &mut [u8]) -> Written
+    ensures { λ r. ⌜ written-effect r (now (output .exit)) ≡ suppress-call (now (input .entry)) k (now (output .entry)) ⌝ }
+{
+    if output.len() < GROWTH {
+        return refused(101);
+    }
+    if output.len() - GROWTH < input.len() {
+        return refused(101);
+    }
+    let n = archive::archive_refusal(input);
+    if n != 0 {
+        return refused(n);
+    }
+    suppress_accepted(input, k, output)
 }

@@ -2,16 +2,17 @@
 -- `length-decode-numbers`: as many numbers are decoded as are asked for.
 -- `decode-numbers-take`: bytes after the numbers do not matter.
 -- `decode-numbers-add`: j + n numbers are j numbers, then n numbers.
+-- `decode-numbers-at`: the number at a place is decoded from its own bytes.
 -- `length-encode-numbers`: each number has k bytes.
 -- `encode-numbers-append`: numbers appended to others are encoded after them.
-use Prim.Native.Nat.{ℕ, zero, suc, _+_, _*_, _-_, _≤_}
+use Prim.Native.Nat.{ℕ, zero, suc, _+_, _*_, _-_, _≤_, _<_}
 use mathlib.Core.Path.{_≡_, refl, sym, ap, ap₂, _∙_}
 use mathlib.Core.List.{List, [], _∷_, _++_, append-assoc}
 use native.Mathlib.Nat.{suc-add, mul-zero, mul-suc}
 use native.Mathlib.Omega.{arith}
-use lib.ListN.{length, take, drop, length-append}
+use lib.ListN.{length, getD, take, drop, length-append}
 use lib.Seq.{take-take, drop-drop}
-use Rattle.stored_form.specs.Number.{decode-number, encode-number, decode-numbers, encode-numbers}
+use Rattle.stored_form.specs.Number.{decode-number, encode-number, decode-numbers, encode-numbers, part}
 use Rattle.stored_form.proofs.{Digits.length-bytes, Parts.drop-take}
 
 module _ (k : ℕ) where
@@ -37,6 +38,14 @@ module _ (k : ℕ) where
       rw (suc-add j n) (ap (λ (xs : List ℕ). decode-number (take k s) ∷ xs)
       (decode-numbers-add j n (drop k s)
       ∙ ap (λ (t : List ℕ). decode-numbers k j (drop k s) ++ decode-numbers k n t) (drop-drop (k * j) k s ∙ ap (λ (i : ℕ). drop i s) f)))
+
+  pub decode-numbers-at : (n : ℕ) (s : List ℕ) (i : ℕ) → i < n → getD (decode-numbers k n s) i 0 ≡ decode-number (part s (k * i) k)
+  unfolding decode-numbers
+  decode-numbers-at zero s i h = absurd (omega arith)
+  decode-numbers-at (suc n) s zero h = rw (mul-zero k) refl
+  decode-numbers-at (suc n) s (suc i) h =
+      let f : k + k * i ≡ k * suc i = omega (arith, mul-suc k i) in
+      decode-numbers-at n (drop k s) i (omega arith) ∙ ap (λ (t : List ℕ). decode-number (take k t)) (drop-drop (k * i) k s ∙ ap (λ (j : ℕ). drop j s) f)
 
   pub length-encode-numbers : (xs : List ℕ) → length (encode-numbers k xs) ≡ k * length xs
   unfolding encode-numbers

@@ -1,6 +1,8 @@
 -- The pairs of an archive and their bytes (docs/SPECIFICATION.md, 5, 6 and 9).
 -- `before-decides`: the order of pairs is that of their numbers.
 -- `pairs-decide`, `pairs-length-decides`: the tests of the definitions are what the rules require.
+-- `later-ascends`: pairs in order have their later numbers in order.
+-- `pairs-small`: pairs of fewer than 65,536 operations fit four bytes. `some-field`: the field of some pairs.
 -- `none-allowed`: no pairs break no rule.
 -- `pairs-at`: numbers of four bytes that stand there as a field are its pairs, unless they break a rule.
 -- `pairs-read-back`: pairs that break no rule are read back from their field.
@@ -11,9 +13,9 @@ use Prim.Native.Nat.{ℕ, zero, suc, _+_, _*_, _/_, _%_, _^_, _≤_, _<_}
 use mathlib.Core.{Path._≡_, Path.refl, Path.sym, Path.ap, Path.subst, Path.subst₂, Path._∙_, Bool.Bool, Bool.true, Bool.false, Bool.cond, Bool.not, Bool._&&_}
 use mathlib.Core.{List.List, List.[], List._∷_, List._++_, Logic._↔_, Logic.inl, Logic.inr}
 use native.Mathlib.Omega.{arith}
-use native.Mathlib.Nat.{add-zero}
+use native.Mathlib.Nat.{add-zero, le-refl}
 use lib.{Dec.eqb, Dec.leb, Dec.ltb, Dec.lit<, ListN.length, ListN.getD}
-use borrow.Author.Tests.{lt-ltb, ltb-true, ltb-false, le-leb, leb-true, eq-eqb, eqb-true, not-false}
+use borrow.Author.Tests.{lt-ltb, ltb-true, ltb-false, le-leb, leb-true, eq-eqb, eqb-true, eqb-false, not-false}
 use Rattle.lists.specs.Lists.{All, none, more}
 use Rattle.jacobian.specs.Checks.{unless, check}
 use Rattle.jacobian.proofs.{Checking.refusal-none, Checking.refusal-unless, ByValue.Checks.both}
@@ -115,15 +117,32 @@ pairs-length-decides n = (
   λ h. rw (lt-ltb 0 n (h .0), le-leb n 8192 (h .1 .0), eq-eqb (n % 4) 0 (h .1 .1)) refl,
 )
 
+-- pairs in order have their later numbers in order
+pub later-ascends : {n : ℕ} {ps : List ℕ} → PairsAllowed n ps → (i j : ℕ) → j ≤ i → i < length ps → later (getD ps j 0) ≤ later (getD ps i 0)
+later-ascends {ps = ps} ok zero j h l = let e : j ≡ 0 = omega arith in rw e (le-refl _)
+later-ascends {ps = ps} ok (suc i) j h l = go (eqb j (suc i)) refl (λ below. later-ascends ok i j below (omega arith))
+  where
+    step : Before (getD ps i 0) (getD ps (suc i) 0) → later (getD ps i 0) ≤ later (getD ps (suc i) 0)
+    step (inl b) = omega arith
+    step (inr b) = let e = b .0 in omega arith
+
+    go : (b : Bool) → eqb j (suc i) ≡ b → (j ≤ i → later (getD ps j 0) ≤ later (getD ps i 0)) → later (getD ps j 0) ≤ later (getD ps (suc i) 0)
+    go true e r = let same = eqb-true j (suc i) e in rw same (le-refl _)
+    go false e r =
+        let other = eqb-false j (suc i) e in
+        let below = r (omega (arith, other)) in
+        let next = step (ok .ascending i l) in
+        omega (arith, below, next)
+
 -- ---- bytes
 
 -- pairs of fewer than 65,536 operations fit four bytes
-small : (n : ℕ) → n < 65536 → {ps : List ℕ} → All (PairWithin n) ps → All (λ p. p < 256 ^ 4) ps
-small n h none = none
-small n h (more {a = p} w r) = let l = w .later-within in more {a = p} (omega arith) (small n h r)
+pub pairs-small : (n : ℕ) → n < 65536 → {ps : List ℕ} → All (PairWithin n) ps → All (λ p. p < 256 ^ 4) ps
+pairs-small n h none = none
+pairs-small n h (more {a = p} w r) = let l = w .later-within in more {a = p} (omega arith) (pairs-small n h r)
 
 -- the field of some pairs
-some-field : (ps : List ℕ) → 0 < length ps → encode-field 0x48 (encode-numbers 4 ps) ≡ pairs-field ps
+pub some-field : (ps : List ℕ) → 0 < length ps → encode-field 0x48 (encode-numbers 4 ps) ≡ pairs-field ps
 unfolding pairs-field
 some-field [] h = absurd (omega arith)
 some-field (p ∷ ps) h = refl
@@ -150,7 +169,7 @@ module _ (n : ℕ) (s : List ℕ) (at : ℕ) where
   unfolding pairs-field pairs-refusal unless
   pairs-read-back [] under ok few stands ends = let e : at ≡ length s = omega arith in no-pairs n s at (omega arith) ∙ ap (found []) e
   pairs-read-back (p ∷ ps) under ok few stands ends =
-      pairs-at (p ∷ ps) (omega arith) few (small n under (ok .within)) stands
+      pairs-at (p ∷ ps) (omega arith) few (pairs-small n under (ok .within)) stands
       ∙ checked-none (pairs-refusal n (p ∷ ps)) _ (rw (pairs-decide n (p ∷ ps) .1 ok) refl)
       ∙ ap (found (p ∷ ps)) (sym ends)
 

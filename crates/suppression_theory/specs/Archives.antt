@@ -5,8 +5,7 @@ use mathlib.Core.List.{List, [], _∷_}
 use lib.Dec.{eqb}
 use Rattle.jacobian.specs.declared.Class.{Class}
 use Rattle.stored_form.specs.Pairs.{later, earlier}
-use Rattle.archive.specs.Archive.{Archive}
-use Rattle.walk_report.specs.Walk.{neutral}
+use Rattle.archive.specs.Archive.{Archive, neutral}
 use Rattle.suppression_theory.specs.Suppression.{operation-of, suppressed-operations, suppressed-seal}
 
 -- the archive with operation k neutral and the seal that follows from that; all else is as it was

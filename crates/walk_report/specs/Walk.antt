@@ -2,10 +2,10 @@
 use Prim.Native.Nat.{ℕ}
 use mathlib.Core.Bool.{Bool, false, cond}
 use mathlib.Core.List.{List, [], _∷_}
-use lib.Dec.{eqb}
 use Rattle.lists.specs.Walk.{walk}
 use Rattle.jacobian.specs.{Classes.same-class, Answer.opposite-answer, declared.Curve.Curve, declared.Class.Class}
 use Rattle.history.specs.Register.{undo-seal}
+unfoldable pub use Rattle.archive.specs.Archive.{neutral}
 
 -- the walk: the last seal, then the seal before each operation, newest first, by the rule of an undo
 unfoldable pub seals : Curve → Class → List Class → List Class
@@ -14,10 +14,6 @@ seals c seal ops = walk (undo-seal c) seal ops
 -- whether a class is the opposite of another
 unfoldable pub opposed : Curve → Class → Class → Bool
 opposed c a b = same-class a (opposite-answer c b .class)
-
--- whether a class is neutral
-unfoldable pub neutral : Class → Bool
-neutral a = eqb (a .degree) 0
 
 -- whether there is a next older operation and this holds of it
 unfoldable pub next-older : (Class → Bool) → List Class → Bool

@@ -1,17 +1,23 @@
 -- For the contracts of functions that are not open: what accepted bytes say, where their parts begin, and the ranges
 -- of them that are copied.
-use Prim.Native.Nat.{ℕ, _+_}
+use Prim.Native.Nat.{ℕ, _+_, _≤_}
 use mathlib.Core.Path.{_≡_}
 use mathlib.Core.List.{List, [], _∷_}
 use lib.ListN.{length}
 use Rattle.jacobian.specs.{Answer.Result, Answer.result, Answer.sum-answer, Group.opposite-of, Group.doublings}
-use Rattle.stored_form.specs.{Reading.found, Reading.refused, Cuts.fields-end, Record.empty-record, Reader.read-field, Reader.header-layout, Reader.read-of, declared.Record.Record}
+use Rattle.stored_form.specs.{Reading.Reading, Reading.found, Reading.refused, Cuts.fields-end, Record.empty-record, Reader.read-field, Reader.read-fields, Reader.header-layout, Reader.read-of, declared.Record.Record}
 use Rattle.written_form.specs.{Effect.Effect, Effect.effect, Ranges.append}
 use Rattle.archive.specs.Archive.{Archive, archive-of, read-archive, archive-refusal}
+use Rattle.seal_archive.specs.Suppress.{growth}
+
+-- the archive that was read, and an empty one for a refusal
+unfoldable pub archive-in : Reading Archive → Archive
+archive-in (found a end) = a
+archive-in (refused n) = archive-of empty-record [] []
 
 -- the archive that bytes say, if they are accepted
 unfoldable pub archive-said : List ℕ → Archive
-archive-said s = elim (read-archive s) [ found a end ↦ a | refused n ↦ archive-of empty-record [] [] ]
+archive-said s = archive-in (read-archive s)
 
 -- the bytes are accepted; n operations begin at this offset
 pub record AtOperations (s : List ℕ) (first n : ℕ) : Type 0 where
@@ -24,6 +30,15 @@ pub record AtPairs (s : List ℕ) (first n at m : ℕ) : Type 0 where
   pub operations : AtOperations s first n
   pub begins : at ≡ fields-end n s first + 3
   pub counted : m ≡ length (archive-said s .pairs)
+
+-- the header of these bytes is h, their operations begin at this offset, k is the number of one of them, and an output
+-- of this length has the room that is asked for
+pub record Suppressible (s : List ℕ) (h : Record) (first k room : ℕ) : Type 0 where
+  pub operations : AtOperations s first (h .count)
+  pub header : read-fields header-layout empty-record s 0 ≡ found h first
+  pub low : 1 ≤ k
+  pub high : k ≤ h .count
+  pub fits : length s + growth ≤ room
 
 -- the seal of the header h less n doublings of the operation at an offset
 unfoldable pub seal-without : Record → List ℕ → ℕ → ℕ → Result
