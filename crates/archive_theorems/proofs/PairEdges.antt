@@ -13,7 +13,7 @@
 -- `byte-after-pairs`: a byte after the field is 112, also where it is a second 0x48.
 -- `pairs-of-length-8192`: the length of 2,048 pairs is allowed.
 -- `pair-accepted`: with n = 2 the pair (2, 1) is accepted.
-use Prim.Native.Nat.{ℕ, _+_, _*_, _/_, _^_, _≤_, _<_}
+use Prim.Native.Nat.{ℕ, _+_, _*_, _^_, _≤_, _<_}
 use mathlib.Core.Path.{_≡_, refl, sym, ap, _∙_}
 use mathlib.Core.Bool.{Bool, true, false}
 use mathlib.Core.List.{List, [], _∷_, _++_, append-nil}
@@ -23,14 +23,14 @@ use borrow.Author.Tests.{lt-ltb, leb-true, leb-false}
 use Rattle.lists.specs.Lists.{All, none, more}
 use Rattle.lists.proofs.Lists.{all-head}
 use Rattle.jacobian.specs.{Checks.unless, declared.Class.Class}
-use Rattle.stored_form.specs.{Number.decode-number, Number.decode-numbers, Number.encode-number, Number.encode-numbers, Number.part, Reading.found, Reading.refused, Reading.checked, Reading.reading-refusal}
+use Rattle.stored_form.specs.{Number.decode-number, Number.encode-number, Number.encode-numbers, Number.part, Reading.found, Reading.refused, Reading.checked, Reading.reading-refusal}
 use Rattle.stored_form.specs.{Head.body-length, Head.head-bytes, Head.encode-field, Head.BytesAt, Fields.drawing-field, Fields.count-field, Fields.count-limit, Fields.count-refusal, Fields.end-refusal, Fields.ended}
 use Rattle.stored_form.specs.{Classes.curve-fields-bytes, Classes.class-field, Classes.operation-fields, Record.empty-record, Tags.rules, Reader.read-head-by, Reader.read-fields, Reader.read-operations, Reader.header-layout, declared.Record.Record}
-use Rattle.stored_form.specs.Pairs.{earlier, later, pairs-length, pairs-after, pairs-refusal, decode-pairs, pairs-field, read-pairs-field, read-pairs}
-use Rattle.stored_form.proofs.{Readings.then-found, Readings.then-refused, Readings.test-passed, Heads.head-102, Heads.head-104, Heads.head-105, Heads.head-found, Passing.Holds, Passing.fields-hold}
-use Rattle.stored_form.proofs.{NumberLists.length-encode-numbers, PairBytes.no-pairs, PairBytes.other-byte, PairBytes.field-due, PairBytes.field-cut}
+use Rattle.stored_form.specs.Pairs.{earlier, later, pairs-length, pairs-after, pairs-refusal, pairs-field, read-pairs}
+use Rattle.stored_form.proofs.{Readings.then-found, Readings.then-refused, Readings.test-passed, Heads.head-102, Heads.head-104, Heads.head-105, Passing.Holds, Passing.fields-hold}
+use Rattle.stored_form.proofs.PairBytes.{no-pairs, other-byte, field-due, field-cut}
 use Rattle.stored_form_theorems.specs.{Checking.after-field, Pairs.PairsLength, Pairs.PairWithin, Pairs.PairsAllowed}
-use Rattle.stored_form_theorems.proofs.{Bodies.head-read, Elements.numbers-bytes, Pairs.before-decides, Pairs.pairs-decide, Pairs.pairs-length-decides, Places.part-part, Places.getD-part, Places.stands-within}
+use Rattle.stored_form_theorems.proofs.{Pairs.before-decides, Pairs.pairs-decide, Pairs.pairs-length-decides, Pairs.pairs-at, Places.part-part, Places.getD-part, Places.stands-within}
 use Rattle.archive.specs.Archive.{Archive, read-tail, archive-of, read-archive, archive-refusal}
 use Rattle.archive_theorems.specs.Written.{archive-bytes}
 use Rattle.archive_theorems.proofs.Tail.{tail-read-back}
@@ -74,24 +74,6 @@ head-says s at tag high low stands =
       (ap (λ (i : ℕ). getD s i 0) (sym e) ∙ sym (getD-part s at 3 0 (lit< tt)) ∙ ap (λ (l : List ℕ). getD l 0 0) stands, omega (arith, said)),
     )
 
--- a whole field of numbers of four bytes that break a rule
-broken-read : (n : ℕ) (s : List ℕ) (at p : ℕ) (ps : List ℕ) → length (p ∷ ps) ≤ 2048 → All (λ q. q < 256 ^ 4) (p ∷ ps) → ¬ PairsAllowed n (p ∷ ps) → BytesAt s at (pairs-field (p ∷ ps)) →
-    read-pairs n s at ≡ refused 122
-unfolding pairs-field read-pairs-field decode-pairs pairs-refusal unless checked
-broken-read n s at p ps few fit broken stands =
-    let body : List ℕ = encode-numbers 4 (p ∷ ps) in
-    let len : length body ≡ 4 * length (p ∷ ps) = length-encode-numbers 4 (p ∷ ps) in
-    let allowed = pairs-length-decides (length body) .1 (omega (arith, len), (omega (arith, len), omega (arith, len))) in
-    let r = head-read 0x48 pairs-length s at body allowed (omega (arith, len)) stands in
-    let w = head-found 0x48 pairs-length s at (r .0) in
-    let number : length body / 4 ≡ length (p ∷ ps) = omega (arith, len) in
-    let read = ap (λ (k : ℕ). decode-numbers 4 k body) number ∙ numbers-bytes 4 (p ∷ ps) fit in
-    field-due n s at (omega (arith, w .ends, w .fits)) (w .due) ∙ then-found _ (r .0) ∙ rw (r .1, read, fails (pairs-after n 0 (p ∷ ps)) refl) refl
-  where
-    fails : (b : Bool) → pairs-after n 0 (p ∷ ps) ≡ b → pairs-after n 0 (p ∷ ps) ≡ false
-    fails true e = absurd (broken (pairs-decide n (p ∷ ps) .0 e))
-    fails false e = e
-
 -- ---- the archive
 
 module _ (s : List ℕ) {h : Record} {first at : ℕ} {ops : List Class} (header : read-fields header-layout empty-record s 0 ≡ found h first) (operations : read-operations (h .count) h s first ≡ found ops at) where
@@ -131,12 +113,17 @@ module _ (s : List ℕ) {h : Record} {first at : ℕ} {ops : List Class} (header
   pub pairs-cut : at + 3 ≤ length s → getD s at 0 ≡ 0x48 → PairsLength (body-length s at) → length s < after-field s at → archive-refusal s ≡ 105
   pairs-cut fits due allowed short = head-refused (omega arith) due (head-105 0x48 pairs-length s at refl fits due (pairs-length-decides _ .1 allowed) short)
 
-  pub pairs-broken : (p : ℕ) (ps : List ℕ) → length (p ∷ ps) ≤ 2048 → All (λ q. q < 256 ^ 4) (p ∷ ps) → ¬ PairsAllowed (h .count) (p ∷ ps) → BytesAt s at (pairs-field (p ∷ ps)) → archive-refusal s ≡ 122
-  pairs-broken p ps few fit broken stands = pairs-refused (broken-read (h .count) s at p ps few fit broken stands)
+  pub pairs-broken : (ps : List ℕ) → 0 < length ps → length ps ≤ 2048 → All (λ p. p < 256 ^ 4) ps → ¬ PairsAllowed (h .count) ps → BytesAt s at (pairs-field ps) → archive-refusal s ≡ 122
+  unfolding pairs-refusal unless checked
+  pairs-broken ps some few fit broken stands = pairs-refused (pairs-at (h .count) s at ps some few fit stands ∙ rw (fails (pairs-after (h .count) 0 ps) refl) refl)
+    where
+      fails : (b : Bool) → pairs-after (h .count) 0 ps ≡ b → pairs-after (h .count) 0 ps ≡ false
+      fails true e = absurd (broken (pairs-decide (h .count) ps .0 e))
+      fails false e = e
 
   -- one pair that is not within the count
   pair-outside : (p : ℕ) → p < 256 ^ 4 → ¬ PairWithin (h .count) p → BytesAt s at (pairs-field (p ∷ [])) → archive-refusal s ≡ 122
-  pair-outside p fit outside = pairs-broken p [] (lit≤ tt) (more fit none) (λ a. outside (all-head (a .within) .0))
+  pair-outside p fit outside = pairs-broken (p ∷ []) (lit< tt) (lit≤ tt) (more fit none) (λ a. outside (all-head (a .within) .0))
 
   pub earlier-of-0 : (p : ℕ) → p < 256 ^ 4 → earlier p ≡ 0 → BytesAt s at (pairs-field (p ∷ [])) → archive-refusal s ≡ 122
   earlier-of-0 p fit e = pair-outside p fit (λ w. omega (arith, w .earlier-some))
@@ -153,7 +140,7 @@ module _ (s : List ℕ) {h : Record} {first at : ℕ} {ops : List Class} (header
   later-past-count = pair-outside ((h .count + 1) * 65536 + 1) (omega (arith, count-low)) (λ w. omega (arith, w .later-within))
 
   pub pair-twice : (p : ℕ) → p < 256 ^ 4 → BytesAt s at (pairs-field (p ∷ p ∷ [])) → archive-refusal s ≡ 122
-  pair-twice p fit = pairs-broken p (p ∷ []) (lit≤ tt) (more fit (more fit none)) (λ a. omega (arith, before-decides p p .1 (a .ascending 0 (lit< tt))))
+  pair-twice p fit = pairs-broken (p ∷ p ∷ []) (lit< tt) (lit≤ tt) (more fit (more fit none)) (λ a. omega (arith, before-decides p p .1 (a .ascending 0 (lit< tt))))
 
   pub too-few-operations : h .count < 2 → (p : ℕ) → p < 256 ^ 4 → BytesAt s at (pairs-field (p ∷ [])) → archive-refusal s ≡ 122
   too-few-operations few p fit = pair-outside p fit (λ w. omega (arith, w .earlier-some, w .earlier-below, w .later-within))

@@ -4,6 +4,7 @@
 -- `later-ascends`: pairs in order have their later numbers in order.
 -- `pairs-small`: pairs of fewer than 65,536 operations fit four bytes. `some-field`: the field of some pairs.
 -- `none-allowed`: no pairs break no rule.
+-- `pairs-at`: numbers of four bytes that stand there as a field are its pairs, unless they break a rule.
 -- `pairs-read-back`: pairs that break no rule are read back from their field.
 -- `pairs-written`: pairs that are read break no rule, and stand there as their field.
 -- `pairs-reads`: they are read by their checks in order.
@@ -18,7 +19,7 @@ use borrow.Author.Tests.{lt-ltb, ltb-true, ltb-false, le-leb, leb-true, eq-eqb, 
 use Rattle.lists.specs.Lists.{All, none, more}
 use Rattle.jacobian.specs.Checks.{unless, check}
 use Rattle.jacobian.proofs.{Checking.refusal-none, Checking.refusal-unless, ByValue.Checks.both}
-use Rattle.stored_form.specs.{Number.decode-numbers, Number.encode-numbers, Number.Bytes, Number.part, Reading.found, Reading.refuse, Head.body-length, Head.encode-field, Head.BytesAt, Head.pairs-limit, Reader.read-head-by}
+use Rattle.stored_form.specs.{Number.decode-numbers, Number.encode-numbers, Number.Bytes, Number.part, Reading.found, Reading.refuse, Reading.checked, Head.body-length, Head.encode-field, Head.BytesAt, Head.pairs-limit, Reader.read-head-by}
 use Rattle.stored_form.specs.Pairs.{later, earlier, pairs-length, pair-within, pairs-after, pairs-refusal, decode-pairs, pairs-field, read-pairs-field, read-pairs}
 use Rattle.stored_form.proofs.{Readings.then-found, Readings.both-found, Readings.same-found, Readings.checked-found, Readings.checked-none, Readings.test-passed, Readings.refuse-found, Heads.head-found}
 use Rattle.stored_form.proofs.{Lengths.length-stored, NumberLists.length-encode-numbers, NumberLists.length-decode-numbers, PairBytes.no-pairs, PairBytes.field-due}
@@ -147,10 +148,10 @@ some-field [] h = absurd (omega arith)
 some-field (p ∷ ps) h = refl
 
 module _ (n : ℕ) (s : List ℕ) (at : ℕ) where
-  field-back : (ps : List ℕ) → 0 < length ps → n < 65536 → PairsAllowed n ps → length ps ≤ 2048 → BytesAt s at (pairs-field ps) →
-      read-pairs n s at ≡ found ps (at + length (pairs-field ps))
-  unfolding read-pairs-field decode-pairs pairs-refusal unless
-  field-back ps some under ok few stands =
+  pub pairs-at : (ps : List ℕ) → 0 < length ps → length ps ≤ 2048 → All (λ p. p < 256 ^ 4) ps → BytesAt s at (pairs-field ps) →
+      read-pairs n s at ≡ checked (pairs-refusal n ps) (found ps (at + length (pairs-field ps)))
+  unfolding read-pairs-field decode-pairs
+  pairs-at ps some few fit stands =
       let body : List ℕ = encode-numbers 4 ps in
       let len : length body ≡ 4 * length ps = length-encode-numbers 4 ps in
       let number : length body / 4 ≡ length ps = omega (arith, len) in
@@ -158,16 +159,19 @@ module _ (n : ℕ) (s : List ℕ) (at : ℕ) where
       let r = head-read 0x48 pairs-length s at body (pairs-length-decides (length body) .1 (omega (arith, len), (omega (arith, len), omega (arith, len)))) (omega (arith, len))
       (subst (BytesAt s at) (sym field) stands) in
       let w = head-found 0x48 pairs-length s at (r .0) in
-      let read = ap (λ (k : ℕ). decode-numbers 4 k body) number ∙ numbers-bytes 4 ps (pairs-small n under (ok .within)) in
+      let read = ap (λ (k : ℕ). decode-numbers 4 k body) number ∙ numbers-bytes 4 ps fit in
       field-due n s at (omega (arith, w .ends, w .fits)) (w .due)
       ∙ then-found _ (r .0)
-      ∙ rw (r .1, read, pairs-decide n ps .1 ok, field) (checked-none 0 _ refl)
+      ∙ rw (r .1, read, field)
 
   pub pairs-read-back : (ps : List ℕ) → n < 65536 → PairsAllowed n ps → length ps ≤ 2048 → BytesAt s at (pairs-field ps) → length s ≡ at + length (pairs-field ps) →
       read-pairs n s at ≡ found ps (length s)
-  unfolding pairs-field
+  unfolding pairs-field pairs-refusal unless
   pairs-read-back [] under ok few stands ends = let e : at ≡ length s = omega arith in no-pairs n s at (omega arith) ∙ ap (found []) e
-  pairs-read-back (p ∷ ps) under ok few stands ends = field-back (p ∷ ps) (omega arith) under ok few stands ∙ ap (found (p ∷ ps)) (sym ends)
+  pairs-read-back (p ∷ ps) under ok few stands ends =
+      pairs-at (p ∷ ps) (omega arith) few (pairs-small n under (ok .within)) stands
+      ∙ checked-none (pairs-refusal n (p ∷ ps)) _ (rw (pairs-decide n (p ∷ ps) .1 ok) refl)
+      ∙ ap (found (p ∷ ps)) (sym ends)
 
 -- pairs that were read
 pub record PairsWritten (n : ℕ) (s : List ℕ) (at : ℕ) (ps : List ℕ) (next : ℕ) : Type 0 where
