@@ -21,7 +21,7 @@ use Rattle.archive.specs.{Archive.Archive, Skipping.next-field, Skipping.skip-f
 use Rattle.archive.proofs.Skipped.{next-within, fields-more, skip-inside}
 use Rattle.archive_theorems.specs.Written.{archive-bytes, Storable}
 use Rattle.archive_theorems.proofs.FieldPlaces.{Layout, front-bytes, operation-fields-append, operation-place, operation-stands, place-within}
-use Rattle.written_form.specs.{Effect.effect, Effect.write, Effect.Response, Effect.response, Effect.bytes-response, Effect.on-outcome, Effect.class-response, Ranges.append}
+use Rattle.written_form.specs.{Effect.effect, Effect.write, Effect.room as written-room, Effect.Response, Effect.response, Effect.bytes-response, Effect.on-outcome, Effect.class-response, Ranges.append}
 use Rattle.written_form.proofs.Appending.{append-write}
 use Rattle.suppression_theory.specs.{Suppression.operation-of, Suppression.suppressed-operations, Suppression.suppressed-seal, Archives.suppressed}
 use Rattle.suppression_theory.proofs.Suppression.{suppressed-seal-accepts}
@@ -140,14 +140,21 @@ module _ {s : List ℕ} {h : Record} {first k room : ℕ} (b : Bytes s) (ask : S
       ∙ ap (λ (n : ℕ). curve-fields-bytes (a .curve) ++ drawing-field (a .drawing) ++ count-field n ++ F ++ operation-fields (set ops p neutral-class) ++ pairs-field (a .pairs)) (sym (length-set ops p neutral-class))
 
   module _ {seal operation next : ℕ} (at-seal : seal ≡ skip-fields 4 s 0) (at-operation : operation ≡ skip-fields (h .count - k) s first) (at-next : next ≡ next-field s operation)
-      (field : List ℕ) (len : ℕ) (long : len ≤ length field) (written : take len field ≡ F) (out : List ℕ) (roomy : length out ≡ room) where
+      (field : List ℕ) (len : ℕ) (buffer : length field ≡ written-room) (written : take len field ≡ F) (out : List ℕ) (roomy : length out ≡ room) where
     -- the fields that are copied
     front : Field s 0 (front-bytes a) seal
     front = subst (Field s 0 (front-bytes a)) (sym (seal-is at-seal)) (laid .front)
 
+    -- the new seal's field is shorter than the buffer
+    new-short : length F ≤ 51
+    new-short = class-short 0x43 (a .curve) _ (suppressed-seal-accepts (ok .seal-allowed) (ok .operations-allowed) k (ask .low) (omega (arith, ask .high, count-is)) .none)
+
+    length-is : length F ≡ len
+    length-is = let n = ap length (sym written) ∙ length-take len field in omega (arith, n, buffer, new-short)
+
     new : Field field 0 F len
     new =
-        let n : length F ≡ len = ap length (sym written) ∙ length-take len field ∙ omega arith in
+        let n : length F ≡ len = length-is in
         record { stands = ap (λ (i : ℕ). take i field) n ∙ written; ends = omega (arith, n) }
 
     newer : Field s first O operation
@@ -170,9 +177,6 @@ module _ {s : List ℕ} {h : Record} {first k room : ℕ} (b : Bytes s) (ask : S
         let f = operation-stands laid ok p p-inside in
         omega (arith, operation-is at-operation, next-is at-operation at-next, f .ends, length-stored 0x44 (encode-class (getD ops p neutral-class)))
 
-    new-short : length F ≤ 51
-    new-short = class-short 0x43 (a .curve) _ (suppressed-seal-accepts (ok .seal-allowed) (ok .operations-allowed) k (ask .low) (omega (arith, ask .high, count-is)) .none)
-
     pub both-written : both-replaced s seal first operation next field len (effect 0 out) ≡ write (archive-bytes (suppressed k a)) out
     unfolding both-replaced replaced write
     both-written =
@@ -190,7 +194,7 @@ module _ {s : List ℕ} {h : Record} {first k room : ℕ} (b : Bytes s) (ask : S
         (ap (append (0x44 ∷ 0x00 ∷ 0x00 ∷ []) 0 3)
         (ap (append s first operation)
         (ap (append field 0 len) (append-field [] out front (omega (arith, seal-long, o, operation-long, r)) (omega (arith, x, seal-long, o, operation-long, r, roomy)))
-        ∙ append-field X out new long (omega (arith, x, f, new-short, seal-long, o, operation-long, r, roomy)))
+        ∙ append-field X out new (omega (arith, length-is, buffer, new-short)) (omega (arith, x, f, new-short, seal-long, o, operation-long, r, roomy)))
         ∙ append-field (X ++ F) out newer (omega (arith, operation-long, r)) (omega (arith, xf, x, f, new-short, seal-long, o, operation-long, r, roomy)))
         ∙ append-field (X ++ F ++ O) out replacing (omega arith) (omega (arith, xf, xfo, x, f, n, new-short, seal-long, o, operation-long, r, roomy)))
         ∙ append-field (X ++ F ++ O ++ N) out rest (omega arith) (omega (arith, xf, xfo, xfon, x, f, n, new-short, seal-long, o, operation-long, r, roomy))

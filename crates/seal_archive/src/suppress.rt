@@ -4,11 +4,11 @@ ghost use mathlib.Core.Path.{_≡_};
 ghost use mathlib.Core.Bool.{_&&_, not};
 ghost use Prim.Native.Nat.{_+_, _-_, _≤_};
 ghost use lib.Dec.{eqb};
-ghost use lib.ListN.{length, take};
+ghost use lib.ListN.{length};
 ghost use Rattle.jacobian.specs.{Answer.sum-answer, Answer.reply, Group.opposite-of, Group.doublings};
 ghost use Rattle.stored_form.specs.{Head.length-at, Pairs.earlier};
 ghost use Rattle.archive.specs.{Archive.archive-refusal, Reader.read-header, Reader.advance-of};
-ghost use Rattle.written_form.specs.{Effect.effect, Effect.write, Effect.response-of, Effect.class-response};
+ghost use Rattle.written_form.specs.{Effect.effect, Effect.write, Effect.room, Effect.response-of, Effect.class-response};
 ghost use Rattle.suppression_theory.specs.Archives.{held, suppressed};
 ghost use Rattle.archive_theorems.specs.Written.{archive-bytes};
 ghost use Rattle.seal_archive.specs.Suppress.{growth, refusal-written, written-effect, suppress-call};
@@ -24,6 +24,7 @@ use stored_form::Record;
 use stored_form::head;
 use stored_form::pairs;
 use written_form::effect::Output;
+use written_form::effect::ROOM;
 use written_form::ranges;
 use written_form::writing;
 
@@ -126,14 +127,14 @@ fn replaced(s: &[u8], start: usize, end: usize, field: &[u8], len: usize, output
     ranges::append(field, 0, len, output, next)
 }
 
-// Copies the input to the output but for its seal and one operation, which is neutral there. The seal's field goes from
-// `seal` to `first`, the operation's from `operation` to `next`.
-fn both_replaced(s: &[u8], seal: usize, first: usize, operation: usize, next: usize, o: Output, output: &mut [u8]) -> usize
-    ensures { λ r. ⌜ effect r (now (output .exit)) ≡ both-replaced (now (s .entry)) seal first operation next (o .bytes) (o .len) (effect 0 (now (output .entry))) ⌝ }
+// Copies the input to the output but for its seal and one operation. The seal's field goes from `seal` to `first`, and
+// the first len bytes of a buffer replace it; the operation's goes from `operation` to `next`, and a neutral one
+// replaces it.
+fn both_replaced(s: &[u8], seal: usize, first: usize, operation: usize, next: usize, field: [u8; ROOM], len: usize, output: &mut [u8]) -> usize
+    ensures { λ r. ⌜ (effect r (now (output .exit)) ≡ both-replaced (now (s .entry)) seal first operation next field len (effect 0 (now (output .entry)))) × (length field ≡ room) ⌝ }
 {
-    let bytes = o.bytes;
     let neutral = NEUTRAL_OPERATION;
-    let sealed = replaced(s, 0, seal, &bytes, o.len, output, 0);
+    let sealed = replaced(s, 0, seal, &field, len, output, 0);
     let suppressed = replaced(s, first, operation, &neutral, 3, output, sealed);
     ranges::append(s, next, s.len(), output, suppressed)
 }
@@ -161,7 +162,8 @@ fn put_suppressed(s: &[u8], h: Record, first: usize, k: u64, output: &mut [u8]) 
     let operation = skipping::skip_fields(s, first, newer);
     let next = skipping::next_field(s, operation);
     let o = new_seal(h, s, operation, newer);
-    both_replaced(s, seal, first, operation, next, o, output)
+    let field = o.bytes;
+    both_replaced(s, seal, first, operation, next, field, o.len, output)
 }
 
 // Suppresses operation k of an accepted archive, which has room in the output.
