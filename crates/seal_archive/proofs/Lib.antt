@@ -2,3 +2,4 @@
 pub mod Accepted
 pub mod Held
 pub mod Replaced
+pub mod Answers
