@@ -1,10 +1,10 @@
 -- An archive, and how it is read (docs/SPECIFICATION.md, 6 and 9).
 use Prim.Native.Nat.{ℕ}
 use mathlib.Core.Bool.{Bool}
-use mathlib.Core.List.{List}
+use mathlib.Core.List.{List, []}
 use lib.Dec.{eqb}
 use Rattle.jacobian.specs.declared.{Curve.Curve, Class.Class}
-use Rattle.stored_form.specs.{Reading.Reading, Reading.found, Reading._then_, Reading.reading-refusal, Fields.ended, Record.drawing-name, Record.empty-record}
+use Rattle.stored_form.specs.{Reading.Reading, Reading.found, Reading.refused, Reading._then_, Reading.reading-refusal, Fields.ended, Record.drawing-name, Record.empty-record}
 use Rattle.stored_form.specs.{Reader.read-fields, Reader.read-operations, Reader.header-layout, Pairs.read-pairs, declared.Record.Record}
 
 -- the values of an archive; its operations are in order, newest first, and its pairs in ascending order
@@ -34,6 +34,15 @@ read-archive s =
     read-operations (h .count) h s first then λ ops last.
     read-tail (h .count) s last then λ pairs end.
     found (archive-of h ops pairs) end
+
+-- the archive that was read, and an empty one for a refusal
+unfoldable pub archive-in : Reading Archive → Archive
+archive-in (found a end) = a
+archive-in (refused n) = archive-of empty-record [] []
+
+-- the archive that bytes say, if they are accepted
+unfoldable pub archive-said : List ℕ → Archive
+archive-said s = archive-in (read-archive s)
 
 -- the number of an archive's refusal, and 0 if it is accepted
 unfoldable pub archive-refusal : List ℕ → ℕ

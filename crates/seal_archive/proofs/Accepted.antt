@@ -11,11 +11,10 @@ use lib.ListN.{length}
 use Rattle.stored_form.specs.{Number.Bytes, Reading.found, Record.empty-record, Reader.read-fields, Reader.header-layout, declared.Record.Record}
 use Rattle.stored_form.proofs.Readings.{same-found}
 use Rattle.stored_form_theorems.proofs.Operations.{operations-counted}
-use Rattle.archive.specs.Archive.{Archive, archive-of, read-archive, archive-refusal}
+use Rattle.archive.specs.Archive.{Archive, archive-of, read-archive, archive-in, archive-said, archive-refusal}
 use Rattle.archive.proofs.Valid.{archive-found}
 use Rattle.archive_theorems.specs.Written.{archive-bytes, Storable}
 use Rattle.archive_theorems.proofs.{Parts.parts-of, ArchiveRoundTrips.archive-written, FieldPlaces.Layout, FieldPlaces.layout}
-use Rattle.seal_archive.specs.internal.Accepted.{archive-in, archive-said}
 
 pub said-is : (s : List ℕ) {a : Archive} {end : ℕ} → read-archive s ≡ found a end → archive-said s ≡ a
 unfolding archive-said archive-in

@@ -16,13 +16,13 @@ use Rattle.stored_form.specs.{Number.Bytes, Reading.Reading, Reading.found, Rea
 use Rattle.stored_form.proofs.Readings.{then-found, then-refused, checked-none, checked-some, same-found}
 use Rattle.stored_form_theorems.proofs.Checking.{first-read}
 use Rattle.written_form.specs.Effect.{Effect, effect, write, room-refusal}
-use Rattle.archive.specs.{Archive.Archive, Archive.read-archive, Archive.archive-refusal, Reader.read-header, Reader.advance-of, Skipping.skip-fields, declared.Advance.Advance}
+use Rattle.archive.specs.{Archive.Archive, Archive.read-archive, Archive.archive-said, Archive.archive-refusal, Reader.read-header, Reader.advance-of, Skipping.skip-fields, declared.Advance.Advance}
 use Rattle.archive.proofs.Skipped.{skip-inside}
 use Rattle.archive_theorems.specs.Written.{archive-bytes}
 use Rattle.archive_theorems.proofs.{Parts.parts-of, FieldPlaces.Layout}
 use Rattle.suppression_theory.specs.Archives.{held, suppressed}
 use Rattle.seal_archive.specs.Suppress.{WrittenEffect, written-effect, length-written, refuse-archive, write-archive, put-archive, growth, suppress-refusal, suppress-archive, suppress-call}
-use Rattle.seal_archive.specs.internal.Accepted.{archive-said, AtOperations, Suppressible}
+use Rattle.seal_archive.specs.internal.Accepted.{AtOperations, Suppressible}
 use Rattle.seal_archive.proofs.Accepted.{said-read, said-laid, header-counted}
 
 refused-read : {A : Type 0} (x : Reading A) → ¬ (reading-refusal x ≡ 0) → x ≡ refused (reading-refusal x)

@@ -15,12 +15,12 @@ use Rattle.lists.proofs.Lists.{all-at}
 use Rattle.jacobian.specs.{Answer.neutral-class, declared.Class.Class}
 use Rattle.stored_form.specs.{Number.Bytes, Head.length-at, Cuts.fields-end, Pairs.later, Pairs.earlier, Pairs.pair-at, Reader.header-layout}
 use Rattle.stored_form_theorems.proofs.Pairs.{later-ascends}
-use Rattle.archive.specs.{Archive.neutral, Skipping.skip-fields}
+use Rattle.archive.specs.{Archive.archive-said, Archive.neutral, Skipping.skip-fields}
 use Rattle.archive.proofs.Skipped.{skip-inside, fields-more}
 use Rattle.archive_theorems.specs.Written.{Storable}
 use Rattle.archive_theorems.proofs.FieldPlaces.{Layout, operations-end, place-within, operation-neutral, pairs-end, pairs-counted, pair-stands}
 use Rattle.suppression_theory.specs.{Suppression.operation-of, Archives.holds, Archives.held-by, Archives.held}
-use Rattle.seal_archive.specs.internal.Accepted.{archive-said, AtOperations, AtPairs}
+use Rattle.seal_archive.specs.internal.Accepted.{AtOperations, AtPairs}
 use Rattle.seal_archive.proofs.Accepted.{said-stored, said-laid}
 
 or-false : (b : Bool) → (b || false) ≡ b

@@ -17,7 +17,7 @@ use Rattle.stored_form.specs.Classes.{curve-fields-bytes, encode-row, encode-cl
 use Rattle.stored_form.proofs.Lengths.{length-stored}
 use Rattle.stored_form_theorems.specs.Fields.{Field}
 use Rattle.stored_form_theorems.proofs.{Places.behind, Places.up-to, FieldLaws.value-read-back, FieldValues.operation-law, ClassRoundTrips.class-short}
-use Rattle.archive.specs.{Archive.Archive, Skipping.next-field, Skipping.skip-fields}
+use Rattle.archive.specs.{Archive.Archive, Archive.archive-said, Skipping.next-field, Skipping.skip-fields}
 use Rattle.archive.proofs.Skipped.{next-within, fields-more, skip-inside}
 use Rattle.archive_theorems.specs.Written.{archive-bytes, Storable}
 use Rattle.archive_theorems.proofs.FieldPlaces.{Layout, front-bytes, operation-fields-append, operation-place, operation-stands, place-within}
@@ -25,7 +25,7 @@ use Rattle.written_form.specs.{Effect.effect, Effect.write, Effect.room as writ
 use Rattle.written_form.proofs.Appending.{append-write}
 use Rattle.suppression_theory.specs.{Suppression.operation-of, Suppression.suppressed-operations, Suppression.suppressed-seal, Archives.suppressed}
 use Rattle.suppression_theory.proofs.Suppression.{suppressed-seal-accepts}
-use Rattle.seal_archive.specs.{Suppress.growth, internal.Accepted.archive-said, internal.Accepted.Suppressible, internal.Accepted.seal-without, internal.Accepted.replaced, internal.Accepted.both-replaced}
+use Rattle.seal_archive.specs.{Suppress.growth, internal.Accepted.Suppressible, internal.Accepted.seal-without, internal.Accepted.replaced, internal.Accepted.both-replaced}
 use Rattle.seal_archive.proofs.Accepted.{said-stored, said-laid, header-curve, header-seal}
 
 -- a field copied after what was written

@@ -60,6 +60,10 @@ suppress-archive has s k =
     checked (room-refusal has (length s + growth)) (read-archive s) then λ a end.
     checked (suppress-refusal k a) (found (suppressed k a) end)
 
+-- the numbers with which the call refuses
+abbrev pub suppress-numbers : List ℕ
+suppress-numbers = 101 ∷ 102 ∷ 103 ∷ 104 ∷ 105 ∷ 106 ∷ 107 ∷ 108 ∷ 109 ∷ 110 ∷ 111 ∷ 112 ∷ 122 ∷ 123 ∷ 124 ∷ []
+
 -- what the call does
 unfoldable pub suppress-call : List ℕ → ℕ → List ℕ → WrittenEffect
 suppress-call s k out = put-archive (suppress-archive (length out) s k) out

@@ -7,12 +7,12 @@ ghost use lib.Dec.{eqb};
 ghost use lib.ListN.{length};
 ghost use Rattle.jacobian.specs.{Answer.sum-answer, Answer.reply, Group.opposite-of, Group.doublings};
 ghost use Rattle.stored_form.specs.{Head.length-at, Pairs.earlier};
-ghost use Rattle.archive.specs.{Archive.archive-refusal, Reader.read-header, Reader.advance-of};
+ghost use Rattle.archive.specs.Archive.{archive-said, archive-refusal};
 ghost use Rattle.written_form.specs.{Effect.effect, Effect.write, Effect.room, Effect.response-of, Effect.class-response};
 ghost use Rattle.suppression_theory.specs.Archives.{held, suppressed};
 ghost use Rattle.archive_theorems.specs.Written.{archive-bytes};
 ghost use Rattle.seal_archive.specs.Suppress.{growth, refusal-written, written-effect, suppress-call};
-ghost use Rattle.seal_archive.specs.internal.Accepted.{archive-said, AtOperations, AtPairs, Suppressible, seal-without, replaced, both-replaced};
+ghost use Rattle.seal_archive.specs.internal.Accepted.{AtOperations, AtPairs, Suppressible, seal-without, replaced, both-replaced};
 use archive::skipping;
 use jacobian::Class;
 use jacobian::ClassAnswer;
@@ -120,7 +120,15 @@ fn held(s: &[u8], first: usize, n: u64, k: u64) -> bool
 }
 
 // Copies a range of the input to the output, and after it the first len bytes of a field that replaces one.
-fn replaced(s: &[u8], start: usize, end: usize, field: &[u8], len: usize, output: &mut [u8], at: usize) -> usize
+fn replaced(
+    s: &[u8],
+    start: usize,
+    end: usize,
+    field: &[u8],
+    len: usize,
+    output: &mut [u8],
+    at: usize,
+) -> usize
     ensures { λ r. ⌜ effect r (now (output .exit)) ≡ replaced (now (s .entry)) start end (now (field .entry)) len (effect at (now (output .entry))) ⌝ }
 {
     let next = ranges::append(s, start, end, output, at);
@@ -130,7 +138,16 @@ fn replaced(s: &[u8], start: usize, end: usize, field: &[u8], len: usize, output
 // Copies the input to the output but for its seal and one operation. The seal's field goes from `seal` to `first`, and
 // the first len bytes of a buffer replace it; the operation's goes from `operation` to `next`, and a neutral one
 // replaces it.
-fn both_replaced(s: &[u8], seal: usize, first: usize, operation: usize, next: usize, field: [u8; ROOM], len: usize, output: &mut [u8]) -> usize
+fn both_replaced(
+    s: &[u8],
+    seal: usize,
+    first: usize,
+    operation: usize,
+    next: usize,
+    field: [u8; ROOM],
+    len: usize,
+    output: &mut [u8],
+) -> usize
     ensures { λ r. ⌜ (effect r (now (output .exit)) ≡ both-replaced (now (s .entry)) seal first operation next field len (effect 0 (now (output .entry)))) × (length field ≡ room) ⌝ }
 {
     let neutral = NEUTRAL_OPERATION;

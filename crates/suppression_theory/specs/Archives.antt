@@ -1,9 +1,11 @@
 -- An archive with operation k suppressed, and whether operation k is held (docs/SPECIFICATION.md, 9).
-use Prim.Native.Nat.{ℕ}
+use Prim.Native.Nat.{ℕ, _<_}
+use mathlib.Core.Path.{_≡_}
 use mathlib.Core.Bool.{Bool, false, not, _&&_, _||_}
 use mathlib.Core.List.{List, [], _∷_}
 use lib.Dec.{eqb}
-use Rattle.jacobian.specs.declared.Class.{Class}
+use lib.ListN.{length, getD}
+use Rattle.jacobian.specs.{Answer.neutral-class, declared.Class.Class}
 use Rattle.stored_form.specs.Pairs.{later, earlier}
 use Rattle.archive.specs.Archive.{Archive, neutral}
 use Rattle.suppression_theory.specs.Suppression.{operation-of, suppressed-operations, suppressed-seal}
@@ -26,6 +28,13 @@ holds k ops p = eqb (earlier p) k && not (neutral (operation-of (later p) ops))
 unfoldable pub held-by : ℕ → List Class → List ℕ → Bool
 held-by k ops [] = false
 held-by k ops (p ∷ ps) = holds k ops p || held-by k ops ps
+
+-- operation k of an archive is held: it is the earlier of some pair whose later operation is not the neutral class
+pub record Held (k : ℕ) (a : Archive) : Type 0 where
+  pub place : ℕ
+  pub inside : place < length (a .pairs)
+  pub pairs-it : earlier (getD (a .pairs) place 0) ≡ k
+  pub not-neutral : ¬ (operation-of (later (getD (a .pairs) place 0)) (a .operations) ≡ neutral-class)
 
 -- whether operation k of an archive is held
 unfoldable pub held : ℕ → Archive → Bool

@@ -1,23 +1,14 @@
--- For the contracts of functions that are not open: what accepted bytes say, where their parts begin, and the ranges
--- of them that are copied.
+-- For the contracts of functions that are not open: where the parts of accepted bytes begin, and the ranges of them
+-- that are copied.
 use Prim.Native.Nat.{ℕ, _+_, _≤_}
 use mathlib.Core.Path.{_≡_}
 use mathlib.Core.List.{List, [], _∷_}
 use lib.ListN.{length}
 use Rattle.jacobian.specs.{Answer.Result, Answer.result, Answer.sum-answer, Group.opposite-of, Group.doublings}
-use Rattle.stored_form.specs.{Reading.Reading, Reading.found, Reading.refused, Cuts.fields-end, Record.empty-record, Reader.read-field, Reader.read-fields, Reader.header-layout, Reader.read-of, declared.Record.Record}
+use Rattle.stored_form.specs.{Reading.found, Cuts.fields-end, Record.empty-record, Reader.read-field, Reader.read-fields, Reader.header-layout, Reader.read-of, declared.Record.Record}
 use Rattle.written_form.specs.{Effect.Effect, Effect.effect, Ranges.append}
-use Rattle.archive.specs.Archive.{Archive, archive-of, read-archive, archive-refusal}
+use Rattle.archive.specs.Archive.{archive-said, archive-refusal}
 use Rattle.seal_archive.specs.Suppress.{growth}
-
--- the archive that was read, and an empty one for a refusal
-unfoldable pub archive-in : Reading Archive → Archive
-archive-in (found a end) = a
-archive-in (refused n) = archive-of empty-record [] []
-
--- the archive that bytes say, if they are accepted
-unfoldable pub archive-said : List ℕ → Archive
-archive-said s = archive-in (read-archive s)
 
 -- the bytes are accepted; n operations begin at this offset
 pub record AtOperations (s : List ℕ) (first n : ℕ) : Type 0 where

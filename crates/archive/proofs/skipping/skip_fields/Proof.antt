@@ -22,12 +22,13 @@ loop-again : tie.Need-loop-again Inv-loop μ-loop
 loop-again c =
     let head = c .before .before .loop in
     let start = c .before .before .before .before .args in
-    let e : suc (head .i) ≡ head .i + 1 = omega arith in
-    (omega (arith, c .before .loop-test .taken),
-    c .next-field .ensures
-    ∙ ap (next-field (start .s .now)) (head .inv .1)
-    ∙ sym (skip-more (start .s .now) (head .i) (start .at))
-    ∙ ap (λ (j : ℕ). skip-fields j (start .s .now) (start .at)) e)
+    let e : suc (head .i) ≡ head .i + 1 = omega arith in (
+      omega (arith, c .before .loop-test .taken),
+      c .next-field .ensures
+          ∙ ap (next-field (start .s .now)) (head .inv .1)
+          ∙ sym (skip-more (start .s .now) (head .i) (start .at))
+          ∙ ap (λ (j : ℕ). skip-fields j (start .s .now) (start .at)) e,
+    )
 
 returns : tie.Need-returns Inv-loop μ-loop
 returns c =

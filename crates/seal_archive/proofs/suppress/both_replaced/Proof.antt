@@ -11,10 +11,11 @@ unfolding both-replaced
 returns c =
     let second = c .before .before .before .before .before .before in
     let first = second .before .before .before .before .before in
-    let start = first .before .before .before .before .before in
-    (c .before .before .append .ensures
-    ∙ ap (append _ _ _) (second .replaced2 .ensures ∙ ap (replaced _ _ _ _ _) (first .replaced .ensures)),
-    start .good .1 .1 .1 .1 .1 .0 .1 .0 .1)
+    let start = first .before .before .before .before .before in (
+      c .before .before .append .ensures
+          ∙ ap (append _ _ _) (second .replaced2 .ensures ∙ ap (replaced _ _ _ _ _) (first .replaced .ensures)),
+      start .good .1 .1 .1 .1 .1 .0 .1 .0 .1,
+    )
 
 pub both-replaced-spec : {M : Type 1} → statement M
 both-replaced-spec =

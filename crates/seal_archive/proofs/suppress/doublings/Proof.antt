@@ -24,9 +24,10 @@ loop-again c =
     let s = c .before .before .before in
     let g = s .before .args in
     let i = s .loop .i in
-    let more : suc i ≡ i + 1 = omega arith in
-    (omega arith,
-    ap (λ (r : Reply). r .class) (c .before .double .ensures ∙ ap (double-answer (g .curve)) (s .loop .inv .1)) ∙ ap (λ j. doublings (g .curve) j (g .a)) more)
+    let more : suc i ≡ i + 1 = omega arith in (
+      omega arith,
+      ap (λ (r : Reply). r .class) (c .before .double .ensures ∙ ap (double-answer (g .curve)) (s .loop .inv .1)) ∙ ap (λ j. doublings (g .curve) j (g .a)) more,
+    )
 
 returns : tie.Need-returns Inv-loop μ-loop
 returns c =

@@ -39,11 +39,12 @@ loop-again : tie.Need-loop-again Inv-loop μ-loop
 loop-again c =
     let turn = c .before .before .before in
     let start = turn .before .before .before .args in
-    let head = turn .before .loop in
-    (omega (arith, turn .loop-test .taken),
-    head .inv .1
-    ∙ pair-passed (start .n) (start .s .now) (start .at) (start .pairs) (head .i) (head .last) (turn .loop-test .taken) (c .before .before .decode-number .ensures)
-    (sym (c .before .pair-follows .ensures) ∙ not-false _ (c .if1 .left)))
+    let head = turn .before .loop in (
+      omega (arith, turn .loop-test .taken),
+      head .inv .1
+          ∙ pair-passed (start .n) (start .s .now) (start .at) (start .pairs) (head .i) (head .last) (turn .loop-test .taken) (c .before .before .decode-number .ensures)
+          (sym (c .before .pair-follows .ensures) ∙ not-false _ (c .if1 .left)),
+    )
 
 returns-2 : tie.Need-returns-2 Inv-loop μ-loop
 unfolding pairs-refusal unless

@@ -1,0 +1,1 @@
+-- Theorems on the call that suppresses an operation.
