@@ -1,1 +1,2 @@
--- Theorems on the call that suppresses an operation.
+-- Theorems on the call that suppresses an operation: what it leaves.
+pub mod Suppressed
