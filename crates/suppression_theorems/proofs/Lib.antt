@@ -1,1 +1,2 @@
 -- Theorems on the call that suppresses an operation.
+pub mod Checking
