@@ -1,3 +1,8 @@
+<<<<<<< HEAD
 -- Theorems on the call that suppresses an operation: what it leaves, and histories without the operation.
 pub mod Suppressed
 pub mod Histories
+=======
+-- Theorems on the call that suppresses an operation.
+pub mod Checking
+>>>>>>> w-check
