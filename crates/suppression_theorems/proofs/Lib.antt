@@ -1,8 +1,5 @@
-<<<<<<< HEAD
--- Theorems on the call that suppresses an operation: what it leaves, and histories without the operation.
+-- Theorems on the call that suppresses an operation: what it leaves, how long that is, and histories without the
+-- operation.
 pub mod Suppressed
+pub mod Lengths
 pub mod Histories
-=======
--- Theorems on the call that suppresses an operation.
-pub mod Checking
->>>>>>> w-check
