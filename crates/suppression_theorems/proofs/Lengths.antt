@@ -8,7 +8,7 @@ use lib.Seq.{set-split, split-at}
 use Rattle.lists.proofs.Lists.{all-at}
 use Rattle.jacobian.specs.{Answer.neutral-class, declared.Class.Class}
 use Rattle.jacobian.proofs.Calls.{only-neutral}
-use Rattle.stored_form.specs.{Number.Bytes, Number.encode-number, Number.encode-numbers, Head.head-bytes, Head.encode-field, Fields.drawing-field, Fields.count-field, Pairs.pairs-field}
+use Rattle.stored_form.specs.{Passing.ClassPasses, Number.Bytes, Number.encode-number, Number.encode-numbers, Head.head-bytes, Head.encode-field, Fields.drawing-field, Fields.count-field, Pairs.pairs-field}
 use Rattle.stored_form.specs.Classes.{curve-fields-bytes, encode-row, encode-class, class-field, operation-fields}
 use Rattle.stored_form.proofs.Lengths.{length-stored, length-count}
 use Rattle.stored_form_theorems.proofs.ClassRoundTrips.{class-short, length-encoded}
@@ -71,12 +71,22 @@ module _ (a : Archive) (ok : Storable a) (k : ℕ) (low : 1 ≤ k) (high : k ≤
   inside : length (a .operations) - k < length (a .operations)
   inside = omega arith
 
-  pub suppressed-lengths : (length (archive-bytes (suppressed k a)) ≤ length (archive-bytes a) + 32) × (length (archive-bytes a) ≤ length (archive-bytes (suppressed k a)) + 96)
+  passes : ClassPasses (a .curve) op
   unfolding operation-of
+  passes = all-at (length (a .operations) - k) neutral-class inside (ok .operations-allowed)
+
+  new-passes : ClassPasses (a .curve) (suppressed k a .seal)
+  unfolding suppressed
+  new-passes = suppressed-seal-accepts (ok .seal-allowed) (ok .operations-allowed) k low high
+
+  -- an operation that is not neutral has a field of at least 19 bytes
+  some-long : {d : ℕ} → op .degree ≡ suc d → 19 ≤ length (class-field 0x44 op)
+  unfolding class-field
+  some-long e = omega (arith, length-stored 0x44 (encode-class op), length-encoded (a .curve) op (passes .none), e)
+
+  suppressed-lengths : (length (archive-bytes (suppressed k a)) ≤ length (archive-bytes a) + 32) × (length (archive-bytes a) ≤ length (archive-bytes (suppressed k a)) + 96)
   suppressed-lengths = go (op .degree) refl
     where
-      passes = all-at (length (a .operations) - k) neutral-class inside (ok .operations-allowed)
-
       shrinks : length (archive-bytes a) ≤ length (archive-bytes (suppressed k a)) + 96
       shrinks = omega (arith, lengths, field-least 0x43 (suppressed k a .seal), class-short 0x43 (a .curve) (a .seal) (ok .seal-allowed .none), class-short 0x44 (a .curve) op (passes .none))
 
@@ -84,4 +94,15 @@ module _ (a : Archive) (ok : Storable a) (k : ℕ) (low : 1 ≤ k) (high : k ≤
       go zero e =
           let same = ap (λ (x : Archive). length (archive-bytes x)) (neutral-unchanged a ok k low high (only-neutral (a .curve) passes e)) in
           (omega (arith, same), shrinks)
-      go (suc d) e = (omega (arith, lengths), shrinks)
+      go (suc d) e =
+          let long : 19 ≤ length (class-field 0x44 op) = some-long e in
+          (omega (arith, lengths, long, field-least 0x43 (a .seal), class-short 0x43 (a .curve) (suppressed k a .seal) (new-passes .none)), shrinks)
+
+pub suppress-lengths : {s : List ℕ} {k : ℕ} {out t : List ℕ} → Bytes s → Suppresses s k out t → (length t ≤ length s + 32) × (length s ≤ length t + 96)
+suppress-lengths {s} {k} {out} {t} b does =
+    let r = required s k out b (does .accepted) in
+    let stored = said-stored s b (r .accepts) in
+    let new : length t ≡ length (archive-bytes (suppressed k (archive-said s))) = ap length (suppress-form b does) in
+    let old : length s ≡ length (archive-bytes (archive-said s)) = ap length (stored .0) in
+    let l = suppressed-lengths (archive-said s) (stored .1) k (r .low) (r .high) in
+    (omega (arith, new, old, l .0), omega (arith, new, old, l .1))
