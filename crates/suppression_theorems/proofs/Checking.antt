@@ -3,6 +3,7 @@
 -- `refusal-answers`: its refusal is 0 or one of the numbers of its checks, without 124 where operation k is not held.
 -- `suppress-wrote-or-refused`: it wrote into an output with room, or refused with a listed number and changed no byte.
 -- `suppress-decides`: its member `refusal` alone decides which of the two.
+-- `same-answer`, `same-bytes`: neither the answer nor a byte written depends on what the output held.
 use Prim.Native.Nat.{ℕ, zero, suc, _+_, _-_, _≤_}
 use mathlib.Core.Path.{_≡_, refl, sym, ap, _∙_, subst}
 use mathlib.Core.Bool.{Bool, true, false, true≢false, not, _&&_}
@@ -10,7 +11,8 @@ use mathlib.Core.List.{List, [], _∷_, _++_}
 use mathlib.Core.Logic.{inl, inr}
 use native.Mathlib.Omega.{arith}
 use lib.Dec.{leb}
-use lib.ListN.{length, set, length-append, length-set}
+use lib.ListN.{length, take, drop, set, length-append, length-set}
+use lib.Seq.{take-append-seam}
 use borrow.Author.Tests.{le-leb, leb-true, not-false}
 use Rattle.jacobian.specs.{Checks.Check, Checks.check, Checks.unless, Checks._or-else_, Checks.RefusalOf, Refusals.listed, Answer.Accepts, Answer.neutral-class, declared.Class.Class}
 use Rattle.jacobian.specs.Checks as checks
@@ -28,7 +30,8 @@ use Rattle.archive_theorems.specs.{Checking.archive-checks, Checking.archive-nu
 use Rattle.archive_theorems.proofs.Checking.{archive-checked, archive-answers}
 use Rattle.suppression_theory.specs.{Suppression.suppressed-operations, Archives.Held, Archives.held, Archives.suppressed}
 use Rattle.suppression_theory.proofs.{Holding.not-decides, Holding.held-decides, Suppression.suppressed-seal-accepts}
-use Rattle.seal_archive.specs.Suppress.{WrittenEffect, suppress-numbers, refuse-archive, write-archive, put-archive, growth, suppress-refusal, suppress-archive, suppress-call}
+use Rattle.seal_archive.specs.declared.suppress.Written.{Written}
+use Rattle.seal_archive.specs.Suppress.{WrittenEffect, length-written, suppress-numbers, refuse-archive, write-archive, put-archive, growth, suppress-refusal, suppress-archive, suppress-call}
 use Rattle.seal_archive.proofs.Accepted.{said-stored}
 use Rattle.suppression_theorems.specs.Checking.{suppress-checks, WrittenEffectOf, all-hold, first-fails, WroteOrRefused, wrote, kept, RefusalDecides}
 
@@ -203,3 +206,28 @@ module _ (s : List ℕ) (k : ℕ) (out : List ℕ) where
               wrote = λ z. absurd (true≢false (sym one ∙ ap (λ (i : ℕ). listed i suppress-numbers) (sym number ∙ z)));
               kept = λ z. (subst (OneOf suppress-numbers) (sym number) one, ap (λ (e : WrittenEffect). e .written .length) is, ap (λ (e : WrittenEffect). e .output) is);
             }
+
+-- ---- outputs of the same length
+
+module _ (s : List ℕ) (k : ℕ) (out other : List ℕ) (same : length out ≡ length other) where
+  -- the answer with the bytes written
+  response : WrittenEffect → Written × List ℕ
+  response e = (e .written, take (e .written .length) (e .output))
+
+  same-response : response (suppress-call s k out) ≡ response (suppress-call s k other)
+  unfolding suppress-call put-archive write-archive refuse-archive response
+  same-response = go (suppress-archive (length out) s k) ∙ ap (λ (n : ℕ). response (put-archive (suppress-archive n s k) other)) same
+    where
+      go : (x : Reading Archive) → response (put-archive x out) ≡ response (put-archive x other)
+      go (found a end) =
+          let bytes = archive-bytes a in
+          ap (λ (xs : List ℕ). (length-written (length bytes), xs)) (take-append-seam bytes (drop (length bytes) out) ∙ sym (take-append-seam bytes (drop (length bytes) other)))
+      go (refused n) = refl
+
+  pub same-answer : suppress-call s k out .written ≡ suppress-call s k other .written
+  unfolding response
+  same-answer = ap (λ (p : Written × List ℕ). p .0) same-response
+
+  pub same-bytes : take (suppress-call s k out .written .length) (suppress-call s k out .output) ≡ take (suppress-call s k other .written .length) (suppress-call s k other .output)
+  unfolding response
+  same-bytes = ap (λ (p : Written × List ℕ). p .1) same-response
