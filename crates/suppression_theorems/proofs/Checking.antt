@@ -1,6 +1,6 @@
 -- What the call that suppresses an operation does (docs/SPECIFICATION.md, 6 and 9).
--- `suppress-checked`: each refusal, under its condition and in its order; else the suppressed archive is written.
 -- `refusal-answers`: its refusal is 0 or one of the numbers of its checks, without 124 where operation k is not held.
+-- `suppress-checked`: each refusal, under its condition and in its order; else the suppressed archive is written.
 -- `suppress-wrote-or-refused`: it wrote into an output with room, or refused with a listed number and changed no byte.
 -- `suppress-decides`: its member `refusal` alone decides which of the two.
 -- `same-answer`, `same-bytes`: neither the answer nor a byte written depends on what the output held.
@@ -105,37 +105,6 @@ module _ (s : List ℕ) (k : ℕ) (out : List ℕ) where
       go zero (refused (suc n)) e = refl
       go (suc m) x e = refl
 
-  -- ---- the checks
-
-  module _ (b : Bytes s) where
-    abbrev a : Archive
-    a = archive-said s
-
-    -- those of k, of an accepted archive
-    abbrev last-checks : List Check
-    last-checks = check 123 ((1 ≤ k) × (k ≤ length (a .operations))) ∷ check 124 (¬ Held k a) ∷ []
-
-    last-checked : archive-refusal s ≡ 0 → RefusalOf last-checks (suppress-refusal k a)
-    unfolding suppress-refusal
-    last-checked accepted =
-        let n = length (a .operations) in
-        refusal-or-else (check 123 _ ∷ []) (check 124 _ ∷ []) (unless (leb 1 k && leb k n) 123) _
-        (refusal-unless (leb 1 k && leb k n) 123 (λ e. omega arith) (
-          λ e. let h = both (leb 1 k) (leb k n) e in (leb-true 1 k (h .0), leb-true k n (h .1)),
-          λ h. rw (le-leb 1 k (h .0), le-leb k n (h .1)) refl,
-        ))
-        (λ within. refusal-unless (not (held k a)) 124 (λ e. omega arith) (not-decides (held-decides (said-stored s b accepted .1 .operations-allowed) k)))
-
-    number-checked : RefusalOf (suppress-checks s k out) number
-    unfolding number room-refusal
-    number-checked =
-        refusal-or-else (check 101 _ ∷ []) (archive-checks s ++ last-checks) (room-refusal (length out) (length s + growth)) _
-        (refusal-unless (leb (length s + growth) (length out)) 101 (λ e. omega arith) (leb-true (length s + growth) (length out), le-leb (length s + growth) (length out)))
-        (λ roomy. refusal-or-else (archive-checks s) last-checks (archive-refusal s) _ (archive-checked s) (λ held. last-checked (refusal-held (archive-checked s) held)))
-
-    pub suppress-checked : WrittenEffectOf (suppress-checks s k out) (archive-bytes (suppressed k (archive-said s))) out (suppress-call s k out)
-    suppress-checked = checked-effect number-checked by-number
-
   -- ---- the numbers
 
   -- the number is 0 or in a list that has those of the checks; 124 has to be there only if operation k is held
@@ -170,18 +139,48 @@ module _ (s : List ℕ) (k : ℕ) (out : List ℕ) where
       same zero = refl
       same (suc n) = refl
 
-  -- ---- the call wrote or refused
+  -- ---- the checks
 
   module _ (b : Bytes s) where
+    abbrev a : Archive
+    a = archive-said s
+
+    -- those of k, of an accepted archive
+    abbrev last-checks : List Check
+    last-checks = check 123 ((1 ≤ k) × (k ≤ length (a .operations))) ∷ check 124 (¬ Held k a) ∷ []
+
+    last-checked : archive-refusal s ≡ 0 → RefusalOf last-checks (suppress-refusal k a)
+    unfolding suppress-refusal
+    last-checked accepted =
+        let n = length (a .operations) in
+        refusal-or-else (check 123 _ ∷ []) (check 124 _ ∷ []) (unless (leb 1 k && leb k n) 123) _
+        (refusal-unless (leb 1 k && leb k n) 123 (λ e. omega arith) (
+          λ e. let h = both (leb 1 k) (leb k n) e in (leb-true 1 k (h .0), leb-true k n (h .1)),
+          λ h. rw (le-leb 1 k (h .0), le-leb k n (h .1)) refl,
+        ))
+        (λ within. refusal-unless (not (held k a)) 124 (λ e. omega arith) (not-decides (held-decides (said-stored s b accepted .1 .operations-allowed) k)))
+
+    number-checked : RefusalOf (suppress-checks s k out) number
+    unfolding number room-refusal
+    number-checked =
+        refusal-or-else (check 101 _ ∷ []) (archive-checks s ++ last-checks) (room-refusal (length out) (length s + growth)) _
+        (refusal-unless (leb (length s + growth) (length out)) 101 (λ e. omega arith) (leb-true (length s + growth) (length out), le-leb (length s + growth) (length out)))
+        (λ roomy. refusal-or-else (archive-checks s) last-checks (archive-refusal s) _ (archive-checked s) (λ held. last-checked (refusal-held (archive-checked s) held)))
+
+    pub suppress-checked : WrittenEffectOf (suppress-checks s k out) (archive-bytes (suppressed k (archive-said s))) out (suppress-call s k out)
+    suppress-checked = checked-effect number-checked by-number
+
+    -- ---- the call wrote or refused
+
     fits : number ≡ 0 → (length new ≤ length out) × (length s + growth ≤ length out)
     unfolding number suppressed
     fits e =
         let accepted = then-zero _ _ (then-zero _ _ e .1) in
         let stored = said-stored s b (accepted .0) in
-        let within = held-refusal (last-checked b (accepted .0)) (accepted .1) .0 in
+        let within = held-refusal (last-checked (accepted .0)) (accepted .1) .0 in
         let grows = suppressed-grows k (archive-said s) (suppressed-seal-accepts (stored .1 .seal-allowed) (stored .1 .operations-allowed) k (within .0) (within .1)) in
         let long : length s ≡ length (archive-bytes (archive-said s)) = ap length (stored .0) in
-        let roomy = held-refusal (number-checked b) e .0 in
+        let roomy = held-refusal number-checked e .0 in
         (omega (arith, grows, long, roomy), roomy)
 
     pub suppress-wrote-or-refused : WroteOrRefused s suppress-numbers out (suppress-call s k out)
