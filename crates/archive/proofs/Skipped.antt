@@ -4,7 +4,7 @@
 -- `skip-more`: one field more is passed over.
 -- `fields-more`: the offset after fields that follow others.
 -- `skip-inside`: within the bytes the offset is that of `fields-end`.
-use Prim.Native.Nat.{ℕ, zero, suc, _+_, _≤_, _<_, min}
+use Prim.Native.Nat.{ℕ, zero, suc, _+_, _≤_}
 use mathlib.Core.Path.{_≡_, refl, sym, ap, _∙_}
 use mathlib.Core.List.{List}
 use native.Mathlib.Nat.{zero-add, suc-add}

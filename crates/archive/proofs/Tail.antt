@@ -8,7 +8,7 @@ use mathlib.Core.List.{List, []}
 use native.Mathlib.Omega.{arith}
 use lib.Dec.{eqb, leb}
 use lib.ListN.{length, getD}
-use Rattle.stored_form.specs.{Reading.Reading, Reading.found, Reading.refuse, Reader.read-head-by}
+use Rattle.stored_form.specs.{Reading.found, Reading.refuse, Reader.read-head-by}
 use Rattle.stored_form.specs.Pairs.{pairs-length, read-pairs-field, read-pairs}
 use Rattle.stored_form.proofs.{Readings.refuse-found, Readings.checked-found, Readings.both-found, Readings.same-found, Heads.head-found}
 use Rattle.stored_form.proofs.Valid.{ValidReading, then-valid, pairs-valid, end-tells}

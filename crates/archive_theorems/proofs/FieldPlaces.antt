@@ -6,8 +6,8 @@
 -- `pairs-counted`, `pairs-end`, `pair-stands`: how many pairs there are, where they end, and a pair by its place.
 -- `operation-neutral`: the length in its head says whether an operation is neutral.
 use Prim.Native.Nat.{ℕ, zero, suc, _+_, _*_, _-_, _/_, _^_, _≤_, _<_}
-use mathlib.Core.Path.{_≡_, refl, sym, ap, ap₂, _∙_, subst, subst₂}
-use mathlib.Core.Bool.{Bool, true, false}
+use mathlib.Core.Path.{_≡_, refl, sym, ap, _∙_, subst}
+use mathlib.Core.Bool.{true}
 use mathlib.Core.List.{List, [], _∷_, _++_, append-assoc}
 use native.Mathlib.Omega.{arith}
 use lib.Dec.{eqb}
@@ -17,12 +17,12 @@ use borrow.Author.Tests.{ne-eqb, lt-ltb, le-ltb, le-leb}
 use Rattle.lists.specs.Lists.{All, none, more}
 use Rattle.lists.proofs.Lists.{all-at, all-take}
 use Rattle.jacobian.specs.{Answer.neutral-class, Curves.coefficients, declared.Curve.Curve, declared.Class.Class}
-use Rattle.stored_form.specs.{Number.decode-number, Number.encode-number, Number.encode-numbers, Number.part, Head.body-length, Head.length-at, Head.encode-field, Head.BytesAt, Head.degree-length, Head.count-length, Head.drawing-limit, Elements.encode-elements}
-use Rattle.stored_form.specs.{Fields.degree-field, Fields.drawing-field, Fields.count-field, Fields.count-limit, Cuts.fields-end, Passing.ClassPasses, Pairs.pair-length, Pairs.pairs-field, Pairs.pair-at}
+use Rattle.stored_form.specs.{Number.decode-number, Number.encode-number, Number.encode-numbers, Number.part, Head.body-length, Head.length-at, Head.encode-field, Head.BytesAt, Head.degree-length, Head.count-length, Elements.encode-elements}
+use Rattle.stored_form.specs.{Fields.degree-field, Fields.drawing-field, Fields.count-field, Fields.count-limit, Cuts.fields-end, Passing.ClassPasses, Pairs.pairs-field, Pairs.pair-at}
 use Rattle.stored_form.specs.Classes.{curve-field, curve-fields-bytes, encode-class, class-field, operation-fields}
 use Rattle.stored_form.proofs.{Digits.length-bytes, Lengths.length-stored, NumberLists.length-encode-numbers, NumberLists.decode-numbers-at}
 use Rattle.stored_form_theorems.specs.Fields.{Field}
-use Rattle.stored_form_theorems.proofs.{Places.behind, Places.apart, Places.whole, Cuts.FieldsAt, Cuts.none, Cuts.field, Cuts.fields-at-end, Bodies.stored-length, Bodies.head-read, Pairs.some-field, Pairs.pairs-small, Elements.numbers-bytes, Places.part-part, ClassRoundTrips.class-short, ClassRoundTrips.length-encoded}
+use Rattle.stored_form_theorems.proofs.{Places.apart, Places.whole, Cuts.FieldsAt, Cuts.none, Cuts.field, Cuts.fields-at-end, Bodies.stored-length, Bodies.head-read, Pairs.some-field, Pairs.pairs-small, Elements.numbers-bytes, Places.part-part, ClassRoundTrips.class-short, ClassRoundTrips.length-encoded}
 use Rattle.archive.specs.Archive.{Archive, neutral}
 use Rattle.archive.proofs.Skipped.{length-inside}
 use Rattle.archive_theorems.specs.Written.{archive-bytes, Storable}

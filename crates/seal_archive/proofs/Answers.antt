@@ -5,10 +5,9 @@
 -- `header-read`, `at-operations`, `suppressible`: what the code knows once it has read the header.
 use Prim.Native.Nat.{ℕ, _+_, _≤_, _<_}
 use mathlib.Core.Path.{_≡_, refl, sym, ap, _∙_}
-use mathlib.Core.Bool.{Bool, true, false, not}
+use mathlib.Core.Bool.{true, false}
 use mathlib.Core.List.{List}
 use native.Mathlib.Omega.{arith}
-use lib.Dec.{leb}
 use lib.ListN.{length}
 use borrow.Author.Tests.{lt-leb, le-leb}
 use Rattle.jacobian.specs.Checks.{unless, _or-else_}
@@ -19,9 +18,9 @@ use Rattle.written_form.specs.Effect.{Effect, effect, write, room-refusal}
 use Rattle.archive.specs.{Archive.Archive, Archive.read-archive, Archive.archive-said, Archive.archive-refusal, Reader.read-header, Reader.advance-of, Skipping.skip-fields, declared.Advance.Advance}
 use Rattle.archive.proofs.Skipped.{skip-inside}
 use Rattle.archive_theorems.specs.Written.{archive-bytes}
-use Rattle.archive_theorems.proofs.{Parts.parts-of, FieldPlaces.Layout}
+use Rattle.archive_theorems.proofs.{Parts.parts-of}
 use Rattle.suppression_theory.specs.Archives.{held, suppressed}
-use Rattle.seal_archive.specs.Suppress.{WrittenEffect, written-effect, length-written, refuse-archive, write-archive, put-archive, growth, suppress-refusal, suppress-archive, suppress-call}
+use Rattle.seal_archive.specs.Suppress.{written-effect, length-written, refuse-archive, write-archive, put-archive, growth, suppress-refusal, suppress-archive, suppress-call}
 use Rattle.seal_archive.specs.internal.Accepted.{AtOperations, Suppressible}
 use Rattle.seal_archive.proofs.Accepted.{said-read, said-laid, header-counted}
 

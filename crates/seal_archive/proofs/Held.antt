@@ -3,19 +3,19 @@
 -- `pairs-at`, `pairs-number`, `pairs-inside`: where the pairs begin, and how many there are.
 -- `held-empty`: without pairs nothing is held.
 -- `held-begin`, `held-turn`, `held-found`, `held-none`: before the first turn, after a turn, and both ends of the loop.
-use Prim.Native.Nat.{ℕ, zero, suc, _+_, _-_, _/_, _≤_, _<_}
-use mathlib.Core.Path.{_≡_, refl, sym, ap, ap₂, _∙_, subst}
+use Prim.Native.Nat.{ℕ, suc, _+_, _-_, _/_, _≤_, _<_}
+use mathlib.Core.Path.{_≡_, refl, sym, ap, ap₂, _∙_}
 use mathlib.Core.Bool.{Bool, true, false, not, _&&_, _||_}
 use mathlib.Core.List.{List, [], _∷_, _++_}
 use native.Mathlib.Omega.{arith}
 use lib.Dec.{eqb}
-use lib.ListN.{length, getD, take, drop}
+use lib.ListN.{length, getD, take}
 use lib.Seq.{take-all, take-suc}
 use Rattle.lists.proofs.Lists.{all-at}
-use Rattle.jacobian.specs.{Answer.neutral-class, declared.Class.Class}
-use Rattle.stored_form.specs.{Number.Bytes, Head.length-at, Cuts.fields-end, Pairs.later, Pairs.earlier, Pairs.pair-at, Reader.header-layout}
+use Rattle.jacobian.specs.{declared.Class.Class}
+use Rattle.stored_form.specs.{Number.Bytes, Head.length-at, Cuts.fields-end, Pairs.later, Pairs.earlier, Pairs.pair-at}
 use Rattle.stored_form_theorems.proofs.Pairs.{later-ascends}
-use Rattle.archive.specs.{Archive.archive-said, Archive.neutral, Skipping.skip-fields}
+use Rattle.archive.specs.{Archive.archive-said, Skipping.skip-fields}
 use Rattle.archive.proofs.Skipped.{skip-inside, fields-more}
 use Rattle.archive_theorems.specs.Written.{Storable}
 use Rattle.archive_theorems.proofs.FieldPlaces.{Layout, operations-end, place-within, operation-neutral, pairs-end, pairs-counted, pair-stands}

@@ -5,13 +5,12 @@ use Prim.Native.Nat.{ℕ, suc, _+_, _-_, _≤_, _<_}
 use mathlib.Core.Path.{_≡_, refl, sym, ap, ap₂, _∙_, subst, subst₂}
 use mathlib.Core.List.{List, [], _∷_, _++_, append-assoc}
 use native.Mathlib.Omega.{arith}
-use native.Mathlib.Nat.{zero-add}
 use lib.ListN.{length, getD, take, drop, set, length-append, length-set, length-take}
 use lib.Seq.{set-split}
 use Rattle.lists.proofs.Lists.{all-at}
 use Rattle.jacobian.specs.{Answer.Accepts, Answer.Result, Answer.sum-answer, Answer.result, Answer.neutral-class, Group.opposite-of, Group.doublings, declared.Curve.Curve, declared.Class.Class}
 use Rattle.jacobian.proofs.{Calls.opposite-accepts, Group.sum-given, Group.doublings-accept}
-use Rattle.stored_form.specs.{Number.Bytes, Number.part, Reading.found, Head.head-bytes, Head.encode-field, Number.encode-number, Number.encode-numbers, Cuts.fields-end, Pairs.pairs-field, Reader.read-field, Reader.header-layout, Reader.read-of, declared.Record.Record}
+use Rattle.stored_form.specs.{Number.Bytes, Number.part, Head.head-bytes, Head.encode-field, Number.encode-number, Number.encode-numbers, Cuts.fields-end, Pairs.pairs-field, Reader.read-field, Reader.read-of, declared.Record.Record}
 use Rattle.stored_form.specs.{Fields.drawing-field, Fields.count-field}
 use Rattle.stored_form.specs.Classes.{curve-fields-bytes, encode-row, encode-class, class-field, operation-fields}
 use Rattle.stored_form.proofs.Lengths.{length-stored}
@@ -21,11 +20,11 @@ use Rattle.archive.specs.{Archive.Archive, Archive.archive-said, Skipping.next-
 use Rattle.archive.proofs.Skipped.{next-within, fields-more, skip-inside}
 use Rattle.archive_theorems.specs.Written.{archive-bytes, Storable}
 use Rattle.archive_theorems.proofs.FieldPlaces.{Layout, front-bytes, operation-fields-append, operation-place, operation-stands, place-within}
-use Rattle.written_form.specs.{Effect.effect, Effect.write, Effect.room as written-room, Effect.Response, Effect.response, Effect.bytes-response, Effect.on-outcome, Effect.class-response, Ranges.append}
+use Rattle.written_form.specs.{Effect.effect, Effect.write, Effect.room as written-room, Effect.bytes-response, Effect.on-outcome, Effect.class-response, Ranges.append}
 use Rattle.written_form.proofs.Appending.{append-write}
 use Rattle.suppression_theory.specs.{Suppression.operation-of, Suppression.suppressed-operations, Suppression.suppressed-seal, Archives.suppressed}
 use Rattle.suppression_theory.proofs.Suppression.{suppressed-seal-accepts}
-use Rattle.seal_archive.specs.{Suppress.growth, internal.Accepted.Suppressible, internal.Accepted.seal-without, internal.Accepted.replaced, internal.Accepted.both-replaced}
+use Rattle.seal_archive.specs.{internal.Accepted.Suppressible, internal.Accepted.seal-without, internal.Accepted.replaced, internal.Accepted.both-replaced}
 use Rattle.seal_archive.proofs.Accepted.{said-stored, said-laid, header-curve, header-seal}
 
 -- a field copied after what was written

@@ -6,22 +6,20 @@
 -- `field-cut`, `field-checked`: the field is refused at its head, or by its pairs; else it is found.
 -- `offset-found`, `offset-refused`: the reading that the code's offset stands for.
 -- `pair-beyond`, `pair-there`: a pair at which the input ends, and one that is there.
-use Prim.Native.Nat.{ℕ, zero, suc, _+_, _*_, _-_, _/_, _%_, _≤_, _<_}
-use mathlib.Core.Path.{_≡_, refl, sym, ap, _∙_}
-use mathlib.Core.Bool.{Bool, true, false, cond, not, _&&_}
+use Prim.Native.Nat.{ℕ, suc, _+_, _*_, _-_, _/_, _%_, _≤_, _<_}
+use mathlib.Core.Path.{_≡_, ap, _∙_}
+use mathlib.Core.Bool.{true, false, _&&_}
 use mathlib.Core.List.{List, [], _∷_}
 use native.Mathlib.Omega.{arith}
 use lib.Dec.{eqb, leb, ltb}
-use lib.ListN.{length, getD, drop, length-drop}
+use lib.ListN.{length, getD, drop}
 use lib.Seq.{drop-drop}
-use borrow.Author.Tests.{lt-ltb, le-ltb, lt-leb, le-leb, eq-eqb, ne-eqb, leb-true}
-use Rattle.jacobian.specs.Checks.{unless}
-use Rattle.jacobian.proofs.ByValue.Checks.{both}
+use borrow.Author.Tests.{lt-ltb, le-ltb, lt-leb, le-leb, eq-eqb, ne-eqb}
 use Rattle.stored_form.specs.Number.{decode-number, decode-numbers, part}
-use Rattle.stored_form.specs.{Reading.Reading, Reading.found, Reading.refused, Reading.checked, Reading.reading-refusal, Head.pairs-limit, Reader.read-head-by}
-use Rattle.stored_form.specs.Pairs.{pair-length, later, earlier, pairs-length, pair-within, pairs-after, pairs-refusal, decode-pairs, read-pairs-field, read-pairs, offset-of, pair-at}
+use Rattle.stored_form.specs.{Reading.Reading, Reading.found, Reading.refused, Reading.checked, Head.pairs-limit, Reader.read-head-by}
+use Rattle.stored_form.specs.Pairs.{later, earlier, pairs-length, pair-within, pairs-after, pairs-refusal, decode-pairs, read-pairs-field, read-pairs, offset-of, pair-at}
 use Rattle.stored_form.specs.declared.{Cursor.Cursor, Offset.the-variants.Next, Offset.the-variants.Refused}
-use Rattle.stored_form.proofs.{Readings.then-found, Readings.then-refused, Readings.checked-none, Readings.checked-some, Heads.head-found, Parts.length-part, NumberLists.decode-numbers-take}
+use Rattle.stored_form.proofs.{Readings.then-found, Readings.then-refused, Heads.head-found, Parts.length-part, NumberLists.decode-numbers-take}
 
 -- ---- lengths
 

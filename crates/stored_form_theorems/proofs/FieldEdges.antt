@@ -12,7 +12,7 @@ use borrow.Author.Tests.{le-leb, lt-leb}
 use Rattle.binary_field.specs.Answer.{below}
 use Rattle.jacobian.specs.{Checks.unless, Checks._or-else_, Curves.coefficients, Curves.curve-with, Curves.degree-refusal, Curves.coefficient-refusal, Curves.curve-refusal}
 use Rattle.stored_form.specs.{Number.decode-numbers, Number.decode-number, Number.encode-number, Reading.found, Reading.refused, Reading.checked, Head.BytesAt, Head.body-length, Head.encode-field, Head.head-bytes}
-use Rattle.stored_form.specs.{Fields.printable, Fields.drawing-refusal, Fields.count-limit, Fields.count-refusal, Fields.released-refusal, Elements.decode-elements, Classes.decode-curve, Record.with-curve, Record.with-count, Record.with-released, Record.with-drawing, Record.decode-drawing, Tags.rules, Reader.read-field, declared.Record.Record}
+use Rattle.stored_form.specs.{Fields.printable, Fields.drawing-refusal, Fields.count-limit, Fields.count-refusal, Fields.released-refusal, Classes.decode-curve, Record.with-curve, Record.with-count, Record.with-released, Record.with-drawing, Record.decode-drawing, Tags.rules, Reader.read-field, declared.Record.Record}
 use Rattle.stored_form.proofs.{Readings.then-found, Heads.head-104, Readers.field-refused, DrawingBytes.name-decoded}
 use Rattle.stored_form_theorems.proofs.Bodies.{body-read}
 

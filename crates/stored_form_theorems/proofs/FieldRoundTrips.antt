@@ -8,7 +8,7 @@ use mathlib.Core.List.{List}
 use native.Mathlib.Omega.{arith}
 use lib.ListN.{length}
 use Rattle.jacobian.specs.Curves.{coefficient-count, coefficients, curve-with}
-use Rattle.stored_form.specs.{Number.decode-numbers, Number.decode-number, Number.encode-number, Number.Bytes, Reading.found, Reading.checked, Elements.decode-elements, Classes.decode-curve, declared.Record.Record}
+use Rattle.stored_form.specs.{Number.decode-numbers, Number.decode-number, Number.encode-number, Number.Bytes, Reading.found, Reading.checked, Classes.decode-curve, declared.Record.Record}
 use Rattle.stored_form.specs.{Head.degree-length, Head.count-length, Head.encode-field, Head.BytesAt, Record.curve-of-degree, Tags.rules, Tags.field-bytes, Reader.read-field}
 use Rattle.stored_form.proofs.{Lengths.is-degree-length, Lengths.is-curve-length, Lengths.is-count-length, Lengths.is-released-length, Lengths.class-lengths, Lengths.operation-lengths, Lengths.by-tag, Lengths.allows-short}
 use Rattle.stored_form.proofs.{DrawingBytes.name-decoded, Readings.then-found, Readings.checked-none, Readers.field-found}

@@ -9,7 +9,7 @@ use mathlib.Core.Path.{_≡_, refl}
 use mathlib.Core.List.{[], _∷_, _++_}
 use lib.ListN.{replicate}
 use Rattle.jacobian.specs.Curves.{coefficients}
-use Rattle.stored_form.specs.{Number.encode-numbers, Number.encode-number, Head.head-bytes, Head.encode-field, Elements.encode-elements}
+use Rattle.stored_form.specs.{Number.encode-numbers, Number.encode-number, Head.head-bytes, Head.encode-field}
 use Rattle.stored_form.specs.{Fields.degree-field, Fields.count-field, Fields.released-field, Fields.drawing-field, Classes.curve-field, Classes.encode-row, Classes.class-field}
 
 pub degree-in-numbers : degree-field 61 ≡ 0x40 ∷ 0 ∷ 1 ∷ 61 ∷ []

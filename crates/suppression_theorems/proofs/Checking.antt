@@ -11,25 +11,23 @@ use mathlib.Core.List.{List, [], _∷_, _++_}
 use mathlib.Core.Logic.{inl, inr}
 use native.Mathlib.Omega.{arith}
 use lib.Dec.{leb}
-use lib.ListN.{length, take, drop, set, length-append, length-set}
+use lib.ListN.{length, take, drop}
 use lib.Seq.{take-append-seam}
 use borrow.Author.Tests.{le-leb, leb-true, not-false}
-use Rattle.jacobian.specs.{Checks.Check, Checks.check, Checks.unless, Checks._or-else_, Checks.RefusalOf, Refusals.listed, Answer.Accepts, Answer.neutral-class, declared.Class.Class}
+use Rattle.jacobian.specs.{Checks.Check, Checks.check, Checks.unless, Checks._or-else_, Checks.RefusalOf, Refusals.listed}
 use Rattle.jacobian.specs.Checks as checks
 use Rattle.jacobian.proofs.{ByValue.Checks.both, ByValue.Checks.then-zero, Checking.held-refusal, Checking.refusal-unless, Checking.refusal-or-else, Checking.refusal-held}
-use Rattle.stored_form.specs.{Number.Bytes, Number.encode-numbers, Reading.Reading, Reading.found, Reading.refused, Reading.checked, Reading._then_, Reading.reading-refusal}
-use Rattle.stored_form.specs.{Classes.curve-fields-bytes, Classes.encode-row, Classes.encode-class, Classes.class-field, Classes.operation-fields, Fields.drawing-field, Fields.count-field, Pairs.pairs-field}
-use Rattle.stored_form.proofs.{Readings.found-not-refused, Lengths.length-stored}
+use Rattle.stored_form.specs.{Number.Bytes, Reading.Reading, Reading.found, Reading.refused, Reading.checked, Reading._then_, Reading.reading-refusal}
+use Rattle.stored_form.proofs.{Readings.found-not-refused}
 use Rattle.stored_form_theorems.specs.Numbers.{OneOf, ZeroOrOneOf}
-use Rattle.stored_form_theorems.proofs.ClassRoundTrips.{class-short}
 use Rattle.written_form.specs.Effect.{room-refusal}
 use Rattle.written_form.proofs.Checking.{every, every-one}
 use Rattle.archive.specs.Archive.{Archive, read-archive, archive-in, archive-said, archive-refusal}
 use Rattle.archive.proofs.Valid.{archive-found}
 use Rattle.archive_theorems.specs.{Checking.archive-checks, Checking.archive-numbers, Written.archive-bytes}
 use Rattle.archive_theorems.proofs.Checking.{archive-checked, archive-answers}
-use Rattle.suppression_theory.specs.{Suppression.suppressed-operations, Archives.Held, Archives.held, Archives.suppressed}
-use Rattle.suppression_theory.proofs.{Holding.not-decides, Holding.held-decides, Suppression.suppressed-seal-accepts}
+use Rattle.suppression_theory.specs.{Archives.Held, Archives.held, Archives.suppressed}
+use Rattle.suppression_theory.proofs.{Holding.not-decides, Holding.held-decides, Lengths.suppressed-lengths}
 use Rattle.seal_archive.specs.declared.suppress.Written.{Written}
 use Rattle.seal_archive.specs.Suppress.{WrittenEffect, length-written, suppress-numbers, refuse-archive, write-archive, put-archive, growth, suppress-refusal, suppress-archive, suppress-call}
 use Rattle.seal_archive.proofs.Accepted.{said-stored}
@@ -48,37 +46,6 @@ checked-effect {n = zero} (checks.RefusalOf.all-hold z h) e = all-hold h e
 checked-effect {n = zero} (checks.RefusalOf.first-fails z h) e = absurd (z refl)
 checked-effect {n = suc n} (checks.RefusalOf.all-hold z h) e = absurd (omega arith)
 checked-effect {n = suc n} (checks.RefusalOf.first-fails z h) e = first-fails (suc n) h e
-
--- ---- how long the new archive is
-
-class-long : (tag : ℕ) (a : Class) → length (class-field tag a) ≡ 3 + length (encode-class a)
-unfolding class-field
-class-long tag a = length-stored tag (encode-class a)
-
-set-shorter : (ops : List Class) (p : ℕ) → length (operation-fields (set ops p neutral-class)) ≤ length (operation-fields ops)
-unfolding operation-fields encode-row encode-numbers neutral-class
-set-shorter [] p = omega arith
-set-shorter (a ∷ ops) zero =
-    let rest = operation-fields ops in
-    let l : length (class-field 0x44 neutral-class) ≡ 3 = class-long 0x44 neutral-class in
-    omega (arith, l, class-long 0x44 a, length-append (class-field 0x44 a) rest, length-append (class-field 0x44 neutral-class) rest)
-set-shorter (a ∷ ops) (suc p) =
-    let this = class-field 0x44 a in
-    omega (arith, set-shorter ops p, length-append this (operation-fields ops), length-append this (operation-fields (set ops p neutral-class)))
-
-suppressed-grows : (k : ℕ) (a : Archive) → Accepts (a .curve) (suppressed k a .seal) → length (archive-bytes (suppressed k a)) ≤ length (archive-bytes a) + growth
-unfolding archive-bytes suppressed suppressed-operations
-suppressed-grows k a accepts =
-    let ops = a .operations in
-    let p = length ops - k in
-    let front : ℕ → List ℕ = λ n. curve-fields-bytes (a .curve) ++ drawing-field (a .drawing) ++ count-field n in
-    let same : length (front (length (set ops p neutral-class))) ≡ length (front (length ops)) = ap (λ (n : ℕ). length (front n)) (length-set ops p neutral-class) in
-    let new = parts (front (length (set ops p neutral-class))) (class-field 0x43 (suppressed k a .seal)) (operation-fields (set ops p neutral-class)) (pairs-field (a .pairs)) in
-    let old = parts (front (length ops)) (class-field 0x43 (a .seal)) (operation-fields ops) (pairs-field (a .pairs)) in
-    omega (arith, same, new, old, class-short 0x43 (a .curve) (suppressed k a .seal) (accepts .none), class-long 0x43 (a .seal), set-shorter ops p)
-  where
-    parts : (x f o q : List ℕ) → length (x ++ f ++ o ++ q) ≡ length x + length f + length o + length q
-    parts x f o q = omega (arith, length-append (x ++ f ++ o) q, length-append (x ++ f) o, length-append x f)
 
 module _ (s : List ℕ) (k : ℕ) (out : List ℕ) where
   -- the bytes of the suppressed archive
@@ -178,7 +145,7 @@ module _ (s : List ℕ) (k : ℕ) (out : List ℕ) where
         let accepted = then-zero _ _ (then-zero _ _ e .1) in
         let stored = said-stored s b (accepted .0) in
         let within = held-refusal (last-checked (accepted .0)) (accepted .1) .0 in
-        let grows = suppressed-grows k (archive-said s) (suppressed-seal-accepts (stored .1 .seal-allowed) (stored .1 .operations-allowed) k (within .0) (within .1)) in
+        let grows = suppressed-lengths (archive-said s) (stored .1) k (within .0) (within .1) .0 in
         let long : length s ≡ length (archive-bytes (archive-said s)) = ap length (stored .0) in
         let roomy = held-refusal number-checked e .0 in
         (omega (arith, grows, long, roomy), roomy)

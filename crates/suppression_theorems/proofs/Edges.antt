@@ -46,24 +46,21 @@ module _ (s out : List ℕ) (roomy : length s + growth ≤ length out) where
   refused-archive n e z k = sym (unread s k out roomy (sym e) z)
 
   module _ (b : Bytes s) (accepted : archive-refusal s ≡ 0) where
-    abbrev n : ℕ
-    n = length (archive-said s .operations)
-
     pub number-0 : suppress-call s 0 out ≡ refuse-archive 123 out
     number-0 = sym (below-first s 0 out roomy b accepted (omega arith))
 
-    -- a number above n
-    above : (k : ℕ) → n < k → suppress-call s k out ≡ refuse-archive 123 out
+    -- a number above that of the newest operation
+    above : (k : ℕ) → length (archive-said s .operations) < k → suppress-call s k out ≡ refuse-archive 123 out
     above k h = sym (above-last s k out roomy b accepted (omega arith) h)
 
-    pub number-after-last : suppress-call s (n + 1) out ≡ refuse-archive 123 out
-    number-after-last = above (n + 1) (omega arith)
+    pub number-after-last : suppress-call s (length (archive-said s .operations) + 1) out ≡ refuse-archive 123 out
+    number-after-last = above (length (archive-said s .operations) + 1) (omega arith)
 
     pub number-greatest : suppress-call s (2 ^ 64 - 1) out ≡ refuse-archive 123 out
     unfolding count-limit
     number-greatest = let within = said-stored s b accepted .1 .count-within in above (2 ^ 64 - 1) (omega (arith, within))
 
-    pub no-operations : n ≡ 0 → (k : ℕ) → suppress-call s k out ≡ refuse-archive 123 out
+    pub no-operations : length (archive-said s .operations) ≡ 0 → (k : ℕ) → suppress-call s k out ≡ refuse-archive 123 out
     no-operations e zero = number-0
     no-operations e (suc k) = above (suc k) (omega (arith, e))
 

@@ -14,17 +14,17 @@ use Rattle.jacobian.specs.{Answer.neutral-class, declared.Curve.Curve, declared
 use Rattle.history.proofs.Classes.{commits-no-undos}
 use Rattle.history.specs.{Machine.newest as newest-of, Calls.Event, Calls.Call, Calls.last, Calls.newest, Calls.classes, Calls.Variants, declared.Register.Register}
 use Rattle.stored_form.specs.{Number.Bytes, Reading.found, Head.drawing-limit, Fields.printable}
-use Rattle.archive.specs.Archive.{Archive, archive-said, read-archive}
+use Rattle.archive.specs.Archive.{Archive, read-archive}
 use Rattle.archive_theorems.specs.Written.{archive-bytes}
 use Rattle.report_theorems.specs.Demand3.{kept-archive}
 use Rattle.seal_register.specs.InPlace.{RecordedCall, calls, Session, left-by, newest-recorded}
 use Rattle.seal_register.proofs.InPlace.{left-by-last, newest-is}
-use Rattle.seal.specs.Steps.{Kept, ByteCall, byte-calls, BytesGiven, operations, decode-kept, newest-decoded, last-decoded, decoded-calls, InStoredForm}
+use Rattle.seal.specs.Steps.{Kept, ByteCall, byte-calls, BytesGiven, operations, decode-kept, newest-decoded, decoded-calls, InStoredForm}
 use Rattle.seal.proofs.{ByteCarried.newest-carried, ByteCarried.last-carried}
 use Rattle.byte_theorems.specs.Demand3.{archive-of-fields}
 use Rattle.byte_theorems.proofs.Demand3.{archive-is-fields, archive-exists-bytes, archive-reads-bytes}
 use Rattle.stored_form_theorems.specs.Pairs.{PairsAllowed}
-use Rattle.suppression_theory.specs.{Suppression.suppressed-operations, Suppression.suppressed-seal, Archives.suppressed}
+use Rattle.suppression_theory.specs.{Archives.suppressed}
 use Rattle.suppression_theory.proofs.Histories.{neutral-commit-operations, neutral-commit-seal}
 use Rattle.seal_archive.proofs.Accepted.{said-is}
 use Rattle.suppression_theorems.specs.Suppressed.{Suppresses}

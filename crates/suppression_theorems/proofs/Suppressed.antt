@@ -7,15 +7,16 @@
 -- `suppress-older`, `suppress-newer`: the seals of the walk with more than n - k operations undone are the same; with
 -- i, at most n - k, they are the old one minus n - k - i doublings of the operation's class.
 -- `suppress-letter`: the report's letter of the operation is M.
+-- `suppress-lengths`: it is at most 32 bytes longer than the input, and at most 96 shorter.
 -- `suppress-again`: with room, suppressing the same operation again is accepted and writes the same bytes.
 -- `suppress-either-order`: two operations suppressed in either order give the same bytes.
 use Prim.Native.Nat.{ℕ, zero, suc, _+_, _-_, _≤_, _<_}
-use mathlib.Core.Path.{_≡_, refl, sym, ap, ap₂, _∙_, subst}
+use mathlib.Core.Path.{_≡_, refl, sym, ap, _∙_, subst}
 use mathlib.Core.Bool.{Bool, true, false}
-use mathlib.Core.List.{List, _∷_, _++_, reverse}
+use mathlib.Core.List.{List, reverse}
 use native.Mathlib.Omega.{arith}
 use lib.Dec.{leb}
-use lib.ListN.{length, getD, take, drop}
+use lib.ListN.{length, getD, drop}
 use lib.Seq.{take-append-seam}
 use borrow.Author.Tests.{leb-true, leb-false}
 use Rattle.jacobian.specs.{Answer.neutral-class, Group.difference, Group.doublings, declared.Class.Class}
@@ -24,13 +25,13 @@ use Rattle.stored_form.specs.{Number.Bytes, Reading.found, Reading.reading-refu
 use Rattle.archive.specs.Archive.{Archive, neutral, archive-said, read-archive, archive-refusal}
 use Rattle.archive_theorems.specs.Written.{archive-bytes, Storable}
 use Rattle.archive_theorems.proofs.{ArchiveRoundTrips.archive-read-back, ArchiveBytes.archive-is-bytes}
-use Rattle.walk_report.specs.Walk.{seals, next-older, opposed, mark, letter}
-use Rattle.suppression_theory.specs.{Suppression.operation-of, Suppression.suppressed-operations, Archives.held, Archives.suppressed}
+use Rattle.walk_report.specs.Walk.{seals, mark, letter}
+use Rattle.suppression_theory.specs.{Suppression.operation-of, Archives.held, Archives.suppressed}
 use Rattle.suppression_theory.proofs.{Suppression.suppressed-count, Suppression.suppressed-forward, Suppression.suppressed-earliest, Suppression.suppressed-neutral, Walks.older-seals, Walks.newer-seals}
-use Rattle.suppression_theory.proofs.Archives.{suppressed-storable, suppressed-again, either-order, held-again}
+use Rattle.suppression_theory.proofs.{Lengths.suppressed-lengths, Archives.suppressed-storable, Archives.suppressed-again, Archives.either-order, Archives.held-again}
 use Rattle.seal_archive.specs.Suppress.{WrittenEffect, refuse-archive, write-archive, growth, suppress-call}
 use Rattle.seal_archive.proofs.{Accepted.said-is, Accepted.said-stored, Answers.short, Answers.unread, Answers.below-first, Answers.above-last, Answers.is-held, Answers.accepted-writes}
-use Rattle.suppression_theorems.specs.Suppressed.{wrote, Suppresses}
+use Rattle.suppression_theorems.specs.Suppressed.{wrote, Suppresses, walk-seal}
 
 -- what an accepted call requires
 pub record Required (s : List ℕ) (k : ℕ) (out : List ℕ) : Type 0 where
@@ -79,73 +80,73 @@ unfolding wrote write-archive
 wrote-written bytes out = take-append-seam bytes (drop (length bytes) out)
 
 module _ {s : List ℕ} {k : ℕ} {out t : List ℕ} (b : Bytes s) (does : Suppresses s k out t) where
-  abbrev a : Archive
-  a = archive-said s
-
   need : Required s k out
   need = required s k out b (does .accepted)
 
-  ok : Storable a
+  ok : Storable (archive-said s)
   ok = said-stored s b (need .accepts) .1
 
-  pub suppress-form : t ≡ archive-bytes (suppressed k a)
-  suppress-form = sym (does .written) ∙ ap wrote (suppress-effect s k out b (does .accepted)) ∙ wrote-written (archive-bytes (suppressed k a)) out
+  pub suppress-form : t ≡ archive-bytes (suppressed k (archive-said s))
+  suppress-form = sym (does .written) ∙ ap wrote (suppress-effect s k out b (does .accepted)) ∙ wrote-written (archive-bytes (suppressed k (archive-said s))) out
 
-  new-ok : Storable (suppressed k a)
-  new-ok = suppressed-storable a ok k (need .low) (need .high)
+  new-ok : Storable (suppressed k (archive-said s))
+  new-ok = suppressed-storable (archive-said s) ok k (need .low) (need .high)
 
-  pub suppress-reads : Bytes t × (read-archive t ≡ found (suppressed k a) (length t))
+  pub suppress-reads : Bytes t × (read-archive t ≡ found (suppressed k (archive-said s)) (length t))
   suppress-reads = (
-    subst Bytes (sym suppress-form) (archive-is-bytes (suppressed k a) (new-ok .drawing-printable)),
-    subst (λ (x : List ℕ). read-archive x ≡ found (suppressed k a) (length x)) (sym suppress-form) (archive-read-back (suppressed k a) new-ok),
+    subst Bytes (sym suppress-form) (archive-is-bytes (suppressed k (archive-said s)) (new-ok .drawing-printable)),
+    subst (λ (x : List ℕ). read-archive x ≡ found (suppressed k (archive-said s)) (length x)) (sym suppress-form) (archive-read-back (suppressed k (archive-said s)) new-ok),
   )
 
   -- the archive that was written
-  pub suppress-said : archive-said t ≡ suppressed k a
+  pub suppress-said : archive-said t ≡ suppressed k (archive-said s)
   suppress-said = said-is t (suppress-reads .1)
 
-  pub suppress-kept : (archive-said t .curve ≡ a .curve) × (archive-said t .drawing ≡ a .drawing) × (length (archive-said t .operations) ≡ length (a .operations)) × (archive-said t .pairs ≡ a .pairs)
+  pub suppress-kept : (archive-said t .curve ≡ archive-said s .curve) × (archive-said t .drawing ≡ archive-said s .drawing) × (length (archive-said t .operations) ≡ length (archive-said s .operations)) × (archive-said t .pairs ≡ archive-said s .pairs)
   unfolding suppressed
   suppress-kept = (
     ap (λ (x : Archive). x .curve) suppress-said,
     ap (λ (x : Archive). x .drawing) suppress-said,
-    ap (λ (x : Archive). length (x .operations)) suppress-said ∙ suppressed-count k (a .operations),
+    ap (λ (x : Archive). length (x .operations)) suppress-said ∙ suppressed-count k (archive-said s .operations),
     ap (λ (x : Archive). x .pairs) suppress-said,
   )
 
   -- ---- walks
 
-  pub suppress-forward : walk-forward (a .curve) (walk-back (a .curve) (a .seal) (a .operations)) (reverse (archive-said t .operations)) ≡ archive-said t .seal
+  pub suppress-forward : walk-forward (archive-said s .curve) (walk-back (archive-said s .curve) (archive-said s .seal) (archive-said s .operations)) (reverse (archive-said t .operations)) ≡ archive-said t .seal
   unfolding suppressed
   suppress-forward =
-      ap (λ (x : Archive). walk-forward (a .curve) (walk-back (a .curve) (a .seal) (a .operations)) (reverse (x .operations))) suppress-said
+      ap (λ (x : Archive). walk-forward (archive-said s .curve) (walk-back (archive-said s .curve) (archive-said s .seal) (archive-said s .operations)) (reverse (x .operations))) suppress-said
       ∙ suppressed-forward (ok .seal-allowed) (ok .operations-allowed) k (need .low) (need .high)
       ∙ ap (λ (x : Archive). x .seal) (sym suppress-said)
 
-  pub suppress-earliest : walk-back (archive-said t .curve) (archive-said t .seal) (archive-said t .operations) ≡ walk-back (a .curve) (a .seal) (a .operations)
+  pub suppress-earliest : walk-back (archive-said t .curve) (archive-said t .seal) (archive-said t .operations) ≡ walk-back (archive-said s .curve) (archive-said s .seal) (archive-said s .operations)
   unfolding suppressed
   suppress-earliest =
       ap (λ (x : Archive). walk-back (x .curve) (x .seal) (x .operations)) suppress-said
       ∙ suppressed-earliest (ok .seal-allowed) (ok .operations-allowed) k (need .low) (need .high)
 
-  -- the seal of an archive's walk with i operations undone
-  abbrev seal-at : Archive → ℕ → Class
-  seal-at x i = getD (seals (x .curve) (x .seal) (x .operations)) i neutral-class
+  pub suppress-older : (i : ℕ) → length (archive-said s .operations) - k < i → walk-seal (archive-said t) i ≡ walk-seal (archive-said s) i
+  unfolding walk-seal seals suppressed
+  suppress-older i h = ap (λ (x : Archive). walk-seal x i) suppress-said ∙ older-seals (ok .seal-allowed) (ok .operations-allowed) k (need .low) (need .high) i neutral-class h
 
-  pub suppress-older : (i : ℕ) → length (a .operations) - k < i → seal-at (archive-said t) i ≡ seal-at a i
-  unfolding seals suppressed
-  suppress-older i h = ap (λ (x : Archive). seal-at x i) suppress-said ∙ older-seals (ok .seal-allowed) (ok .operations-allowed) k (need .low) (need .high) i neutral-class h
-
-  pub suppress-newer : (i : ℕ) → i ≤ length (a .operations) - k →
-      seal-at (archive-said t) i ≡ difference (a .curve) (seal-at a i) (doublings (a .curve) (length (a .operations) - k - i) (operation-of k (a .operations)))
-  unfolding seals suppressed
-  suppress-newer i h = ap (λ (x : Archive). seal-at x i) suppress-said ∙ newer-seals (ok .seal-allowed) (ok .operations-allowed) k (need .low) (need .high) i neutral-class h
+  pub suppress-newer : (i : ℕ) → i ≤ length (archive-said s .operations) - k →
+      walk-seal (archive-said t) i ≡ difference (archive-said s .curve) (walk-seal (archive-said s) i) (doublings (archive-said s .curve) (length (archive-said s .operations) - k - i) (operation-of k (archive-said s .operations)))
+  unfolding walk-seal seals suppressed
+  suppress-newer i h = ap (λ (x : Archive). walk-seal x i) suppress-said ∙ newer-seals (ok .seal-allowed) (ok .operations-allowed) k (need .low) (need .high) i neutral-class h
 
   pub suppress-letter : (older : List Class) → letter (archive-said t .curve) (operation-of k (archive-said t .operations)) older ≡ 0x4D
   unfolding letter mark neutral neutral-class suppressed
   suppress-letter older =
       ap (λ (x : Class). letter (archive-said t .curve) x older)
-      (ap (λ (x : Archive). operation-of k (x .operations)) suppress-said ∙ suppressed-neutral k (a .operations) (need .low) (need .high))
+      (ap (λ (x : Archive). operation-of k (x .operations)) suppress-said ∙ suppressed-neutral k (archive-said s .operations) (need .low) (need .high))
+
+  pub suppress-lengths : (length t ≤ length s + 32) × (length s ≤ length t + 96)
+  suppress-lengths =
+      let new : length t ≡ length (archive-bytes (suppressed k (archive-said s))) = ap length suppress-form in
+      let old : length s ≡ length (archive-bytes (archive-said s)) = ap length (said-stored s b (need .accepts) .0) in
+      let l = suppressed-lengths (archive-said s) ok k (need .low) (need .high) in
+      (omega (arith, new, old, l .0), omega (arith, new, old, l .1))
 
   -- ---- again
 
@@ -155,8 +156,8 @@ module _ {s : List ℕ} {k : ℕ} {out t : List ℕ} (b : Bytes s) (does : Suppr
       let is = suppress-said in
       let accepts : archive-refusal t ≡ 0 = ap reading-refusal (suppress-reads .1) in
       let high : k ≤ length (archive-said t .operations) = omega (arith, need .high, suppress-kept .2) in
-      let unheld = ap (held k) is ∙ held-again a ok k (need .low) (need .high) ∙ need .unheld in
-      let same = ap (λ (x : Archive). archive-bytes (suppressed k x)) is ∙ ap archive-bytes (suppressed-again a ok k (need .low) (need .high)) ∙ sym suppress-form in
+      let unheld = ap (held k) is ∙ held-again (archive-said s) ok k (need .low) (need .high) ∙ need .unheld in
+      let same = ap (λ (x : Archive). archive-bytes (suppressed k x)) is ∙ ap archive-bytes (suppressed-again (archive-said s) ok k (need .low) (need .high)) ∙ sym suppress-form in
       sym (accepted-writes t k out' roomy (suppress-reads .0) accepts (need .low) high unheld) ∙ ap (λ (x : List ℕ). write-archive x out') same
 
 -- ---- two operations

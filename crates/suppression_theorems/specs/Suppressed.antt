@@ -1,8 +1,11 @@
--- What the call that suppresses an operation wrote (docs/SPECIFICATION.md, 9).
+-- What the call that suppresses an operation wrote, and the seals of an archive's walk (docs/SPECIFICATION.md, 9, 10).
 use Prim.Native.Nat.{ℕ}
 use mathlib.Core.Path.{_≡_}
 use mathlib.Core.List.{List}
-use lib.ListN.{take}
+use lib.ListN.{take, getD}
+use Rattle.jacobian.specs.{Answer.neutral-class, declared.Class.Class}
+use Rattle.archive.specs.Archive.{Archive}
+use Rattle.walk_report.specs.Walk.{seals}
 use Rattle.seal_archive.specs.Suppress.{WrittenEffect, suppress-call}
 
 -- the bytes that a call wrote: as many as it answered, from the output's start; a refusal wrote none
@@ -13,3 +16,7 @@ wrote e = take (e .written .length) (e .output)
 pub record Suppresses (s : List ℕ) (k : ℕ) (out t : List ℕ) : Type 0 where
   pub accepted : suppress-call s k out .written .refusal ≡ 0
   pub written : wrote (suppress-call s k out) ≡ t
+
+-- the seal of an archive's walk with i operations undone
+unfoldable pub walk-seal : Archive → ℕ → Class
+walk-seal a i = getD (seals (a .curve) (a .seal) (a .operations)) i neutral-class

@@ -8,5 +8,7 @@ pub mod Walks
 pub mod Histories
 -- whether an operation is held;
 pub mod Holding
--- archives.
+-- archives;
 pub mod Archives
+-- how long their stored form is.
+pub mod Lengths

@@ -6,7 +6,7 @@ use mathlib.Core.List.{List, [], _∷_}
 use lib.ListN.{length}
 use Rattle.jacobian.specs.{Answer.Result, Answer.result, Answer.sum-answer, Group.opposite-of, Group.doublings}
 use Rattle.stored_form.specs.{Reading.found, Cuts.fields-end, Record.empty-record, Reader.read-field, Reader.read-fields, Reader.header-layout, Reader.read-of, declared.Record.Record}
-use Rattle.written_form.specs.{Effect.Effect, Effect.effect, Ranges.append}
+use Rattle.written_form.specs.{Effect.Effect, Ranges.append}
 use Rattle.archive.specs.Archive.{archive-said, archive-refusal}
 use Rattle.seal_archive.specs.Suppress.{growth}
 

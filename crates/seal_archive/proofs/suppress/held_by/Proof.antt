@@ -1,6 +1,6 @@
 -- `suppress::held_by` meets its contract: before each turn the pairs that were looked at do not hold operation k.
 use borrow.Author.Needs.{needs}
-use Prim.Native.Nat.{ℕ, suc, _-_}
+use Prim.Native.Nat.{suc, _-_}
 use mathlib.Core.Path.{_≡_, sym, _∙_, subst}
 use native.Mathlib.Omega.{arith}
 use Rattle.stored_form.specs.Number.{Bytes}

@@ -2,7 +2,6 @@
 use borrow.Author.Needs.{needs}
 use mathlib.Core.Path.{ap, _∙_}
 use Rattle.jacobian.specs.Answer.{Reply, opposite-answer, sum-answer}
-use Rattle.jacobian.specs.declared.Class.{Class}
 use Rattle.seal_archive.proofs.suppress.seal_less.Statement.{statement}
 use Rattle.seal_archive.proofs.suppress.seal_less.Tie as tie
 

@@ -1,10 +1,9 @@
 -- `pairs::read_pairs_field` meets its contract.
 use borrow.Author.Needs.{needs}
-use Prim.Native.Nat.{ℕ}
 use mathlib.Core.Path.{_≡_, sym, ap, _∙_}
 use mathlib.Core.Bool.{Bool}
 use native.Mathlib.Omega.{arith}
-use Rattle.stored_form.specs.{Reading.found, Reading.refused, Reading.reading-refusal, Reader.read-head-by, Reader.head-reading, Pairs.pairs-length, Pairs.offset-of}
+use Rattle.stored_form.specs.{Reading.found, Reading.reading-refusal, Reader.read-head-by, Reader.head-reading, Pairs.pairs-length, Pairs.offset-of}
 use Rattle.stored_form.proofs.{Readings.refused-number, Readings.checked-some, Readings.checked-none, Heads.head-by-length}
 use Rattle.stored_form.proofs.PairBytes.{field-cut, field-asks, field-checked}
 use Rattle.stored_form.proofs.pairs.read_pairs_field.Statement.{statement}

@@ -1,25 +1,23 @@
--- `suppress-lengths`: the archive that is written is at most 32 bytes longer than the input, and at most 96 shorter.
-use Prim.Native.Nat.{ℕ, zero, suc, _+_, _*_, _-_, _≤_, _<_}
-use mathlib.Core.Path.{_≡_, refl, sym, ap, _∙_}
-use mathlib.Core.List.{List, [], _∷_, _++_}
+-- `suppressed-lengths`: the stored form of a suppressed archive is at most 32 bytes longer than that of the archive, and
+-- at most 96 shorter.
+use Prim.Native.Nat.{ℕ, zero, suc, _+_, _-_, _≤_, _<_}
+use mathlib.Core.Path.{_≡_, refl, ap, _∙_}
+use mathlib.Core.List.{List, _∷_, _++_}
 use native.Mathlib.Omega.{arith}
-use lib.ListN.{length, getD, take, drop, set, length-append, length-set}
+use lib.ListN.{length, getD, take, drop, set, length-append}
 use lib.Seq.{set-split, split-at}
 use Rattle.lists.proofs.Lists.{all-at}
 use Rattle.jacobian.specs.{Answer.neutral-class, declared.Class.Class}
 use Rattle.jacobian.proofs.Calls.{only-neutral}
-use Rattle.stored_form.specs.{Passing.ClassPasses, Number.Bytes, Number.encode-number, Number.encode-numbers, Head.head-bytes, Head.encode-field, Fields.drawing-field, Fields.count-field, Pairs.pairs-field}
+use Rattle.stored_form.specs.{Number.encode-number, Number.encode-numbers, Head.head-bytes, Head.encode-field, Fields.drawing-field, Fields.count-field, Passing.ClassPasses, Pairs.pairs-field}
 use Rattle.stored_form.specs.Classes.{curve-fields-bytes, encode-row, encode-class, class-field, operation-fields}
 use Rattle.stored_form.proofs.Lengths.{length-stored, length-count}
 use Rattle.stored_form_theorems.proofs.ClassRoundTrips.{class-short, length-encoded}
-use Rattle.archive.specs.Archive.{Archive, archive-said}
+use Rattle.archive.specs.Archive.{Archive}
 use Rattle.archive_theorems.specs.Written.{archive-bytes, Storable}
 use Rattle.archive_theorems.proofs.FieldPlaces.{operation-fields-append}
-use Rattle.suppression_theory.specs.{Suppression.operation-of, Suppression.suppressed-operations, Suppression.suppressed-seal, Archives.suppressed}
+use Rattle.suppression_theory.specs.{Suppression.operation-of, Suppression.suppressed-operations, Archives.suppressed}
 use Rattle.suppression_theory.proofs.{Suppression.suppressed-seal-accepts, Archives.neutral-unchanged}
-use Rattle.seal_archive.proofs.Accepted.{said-stored}
-use Rattle.suppression_theorems.specs.Suppressed.{Suppresses}
-use Rattle.suppression_theorems.proofs.Suppressed.{Required, required, suppress-form}
 
 -- the length of an archive, by its parts
 abbrev front : Archive → List ℕ
@@ -84,7 +82,7 @@ module _ (a : Archive) (ok : Storable a) (k : ℕ) (low : 1 ≤ k) (high : k ≤
   unfolding class-field
   some-long e = omega (arith, length-stored 0x44 (encode-class op), length-encoded (a .curve) op (passes .none), e)
 
-  suppressed-lengths : (length (archive-bytes (suppressed k a)) ≤ length (archive-bytes a) + 32) × (length (archive-bytes a) ≤ length (archive-bytes (suppressed k a)) + 96)
+  pub suppressed-lengths : (length (archive-bytes (suppressed k a)) ≤ length (archive-bytes a) + 32) × (length (archive-bytes a) ≤ length (archive-bytes (suppressed k a)) + 96)
   suppressed-lengths = go (op .degree) refl
     where
       shrinks : length (archive-bytes a) ≤ length (archive-bytes (suppressed k a)) + 96
@@ -97,12 +95,3 @@ module _ (a : Archive) (ok : Storable a) (k : ℕ) (low : 1 ≤ k) (high : k ≤
       go (suc d) e =
           let long : 19 ≤ length (class-field 0x44 op) = some-long e in
           (omega (arith, lengths, long, field-least 0x43 (a .seal), class-short 0x43 (a .curve) (suppressed k a .seal) (new-passes .none)), shrinks)
-
-pub suppress-lengths : {s : List ℕ} {k : ℕ} {out t : List ℕ} → Bytes s → Suppresses s k out t → (length t ≤ length s + 32) × (length s ≤ length t + 96)
-suppress-lengths {s} {k} {out} {t} b does =
-    let r = required s k out b (does .accepted) in
-    let stored = said-stored s b (r .accepts) in
-    let new : length t ≡ length (archive-bytes (suppressed k (archive-said s))) = ap length (suppress-form b does) in
-    let old : length s ≡ length (archive-bytes (archive-said s)) = ap length (stored .0) in
-    let l = suppressed-lengths (archive-said s) (stored .1) k (r .low) (r .high) in
-    (omega (arith, new, old, l .0), omega (arith, new, old, l .1))
