@@ -1,7 +1,7 @@
 -- What the call does, check by check.
 -- `short`, `unread`: the output is too short; the archive is refused.
--- `no-operation`, `is-held`, `suppresses`: of an accepted archive with room, k is no operation's number; operation k is
--- held; else the suppressed archive is written.
+-- `below-first`, `above-last`, `is-held`, `accepted-writes`: of an accepted archive with room, k is no operation's number;
+-- operation k is held; else the suppressed archive is written. `suppresses`: as the code writes it.
 -- `header-read`, `at-operations`, `suppressible`: what the code knows once it has read the header.
 use Prim.Native.Nat.{ℕ, _+_, _≤_, _<_}
 use mathlib.Core.Path.{_≡_, refl, sym, ap, _∙_}
@@ -70,11 +70,14 @@ module _ (s : List ℕ) (k : ℕ) (out : List ℕ) where
           is-held h =
               sym (by-number (rw (le-leb 1 k low, le-leb k (length (a .operations)) high, h) refl) ∙ ap (λ (x : Reading Archive). put-archive x out) (checked-some 124 _ (λ e. omega arith)))
 
+          pub accepted-writes : held k a ≡ false → write-archive (archive-bytes (suppressed k a)) out ≡ suppress-call s k out
+          unfolding suppress-refusal unless _or-else_ put-archive
+          accepted-writes h =
+              sym (by-number (rw (le-leb 1 k low, le-leb k (length (a .operations)) high, h) refl) ∙ ap (λ (x : Reading Archive). put-archive x out) (checked-none 0 _ refl))
+
           pub suppresses : held k a ≡ false → {n : ℕ} {after : List ℕ} → effect n after ≡ write (archive-bytes (suppressed k a)) out → written-effect (length-written n) after ≡ suppress-call s k out
-          unfolding suppress-refusal unless _or-else_ put-archive write-archive write
-          suppresses h e =
-              ap (λ (x : Effect). written-effect (length-written (x .answer)) (x .output)) e
-              ∙ sym (by-number (rw (le-leb 1 k low, le-leb k (length (a .operations)) high, h) refl) ∙ ap (λ (x : Reading Archive). put-archive x out) (checked-none 0 _ refl))
+          unfolding write-archive write
+          suppresses h e = ap (λ (x : Effect). written-effect (length-written (x .answer)) (x .output)) e ∙ accepted-writes h
 
 -- ---- what the code knows
 

@@ -4,5 +4,7 @@ pub mod Lists
 pub mod Suppression
 -- the seals of the walk back;
 pub mod Walks
--- lists of register calls
+-- lists of register calls;
 pub mod Histories
+-- archives.
+pub mod Archives
