@@ -1,3 +1,6 @@
--- Theorems on the call that suppresses an operation: what it leaves, and histories without the operation.
+-- Theorems on the call that suppresses an operation: its checks in order, what it leaves, how long that is, and
+-- histories without the operation.
+pub mod Checking
 pub mod Suppressed
+pub mod Lengths
 pub mod Histories

@@ -6,5 +6,7 @@ pub mod Suppression
 pub mod Walks
 -- lists of register calls;
 pub mod Histories
+-- whether an operation is held;
+pub mod Holding
 -- archives.
 pub mod Archives
