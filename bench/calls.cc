@@ -9,10 +9,11 @@
 // sums and doubles, and every answer to that in C. The operations take turns, and the least time of all rounds counts. Calls on elements run as a chain, each on what the last one answered.
 // ARCHIVE has 1,024 operations, and the program WALKREPORT is timed with it on standard input.
 //
-// Suppressing is timed on an archive of 1,024 operations of degree 3, the oldest, the middle and the newest one, against the
-// program's walk of the same archive. Reading it takes the same time for each of them; what the others take beyond the newest
-// one is printed as a ratio to n - k doubles, which stays about 1 where the time is linear in n - k. The oldest one is also
-// suppressed where all others are neutral and paired to it, so that each of them is looked up, against the same without pairs.
+// Suppressing is timed on an archive of 1,024 operations of degree 3, the oldest, the middle and the newest one,
+// against the program's walk of the same archive. Reading it takes the same time for each of them; what the others take
+// beyond the newest one is printed as a ratio to n - k doubles, which stays about 1 where the time is linear in n - k.
+// The oldest one is also suppressed where all others are neutral and paired to it, so that each of them is looked up,
+// against the same without pairs.
 #include <NTL/GF2EX.h>
 
 #include <algorithm>

@@ -1,7 +1,7 @@
 -- What the call does, check by check.
 -- `short`, `unread`: the output is too short; the archive is refused.
--- `below-first`, `above-last`, `is-held`, `accepted-writes`: of an accepted archive with room, k is no operation's number;
--- operation k is held; else the suppressed archive is written. `suppresses`: as the code writes it.
+-- `below-first`, `above-last`, `is-held`, `accepted-writes`: of an accepted archive with room, k is no operation's
+-- number; operation k is held; else the suppressed archive is written. `suppresses`: as the code writes it.
 -- `header-read`, `at-operations`, `suppressible`: what the code knows once it has read the header.
 use Prim.Native.Nat.{ℕ, _+_, _≤_, _<_}
 use mathlib.Core.Path.{_≡_, refl, sym, ap, _∙_}

@@ -1,4 +1,4 @@
--- What the call answers that suppresses an operation, and what it leaves in the output (docs/SPECIFICATION.md, 6 and 9).
+-- What the call that suppresses an operation answers and leaves in the output (docs/SPECIFICATION.md, 6 and 9).
 use Prim.Native.Nat.{ℕ, _+_}
 use mathlib.Core.Bool.{not, _&&_}
 use mathlib.Core.List.{List, [], _∷_, _++_}

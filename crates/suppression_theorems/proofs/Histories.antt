@@ -1,7 +1,7 @@
 -- The suppressed archive is the one that a history without the operation leaves.
 -- `suppressed-history`: two lists of register calls from one seal on one curve, whose accepted calls are commits that
--- differ in operation k alone, neutral in the second: the archive kept of the second is the first one's with operation k
--- suppressed.
+-- differ in operation k alone, neutral in the second: the archive kept of the second is the first one's with
+-- operation k suppressed.
 -- `suppressed-history-bytes`: the same of the bytes that the call writes.
 -- `suppressed-history-left`: the same if each call is by value or in place.
 -- `suppressed-byte-history`: the same of lists of byte calls, and of the archives made of the fields that they kept.

@@ -27,7 +27,7 @@ pub data WrittenEffectOf (checks : List Check) (bytes out : List ℕ) (e : Writt
   all-hold : AllHold checks → e ≡ write-archive bytes out → WrittenEffectOf checks bytes out e
   first-fails : (n : ℕ) → FirstFails checks n → e ≡ refuse-archive n out → WrittenEffectOf checks bytes out e
 
--- the call wrote bytes into an output with room, which it had beyond the input's length; or it refused with one of these
+-- the call wrote bytes, and the output is 48 bytes longer than the input or more; or it refused with one of these
 -- numbers and changed no byte
 pub data WroteOrRefused (s numbers out : List ℕ) (e : WrittenEffect) : Type 0 where
   wrote : (bytes : List ℕ) → length bytes ≤ length out → length s + 48 ≤ length out → e ≡ write-archive bytes out → WroteOrRefused s numbers out e

@@ -1,5 +1,5 @@
--- `suppressed-lengths`: the stored form of a suppressed archive is at most 32 bytes longer than that of the archive, and
--- at most 96 shorter.
+-- `suppressed-lengths`: the stored form of a suppressed archive is at most 32 bytes longer than that of the archive,
+-- and at most 96 shorter.
 use Prim.Native.Nat.{ℕ, zero, suc, _+_, _-_, _≤_, _<_}
 use mathlib.Core.Path.{_≡_, refl, ap, _∙_}
 use mathlib.Core.List.{List, _∷_, _++_}

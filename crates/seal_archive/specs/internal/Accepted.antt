@@ -41,8 +41,8 @@ seal-without h s at n =
 unfoldable pub replaced : List ℕ → ℕ → ℕ → List ℕ → ℕ → Effect → Effect
 replaced s start end field len e = append field 0 len (append s start end e)
 
--- all of s appended, but for the field from `seal` to `first` and the one from `operation` to `next`, which are replaced:
--- the first by len bytes of a field, the second by the field of a neutral operation
+-- all of s appended, but for the field from `seal` to `first` and the one from `operation` to `next`: len bytes of a
+-- field replace the first, the field of a neutral operation the second
 unfoldable pub both-replaced : List ℕ → ℕ → ℕ → ℕ → ℕ → List ℕ → ℕ → Effect → Effect
 both-replaced s seal first operation next field len e =
     append s next (length s) (replaced s first operation (0x44 ∷ 0x00 ∷ 0x00 ∷ []) 3 (replaced s 0 seal field len e))
