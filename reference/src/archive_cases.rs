@@ -6,15 +6,11 @@
 //! - `truncations`, `changes`: archives cut at each byte, and with each byte changed to every other value (`changed`).
 //! - `pairs`: the field 0x48 at each edge of its rules (`pairs`).
 //! - `held`: what holds an operation and what does not (`held`).
-//! - `all-k-seven`, `truncations-seven`, `changes-seven`, `mutated-seven`: the same on curves of both kinds, or of
-//!   seven coefficients alone; of the last but one only the bytes of degree and curve are changed.
-//! - `curves`: the field 0x41 at each edge of its rules (`curves`).
 //!
 //! What is expected of an archive whose earliest seal is known is a walk forward from it, and of another one what
 //! `suppression::suppress` answers.
 
 mod changed;
-mod curves;
 mod drawn;
 mod held;
 mod made;
@@ -84,18 +80,7 @@ impl ArchiveCase {
 }
 
 /// The kinds of a fixed number of cases.
-pub const KINDS: [&str; 10] = [
-    "all-k",
-    "full",
-    "truncations",
-    "changes",
-    "pairs",
-    "held",
-    "all-k-seven",
-    "truncations-seven",
-    "changes-seven",
-    "curves",
-];
+pub const KINDS: [&str; 6] = ["all-k", "full", "truncations", "changes", "pairs", "held"];
 
 /// The cases of such a kind.
 pub fn cases(kind: &str) -> Option<Vec<ArchiveCase>> {
@@ -106,10 +91,6 @@ pub fn cases(kind: &str) -> Option<Vec<ArchiveCase>> {
         "changes" => changed::changes(),
         "pairs" => pairs::cases(),
         "held" => held::cases(),
-        "all-k-seven" => drawn::all_k_on_both_kinds(),
-        "truncations-seven" => changed::truncations_of_seven(),
-        "changes-seven" => changed::changes_of_seven(),
-        "curves" => curves::cases(),
         _ => return None,
     })
 }

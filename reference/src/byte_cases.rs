@@ -17,9 +17,9 @@ use crate::multiples::{HALVINGS_LIMIT, MULTIPLE_LIMIT};
 use crate::random::Random;
 use crate::stamp::stamp_limit;
 use crate::stored::{class_field, curve_fields, operation_field, register_fields, DRAWING_LIMIT};
-use mutation::{change_curve, mutated};
+use mutation::mutated;
 use pairs::{change_pairs, drawn_pairs};
-use pool::{pools, pools_of_both_kinds, Pool};
+use pool::{pools, Pool};
 
 /// A call, and what is expected of it: the answer, and the bytes written, of which a refusal has none.
 #[derive(Clone, Debug, PartialEq, Eq)]
@@ -158,22 +158,15 @@ fn output_length(random: &mut Random, call: Call) -> usize {
     }
 }
 
-/// Cases without end. In some of those on curves of both kinds another field stands in the curve's place.
+/// Cases without end.
 pub struct Mutated {
     random: Random,
     pools: Vec<Pool>,
-    changes_curve: bool,
 }
 
 impl Mutated {
-    /// On plain curves.
     pub fn new() -> Mutated {
-        Mutated { random: Random::new(71), pools: pools(), changes_curve: false }
-    }
-
-    /// On curves of both kinds (document 02, request 10).
-    pub fn on_both_kinds() -> Mutated {
-        Mutated { random: Random::new(75), pools: pools_of_both_kinds(), changes_curve: true }
+        Mutated { random: Random::new(71), pools: pools() }
     }
 }
 
@@ -191,41 +184,25 @@ impl Iterator for Mutated {
         let pool = random.pick(&self.pools);
         let call = *random.pick(&CALLS);
         let call = call.with_beside(number_beside(random, pool, call));
-        let mut fields = record(random, pool, call);
-        if self.changes_curve {
-            change_curve(random, &mut fields, pool);
-        }
+        let fields = record(random, pool, call);
         let input = mutated(random, fields, pool);
         let length = output_length(random, call);
         Some(ByteCase::new(call, input, length))
     }
 }
 
-/// The class [x^3, 1], which is on every curve with f2, f1 and f0 all 0.
-fn cube() -> Class {
-    Class::new(vec![0, 0, 0, 1], vec![1])
-}
-
-/// Releases with one byte changed: records on f = x^7 that are accepted, over both fields and with seals of degree 0
-/// and 3, each byte of which takes every other value.
+/// Releases with one byte changed: records that are accepted, over both fields and with seals of degree 0 and 3, each
+/// byte of which takes every other value.
 pub fn changed_releases() -> impl Iterator<Item = ByteCase> {
-    let on = |field| [Class::neutral(), cube()].map(|seal| (Curve::new(field, 0, 0, 0), seal));
-    changed_releases_of([on(BENCH), on(WIDE)].concat())
-}
-
-/// The same on f = x^7 + 9 x^5 + 5 x^3, of which one byte changed makes a plain curve in 56 bytes: over the bench field
-/// with a seal of degree 0, and over GF(2^61) with one of degree 3.
-pub fn changed_releases_of_seven() -> impl Iterator<Item = ByteCase> {
-    let curve = |field| Curve::with_all(field, [0, 0, 0, 5, 0, 9, 0]);
-    changed_releases_of(vec![(curve(BENCH), Class::neutral()), (curve(WIDE), cube())])
-}
-
-/// The releases of registers with these curves and seals, with one byte changed.
-fn changed_releases_of(registers: Vec<(Curve, Class)>) -> impl Iterator<Item = ByteCase> {
-    let record = |(curve, seal): (Curve, Class)| {
-        [curve_fields(&curve).concat(), register_fields(0x0107, 0x0103, &seal).concat()].concat()
-    };
-    let records: Vec<Vec<u8>> = registers.into_iter().map(record).collect();
+    let mut records = vec![];
+    for field in [BENCH, WIDE] {
+        let curve = Curve::new(field, 0, 0, 0);
+        let cube = Class::new(vec![0, 0, 0, 1], vec![1]);
+        for seal in [Class::neutral(), cube] {
+            let [degree, coefficients] = curve_fields(&curve);
+            records.push([degree, coefficients, register_fields(0x0107, 0x0103, &seal).concat()].concat());
+        }
+    }
     records.into_iter().flat_map(|record| {
         let changes = (0..record.len()).flat_map(|at| (1..=255u8).map(move |by| (at, by)));
         changes.map(move |(at, by)| {
@@ -236,17 +213,10 @@ fn changed_releases_of(registers: Vec<(Curve, Class)>) -> impl Iterator<Item = B
     })
 }
 
-/// Some archives on plain curves, mutated or not and with pairs or without, each with its report.
+/// Some archives, mutated or not and with pairs or without, each with its report.
 pub fn archives(number: usize) -> Vec<(Vec<u8>, String)> {
-    archives_on(Random::new(72), pools(), false, number)
-}
-
-/// The same on curves of both kinds; in some another field stands in the curve's place.
-pub fn archives_on_both_kinds(number: usize) -> Vec<(Vec<u8>, String)> {
-    archives_on(Random::new(111), pools_of_both_kinds(), true, number)
-}
-
-fn archives_on(mut random: Random, pools: Vec<Pool>, changes_curve: bool, number: usize) -> Vec<(Vec<u8>, String)> {
+    let mut random = Random::new(72);
+    let pools = pools();
     let mut one = || {
         let pool = random.pick(&pools);
         let count = random.below(9);
@@ -268,11 +238,7 @@ fn archives_on(mut random: Random, pools: Vec<Pool>, changes_curve: bool, number
             change_pairs(&mut random, count as u16, &mut pairs);
         }
         let archive = Archive { curve: pool.curve.clone(), drawing, seal, operations, pairs };
-        let mut fields = archive.fields();
-        if changes_curve {
-            change_curve(&mut random, &mut fields, pool);
-        }
-        let bytes = mutated(&mut random, fields, pool);
+        let bytes = mutated(&mut random, archive.fields(), pool);
         let report = report(&bytes);
         (bytes, report)
     };
@@ -328,46 +294,6 @@ mod tests {
                 assert!(made().filter(accepted).count() > 50, "{call:?} {degree}");
             }
         }
-    }
-
-    /// The same for the first four thousand on curves of both kinds, with 125 besides; of the records that are
-    /// accepted many are of each kind.
-    #[test]
-    fn every_refusal_on_both_kinds() {
-        let cases: Vec<ByteCase> = Mutated::on_both_kinds().take(4000).collect();
-        for call in CALLS {
-            let made = || cases.iter().filter(|case| case.call.with_beside(0) == call);
-            let met: HashSet<u32> = made().map(|case| case.answer).collect();
-            for number in [102, 103, 104, 105, 106, 107, 112, 125] {
-                assert!(met.contains(&number), "{call:?} {number}");
-            }
-            for (degree, length) in [(5, 24), (5, 56), (61, 24), (61, 56)] {
-                let accepted =
-                    |case: &&ByteCase| case.answer <= 100 && case.input[3..7] == [degree, 0x41, 0, length];
-                assert!(made().filter(accepted).count() > 3, "{call:?} {degree} {length}");
-            }
-        }
-        // 56 bytes of a plain curve, but for a number that is no element: 107 before 125
-        let plain_but_one = |case: &&ByteCase| {
-            let input = &case.input;
-            input.len() > 63 && input[4..7] == [0x41, 0, 56] && {
-                let numbers: Vec<u64> =
-                    input[7..63].chunks(8).map(|bytes| u64::from_be_bytes(bytes.try_into().unwrap())).collect();
-                [0, 1, 2, 4].iter().all(|&i| numbers[i] == 0) && numbers.iter().any(|&n| n >> input[3] == 1)
-            }
-        };
-        let refusals: Vec<u32> = cases.iter().filter(plain_but_one).map(|case| case.answer).collect();
-        assert!(refusals.iter().filter(|&&number| number == 107).count() > 20);
-        assert!(!refusals.contains(&125));
-    }
-
-    /// On a curve of 56 bytes a changed byte also leads to 125.
-    #[test]
-    fn releases_of_seven_with_one_byte_changed() {
-        let cases: Vec<ByteCase> = changed_releases_of_seven().collect();
-        assert_eq!(cases.len(), 255 * (76 + 124));
-        let met: HashSet<u32> = cases.iter().map(|case| case.answer).collect();
-        assert_eq!(met, HashSet::from([103, 104, 105, 106, 107, 109, 110, 111, 112, 120, 125, 13, 61]));
     }
 
     /// A release with one byte changed meets every refusal but 101 and 102, and where it is accepted the released step
@@ -432,18 +358,14 @@ mod tests {
     /// Among the first three hundred archives the report meets every refusal that it can give, and every letter.
     #[test]
     fn every_outcome_of_the_report() {
-        every_outcome(archives(300), (102..=112).chain([122]).collect(), 25);
-        every_outcome(archives_on_both_kinds(300), (102..=112).chain([122, 125]).collect(), 15);
-    }
-
-    fn every_outcome(made: Vec<(Vec<u8>, String)>, refusals: Vec<u32>, have_pairs: usize) {
+        let made = archives(300);
         let reports: Vec<String> = made.iter().map(|(_, report)| report.clone()).collect();
-        for number in refusals {
+        for number in (102..=112).chain([122]) {
             assert!(reports.contains(&format!("refused {number}\n")), "{number}");
         }
         let with_pairs =
             |(bytes, _): &&(Vec<u8>, String)| Archive::read(bytes).map_or(false, |read| !read.pairs.is_empty());
-        assert!(made.iter().filter(with_pairs).count() > have_pairs);
+        assert!(made.iter().filter(with_pairs).count() > 25);
         for letter in [" . ", " R ", " M ", " - "] {
             assert!(reports.iter().filter(|report| report.contains(letter)).count() > 5, "{letter}");
         }

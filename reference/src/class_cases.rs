@@ -1,7 +1,7 @@
 //! The cases of the program `conformance`: calls on classes, in the bytes that it reads, and the line that is expected for
 //! each.
 //!
-//! A case is 170 bytes: the call, the degree d, f6 down to f0, and two classes; the calls on one class leave the second
+//! A case is 138 bytes: the call, the degree d, f3, f1 and f0, and two classes; the calls on one class leave the second
 //! aside. A class is its degree, u0, u1, u2, v0, v1 and v2. All numbers but d take eight bytes, high byte first. The call
 //! on a stamp finds it in the place of the first class's degree, and leaves all else of the classes aside. Those that take
 //! a class with a number find the number in the place of the second class's degree, and leave all else of that one aside.
@@ -12,11 +12,7 @@
 //! - `sweep`: every class of a curve over the bench field.
 //! - `stamps`: classes of stamps over both fields.
 //! - `multiples`: multiples of classes and repeated halves over both fields.
-//! - `carrying`: plain curves, and classes carried to them and back.
-//!
-//! The curve of a class that is carried back is the one with seven coefficients, and the class one of its plain curve.
 
-pub mod carrying;
 pub mod drawn;
 pub mod edges;
 pub mod examples;
@@ -24,10 +20,9 @@ pub mod multiples;
 pub mod stamps;
 pub mod sweep;
 
-use crate::carrying::{carried, carried_back, plain_curve};
-use crate::field::{Field, BENCH};
+use crate::field::Field;
 use crate::halving::is_half;
-use crate::jacobian::{plain_row, Class, Curve, Reduced};
+use crate::jacobian::{Class, Curve, Reduced};
 use crate::multiples::{doublings, halvings, multiple};
 use crate::stamp::class_of_stamp;
 
@@ -46,25 +41,22 @@ pub const CURVE: u8 = 12;
 pub const STAMP: u8 = 13;
 pub const MULTIPLE: u8 = 14;
 pub const HALVINGS: u8 = 15;
-pub const PLAIN_CURVE: u8 = 16;
-pub const CARRIED: u8 = 17;
-pub const CARRIED_BACK: u8 = 18;
 /// The calls on classes alone; of these the calls on two; and those on a class with a number.
 pub const CALLS: std::ops::RangeInclusive<u8> = 1..=11;
 pub const CALLS_ON_TWO: [u8; 4] = [SUM, SUM_IN_STEPS, DOUBLE_AND_ADD, SUBTRACT_AND_HALVE];
 pub const CALLS_WITH_NUMBER: [u8; 2] = [MULTIPLE, HALVINGS];
-/// The calls of carrying (document 02, request 10).
-pub const CARRYING: [u8; 3] = [PLAIN_CURVE, CARRIED, CARRIED_BACK];
 
 /// The calls that every class of a curve is taken through, in this order. tests/conformance looks into the lines by it:
 /// the fourth of seven is the half, and the sixth the class itself.
 pub const SEVEN: [u8; 7] = [MEMBERSHIP, OPPOSITE, DOUBLE, HALF, HALF_OF_DOUBLE, DOUBLE_OF_HALF, SUM];
 
-/// Degree and coefficients, from f0 to f6, as a caller hands them over; they need not be those of a curve.
+/// Degree and coefficients as a caller hands them over; they need not be those of a curve.
 #[derive(Clone, Copy, Debug, PartialEq, Eq)]
 pub struct CurveValues {
     pub degree: u8,
-    pub lower: [u64; 7],
+    pub f3: u64,
+    pub f1: u64,
+    pub f0: u64,
 }
 
 /// A class as a caller hands it over, u and v by rising power and u without its leading 1; it need not be one.
@@ -78,57 +70,21 @@ pub struct ClassValues {
 pub const NEUTRAL: ClassValues = ClassValues { degree: 0, u: [0; 3], v: [0; 3] };
 
 impl CurveValues {
-    /// A plain curve over a field.
     pub fn new(field: Field, f3: u64, f1: u64, f0: u64) -> CurveValues {
-        CurveValues::plain(field.degree as u8, f3, f1, f0)
-    }
-
-    /// Any curve over a field, the coefficients given from f0 to f6.
-    pub fn with_all(field: Field, lower: [u64; 7]) -> CurveValues {
-        CurveValues { degree: field.degree as u8, lower }
-    }
-
-    /// The values of a plain curve with any degree.
-    pub const fn plain(degree: u8, f3: u64, f1: u64, f0: u64) -> CurveValues {
-        CurveValues { degree, lower: plain_row(f3, f1, f0) }
-    }
-
-    /// The same values with another coefficient of x^i.
-    pub fn with(mut self, i: usize, coefficient: u64) -> CurveValues {
-        self.lower[i] = coefficient;
-        self
-    }
-
-    /// The coefficients in the order in which they are handed over and printed, f6 first.
-    fn falling(&self) -> [u64; 7] {
-        let mut row = self.lower;
-        row.reverse();
-        row
+        CurveValues { degree: field.degree as u8, f3, f1, f0 }
     }
 
     pub fn bytes(&self) -> Vec<u8> {
-        [vec![self.degree], self.falling().map(u64::to_be_bytes).concat()].concat()
+        [vec![self.degree], [self.f3, self.f1, self.f0].map(u64::to_be_bytes).concat()].concat()
     }
 
-    /// f6 down to f0 in hexadecimal, with commas between.
-    pub fn printed(&self) -> String {
-        self.falling().map(|c| format!("{c:x}")).join(",")
-    }
-
-    /// The curve, or the refusal: 106 for the degree, then 107 for the coefficients. A plain curve is accepted as any
-    /// other: 125 is a check of the stored form.
+    /// The curve, or the refusal: 106 for the degree, then 107 for the coefficients.
     pub fn curve(&self) -> Result<Curve, u32> {
         let field = Field::of_degree(self.degree).ok_or(106u32)?;
-        if self.lower.iter().any(|&c| !field.contains(c)) {
+        if [self.f3, self.f1, self.f0].iter().any(|&c| !field.contains(c)) {
             return Err(107);
         }
-        Ok(Curve::with_all(field, self.lower))
-    }
-}
-
-impl From<&Curve> for CurveValues {
-    fn from(curve: &Curve) -> CurveValues {
-        CurveValues { degree: curve.field.degree as u8, lower: curve.lower() }
+        Ok(Curve::new(field, self.f3, self.f1, self.f0))
     }
 }
 
@@ -216,12 +172,6 @@ fn answer(call: u8, curve: CurveValues, a: ClassValues, b: ClassValues) -> Resul
     if call == STAMP {
         return class_of_stamp(&curve, a.degree).map(|class| printed(&class));
     }
-    if call == PLAIN_CURVE {
-        return Ok(CurveValues::from(&plain_curve(&curve)).printed());
-    }
-    if call == CARRIED_BACK {
-        return a.class(&plain_curve(&curve)).map(|class| printed(&carried_back(&curve, &class)));
-    }
     let (a, number) = (a.class(&curve)?, b.degree);
     let b = if CALLS_ON_TWO.contains(&call) { b.class(&curve)? } else { Class::neutral() };
     match call {
@@ -235,7 +185,6 @@ fn answer(call: u8, curve: CurveValues, a: ClassValues, b: ClassValues) -> Resul
         DOUBLE_AND_ADD => Ok(printed(&curve.sum(&curve.double(&a), &b))),
         MULTIPLE => multiple(&curve, number, &a).map(|class| printed(&class)),
         HALVINGS => halvings(&curve, number, &a).map(|class| printed(&class)),
-        CARRIED => Ok(printed(&carried(&curve, &a))),
         HALF | SUBTRACT_AND_HALVE if a == b && b == Class::neutral() => Ok(printed(&a)),
         _ => panic!("no answer to call {call} on {a:?} and {b:?}"),
     }
@@ -324,15 +273,14 @@ impl Case {
 
 /// Bytes in the call's place that name no call.
 fn no_calls() -> Vec<Case> {
-    let curve = CurveValues::new(BENCH, 0, 0, 0);
+    let curve = CurveValues { degree: 5, f3: 0, f1: 0, f0: 0 };
     let line = "no such call\n".to_string();
-    [0, 19, 255].map(|call| Case { call, curve, a: NEUTRAL, b: NEUTRAL, line: line.clone() }).to_vec()
+    [0, 16, 255].map(|call| Case { call, curve, a: NEUTRAL, b: NEUTRAL, line: line.clone() }).to_vec()
 }
 
-/// The stored cases, in their order: on plain curves, then on others.
+/// The stored cases, in their order.
 pub fn stored_cases() -> Vec<Case> {
-    let on_plain = [examples::cases(), edges::cases(), drawn::cases(), no_calls()].concat();
-    [on_plain, edges::of_seven(), drawn::of_seven(), carrying::cases()].concat()
+    [examples::cases(), edges::cases(), drawn::cases(), no_calls()].concat()
 }
 
 /// What the program is given, the stored cases and then one that is cut short, and what is expected for that.
@@ -351,13 +299,13 @@ mod tests {
 
     #[test]
     fn bytes_of_a_case() {
-        let curve = CurveValues { degree: 61, lower: [7, 6, 5, 4, 3, 2, 0x0102030405060708] };
-        let a = ClassValues { degree: 8, u: [9, 10, 11], v: [12, 13, 14] };
-        let b = ClassValues { degree: 15, u: [16, 17, 18], v: [19, 20, 21] };
+        let curve = CurveValues { degree: 61, f3: 0x0102030405060708, f1: 2, f0: 3 };
+        let a = ClassValues { degree: 4, u: [5, 6, 7], v: [8, 9, 10] };
+        let b = ClassValues { degree: 11, u: [12, 13, 14], v: [15, 16, 17] };
         let bytes = Case { call: 5, curve, a, b, line: String::new() }.bytes();
-        assert_eq!(bytes.len(), 170);
+        assert_eq!(bytes.len(), 138);
         assert_eq!(bytes[..10], [5, 61, 1, 2, 3, 4, 5, 6, 7, 8]);
-        for (i, number) in (2..22).enumerate() {
+        for (i, number) in (2..18).enumerate() {
             assert_eq!(bytes[10 + 8 * i..18 + 8 * i], [0, 0, 0, 0, 0, 0, 0, number]);
         }
     }
@@ -378,17 +326,17 @@ mod tests {
     }
 
     /// Every call on classes meets every refusal and an answer, over both fields, and those with a number its own besides;
-    /// those on the curve alone those of the curve, and that on a stamp those and its own two.
+    /// that on the curve those of the curve, and that on a stamp those and its own two.
     #[test]
     fn every_outcome_of_every_call() {
         let cases = stored_cases();
-        for call in CALLS.chain([CURVE, STAMP]).chain(CALLS_WITH_NUMBER).chain(CARRYING) {
+        for call in CALLS.chain([CURVE, STAMP]).chain(CALLS_WITH_NUMBER) {
             for degree in [5, 61] {
                 let wanted = |case: &&Case| case.call == call && case.curve.degree == degree;
                 let lines: Vec<&str> = cases.iter().filter(wanted).map(|case| case.line.as_str()).collect();
                 for number in [104, 106, 107, 110, 111, 115, 116, 118, 119] {
                     let due = match call {
-                        CURVE | PLAIN_CURVE => number == 107,
+                        CURVE => number == 107,
                         STAMP => [107, 115, 116].contains(&number),
                         MULTIPLE => [104, 107, 110, 111, 118].contains(&number),
                         HALVINGS => [104, 107, 110, 111, 119].contains(&number),

@@ -1,25 +1,21 @@
-//! The cases of the program `history_trial`: commits, undos, releases and carryings on one register (document 01, 'The
-//! register'; document 02, requests 8 and 10), in the bytes that it reads, and the lines that are expected of it.
+//! The cases of the program `history_trial`: commits, undos and releases on one register (document 01, 'The register';
+//! document 02, request 8), in the bytes that it reads, and the lines that are expected of it.
 //!
-//! A record is 186 bytes: the call, the degree d, f6 down to f0, the count, the seal, the released step and an
+//! A record is 154 bytes: the call, the degree d, f3, f1 and f0, the count, the seal, the released step and an
 //! operation's class. A class is its degree, u0, u1, u2, v0, v1 and v2. All numbers but d take eight bytes, high byte
-//! first. A start sets the register and has no line; a commit, an undo, a release and a carrying are made on the
-//! register that the call before handed back, the last two without the class; a show prints all that the register
-//! holds.
+//! first. A start sets the register and has no line; a commit, an undo and a release are made on the register that the
+//! call before handed back, a release without the class; a show prints all that the register holds.
 //!
 //! - `edges`: document 01's walk, every refusal at its edges and in its order, registers that fail a check; releases.
 //! - `lists`: lists of calls drawn at random, each taken back call by call, as far as its last release.
-//! - `carried`: lists during which the register is carried to the plain curve.
 //! - `displacement`: lists of commits, each with one operation changed.
 //! - `ground`: a curve with what the calls of lists are drawn from.
 
-pub mod carried;
 pub mod displacement;
 pub mod edges;
 mod ground;
 pub mod lists;
 
-use crate::carrying;
 use crate::class_cases::edges::NONSENSE;
 use crate::class_cases::{ClassValues, CurveValues};
 use crate::halving::is_half;
@@ -31,10 +27,9 @@ pub const COMMIT: u8 = 1;
 pub const UNDO: u8 = 2;
 pub const SHOW: u8 = 3;
 pub const RELEASE: u8 = 4;
-pub const CARRY: u8 = 5;
 
 /// The length of a record.
-const RECORD: usize = 186;
+const RECORD: usize = 154;
 
 /// The most operations that a register counts.
 pub const LIMIT: u64 = COUNT_LIMIT as u64;
@@ -50,7 +45,7 @@ pub struct RegisterValues {
 
 /// What stands in a record where the call does not look.
 const UNREAD: RegisterValues = RegisterValues {
-    curve: CurveValues { degree: u8::MAX, lower: [u64::MAX; 7] },
+    curve: CurveValues { degree: u8::MAX, f3: u64::MAX, f1: u64::MAX, f0: u64::MAX },
     count: u64::MAX,
     seal: NONSENSE,
     released: u64::MAX,
@@ -108,14 +103,6 @@ impl RegisterValues {
         Ok(RegisterValues { released: self.count, ..*self })
     }
 
-    /// The plain curve with the seal carried to it, and all else as it was; refused where the register is.
-    fn carried(&self) -> Result<RegisterValues, u32> {
-        let (curve, seal) = self.checked()?;
-        let plain = carrying::plain_curve(&curve);
-        let seal = carrying::carried(&curve, &seal);
-        Ok(RegisterValues { curve: (&plain).into(), seal: (&seal).into(), ..*self })
-    }
-
     /// Is an undo refused by the count, whatever the class?
     fn is_undo_barred(&self) -> bool {
         self.count == 0 || self.count == self.released
@@ -128,8 +115,8 @@ impl RegisterValues {
 
     /// All that the register holds.
     fn shown(&self) -> String {
-        let (degree, curve, seal) = (self.curve.degree, self.curve.printed(), self.seal.printed(3));
-        format!("{degree} {curve} {} {} {seal}", self.count, self.released)
+        let CurveValues { degree, f3, f1, f0 } = self.curve;
+        format!("{degree} {f3:x},{f1:x},{f0:x} {} {} {}", self.count, self.released, self.seal.printed(3))
     }
 }
 
@@ -139,16 +126,6 @@ struct Accepted {
     call: u8,
     class: ClassValues,
     before: RegisterValues,
-}
-
-impl Accepted {
-    /// The call as it would have been on the plain curve: its class and the register before it carried.
-    fn carried(self) -> Accepted {
-        let curve = self.before.curve.curve().expect("the curve is accepted");
-        let class = self.class.class(&curve).expect("an accepted class");
-        let before = self.before.carried().expect("an accepted register");
-        Accepted { class: (&carrying::carried(&curve, &class)).into(), before, ..self }
-    }
 }
 
 /// Calls on one register after another: what the program is given and what is expected for that.
@@ -192,19 +169,12 @@ impl Trial {
         self.expect_line(&self.register.shown());
     }
 
-    /// A commit or an undo with its answer, noted for taking back where it is accepted.
-    fn answered(&mut self, call: u8, class: ClassValues, answer: Result<RegisterValues, u32>) {
-        if answer.is_ok() {
-            self.accepted.push(Accepted { call, class, before: self.register });
-        }
-        self.told(call, class, answer);
-    }
-
     /// A call with its answer. The register that follows is the next call's; on a refusal that is the same one.
-    fn told(&mut self, call: u8, class: ClassValues, answer: Result<RegisterValues, u32>) {
+    fn answered(&mut self, call: u8, class: ClassValues, answer: Result<RegisterValues, u32>) {
         self.record(call, UNREAD, class);
         match answer {
             Ok(next) => {
+                self.accepted.push(Accepted { call, class, before: self.register });
                 self.register = next;
                 self.expect_line(&next.line());
             }
@@ -223,30 +193,19 @@ impl Trial {
     /// A release. What was accepted before it can no longer be taken back.
     pub fn release(&mut self) {
         let answer = self.register.release();
-        self.told(RELEASE, NONSENSE, answer);
+        self.answered(RELEASE, NONSENSE, answer);
         if answer.is_ok() {
             self.accepted.clear();
         }
     }
 
-    /// The register carried to the plain curve. What was accepted before it is taken back with its classes carried, and
-    /// the registers expected then are the noted ones carried.
-    pub fn carry(&mut self) {
-        let answer = self.register.carried();
-        self.told(CARRY, NONSENSE, answer);
-        if answer.is_ok() {
-            self.accepted = self.accepted.iter().map(|&call| call.carried()).collect();
-        }
-    }
-
-    /// A call that must be refused; a release and a carrying have no class.
+    /// A call that must be refused; a release has no class.
     pub fn refused(&mut self, call: u8, class: ClassValues) {
         let lines = self.output.len();
         match call {
             COMMIT => self.commit(class),
             UNDO => self.undo(class, |_| panic!("{class:?} is not refused")),
-            RELEASE => self.release(),
-            _ => self.carry(),
+            _ => self.release(),
         }
         assert!(self.output[lines..].starts_with("refused "));
     }
@@ -276,19 +235,16 @@ impl Default for Trial {
     }
 }
 
-/// The stored cases: the edges, some lists, bytes that name no call; the same on curves of seven coefficients; and a
-/// record that is cut short.
+/// The stored cases: the edges, some lists, a byte that names no call, and a record that is cut short.
 pub fn stored() -> Trial {
     let mut trial = Trial::new();
     edges::run(&mut trial);
     lists::stored(&mut trial);
-    for call in [6, 255] {
+    for call in [5, 255] {
         trial.record(call, UNREAD, NONSENSE);
         trial.expect_line("no such call");
     }
     trial.show();
-    carried::edges(&mut trial);
-    carried::stored(&mut trial);
     trial.input.extend([0, 5, 0]);
     trial.expect_line("cut short");
     trial

@@ -42,16 +42,6 @@ impl Class {
     }
 }
 
-/// The row of a plain curve's coefficients, from f0 to f6.
-pub const fn plain_row(f3: u64, f1: u64, f0: u64) -> [u64; 7] {
-    [f0, f1, 0, f3, 0, 0, 0]
-}
-
-/// Is a row of coefficients, from f0 to f6, that of a plain curve?
-pub fn is_plain_row(row: &[u64; 7]) -> bool {
-    [6, 5, 4, 2].iter().all(|&i| row[i] == 0)
-}
-
 /// What a composition and its reduction came to, and the number of reduction steps.
 #[derive(Clone, Debug, PartialEq, Eq)]
 pub struct Reduced {
@@ -60,9 +50,9 @@ pub struct Reduced {
 }
 
 impl Curve {
-    /// The plain curve f = x^7 + f3 x^3 + f1 x + f0.
+    /// f = x^7 + f3 x^3 + f1 x + f0.
     pub fn new(field: Field, f3: u64, f1: u64, f0: u64) -> Curve {
-        Curve::with_all(field, plain_row(f3, f1, f0))
+        Curve::with_all(field, [f0, f1, 0, f3, 0, 0, 0])
     }
 
     /// f = x^7 + f6 x^6 + .. + f0, the seven given from f0 to f6.
@@ -70,16 +60,6 @@ impl Curve {
         let mut coefficients = lower.to_vec();
         coefficients.push(1);
         Curve { field, f: Polynomial::new(coefficients) }
-    }
-
-    /// The seven coefficients of f below x^7, from f0 to f6.
-    pub fn lower(&self) -> [u64; 7] {
-        std::array::from_fn(|i| self.f.coefficient(i))
-    }
-
-    /// Are f6, f5, f4 and f2 all 0?
-    pub fn is_plain(&self) -> bool {
-        is_plain_row(&self.lower())
     }
 
     /// v^2 + v + f.
@@ -182,17 +162,10 @@ impl Curve {
         Some(Class::new(vec![a, 1], vec![y]))
     }
 
-    /// A plain curve whose three coefficients are drawn from the whole field.
+    /// A curve whose three coefficients are drawn from the whole field.
     pub fn drawn(random: &mut Random, field: Field) -> Curve {
         let [f3, f1, f0] = [0; 3].map(|_| random.element(field));
         Curve::new(field, f3, f1, f0)
-    }
-
-    /// A curve whose seven coefficients are drawn from the whole field; that it is plain is not met.
-    pub fn drawn_with_all(random: &mut Random, field: Field) -> Curve {
-        let curve = Curve::with_all(field, [0; 7].map(|_: u64| random.element(field)));
-        assert!(!curve.is_plain());
-        curve
     }
 
     /// The class of a drawn point of the curve, which has to have one.
@@ -211,6 +184,10 @@ mod tests {
     use crate::field::{BENCH, WIDE};
 
     const FIELDS: [Field; 2] = [BENCH, WIDE];
+
+    fn random_curve(random: &mut Random, field: Field) -> Curve {
+        Curve::with_all(field, [0; 7].map(|_: u64| random.element(field)))
+    }
 
     fn random_class(random: &mut Random, curve: &Curve) -> Class {
         let mut class = Class::neutral();
@@ -261,20 +238,6 @@ mod tests {
         }
     }
 
-    /// A curve is plain where the four coefficients are 0, and each of them alone makes it another.
-    #[test]
-    fn plain_curves() {
-        assert!(Curve::new(BENCH, 31, 31, 31).is_plain());
-        assert_eq!(Curve::new(BENCH, 3, 1, 2).lower(), [2, 1, 0, 3, 0, 0, 0]);
-        for i in 0..7 {
-            let mut lower = [0; 7];
-            lower[i] = 1;
-            let curve = Curve::with_all(WIDE, lower);
-            assert_eq!(curve.lower(), lower);
-            assert_eq!(curve.is_plain(), [0, 1, 3].contains(&i));
-        }
-    }
-
     #[test]
     fn membership_edges() {
         let a = Curve::new(BENCH, 0, 0, 0);
@@ -292,7 +255,7 @@ mod tests {
         for field in FIELDS {
             let mut random = Random::new(4);
             for _ in 0..100 {
-                let curve = Curve::drawn_with_all(&mut random, field);
+                let curve = random_curve(&mut random, field);
                 let [d, e, g] = [0; 3].map(|_| random_class(&mut random, &curve));
                 let sum = curve.sum_in_steps(&d, &e);
                 assert!(curve.is_member(&sum.class) && sum.steps <= 2);

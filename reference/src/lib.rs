@@ -5,7 +5,6 @@
 //! - `field`: GF(2^d) as polynomials over GF(2); the checked calls on elements.
 //! - `polynomial`: polynomials in x over such a field.
 //! - `jacobian`: curves y^2 + y = f(x), reduced classes, Cantor's rule.
-//! - `carrying`: plain curves, and classes carried to them and back, by moving points.
 //! - `halving`: halves found without halving rules.
 //! - `multiples`: multiples of a class by sums alone, and repeated halves.
 //! - `bench_classes`: every reduced class of a curve over the bench field.
@@ -31,7 +30,6 @@ pub mod archive_cases;
 pub mod bench_classes;
 pub mod byte_cases;
 pub mod calls;
-pub mod carrying;
 pub mod class_cases;
 pub mod class_number;
 pub mod element_cases;

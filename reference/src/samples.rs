@@ -11,9 +11,6 @@
 //! - `bends`: six operations with pairs, of which the oldest two are held. The newest, which is paired to the third,
 //!   was suppressed before and so holds nothing.
 //! - `bends-suppressed`: `bends` with its third operation suppressed.
-//! - `seven`: twelve operations over GF(2^61) on a curve of seven coefficients.
-//! - `seven-low-degrees`: a walk over the bench field, on a curve of seven coefficients, that halves from and to every
-//!   degree as that of `low-degrees` does.
 //!
 //! And those in examples/failures/, which lines of docs/CHECKLIST.md catch:
 //!
@@ -65,24 +62,13 @@ fn empty() -> Archive {
 fn dozen() -> (Class, Archive) {
     let mut random = Random::new(82);
     let curve = Curve::drawn(&mut random, WIDE);
-    twelve(&mut random, curve, "FLANGE 12-034 rev. C")
-}
-
-/// Twelve operations on a curve, neutral ones and opposites among them.
-fn twelve(random: &mut Random, curve: Curve, drawing: &str) -> (Class, Archive) {
-    let [hole, slot, bend, cut] = [1, 2, 3, 5].map(|number| of_points(random, &curve, number));
+    let [hole, slot, bend, cut] = [1, 2, 3, 5].map(|number| of_points(&mut random, &curve, number));
     let view = Class::neutral();
     let (unbend, uncut) = (curve.opposite(&bend), curve.opposite(&cut));
     let twice = curve.double(&hole);
     let operations =
         [&hole, &view, &slot, &bend, &unbend, &bend, &view, &view, &cut, &uncut, &twice, &hole].map(Class::clone);
-    (Class::neutral(), committed(curve, drawing, &Class::neutral(), &operations))
-}
-
-fn seven() -> (Class, Archive) {
-    let mut random = Random::new(87);
-    let curve = Curve::drawn_with_all(&mut random, WIDE);
-    twelve(&mut random, curve, "PARTNER 7 / PLATE 40")
+    (Class::neutral(), committed(curve, "FLANGE 12-034 rev. C", &Class::neutral(), &operations))
 }
 
 fn full() -> (Class, Archive) {
@@ -108,23 +94,12 @@ fn full() -> (Class, Archive) {
 fn low_degrees() -> (Class, Archive) {
     let mut random = Random::new(84);
     let curve = Curve::drawn(&mut random, WIDE);
-    every_halving(&mut random, curve, "HINGE 7")
-}
-
-fn seven_low_degrees() -> (Class, Archive) {
-    let mut random = Random::new(88);
-    let curve = Curve::drawn_with_all(&mut random, BENCH);
-    every_halving(&mut random, curve, "PARTNER 7 / HINGE")
-}
-
-/// An archive whose walk halves from and to every degree.
-fn every_halving(random: &mut Random, curve: Curve, drawing: &str) -> (Class, Archive) {
-    let [point, pair, other, last] = [1, 2, 3, 3].map(|number| of_points(random, &curve, number));
+    let [point, pair, other, last] = [1, 2, 3, 3].map(|number| of_points(&mut random, &curve, number));
     let seals =
         [Class::neutral(), point.clone(), pair.clone(), half(&curve, &point), half(&curve, &pair), other, last];
     let operations: Vec<Class> =
         seals.windows(2).map(|next| curve.difference(&next[1], &curve.double(&next[0]))).collect();
-    (Class::neutral(), committed(curve, drawing, &Class::neutral(), &operations))
+    (Class::neutral(), committed(curve, "HINGE 7", &Class::neutral(), &operations))
 }
 
 fn views() -> (Class, Archive) {
@@ -163,7 +138,7 @@ fn bends(suppressed: bool) -> (Class, Archive) {
 }
 
 /// The names and the archives.
-pub fn samples() -> [(&'static str, Archive); 10] {
+pub fn samples() -> [(&'static str, Archive); 8] {
     [
         ("document-01", document_01()),
         ("empty", empty()),
@@ -173,8 +148,6 @@ pub fn samples() -> [(&'static str, Archive); 10] {
         ("views", views().1),
         ("bends", bends(false).1),
         ("bends-suppressed", bends(true).1),
-        ("seven", seven().1),
-        ("seven-low-degrees", seven_low_degrees().1),
     ]
 }
 
@@ -226,11 +199,8 @@ mod tests {
     /// The walk of an archive that was committed forward ends in the first seal.
     #[test]
     fn first_seals() {
-        let of_seven = [seven(), seven_low_degrees()];
-        for (first, archive) in
-            [dozen(), full(), low_degrees(), views(), bends(false), bends(true)].iter().chain(&of_seven)
-        {
-            assert_eq!(archive.walk().last(), Some(first));
+        for (first, archive) in [dozen(), full(), low_degrees(), views(), bends(false), bends(true)] {
+            assert_eq!(archive.walk().last(), Some(&first));
         }
         assert_eq!(full().1.operations.len(), 1024);
         assert_eq!(full().1.drawing.len(), 38);
@@ -253,23 +223,11 @@ mod tests {
     /// Every case of halving, by the degrees of a class and of its half, newest first.
     #[test]
     fn halving_cases() {
-        for (_, archive) in [low_degrees(), seven_low_degrees()] {
-            let halves = archive.walk()[1..].to_vec();
-            let cases: Vec<(usize, usize)> =
-                halves.iter().map(|half| (archive.curve.double(half).degree(), half.degree())).collect();
-            assert_eq!(cases, [(3, 3), (2, 3), (1, 3), (3, 2), (2, 1), (0, 0)]);
-        }
-    }
-
-    /// The two archives on curves of seven coefficients have none of them 0 among f6, f5, f4 and f2, and 56 bytes for
-    /// it.
-    #[test]
-    fn curves_of_seven() {
-        for (_, archive) in [seven(), seven_low_degrees()] {
-            assert!([6, 5, 4, 2].iter().all(|&i| archive.curve.lower()[i] != 0));
-            assert_eq!(archive.bytes()[4..7], [0x41, 0, 56]);
-        }
-        assert_eq!((seven().1.operations.len(), seven().1.letters()), (12, ".--R-MMRR--M-".to_string()));
+        let (_, archive) = low_degrees();
+        let halves = archive.walk()[1..].to_vec();
+        let cases: Vec<(usize, usize)> =
+            halves.iter().map(|half| (archive.curve.double(half).degree(), half.degree())).collect();
+        assert_eq!(cases, [(3, 3), (2, 3), (1, 3), (3, 2), (2, 1), (0, 0)]);
     }
 
     #[test]

@@ -1,11 +1,11 @@
-//! The stored form (document 01, 'Stored form' and 'In checking order'; document 02, requests 8, 9 and 10): a writer,
-//! and a reader that refuses.
+//! The stored form (document 01, 'Stored form' and 'In checking order'; document 02, requests 8 and 9): a writer, and a
+//! reader that refuses.
 //!
 //! A field is a one-byte tag, a two-byte length and a body, high byte first; an element takes eight bytes. The reader
 //! takes the fields in their order and does with each all the checks from 102 to 111 before it begins the next.
 
 use crate::field::Field;
-use crate::jacobian::{is_plain_row, plain_row, Class, Curve};
+use crate::jacobian::{Class, Curve};
 
 pub const DEGREE: u8 = 0x40;
 pub const CURVE: u8 = 0x41;
@@ -22,24 +22,20 @@ pub const COUNT_LIMIT: u16 = 1024;
 /// The longest drawing number (document 02, request 1).
 pub const DRAWING_LIMIT: usize = 38;
 
-/// The lengths of a curve: f3, f1 and f0 of a plain one, and f6 down to f0 of another (document 02, request 10).
-pub const PLAIN_LENGTH: usize = 24;
-pub const SEVEN_LENGTH: usize = 56;
-
 /// The most pairs of an archive (document 02, request 9).
 pub const PAIRS_LIMIT: usize = 2048;
 
 /// The numbers of a later operation and of an earlier one, counted from the oldest, which is 1.
 pub type Pair = (u16, u16);
 
-/// A refusal's number, 101 to 125.
+/// A refusal's number, 101 to 124.
 pub type Refusal = u32;
 
 /// May the body of a field with this tag have this length?
 fn allowed(tag: u8, length: usize) -> bool {
     match tag {
         DEGREE => length == 1,
-        CURVE => [PLAIN_LENGTH, SEVEN_LENGTH].contains(&length),
+        CURVE => length == 24,
         DRAWING => length <= DRAWING_LIMIT,
         COUNT | RELEASED => length == 2,
         CLASS | OPERATION => [0, 16, 32, 48].contains(&length),
@@ -62,15 +58,8 @@ pub fn degree_field(degree: u8) -> Vec<u8> {
     field(DEGREE, &[degree])
 }
 
-/// The curve's field of length 24.
 pub fn curve_field(f3: u64, f1: u64, f0: u64) -> Vec<u8> {
     field(CURVE, &elements(&[f3, f1, f0]))
-}
-
-/// The curve's field of length 56, the coefficients given from f0 to f6: of a plain curve it is refused.
-pub fn seven_field(mut lower: [u64; 7]) -> Vec<u8> {
-    lower.reverse();
-    field(CURVE, &elements(&lower))
 }
 
 pub fn drawing_field(number: &[u8]) -> Vec<u8> {
@@ -115,22 +104,8 @@ pub fn operation_field(class: &Class) -> Vec<u8> {
 
 /// The degree and the curve, with which every record begins.
 pub fn curve_fields(curve: &Curve) -> [Vec<u8>; 2] {
-    let [f0, f1, _, f3, ..] = curve.lower();
-    let coefficients = if curve.is_plain() { curve_field(f3, f1, f0) } else { seven_field(curve.lower()) };
-    [degree_field(curve.field.degree as u8), coefficients]
-}
-
-/// Is the curve's field of an input, in its place after the degree's, one of 56 bytes with f6, f5, f4 and f2 all 0?
-pub fn is_long_plain(input: &[u8]) -> bool {
-    let starts = |head: &[u8]| input.len() >= 7 + SEVEN_LENGTH && input[4..7] == *head;
-    starts(&[CURVE, 0, SEVEN_LENGTH as u8]) && [0, 1, 2, 4].iter().all(|i| input[7 + 8 * i..15 + 8 * i] == [0; 8])
-}
-
-/// Such an input with the curve in the 24 bytes that it should have: for calls with a fault.
-pub fn shortened(input: &[u8]) -> Vec<u8> {
-    assert!(is_long_plain(input));
-    let [f3, lower] = [&input[31..39], &input[47..63]];
-    [&input[..4], &field(CURVE, &[f3, lower].concat()), &input[63..]].concat()
+    let [f3, f1, f0] = [3, 1, 0].map(|i| curve.f.coefficient(i));
+    [degree_field(curve.field.degree as u8), curve_field(f3, f1, f0)]
 }
 
 /// What is left of an input.
@@ -172,21 +147,11 @@ impl<'a> Reader<'a> {
         }
     }
 
-    /// The degree's field, 106, and the curve's, 107 and then 125: a plain curve has the shorter form alone.
+    /// The degree's field, 106, and the curve's, 107.
     pub fn curve(&mut self) -> Result<Curve, Refusal> {
         let field = Field::of_degree(self.body(DEGREE)?[0]).ok_or(106u32)?;
-        match Reader::numbers(field, self.body(CURVE)?, 107)?[..] {
-            [f3, f1, f0] => Ok(Curve::with_all(field, plain_row(f3, f1, f0))),
-            [f6, f5, f4, f3, f2, f1, f0] => {
-                let row = [f0, f1, f2, f3, f4, f5, f6];
-                if is_plain_row(&row) {
-                    Err(125)
-                } else {
-                    Ok(Curve::with_all(field, row))
-                }
-            }
-            _ => panic!("a curve has three coefficients or seven"),
-        }
+        let coefficients = Reader::numbers(field, self.body(CURVE)?, 107)?;
+        Ok(Curve::new(field, coefficients[0], coefficients[1], coefficients[2]))
     }
 
     /// 108.
@@ -310,93 +275,12 @@ mod tests {
     /// Every class of a bench curve is read back from the bytes that store it.
     #[test]
     fn form_and_class() {
-        for curve in [Curve::new(BENCH, 5, 19, 0), Curve::with_all(BENCH, [9, 5, 30, 1, 17, 2, 8])] {
-            for class in crate::bench_classes::all_classes(&curve) {
-                let stored = class_field(&class);
-                let mut reader = Reader::new(&stored);
-                assert_eq!(reader.class(&curve), Ok(class));
-                assert_eq!(reader.end(), Ok(()));
-            }
-        }
-    }
-
-    /// What is read of a degree and a curve's body of so many bytes.
-    fn read_curve(degree: u8, body: &[u8]) -> Result<Curve, Refusal> {
-        Reader::new(&[degree_field(degree), field(CURVE, body)].concat()).curve()
-    }
-
-    /// The body of 56 bytes, by hand, and that each curve is read back from the one form that it has.
-    #[test]
-    fn curves_of_both_lengths() {
-        let body: Vec<u8> = (1..=7).flat_map(|n| [0, 0, 0, 0, 0, 0, 0, n]).collect();
-        assert_eq!(seven_field([7, 6, 5, 4, 3, 2, 1]), [&[0x41, 0, 56][..], &body].concat());
-        assert_eq!(read_curve(5, &body).map(|curve| curve.lower()), Ok([7, 6, 5, 4, 3, 2, 1]));
-        for bits in 0..128 {
-            let lower: [u64; 7] = std::array::from_fn(|i| 31 * (bits >> i & 1));
-            let curve = Curve::with_all(BENCH, lower);
-            let plain = [2, 4, 5, 6].iter().all(|i| bits >> i & 1 == 0);
-            let stored = curve_fields(&curve).concat();
-            assert_eq!(stored.len(), 4 + 3 + if plain { 24 } else { 56 });
-            assert_eq!(Reader::new(&stored).curve(), Ok(curve.clone()));
-            let long = read_curve(5, &seven_field(lower)[3..]);
-            assert_eq!(long, if plain { Err(125) } else { Ok(curve) });
-        }
-    }
-
-    /// Every length but two is 104, whatever follows; a body that is cut short is 105.
-    #[test]
-    fn lengths_of_curves() {
-        for length in (0..400).chain([0x1838, 0x3800, 65_535]) {
-            let whole = [degree_field(5), field(CURVE, &vec![0; length])].concat();
-            let expected = match length {
-                24 => None,
-                56 => Some(125),
-                _ => Some(104),
-            };
-            assert_eq!(Reader::new(&whole).curve().err(), expected, "{length}");
-            let cut = if expected == Some(104) { 104 } else { 105 };
-            assert_eq!(
-                Reader::new(&whole[..whole.len() - 1]).curve().err().filter(|_| length > 0),
-                (length > 0).then_some(cut)
-            );
-        }
-    }
-
-    #[test]
-    fn long_forms_of_plain_curves() {
-        let record = |part: Vec<u8>| [degree_field(5), part, class_field(&Class::neutral())].concat();
-        let long = record(seven_field(plain_row(3, 2, 1)));
-        assert!(is_long_plain(&long));
-        assert_eq!(shortened(&long), record(curve_field(3, 2, 1)));
-        assert!(!is_long_plain(&record(curve_field(3, 2, 1))));
-        for i in [6, 5, 4, 2] {
-            let mut lower = plain_row(3, 2, 1);
-            lower[i] = 1;
-            assert!(!is_long_plain(&record(seven_field(lower))));
-        }
-        assert!(!is_long_plain(&long[..62]));
-    }
-
-    /// 107 at each of the seven coefficients, and before 125: also where the other four are 0.
-    #[test]
-    fn refusals_of_seven() {
-        for (field, least) in [(BENCH, 32u64), (WIDE, 1 << 61)] {
-            let read = |lower| read_curve(field.degree as u8, &seven_field(lower)[3..]);
-            assert_eq!(read([least - 1; 7]).map(|curve| curve.lower()), Ok([least - 1; 7]));
-            assert_eq!(read([0; 7]), Err(125));
-            for i in 0..7 {
-                let with = |others: u64, number: u64| {
-                    let mut lower = [others; 7];
-                    lower[i] = number;
-                    read(lower).err()
-                };
-                for above in [least, least + 1, 1 << 63, u64::MAX] {
-                    assert_eq!(with(0, above), Some(107));
-                    assert_eq!(with(1, above), Some(107));
-                }
-                assert_eq!(with(0, least - 1), [0, 1, 3].contains(&i).then_some(125));
-                assert_eq!(with(least - 1, 0), None);
-            }
+        let curve = Curve::new(BENCH, 5, 19, 0);
+        for class in crate::bench_classes::all_classes(&curve) {
+            let stored = class_field(&class);
+            let mut reader = Reader::new(&stored);
+            assert_eq!(reader.class(&curve), Ok(class));
+            assert_eq!(reader.end(), Ok(()));
         }
     }
 

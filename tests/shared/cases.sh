@@ -5,7 +5,7 @@
 
 # Is what the program answers to the cases of a kind, in as many lines as given, what the reference answers? All lines
 # are compared and not a digest of them, so that a failure shows the first calls that are answered otherwise.
-answers() { # FOLDER KIND LINES [F3 F1 F0 | F6 F5 F4 F3 F2 F1 F0]
+answers() { # FOLDER KIND LINES [F3 F1 F0]
     local folder=$1 kind=$2 lines=$3 made
     shift 3
     reference "$maker" "$kind" "$folder" "$@" && made=$(wc -l <"$folder/stdout") || return 1
@@ -25,14 +25,9 @@ answers() { # FOLDER KIND LINES [F3 F1 F0 | F6 F5 F4 F3 F2 F1 F0]
 # request 7), with refused calls at other places. What is expected of a changed list is what the first one came to,
 # moved from operation k on: after j operations by 2^(j-k) times E - D, which is made of sums by decimal digits and
 # neither by commits nor by doubling.
-#
-# `seven` has lists as the first ones on curves of seven coefficients (document 02, request 10). In those of `carried`
-# the register is carried to the plain curve after some calls; what is expected of taking these back from there is the
-# register noted before each, carried. Registers are carried by value alone, so that tests/history_trial alone runs it.
 # shellcheck disable=SC2034
 declare -A list_lines=(
     [bench]=13336 [known-halves]=1558 [wide]=6229 [full]=7297 [every-class]=64835 [displacement]=29258
-    [seven]=5103 [carried]=5779
 )
 # shellcheck disable=SC2034
 declare -A list_name=(
@@ -42,6 +37,4 @@ declare -A list_name=(
     [full]="1,024 commits over each field, and the way back, without releases and with them"
     [every-class]="an undo with every class of x^7, each taken back"
     [displacement]="one operation changed in lists of 1 to 64 commits over both fields"
-    [seven]="lists of commits, undos and releases on seventeen curves of seven coefficients, taken back"
-    [carried]="the same with the register carried to the plain curve on the way, taken back across that point"
 )

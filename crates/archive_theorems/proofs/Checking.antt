@@ -1,7 +1,7 @@
 -- Each refusal of an archive, under its condition and in its order (docs/SPECIFICATION.md, 6 and 9).
 -- `archive_checked`: the refusal of an archive is that of its fields' checks, header first and then the operations that
 -- its count says, then that of what follows them: their pairs, and the end.
--- `archive_answers`: it is 0, one of 102 to 112, 122, or 125.
+-- `archive_answers`: it is 0, one of 102 to 112, or 122.
 use Prim.Native.Nat.{ℕ, zero, suc}
 use mathlib.Core.Path.{◌≡◌, refl, sym, ap, subst, ◌∙◌}
 use mathlib.Core.{Bool.Bool, Bool.true, Bool.false, Bool.cond, List.List, List.[], List.◌∷◌, List.◌++◌}

@@ -16,13 +16,13 @@ use lib.Seq.{drop-cons, length-take-le}
 use borrow.Author.Tests.{ne_eqb, lt-ltb, le-ltb, le-leb}
 use Rattle.lists.specs.Lists.{All, none, more}
 use Rattle.lists.proofs.Lists.{all_at, all_take}
-use Rattle.jacobian.specs.{Answer.neutral_class, declared.Curve.Curve, declared.Class.Class}
-use Rattle.stored_form.specs.{Number.decode_number, Number.encode_number, Number.encode_numbers, Number.part, Head.body_length, Head.length_at, Head.encode_field, Head.BytesAt, Head.degree_length, Head.count_length}
+use Rattle.jacobian.specs.{Answer.neutral_class, Curves.coefficients, declared.Curve.Curve, declared.Class.Class}
+use Rattle.stored_form.specs.{Number.decode_number, Number.encode_number, Number.encode_numbers, Number.part, Head.body_length, Head.length_at, Head.encode_field, Head.BytesAt, Head.degree_length, Head.count_length, Elements.encode_elements}
 use Rattle.stored_form.specs.{Fields.degree_field, Fields.drawing_field, Fields.count_field, Fields.count_limit, Cuts.fields_end, Passing.ClassPasses, Pairs.pairs_field, Pairs.pair_at}
-use Rattle.stored_form.specs.Classes.{encode_curve, curve_field, curve_fields_bytes, encode_class, class_field, operation_fields}
+use Rattle.stored_form.specs.Classes.{curve_field, curve_fields_bytes, encode_class, class_field, operation_fields}
 use Rattle.stored_form.proofs.{Digits.length_bytes, Lengths.length_stored, NumberLists.length_encode_numbers, NumberLists.decode_numbers_at}
 use Rattle.stored_form_theorems.specs.Fields.{Field}
-use Rattle.stored_form_theorems.proofs.{Places.apart, Places.whole, Cuts.FieldsAt, Cuts.none, Cuts.field, Cuts.fields_at_end, Bodies.stored_length, Bodies.head_read, Pairs.some_field, Pairs.pairs_small, Elements.numbers_bytes, Places.part_part, CurveRoundTrips.curve_body_small, ClassRoundTrips.class_short, ClassRoundTrips.length_encoded}
+use Rattle.stored_form_theorems.proofs.{Places.apart, Places.whole, Cuts.FieldsAt, Cuts.none, Cuts.field, Cuts.fields_at_end, Bodies.stored_length, Bodies.head_read, Pairs.some_field, Pairs.pairs_small, Elements.numbers_bytes, Places.part_part, ClassRoundTrips.class_short, ClassRoundTrips.length_encoded}
 use Rattle.archive.specs.Archive.{Archive, neutral}
 use Rattle.archive.proofs.Skipped.{length_inside}
 use Rattle.archive_theorems.specs.Written.{archive_bytes, Storable}
@@ -54,7 +54,7 @@ unfolding class_field
 class_small tag c a ok = omega (arith, class_short tag c a ok.none, length_stored tag (encode_class a))
 
 pub layout : (s : List ℕ) (a : Archive) → s ≡ archive_bytes a → Storable a → Layout s a
-unfolding archive_bytes curve_fields_bytes degree_field curve_field drawing_field count_field class_field
+unfolding archive_bytes curve_fields_bytes degree_field curve_field coefficients drawing_field count_field class_field
 layout s a e ok =
     let c = a.curve in
     let n = length a.operations in
@@ -67,7 +67,7 @@ layout s a e ok =
     let f = apart (degree_field c.degree) (curve_field c) d.1 in
     let four =
     field 0x40 (encode_number degree_length c.degree) (omega (arith, length_bytes degree_length c.degree)) f.1
-    (field 0x41 (encode_curve c) (omega (arith, curve_body_small c)) f.2
+    (field 0x41 (encode_elements (coefficients c)) (omega (arith, length_encode_numbers 8 (coefficients c))) f.2
     (field 0x46 a.drawing (omega (arith, ok.drawing_short)) d.2
     (field 0x42 (encode_number count_length n) (omega (arith, length_bytes count_length n)) y.2 none))) in
     record {

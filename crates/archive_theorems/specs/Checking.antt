@@ -26,4 +26,4 @@ archive_checks s = fields_checks (archive_layout s) empty_record s 0 ++ tail_che
 
 -- the numbers with which an archive is refused
 abbrev pub archive_numbers : List ℕ
-archive_numbers = 102 ∷ 103 ∷ 104 ∷ 105 ∷ 106 ∷ 107 ∷ 108 ∷ 109 ∷ 110 ∷ 111 ∷ 112 ∷ 122 ∷ 125 ∷ []
+archive_numbers = 102 ∷ 103 ∷ 104 ∷ 105 ∷ 106 ∷ 107 ∷ 108 ∷ 109 ∷ 110 ∷ 111 ∷ 112 ∷ 122 ∷ []

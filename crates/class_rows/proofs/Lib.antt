@@ -9,4 +9,3 @@ pub mod CheckRows
 pub mod Tests
 pub mod Answers
 pub mod TakingBack
-pub mod CarryRows

@@ -2,7 +2,6 @@
 -- `shown`: rows of which `is_divisor` is true have twelve numbers each, and are a divisor of the curve of f.
 -- `divisor_iff`: of rows of twelve numbers it is true exactly where the degree is 5 or 61, f is monic of degree 7, and
 -- the rows are a reduced class of its curve.
--- `curve_decides`: of twelve numbers `is_curve` is true exactly where they are the f of a curve.
 use Prim.Native.Nat.{ℕ, zero, suc, ◌-◌, ◌≤◌, ◌<◌, ◌^◌}
 use mathlib.Core.{Path.◌≡◌, Path.refl, Path.sym, Path.◌∙◌, Path.ap, Path.subst, Bool.Bool, Bool.true, Bool.false, Bool.◌&&◌, List.List, List.[], List.◌∷◌, List.map, Logic.◌↔◌}
 use native.Mathlib.Omega.{arith}
@@ -11,7 +10,6 @@ use borrow.Author.Tests.{eqb-true, eq-eqb, ltb-true, lt-ltb, leb-true, le-leb}
 use Rattle.binary_field_theory.specs.Element.{is_degree, Accepted}
 use Rattle.binary_field.specs.Answer.{below}
 use Rattle.char2_algebra.specs.Lead.{Monic}
-use Rattle.class_group.specs.Curve as Theory
 use Rattle.class_group.specs.Coefficients.{monic_7, curve_of}
 use Rattle.row_theory.specs.{Field.𝔸, Field.el, Field.poly, Row.InRange, Row.places, Row.row_len}
 use Rattle.row_theory.proofs.Rows.{Elements.degree_is, Elements.zero_lt, Elements.el_one, Coefficients.coeff_poly, Coefficients.poly_is, Length.places_past, Length.places_len}
@@ -39,7 +37,7 @@ below_all m (n ∷ r) h = rw (lt-ltb n m (h 0 (omega arith))) (below_all m r (λ
 accepted_test : (d : ℕ) → is_degree d ≡ true → Accepted d
 accepted_test d e = subst T (sym e) tt
 
-pub test_accepted : (d : ℕ) → Accepted d → is_degree d ≡ true
+test_accepted : (d : ℕ) → Accepted d → is_degree d ≡ true
 test_accepted d = go (is_degree d)
   where
     go : (b : Bool) → T b → b ≡ true
@@ -107,10 +105,6 @@ module _ (d : ℕ) (f : List ℕ) where
         let n : places f ≡ 8 = places_len f refl d on.in_range ∙ ap (𝔸 d).len on.is_f ∙ C.f_len in
         rw (row_test ok row, eq-eqb (places f) 8 n, (monic_test ok row (λ z. omega arith)).1 (subst (Monic (𝔸 d)) (sym on.is_f) C.f_monic))
 
-    -- of twelve numbers the test is true exactly where they are the f of a curve
-    pub curve_decides : length f ≡ 12 → Decides (is_curve d f) ((C : Theory.Curve (𝔸 d)) × OnCurve d f C)
-    curve_decides size = (λ e. (row_curve d f, (curve_shown e).1), λ p. curve_test size p.1)
-
 -- ---- the pair
 module _ {d : ℕ} {a : RowPair} (ok : Accepted d) where
   pair_shown : is_pair d a ≡ true → (length a.u ≡ 12) × (length a.v ≡ 12) × FormedPair d a
@@ -160,13 +154,9 @@ pub record Sized (a : RowPair) : Type 0 where
   pub u_size : length a.u ≡ 12
   pub v_size : length a.v ≡ 12
 
--- a row of the code in a struct has twelve numbers; the logic says it of the row under a map that changes no number
-pub row_sized : (r : List ℕ) → length (map (λ v. v) r) ≡ 12 → length r ≡ 12
-row_sized r e = sym (length-map r (λ v. v)) ∙ e
-
--- the same of a pair
+-- a pair of the code has rows of twelve numbers; the logic says it of each row under a map that changes no number
 pub sized : (a : RowPair) → length (map (λ v. v) a.u) ≡ 12 → length (map (λ v. v) a.v) ≡ 12 → Sized a
-sized a u v = record { u_size = row_sized a.u u; v_size = row_sized a.v v }
+sized a u v = record { u_size = sym (length-map a.u (λ v. v)) ∙ u; v_size = sym (length-map a.v (λ v. v)) ∙ v }
 
 -- rows of which the check is true
 pub record Shown (d : ℕ) (f : List ℕ) (a : RowPair) : Type 0 where

@@ -4,5 +4,4 @@ pub mod Core
 pub mod Operations
 pub mod Checked
 pub mod Answer
-pub mod Carried
 pub mod internal

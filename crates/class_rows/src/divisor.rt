@@ -45,7 +45,7 @@ fn is_monic(d: u8, r: Row) -> bool
 }
 
 // Is f monic of degree 7?
-pub(crate) fn is_curve(d: u8, f: Row) -> bool
+fn is_curve(d: u8, f: Row) -> bool
     requires { Accepted d }
     ensures { Decides result ((C : TheoryCurve (𝔸 d)) × OnCurve d f C) }
 {

@@ -1,11 +1,9 @@
 // Pairs of rows of coefficients, for the calls on classes by value in the crate above: whether a pair is a reduced
-// divisor of the curve of the row f, the operations on one such pair and on two, and a pair carried between a curve and
-// its plain curve. Each function checks its rows, by one division for each pair. The quotient w = (v² + v + f) / u
-// serves the double and the half.
+// divisor of the curve of the row f, and the operations on one such pair and on two. Each function checks its rows, by
+// one division for each pair. The quotient w = (v² + v + f) / u serves the double and the half.
 ghost use mathlib.Core.{Path.◌≡◌, Bool.false};
 ghost use Rattle.class_rows.specs.{Checked.is_divisor, Answer.UnaryAnswers, Answer.BinaryAnswers};
 
-pub mod carrying;
 mod composition;
 mod divisor;
 mod element;

@@ -1,8 +1,8 @@
 // Answers calls on classes that it reads from standard input, one line for each.
 //
-// A case is 170 bytes: the call, the degree d, the coefficients f6 to f0 of the curve, and two classes; the calls on one
-// class ignore the second. A class is its degree, u0, u1, u2, v0, v1 and v2. All numbers but d take eight bytes, high
-// byte first. The calls are
+// A case is 138 bytes: the call, the degree d, f3, f1 and f0, and two classes; the calls on one class ignore the
+// second. A class is its degree, u0, u1, u2, v0, v1 and v2. All numbers but d take eight bytes, high byte first. The
+// calls are
 //
 //     1 membership                            7 double of the half
 //     2 opposite                              8 double, with its reduction steps
@@ -13,25 +13,21 @@
 //    13 the class of a stamp, which is the number at the first class's degree
 //    14 the first class times a number, which is the one at the second class's degree
 //    15 the first class halved as often as that number says
-//    16 the plain curve of the curve
-//    17 the first class carried to the plain curve
-//    18 the first class, of the plain curve, carried back
 //
 // The line is the class as degree, u and v with colons between, coefficients from the highest power down in hexadecimal
-// with commas between, then for 8 and 9 a space and the number of steps; for 1 and 12 `accepted`; for 16 the
-// coefficients f6 to f0 with commas between; or `refused` and the refusal's number. Any other first byte is answered by
-// `no such call`, and fewer than 170 bytes at the end by `cut short`.
+// with commas between, then for 8 and 9 a space and the number of steps; for 1 and 12 `accepted`; or `refused` and the
+// refusal's number. Any other first byte is answered by `no such call`, and fewer than 138 bytes at the end by
+// `cut short`.
 ghost use Rattle.std.specs.Prelude.{◌≤◌};
 
-use jacobian::carrying::CurveAnswer;
-use jacobian::{Class, ClassAnswer, Curve, Outcome, carrying};
+use jacobian::{Class, ClassAnswer, Curve, Outcome};
 use seal_licence::multiples;
 use seal_licence::multiples::ClassResult;
 use text::Line;
 
 // The class whose seven numbers start at an index of the case.
-fn class(case: &[u8; 170], place: u8) -> Class
-    requires { place ≤ 14 }
+fn class(case: &[u8; 138], place: u8) -> Class
+    requires { place ≤ 10 }
 {
     Class {
         degree: trial_text::number(case, place),
@@ -41,8 +37,8 @@ fn class(case: &[u8; 170], place: u8) -> Class
 }
 
 // The curve of the case.
-fn curve(case: &[u8; 170]) -> Curve {
-    jacobian::curves::curve_with(case[1], trial_text::seven(case, 0))
+fn curve(case: &[u8; 138]) -> Curve {
+    jacobian::curves::curve_with(case[1], trial_text::row(case, 0))
 }
 
 // The line with a class appended.
@@ -82,17 +78,6 @@ fn result_text(answer: ClassResult) -> Line {
     let outcome = answer.outcome;
     let class = answer.class;
     class_text(outcome, class)
-}
-
-// The text of the call that answers a curve.
-fn curve_text(answer: CurveAnswer) -> Line {
-    let start = text::empty();
-    let outcome = answer.outcome;
-    let curve = answer.curve;
-    match outcome {
-        Outcome::Accepted => trial_text::with_seven(start, jacobian::curves::coefficients(curve)),
-        Outcome::Refused(number) => text::with_refusal(start, number),
-    }
 }
 
 // The text of a call with its number of reduction steps.
@@ -145,20 +130,17 @@ fn call_text(call: u8, curve: Curve, a: Class, b: Class) -> Line {
         13 => answer_text(stamps::stamp(curve, a.degree)),
         14 => result_text(multiples::multiple(curve, a, b.degree)),
         15 => result_text(multiples::halvings(curve, a, b.degree)),
-        16 => curve_text(carrying::plain_curve(curve)),
-        17 => answer_text(carrying::carry(curve, a)),
-        18 => answer_text(carrying::carry_back(curve, a)),
         _ => text::with_bytes(text::empty(), b"no such call"),
     }
 }
 
 // Reads one case, writes its line, and answers whether to go on.
 fn answer_case() -> bool {
-    let mut case = [0u8; 170];
-    if trial_text::read_case(&mut case) < 170 {
+    let mut case = [0u8; 138];
+    if trial_text::read_case(&mut case) < 138 {
         return false;
     }
-    let told = call_text(case[0], curve(&case), class(&case, 7), class(&case, 14));
+    let told = call_text(case[0], curve(&case), class(&case, 3), class(&case, 10));
     text::write_line(text::with_byte(told, b'\n'));
     true
 }

@@ -1,7 +1,6 @@
 -- Demand 1 of the register by value: every answer is an acceptance or a listed refusal.
 -- `register_refusal_valid`: the refusal of a register is valid.
 -- `call_refusal_valid`: the refusal of a call is valid.
--- `follows_valid`: an answer with a register, or a refusal with a listed number, is valid.
 -- `call_valid`: a call answers an acceptance with the next register, or one of its own refusals and the register given.
 -- `call_never`: a call never refuses with a number that is not among its own.
 -- `call_never_117`: so no call answers 117.
@@ -48,7 +47,7 @@ call_refusal_valid r (step k a) =
 call_refusal_valid r release = register_refusal_valid r
 
 -- ---- the calls
-pub follows_valid : (ns : List ℕ) (n : ℕ) (given next : Register) → (¬ (n ≡ 0) → listed n ns ≡ true) → ValidRegisterReply ns given (follows n given next)
+follows_valid : (ns : List ℕ) (n : ℕ) (given next : Register) → (¬ (n ≡ 0) → listed n ns ≡ true) → ValidRegisterReply ns given (follows n given next)
 unfolding follows
 follows_valid ns zero given next h = checking.ValidRegisterReply.acceptance next
 follows_valid ns (suc n) given next h = checking.ValidRegisterReply.refusal (suc n) (h (λ e. omega arith))

@@ -2,5 +2,4 @@
 pub mod Machine
 pub mod Register
 pub mod Calls
-pub mod Carrying
 pub mod Checking

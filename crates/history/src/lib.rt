@@ -1,14 +1,12 @@
-// The history register by value: a commit, an undo, a release and carrying return the next register, or a refusal and
-// the register given. The refusal is that of the first check that fails, in the stored order: 106 and 107 of the curve,
-// 109 of the count, 120 of the released step, 104, 110 and 111 of the seal and then of the class, last 114, or 113 and
-// 121.
+// The history register by value: a commit, an undo and a release return the next register, or a refusal and the
+// register given. The refusal is that of the first check that fails, in the stored order: 106 and 107 of the curve, 109
+// of the count, 120 of the released step, 104, 110 and 111 of the seal and then of the class, last 114, or 113 and 121.
 // One step of a walk, which has no register, is jacobian::subtract_and_halve.
 ghost use Rattle.std.specs.Prelude.{ℕ, ◌≡◌};
 ghost use Rattle.jacobian.specs.{Checks.◌or_else◌, Curves.curve_refusal, Answer.refusal_of_two, Answer.reply, Answer.result};
 ghost use Rattle.jacobian.specs.declared.Class.{Class as Seal};
 ghost use Rattle.count_limit.specs.Limit.{count_refusal, released_refusal};
 ghost use Rattle.history.specs.declared.Register.{Register as Value};
-ghost use Rattle.history.specs.Carrying.{carry_register_answer};
 ghost use Rattle.history.specs.Register.{register_refusal, edge_refusal, with_count_and_seal, sealed, register_reply, follows, commit_answer, release_answer, StepAnswers, UndoAnswers};
 
 use jacobian::{Class, ClassAnswer, Curve, Outcome};
@@ -212,31 +210,6 @@ impl Register {
         RegisterAnswer {
             outcome: Outcome::Accepted,
             register: released,
-        }
-    }
-
-    // The curve becomes its plain curve, the seal is carried there, and all else stays.
-    pub fn carry(self) -> RegisterAnswer
-        ensures { register_reply result ≡ carry_register_answer self }
-    {
-        let curve = self.curve;
-        let seal = self.seal;
-        let n = register_refusal(self);
-        if n != 0 {
-            return kept(self, n);
-        }
-        let plain = jacobian::carrying::plain_curve(curve);
-        let carried = jacobian::carrying::carry(curve, seal);
-        let next = plain.curve;
-        let there = carried.class;
-        RegisterAnswer {
-            outcome: Outcome::Accepted,
-            register: Register {
-                curve: next,
-                count: self.count,
-                seal: there,
-                released: self.released,
-            },
         }
     }
 }

@@ -1,16 +1,16 @@
 // Answers calls on one history register that it reads from standard input, one line for each.
 //
-// A case is 186 bytes: the call (0 start, 1 commit, 2 undo, 3 show, 4 release, 5 carry), the degree d, the coefficients
-// f6 to f0 of the curve, the count, the seal, the released step and an operation's class. A class is its degree, u0,
-// u1, u2, v0, v1 and v2. All numbers but d take eight bytes, high byte first. A start takes d to the released step as
-// the register and ignores the class; a commit and an undo take the class alone, a release and carrying nothing, on the
-// register that the call before returned, also after a refusal. Before the first start the register has degree 0.
+// A case is 154 bytes: the call (0 start, 1 commit, 2 undo, 3 show, 4 release), the degree d, f3, f1 and f0, the count,
+// the seal, the released step and an operation's class. A class is its degree, u0, u1, u2, v0, v1 and v2. All numbers
+// but d take eight bytes, high byte first. A start takes d to the released step as the register and ignores the class;
+// a commit and an undo take the class alone, and a release nothing, on the register that the call before returned, also
+// after a refusal. Before the first start the register has degree 0.
 //
-// For a commit, an undo, a release and carrying the line is the count, the released step and the seal, or `refused` and
-// the refusal's number; the seal is printed as degree, u and v with colons between, coefficients from the highest power
+// For a commit, an undo and a release the line is the count, the released step and the seal, or `refused` and the
+// refusal's number; the seal is printed as degree, u and v with colons between, coefficients from the highest power
 // down in hexadecimal with commas between. For a show it is every number of the register, whether or not it passes the
 // checks.
-// A start has no line. Any other first byte is answered by `no such call`, and fewer than 186 bytes at the end by
+// A start has no line. Any other first byte is answered by `no such call`, and fewer than 154 bytes at the end by
 // `cut short`.
 ghost use Rattle.std.specs.Prelude.{◌≤◌};
 
@@ -26,8 +26,8 @@ struct Turn {
 }
 
 // The class whose seven numbers start at an index of the case.
-fn class(record: &[u8; 186], place: u8) -> Class
-    requires { place ≤ 16 }
+fn class(record: &[u8; 154], place: u8) -> Class
+    requires { place ≤ 12 }
 {
     Class {
         degree: trial_text::number(record, place),
@@ -37,13 +37,13 @@ fn class(record: &[u8; 186], place: u8) -> Class
 }
 
 // The register that a case starts.
-fn started(record: &[u8; 186]) -> Register {
-    let curve = jacobian::curves::curve_with(record[1], trial_text::seven(record, 0));
+fn started(record: &[u8; 154]) -> Register {
+    let curve = jacobian::curves::curve_with(record[1], trial_text::row(record, 0));
     Register {
         curve,
-        count: trial_text::number(record, 7),
-        seal: class(record, 8),
-        released: trial_text::number(record, 15),
+        count: trial_text::number(record, 3),
+        seal: class(record, 4),
+        released: trial_text::number(record, 11),
     }
 }
 
@@ -92,7 +92,7 @@ fn register_text(register: Register) -> Line {
     let seal = register.seal;
     let degree = text::with_decimal(text::empty(), curve.degree as u64);
     let cs = jacobian::curves::coefficients(curve);
-    let row = trial_text::with_seven(text::with_byte(degree, b' '), cs);
+    let row = text::with_row(text::with_byte(degree, b' '), 3, [cs[2], cs[1], cs[0]]);
     let counts = with_counts(
         text::with_byte(row, b' '),
         register.count,
@@ -102,17 +102,16 @@ fn register_text(register: Register) -> Line {
 }
 
 // Makes the call of a case, writes its line and returns the next register.
-fn answer_record(record: &[u8; 186], register: Register) -> Register {
+fn answer_record(record: &[u8; 154], register: Register) -> Register {
     match record[0] {
         0 => started(record),
-        1 => write_answer(register.commit(class(record, 16))),
-        2 => write_answer(register.undo(class(record, 16))),
+        1 => write_answer(register.commit(class(record, 12))),
+        2 => write_answer(register.undo(class(record, 12))),
         3 => {
             write_told(register_text(register));
             register
         }
         4 => write_answer(register.release()),
-        5 => write_answer(register.carry()),
         _ => {
             write_told(text::with_bytes(text::empty(), b"no such call"));
             register
@@ -122,8 +121,8 @@ fn answer_record(record: &[u8; 186], register: Register) -> Register {
 
 // Reads one case and answers it.
 fn next_record(register: Register) -> Turn {
-    let mut record = [0u8; 186];
-    if trial_text::read_case(&mut record) < 186 {
+    let mut record = [0u8; 154];
+    if trial_text::read_case(&mut record) < 154 {
         return Turn {
             more: false,
             register,

@@ -1,12 +1,12 @@
 -- Which curves and classes are accepted (docs/SPECIFICATION.md, 2, 3 and 6).
--- `curve_accepted_iff`: a curve is accepted exactly where its degree is 5 or 61 and f6 to f0 are below 2^d.
--- `curve_polynomial`: the polynomial of an accepted curve is x^7 + f6 x^6 + .. + f0.
+-- `curve_accepted_iff`: a curve is accepted exactly where its degree is 5 or 61 and f3, f1 and f0 are below 2^d.
+-- `curve_polynomial`: the polynomial of an accepted curve is x^7 + f3 x^3 + f1 x + f0.
 -- `of_accepts`: membership is answered for a class that no check refuses.
 -- `membership_iff`: a class is accepted exactly where the curve is and the class stands for a reduced class of it.
 use Prim.Native.Nat.{ℕ, zero, suc, ◌^◌, ◌≤◌, ◌<◌}
-use mathlib.Core.{Path.◌≡◌, Path.refl, Path.sym, Path.ap, Path.subst, Path.◌∙◌, Logic.◌↔◌, Logic.◌⊎◌}
+use mathlib.Core.{Path.◌≡◌, Path.refl, Path.sym, Path.ap, Path.subst, Path.◌∙◌, List.[], List.◌∷◌, Logic.◌↔◌, Logic.◌⊎◌}
 use native.Mathlib.{Omega.arith, Decide.dec_le, Decide.ℕ_discrete}
-use lib.ListN.{get_or, get_or-eq_default}
+use lib.ListN.{get_or}
 use Rattle.lists.specs.Lists.{All, none, more}
 use Rattle.char2_algebra.proofs.Lead.{len_by_top}
 use Rattle.class_group.specs.Mumford.{Pair}
@@ -40,18 +40,18 @@ module _ (c : Curve) where
   unfolding curve_answer
   zero_curve e = zero_verdict (curve_refusal c) e
 
-  seven : AllHold (curve_checks c) → ((c.degree ≡ 5) ⊎ (c.degree ≡ 61)) × (c.f6 < 2 ^ c.degree) × (c.f5 < 2 ^ c.degree) × (c.f4 < 2 ^ c.degree) × (c.f3 < 2 ^ c.degree) × (c.f2 < 2 ^ c.degree) × (c.f1 < 2 ^ c.degree) × (c.f0 < 2 ^ c.degree)
+  three : AllHold (curve_checks c) → ((c.degree ≡ 5) ⊎ (c.degree ≡ 61)) × (c.f3 < 2 ^ c.degree) × (c.f1 < 2 ^ c.degree) × (c.f0 < 2 ^ c.degree)
   unfolding coefficients
-  seven h = by h.0 h.1
+  three h = by h.0 h.1
     where
-      by : {P : Type 0} → P → All (λ n. n < 2 ^ c.degree) (coefficients c) × Unit {0} → P × (c.f6 < 2 ^ c.degree) × (c.f5 < 2 ^ c.degree) × (c.f4 < 2 ^ c.degree) × (c.f3 < 2 ^ c.degree) × (c.f2 < 2 ^ c.degree) × (c.f1 < 2 ^ c.degree) × (c.f0 < 2 ^ c.degree)
-      by p (more f6 (more f5 (more f4 (more f3 (more f2 (more f1 (more f0 none)))))), t) = (p, f6, f5, f4, f3, f2, f1, f0)
+      by : {P : Type 0} → P → All (λ n. n < 2 ^ c.degree) (c.f3 ∷ c.f1 ∷ c.f0 ∷ []) × Unit {0} → P × (c.f3 < 2 ^ c.degree) × (c.f1 < 2 ^ c.degree) × (c.f0 < 2 ^ c.degree)
+      by p (more x (more y (more z none)), t) = (p, x, y, z)
 
-  pub curve_accepted_iff : (curve_answer c ≡ accepted) ↔ (((c.degree ≡ 5) ⊎ (c.degree ≡ 61)) × (c.f6 < 2 ^ c.degree) × (c.f5 < 2 ^ c.degree) × (c.f4 < 2 ^ c.degree) × (c.f3 < 2 ^ c.degree) × (c.f2 < 2 ^ c.degree) × (c.f1 < 2 ^ c.degree) × (c.f0 < 2 ^ c.degree))
+  pub curve_accepted_iff : (curve_answer c ≡ accepted) ↔ (((c.degree ≡ 5) ⊎ (c.degree ≡ 61)) × (c.f3 < 2 ^ c.degree) × (c.f1 < 2 ^ c.degree) × (c.f0 < 2 ^ c.degree))
   unfolding coefficients
   curve_accepted_iff = (
-    λ e. seven (held_refusal (curve_checked c) (curve_zero e)),
-    λ h. zero_curve (refusal_held (curve_checked c) (h.0, (more h.1 (more h.2 (more h.3 (more h.4 (more h.5 (more h.6 (more h.7 none)))))), tt))),
+    λ e. three (held_refusal (curve_checked c) (curve_zero e)),
+    λ h. zero_curve (refusal_held (curve_checked c) (h.0, (more h.1 (more h.2 (more h.3 none)), tt))),
   )
 
   module _ (accepts : curve_answer c ≡ accepted) where
@@ -70,15 +70,22 @@ module _ (c : Curve) where
     unfolding f_row
     curve_polynomial = record {
       at_7 = coefficient 7 ∙ el_one d;
-      at_6 = number_at 6;
-      at_5 = number_at 5;
-      at_4 = number_at 4;
       at_3 = number_at 3;
-      at_2 = number_at 2;
       at_1 = number_at 1;
       at_0 = number_at 0;
-      past_7 = λ i h. coefficient i ∙ ap (el d) (get_or-eq_default (f_row c) 0 h) ∙ el_zero d;
+      elsewhere = λ i a b e g. coefficient i ∙ ap (el d) (blank i a b e g) ∙ el_zero d;
     }
+      where
+        blank : (i : ℕ) → ¬ (i ≡ 7) → ¬ (i ≡ 3) → ¬ (i ≡ 1) → ¬ (i ≡ 0) → get_or (f_row c) i 0 ≡ 0
+        blank zero a b e g = absurd (g refl)
+        blank (suc zero) a b e g = absurd (e refl)
+        blank (suc (suc zero)) a b e g = refl
+        blank (suc (suc (suc zero))) a b e g = absurd (b refl)
+        blank (suc (suc (suc (suc zero)))) a b e g = refl
+        blank (suc (suc (suc (suc (suc zero))))) a b e g = refl
+        blank (suc (suc (suc (suc (suc (suc zero)))))) a b e g = refl
+        blank (suc (suc (suc (suc (suc (suc (suc zero))))))) a b e g = absurd (a refl)
+        blank (suc (suc (suc (suc (suc (suc (suc (suc i)))))))) a b e g = refl
 
 -- ---- a class in form stands for its pair
 

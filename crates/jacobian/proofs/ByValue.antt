@@ -8,4 +8,3 @@ pub mod Pairs
 pub mod Passing
 pub mod Answers
 pub mod Refusals
-pub mod Carried

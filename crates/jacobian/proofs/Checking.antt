@@ -7,7 +7,6 @@
 -- refused with the number of the first that fails.
 -- `unary_answered`, `binary_answered`: so is that of each call on one class and on two; a refusal has the neutral class
 -- and no step.
--- `reply_by`: an answer with a class, or the refusal of its checks, is one by these checks.
 -- `reply_number`: an answer by checks is refused with the number of the first that fails.
 -- `reply_fails`: where it is refused with a number, the first check that fails has it.
 -- `curve_numbered`, `membership_numbered`, `unary_numbered`, `binary_numbered`: each call refuses with its own numbers.
@@ -105,7 +104,7 @@ verdict_by cs (suc n) (all_hold e h) = absurd (omega arith)
 verdict_by cs zero (first_fails z h) = absurd (z refl)
 verdict_by cs (suc n) (first_fails z h) = checking.VerdictOf.refuses (suc n) refl h
 
-pub reply_by : (cs : List Check) (n d : ℕ) (D : Counted (Poly d)) → RefusalOf cs n → ReplyOf cs (answered d n D)
+reply_by : (cs : List Check) (n d : ℕ) (D : Counted (Poly d)) → RefusalOf cs n → ReplyOf cs (answered d n D)
 unfolding answered
 reply_by cs zero d D (all_hold e h) = checking.ReplyOf.accepts refl h
 reply_by cs (suc n) d D (all_hold e h) = absurd (omega arith)

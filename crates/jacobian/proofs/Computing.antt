@@ -14,7 +14,7 @@ use Rattle.class_group.specs.Reduction.{reduction_step, reduce_to, reduce}
 use Rattle.class_group.specs.Operations.{counted_sum, counted_double, sum, double}
 use Rattle.class_group.specs.Half.{lift, exchange, halved, quadratic, half_of_degree_1, lifted_half_of_degree_2, half_of_degree_2, exchanged_of_degree_3, lifted_half_of_degree_3, half_of_degree_3, triple, half_by, half}
 use Rattle.row_theory.specs.Field.{degree_of, accepted, F, 𝔸, el, poly}
-use Rattle.jacobian.specs.Curves.{coefficients, curve_with, plain_with, f_row, degree_refusal, coefficient_refusal, curve_refusal, curve}
+use Rattle.jacobian.specs.Curves.{coefficients, curve_with, f_row, degree_refusal, coefficient_refusal, curve_refusal, curve}
 use Rattle.jacobian.specs.Checks.{unless, ◌or_else◌, blank}
 use Rattle.binary_field.specs.Answer.{below}
 use Rattle.jacobian.specs.Classes.{u_row, pair, numbers, class_of, padded, shape_refusal, range_refusal, class_refusal}
@@ -37,7 +37,7 @@ unfolding lift exchange halved quadratic half_of_degree_1 lifted_half_of_degree_
 halving = tt
 
 unfoldable pub by_value : Unit {0}
-unfolding monic_7 curve_of unless ◌or_else◌ below blank coefficients curve_with plain_with f_row degree_refusal coefficient_refusal curve_refusal curve u_row pair numbers class_of padded shape_refusal range_refusal class_refusal
+unfolding monic_7 curve_of unless ◌or_else◌ below blank coefficients curve_with f_row degree_refusal coefficient_refusal curve_refusal curve u_row pair numbers class_of padded shape_refusal range_refusal class_refusal
 by_value = tt
 
 unfoldable pub answers : Unit {0}

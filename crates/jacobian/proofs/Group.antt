@@ -1,7 +1,6 @@
 -- The calls by value as a group (docs/SPECIFICATION.md, 11). Calls.antt has the laws one by one, between answers.
 -- `group`: the accepted classes of an accepted curve are a commutative group under what the calls answer.
 -- `doubling`: doubling in it is one to one, so that class_group's laws of such groups hold of the calls.
--- `halving`: each accepted class has exactly one half, that of the call.
 -- `sum_given`, `opposite_given`: these calls on accepted classes are not refused.
 -- `difference_accepts`: a difference of accepted classes is accepted.
 -- `doublings_give`, `doublings_accept`: none of k doublings is refused, and their class is accepted.
@@ -9,14 +8,14 @@
 -- `double_and_add_is`: double and add is the sum with the double.
 use Prim.Native.Nat.{ℕ, suc, ◌^◌}
 use mathlib.Core.Path.{◌≡◌, sym, ◌∙◌, ap}
-use Rattle.class_group.specs.{Group.CommutativeGroup, Group.Doubling, Group.Halving, Multiples.repeat, Multiples.multiple, Operations.sum, Moves.double_and_add}
+use Rattle.class_group.specs.{Group.CommutativeGroup, Group.Doubling, Multiples.repeat, Multiples.multiple, Operations.sum, Moves.double_and_add}
 use Rattle.class_group.proofs.{Closed.double_reduced, Group.double_sum, Doublings.doublings_member, Doublings.doublings_multiple}
 use Rattle.jacobian.specs.{Curves.curve_refusal, Curves.curve, Classes.pair, Classes.class_of}
 use Rattle.jacobian.specs.Answer.{Accepts, Result, result, gives, neutral_class, opposite_answer, double_answer, half_answer, sum_answer, double_and_add_answer}
 use Rattle.jacobian.specs.Group.{sum_of, opposite_of, double_of, difference, doublings}
 use Rattle.jacobian.specs.declared.{Curve.Curve, Class.Class}
 use Rattle.jacobian.proofs.Representation.{accepts_curve}
-use Rattle.jacobian.proofs.Calls.{reduced, class_pair, opposite_gives, double_gives, sum_gives, opposite_accepts, double_accepts, sum_accepts, neutral_accepts, half_accepts, double_of_half, half_of_double, sum_answer_comm, sum_answer_assoc, sum_answer_neutral, sum_answer_opposite}
+use Rattle.jacobian.proofs.Calls.{reduced, class_pair, opposite_gives, double_gives, sum_gives, opposite_accepts, double_accepts, sum_accepts, neutral_accepts, half_of_double, sum_answer_comm, sum_answer_assoc, sum_answer_neutral, sum_answer_opposite}
 use Rattle.jacobian.proofs.Moves.{double_and_add_gives}
 
 -- the class of an answer that gives one
@@ -52,9 +51,6 @@ module _ (c : Curve) where
     double_injective = λ h k e.
         sym (class_is (half_of_double c h)) ∙ ap (λ (a : Class). (half_answer c a).class) e ∙ class_is (half_of_double c k);
   }
-
-  pub halving : curve_refusal c ≡ 0 → Halving (Accepts c) (sum_of c) neutral_class (opposite_of c) (double_of c) (λ a. (half_answer c a).class)
-  halving ok = record { doubling = doubling ok; half_closed = λ h. half_accepts c h; double_half = λ h. class_is (double_of_half c h) }
 
   -- ---- no call on accepted classes is refused
   pub opposite_given : {a : Class} → Accepts c a → result (opposite_answer c a) ≡ gives (opposite_of c a)

@@ -12,4 +12,3 @@ pub mod Acceptance
 pub mod Edges
 pub mod Steps
 pub mod Valid
-pub mod PlainCurves

@@ -2,7 +2,6 @@
 -- `curve_refusal_valid`, `class_refusal_valid`: the refusal of a curve and of a class is valid, 0 or a listed number.
 -- `refusal_valid`, `refusal_of_two_valid`: so is the refusal of a call on one class and on two.
 -- `verdict_valid`: the verdict of a valid refusal is valid.
--- `answered_valid`: an answer with a class, or a valid refusal, is valid.
 -- `curve_valid`, `membership_valid`: a curve or a class is accepted, or refused with a listed number.
 -- `unary_valid`: an opposite, double or half is accepted, or refused with a listed number, the neutral class and
 -- no step.
@@ -44,7 +43,7 @@ verdict_valid zero t = valid.ValidVerdict.acceptance
 verdict_valid (suc n) (inl e) = absurd (omega arith)
 verdict_valid (suc n) (inr r) = valid.ValidVerdict.refusal (suc n) r
 
-pub answered_valid : (d n : ℕ) (D : Counted (Poly d)) → ValidRefusal n → ValidReply (answered d n D)
+answered_valid : (d n : ℕ) (D : Counted (Poly d)) → ValidRefusal n → ValidReply (answered d n D)
 unfolding ValidRefusal answered
 answered_valid d zero D t = valid.ValidReply.acceptance _ _
 answered_valid d (suc n) D (inl e) = absurd (omega arith)

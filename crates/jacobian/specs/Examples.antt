@@ -7,7 +7,7 @@ use Rattle.class_group.specs.Half.{half}
 use Rattle.row_theory.specs.Field.{Poly}
 use Rattle.jacobian.specs.declared.Curve.{Curve}
 use Rattle.jacobian.specs.declared.Class.{Class}
-use Rattle.jacobian.specs.Curves.{curve, plain_with}
+use Rattle.jacobian.specs.Curves.{curve, curve_with}
 use Rattle.jacobian.specs.Classes.{pair}
 use Rattle.jacobian.specs.Answer.{Result, result, accepted, refused, membership_answer, double_answer, half_answer, sum_answer}
 
@@ -33,11 +33,11 @@ Holds (on_and_not_on c e a) = (membership_answer c a ≡ accepted) × (membershi
 
 -- the curve of f = x^7
 abbrev pub A : ℕ → Curve
-A d = plain_with d (0 ∷ 0 ∷ 0 ∷ [])
+A d = curve_with d (0 ∷ 0 ∷ 0 ∷ [])
 
 -- the curve of f = x^7 + 1
 abbrev pub B : ℕ → Curve
-B d = plain_with d (0 ∷ 0 ∷ 1 ∷ [])
+B d = curve_with d (0 ∷ 0 ∷ 1 ∷ [])
 
 -- the classes [u, v] by value: the degree of u, the coefficients of u below its leading term, and those of v, the
 -- lowest power first

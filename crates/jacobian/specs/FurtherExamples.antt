@@ -1,20 +1,19 @@
--- Examples of our own, on plain curves whose f3, f1 and f0 are all different and neither 0 nor 1 (docs/SPECIFICATION.md, 2):
+-- Examples of our own, on curves whose f3, f1 and f0 are all different and neither 0 nor 1 (docs/SPECIFICATION.md, 2):
 -- sums, doubles, halves, and classes that are not on the curve with f3 and f1 exchanged. The numbers are those of the
 -- second implementation, reference/; proofs/Examples.antt proves that every row holds.
 use Rattle.std.specs.Prelude.{List, [], ◌∷◌}
 use Rattle.jacobian.specs.declared.{Curve.Curve, Class.Class}
-use Rattle.jacobian.specs.Curves.{plain_with}
 use Rattle.jacobian.specs.Examples.{Example, twice_is, half_is, sum_is, on_and_not_on}
 
 -- ---- over the bench field
 
 -- the curve of f = x^7 + 6 x^3 + 11 x + 21, where the numbers are elements
 abbrev pub bench_curve : Curve
-bench_curve = plain_with 5 (6 ∷ 11 ∷ 21 ∷ [])
+bench_curve = record { degree = 5; f3 = 6; f1 = 11; f0 = 21 }
 
 -- the same with f3 and f1 exchanged
 abbrev pub bench_exchanged : Curve
-bench_exchanged = plain_with 5 (11 ∷ 6 ∷ 21 ∷ [])
+bench_exchanged = record { degree = 5; f3 = 11; f1 = 6; f0 = 21 }
 
 -- two classes, their sum, and twice the first
 abbrev pub bench_first : Class
@@ -42,11 +41,11 @@ bench_table =
 
 -- a curve with coefficients from the whole field
 abbrev pub wide_curve : Curve
-wide_curve = plain_with 61 (81985529205931230 ∷ 71737338064426034 ∷ 87109624488290476 ∷ [])
+wide_curve = record { degree = 61; f3 = 81985529205931230; f1 = 71737338064426034; f0 = 87109624488290476 }
 
 -- the same with f3 and f1 exchanged
 abbrev pub wide_exchanged : Curve
-wide_exchanged = plain_with 61 (71737338064426034 ∷ 81985529205931230 ∷ 87109624488290476 ∷ [])
+wide_exchanged = record { degree = 61; f3 = 71737338064426034; f1 = 81985529205931230; f0 = 87109624488290476 }
 
 -- the class of a point, and twice it
 abbrev pub wide_point : Class

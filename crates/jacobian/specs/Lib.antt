@@ -10,6 +10,5 @@ pub mod Examples
 pub mod FurtherExamples
 pub mod Answer
 pub mod Group
-pub mod Carrying
 pub mod Valid
 pub mod internal

@@ -4,17 +4,13 @@ use Rattle.class_group.specs.Mumford.{Pair, Reduced}
 use Rattle.row_theory.specs.Field.{F, Poly, 𝔸}
 use Rattle.jacobian.specs.{Curves.curve, Checking.Padded, declared.Curve.Curve, declared.Class.Class}
 
--- f is x^7 + f6 x^6 + .. + f1 x + f0
+-- f is x^7 + f3 x^3 + f1 x + f0
 pub record PolynomialOf (c : Curve) (f : Poly c.degree) : Type 0 where
   pub at_7 : (𝔸 c.degree).coeff f 7 ≡ (F c.degree).ring.one
-  pub at_6 : ((𝔸 c.degree).coeff f 6).0 ≡ c.f6
-  pub at_5 : ((𝔸 c.degree).coeff f 5).0 ≡ c.f5
-  pub at_4 : ((𝔸 c.degree).coeff f 4).0 ≡ c.f4
   pub at_3 : ((𝔸 c.degree).coeff f 3).0 ≡ c.f3
-  pub at_2 : ((𝔸 c.degree).coeff f 2).0 ≡ c.f2
   pub at_1 : ((𝔸 c.degree).coeff f 1).0 ≡ c.f1
   pub at_0 : ((𝔸 c.degree).coeff f 0).0 ≡ c.f0
-  pub past_7 : (i : ℕ) → 7 < i → (𝔸 c.degree).coeff f i ≡ (F c.degree).ring.zero
+  pub elsewhere : (i : ℕ) → ¬ (i ≡ 7) → ¬ (i ≡ 3) → ¬ (i ≡ 1) → ¬ (i ≡ 0) → (𝔸 c.degree).coeff f i ≡ (F c.degree).ring.zero
 
 -- a stands for [u, v]: u is monic of a's degree with the numbers of a's row below it, v has those of the other row,
 -- and both rows are three numbers that are 0 from the degree on

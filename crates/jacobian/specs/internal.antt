@@ -1,4 +1,3 @@
 -- What the private functions promise.
 pub mod ClassRows
 pub mod Refusals
-pub mod Carrying

@@ -8,15 +8,13 @@ ghost use Rattle.class_rows.specs.Core.{StandsCounted};
 ghost use Rattle.jacobian.specs.{Checks.unless, Checks.◌or_else◌, Curves.curve_refusal, internal.Refusals.form_refusal, internal.Refusals.FormRefusalOfTwo};
 ghost use Rattle.jacobian.specs.Answer.{outcome_refusal, neutral_class, refusal, verdict, verdict_of, reply, refusing, answered, curve_answer, membership_answer, unary_answer, opposite_answer, double_answer, HalfAnswers, binary_answer, sum_answer, double_and_add_answer, SubtractAndHalveAnswers};
 
-pub mod carrying;
 pub mod classes;
 pub mod curves;
 
 use class_rows::row::RowPair;
 use class_rows::{Binary, Unary, binary_rows, unary_rows};
 
-// A curve. Curves and classes have C's layout, since a register in C's layout contains them. The coefficients that a
-// plain curve does not have are last, so that an initialiser of a curve by position keeps its meaning.
+// A curve. Curves and classes have C's layout, since a register in C's layout contains them.
 #[repr(C)]
 #[derive(Drop)]
 pub struct Curve {
@@ -24,10 +22,6 @@ pub struct Curve {
     pub f3: u64,
     pub f1: u64,
     pub f0: u64,
-    pub f6: u64,
-    pub f5: u64,
-    pub f4: u64,
-    pub f2: u64,
 }
 
 // A class: the degree of u, the coefficients of u below its leading 1, and those of v, the lowest power first.
@@ -86,7 +80,7 @@ pub fn neutral() -> Class
 }
 
 // The refusal of a call on one class before the division, or 0.
-pub(crate) fn curve_and_form_refusal(c: Curve, a: Class) -> u32
+fn curve_and_form_refusal(c: Curve, a: Class) -> u32
     ensures { result ≡ (curve_refusal c or_else form_refusal c.degree a) }
 {
     let n = curves::curve_refusal(c);
@@ -128,7 +122,7 @@ fn form_refusal_of_two(c: Curve, a: Class, b: Class) -> u32
 }
 
 // A refusal, with the neutral class and no step.
-pub(crate) fn refused(n: u32) -> ClassAnswer
+fn refused(n: u32) -> ClassAnswer
     ensures { reply result ≡ refusing n }
 {
     let class = neutral();
@@ -140,7 +134,7 @@ pub(crate) fn refused(n: u32) -> ClassAnswer
 }
 
 // The class of a pair with its steps where the rows that were checked are divisors, else refusal 111.
-pub(crate) fn answered(divisor: bool, pair: RowPair, steps: u32) -> ClassAnswer
+fn answered(divisor: bool, pair: RowPair, steps: u32) -> ClassAnswer
     ensures { (d : ℕ) (D : Counted (Poly d)) → (divisor ≡ true → StandsCounted d (record { pair = pair; steps = steps }) D) → reply result ≡ answered d (unless divisor 111) D }
 {
     if !divisor {

@@ -2,9 +2,6 @@
 -- `every`: a predicate of all elements of a type holds of every list.
 -- `all_map`: a predicate of all values of f holds of every list that f is mapped over.
 -- `all_of`: a predicate that holds at every index holds of the list.
--- `all_then`: a predicate of each element, and what follows from it at each, gives the latter.
--- `all_image`: a function that takes one predicate to another does so for every element of a list.
--- `map_agrees`: two functions that agree at each element of a list map it to the same list.
 -- `all_reverse`: a reversed list keeps the predicate.
 -- `all_append`: two lists with the predicate, one after the other, have it.
 -- `all_take`: the first k elements keep it.
@@ -14,7 +11,7 @@
 -- `all_at`: the element at an index below the length has it.
 -- `changed_members`: both elements at the position where two lists differ have it.
 use Prim.Native.Nat.{ℕ, zero, suc, ◌<◌}
-use mathlib.Core.Path.{◌≡◌, refl, ap₂, subst}
+use mathlib.Core.Path.{subst}
 use mathlib.Core.List.{List, [], ◌∷◌, ◌++◌, map, reverse, reverse_aux}
 use lib.ListN.{length, take, drop, get_or}
 use native.Mathlib.Omega.{arith}
@@ -31,18 +28,6 @@ all_map f h (x ∷ l) = more (h x) (all_map f h l)
 pub all_of : {X : Type 0} {P : X → Type 0} (l : List X) (x : X) → ((i : ℕ) → P (get_or l i x)) → All P l
 all_of [] x h = none
 all_of (a ∷ l) x h = more (h 0) (all_of l x (λ i. h (suc i)))
-
-pub all_then : {X : Type 0} {P Q : X → Type 0} {l : List X} → All (λ x. P x → Q x) l → All P l → All Q l
-all_then none none = none
-all_then (more h r) (more k s) = more (h k) (all_then r s)
-
-pub all_image : {X Y : Type 0} {P : X → Type 0} {Q : Y → Type 0} (f : X → Y) → ((x : X) → P x → Q (f x)) → {l : List X} → All P l → All Q (map f l)
-all_image f h none = none
-all_image f h (more {a = x} k r) = more (h x k) (all_image f h r)
-
-pub map_agrees : {X Y : Type 0} (f g : X → Y) {l : List X} → All (λ x. f x ≡ g x) l → map f l ≡ map g l
-map_agrees f g none = refl
-map_agrees f g (more h r) = ap₂ ◌∷◌ h (map_agrees f g r)
 
 module _ {X : Type 0} {Member : X → Type 0} where
   all_onto : {l m : List X} → All Member l → All Member m → All Member (reverse_aux l m)

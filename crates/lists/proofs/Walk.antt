@@ -3,8 +3,6 @@
 -- `foldl_member`: a walk from a state over steps ends in a state, if the rule maps states to states.
 -- `foldl_state`: the same for the first rule of a `Reversible`.
 -- `foldl_agrees`: two rules that agree on states lead to the same end.
--- `foldl_map`: a map that commutes with two rules takes the end of a walk to the end of the mapped walk.
--- `walk_map`: it takes all states of the walk to those of the mapped walk.
 -- `foldl_injective`: different starts have different ends, if the rule is injective at each step.
 -- `foldl_reverse`: the way back over the reversed list ends at the start.
 -- `walk_reverse`: the way back meets the same states in reverse order.
@@ -12,7 +10,7 @@
 -- `foldl_back`: from there the rule does lead to t.
 -- `turned`: the two rules may be exchanged.
 use mathlib.Core.Path.{◌≡◌, refl, sym, ◌∙◌, ap}
-use mathlib.Core.List.{List, [], ◌∷◌, ◌++◌, map, reverse, reverse-cons, reverse-reverse}
+use mathlib.Core.List.{List, [], ◌∷◌, ◌++◌, reverse, reverse-cons, reverse-reverse}
 use Rattle.lists.specs.{Lists.All, Lists.none, Lists.more, Walk.foldl, Walk.walk, Walk.Reversible}
 use Rattle.lists.proofs.Lists.{all_reverse}
 
@@ -44,19 +42,6 @@ module _ {X Y : Type 0} (rule : X → Y → X) where
     foldl_agrees other same h none = refl
     foldl_agrees other same {s} h (more {a = c} {l = l} k r) =
         foldl_agrees other same (closed s c h k) r ∙ ap (λ z. foldl other z l) (same s c h k)
-
-    -- a map that commutes with this rule and another
-    module _ {X' Y' : Type 0} (rule' : X' → Y' → X') (f : X → X') (g : Y → Y') (commutes : (s : X) (c : Y) → State s → Step c → f (rule s c) ≡ rule' (f s) (g c)) where
-      pub foldl_map : {s : X} {l : List Y} → State s → All Step l → foldl rule' (f s) (map g l) ≡ f (foldl rule s l)
-      unfolding foldl
-      foldl_map h none = refl
-      foldl_map {s} h (more {a = c} {l = l} k r) = ap (λ x. foldl rule' x (map g l)) (sym (commutes s c h k)) ∙ foldl_map (closed s c h k) r
-
-      pub walk_map : {s : X} {l : List Y} → State s → All Step l → walk rule' (f s) (map g l) ≡ map f (walk rule s l)
-      unfolding walk
-      walk_map h none = refl
-      walk_map {s} h (more {a = c} {l = l} k r) =
-          ap (λ x. f s ∷ walk rule' x (map g l)) (sym (commutes s c h k)) ∙ ap (λ m. f s ∷ m) (walk_map (closed s c h k) r)
 
     pub foldl_injective : ((s t : X) (c : Y) → State s → State t → Step c → rule s c ≡ rule t c → s ≡ t)
         → {s t : X} {l : List Y} → State s → State t → All Step l → foldl rule s l ≡ foldl rule t l → s ≡ t

@@ -1,6 +1,6 @@
 -- The report of an archive that is refused (docs/SPECIFICATION.md, 6 and 10).
 -- `refused_report`: it is one line, that of the archive's refusal.
--- `refused_number`: whose number is one of 102 to 112, 122, or 125.
+-- `refused_number`: whose number is one of 102 to 112, or 122.
 use Prim.Native.Nat.{ℕ}
 use mathlib.Core.{Path.◌≡◌, Path.refl, List.List, List.[], List.◌∷◌, Logic.inl, Logic.inr}
 use Rattle.stored_form.specs.Reading.{Reading, found, refused, reading_refusal}

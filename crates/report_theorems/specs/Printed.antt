@@ -2,7 +2,7 @@
 use Rattle.std.specs.Prelude.{ℕ, List, [], ◌∷◌}
 use Prim.Native.Char.{code}
 use Prim.Native.String.{String, [] as end, ◌∷◌ as ◌then◌}
-use Rattle.jacobian.specs.{Curves.plain_with, declared.Class.Class}
+use Rattle.jacobian.specs.declared.Class.{Class}
 use Rattle.archive.specs.Archive.{Archive}
 use Rattle.walk_report.specs.Lines.{line, first_line, refusal_line}
 
@@ -18,7 +18,7 @@ class n u v = record { degree = n; u = u; v = v }
 -- the example's archive: d = 5, f = x^7, drawing number A1, seal [x^2, 1], operations [x, 1] and [x, 0], no pairs
 unfoldable pub example_archive : Archive
 example_archive = record {
-  curve = plain_with 5 (0 ∷ 0 ∷ 0 ∷ []);
+  curve = record { degree = 5; f3 = 0; f1 = 0; f0 = 0 };
   drawing = bytes_of "A1";
   seal = class 2 (0 ∷ 0 ∷ 0 ∷ []) (1 ∷ 0 ∷ 0 ∷ []);
   operations = class 1 (0 ∷ 0 ∷ 0 ∷ []) (1 ∷ 0 ∷ 0 ∷ []) ∷ class 1 (0 ∷ 0 ∷ 0 ∷ []) (0 ∷ 0 ∷ 0 ∷ []) ∷ [];

@@ -10,12 +10,12 @@ use mathlib.Core.Path.{◌≡◌, refl, sym, ap, ◌∙◌, subst}
 use mathlib.Core.List.{List, ◌++◌, append_assoc}
 use native.Mathlib.{Nat.zero-add, Omega.arith}
 use lib.ListN.{length, drop}
-use Rattle.jacobian.specs.{Curves.curve_with, declared.Curve.Curve, declared.Class.Class}
+use Rattle.jacobian.specs.{Curves.coefficients, Curves.curve_with, declared.Curve.Curve, declared.Class.Class}
 use Rattle.jacobian.proofs.Representation.{accepts_both}
 use Rattle.history.specs.{Register.register_refusal, declared.Register.Register}
 use Rattle.history.proofs.Registers.{register_passes}
-use Rattle.stored_form.specs.{Number.decode_number, Number.encode_number, Head.degree_length, Head.count_length, Head.head_bytes, Head.encode_field}
-use Rattle.stored_form.specs.{Fields.degree_field, Fields.count_field, Fields.released_field, Fields.count_limit, Classes.decode_curve, Classes.encode_curve, Classes.curve_field, Classes.curve_fields_bytes, Classes.decode_class, Classes.encode_class, Classes.class_field}
+use Rattle.stored_form.specs.{Number.decode_number, Number.encode_number, Head.degree_length, Head.count_length, Head.head_bytes, Head.encode_field, Elements.encode_elements}
+use Rattle.stored_form.specs.{Fields.degree_field, Fields.count_field, Fields.released_field, Fields.count_limit, Classes.decode_curve, Classes.curve_field, Classes.curve_fields_bytes, Classes.decode_class, Classes.encode_class, Classes.class_field}
 use Rattle.stored_form.specs.{Cuts.take_fields, Cuts.drop_fields, Passing.CurvePasses, Passing.CountPasses, Passing.ClassPasses, Record.curve_of_degree, Record.with_curve, Record.empty_record, Tags.rules, declared.Record.Record}
 use Rattle.stored_form.proofs.Digits.{length_bytes}
 use Rattle.stored_form_theorems.proofs.{Numbers.number_bytes_small, Places.apart, Places.whole, Cuts.FieldsAt, Cuts.none, Cuts.field, ClassRoundTrips.decode_body, Cuts.take_cut, Cuts.drop_cut, Cuts.degree_cut, Cuts.count_cut, Cuts.released_cut, FieldValues.curve_law, FieldValues.degree_law, FieldValues.degree_passes}
@@ -32,7 +32,7 @@ module _ (g : Register) where
   degree_body = encode_number degree_length g.curve.degree
 
   abbrev curve_body : List ℕ
-  curve_body = encode_curve g.curve
+  curve_body = encode_elements (coefficients g.curve)
 
   first_body : drop 3 (take_fields 1 (curve_fields_bytes g.curve)) ≡ degree_body
   unfolding curve_fields_bytes degree_field
@@ -81,7 +81,7 @@ module _ (g : Register) where
   -- what the bodies of its fields decode to
   abbrev pub of_bodies : Register
   of_bodies = record {
-    curve = decode_curve (decode_number (encode_number degree_length g.curve.degree)) (encode_curve g.curve);
+    curve = decode_curve (decode_number (encode_number degree_length g.curve.degree)) (encode_elements (coefficients g.curve));
     count = decode_number (encode_number count_length g.count);
     seal = decode_class (encode_class g.seal);
     released = decode_number (encode_number count_length g.released);
@@ -97,7 +97,7 @@ degree_decoded : (c : Curve) → CurvePasses c → decode_number (encode_number 
 unfolding rules curve_of_degree curve_with
 degree_decoded c ok = sym (ap (λ (m : Record). m.curve.degree) ((degree_law empty_record).says c.degree (degree_passes c ok)).kept)
 
-curve_decoded : (c : Curve) → CurvePasses c → decode_curve c.degree (encode_curve c) ≡ c
+curve_decoded : (c : Curve) → CurvePasses c → decode_curve c.degree (encode_elements (coefficients c)) ≡ c
 unfolding rules curve_of_degree curve_with
 curve_decoded c ok = sym (ap (λ (m : Record). m.curve) ((curve_law (with_curve (curve_of_degree c.degree) empty_record)).says c (refl, ok)).kept)
 

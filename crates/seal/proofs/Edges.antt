@@ -46,7 +46,7 @@ use Rattle.seal.proofs.ByteRegister.{commit_of_record, undo_of_record, release_o
 
 -- the numbers of the checks that follow that of the output
 abbrev later : List ℕ
-later = 102 ∷ 103 ∷ 104 ∷ 105 ∷ 106 ∷ 107 ∷ 109 ∷ 110 ∷ 111 ∷ 112 ∷ 113 ∷ 114 ∷ 115 ∷ 116 ∷ 120 ∷ 121 ∷ 125 ∷ []
+later = 102 ∷ 103 ∷ 104 ∷ 105 ∷ 106 ∷ 107 ∷ 109 ∷ 110 ∷ 111 ∷ 112 ∷ 113 ∷ 114 ∷ 115 ∷ 116 ∷ 120 ∷ 121 ∷ []
 
 later_checks : (call : Call) (s : List ℕ) → among (record_checks (tags call) s ++ last_checks call (record_values (tags call) s)) later ≡ true
 unfolding listed

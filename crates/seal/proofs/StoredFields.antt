@@ -8,16 +8,15 @@ use mathlib.Core.Bool.{true}
 use mathlib.Core.List.{List, [], ◌∷◌, ◌++◌, reverse}
 use native.Mathlib.Omega.{arith}
 use lib.ListN.{length, take, length-append, length-take, length-reverse}
-use Rattle.jacobian.specs.{Checks.◌or_else◌, Curves.curve_with, Curves.degree_refusal, Curves.curve_refusal, Answer.refusal, declared.Class.Class}
+use Rattle.jacobian.specs.{Checks.◌or_else◌, Curves.coefficients, Curves.curve_with, Curves.degree_refusal, Curves.curve_refusal, Answer.refusal, declared.Class.Class}
 use Rattle.jacobian.proofs.ByValue.Checks.{first_due, next_due}
-use Rattle.history.proofs.Numbers.{then_none}
 use Rattle.history.specs.{Register.register_refusal, declared.Register.Register}
-use Rattle.stored_form.specs.{Number.decode_number, Number.encode_number, Reading.Reading, Reading.found, Reading.refused as unread, Reading.checked, Reading.◌then◌, Head.degree_length, Head.count_length, Head.class_length, Head.encode_field, Elements.encode_elements}
-use Rattle.stored_form.specs.{Fields.degree_field, Fields.count_field, Fields.released_field, Fields.count_refusal, Fields.released_refusal, Classes.encode_curve, Classes.plain_refusal, Classes.curve_field, Classes.curve_fields_bytes, Classes.decode_class, Classes.decode_row, Classes.encode_row, Classes.encode_class, Classes.class_field}
-use Rattle.stored_form.specs.{Record.empty_record, Record.curve_of_degree, Record.with_curve, Tags.rules, Reader.read_field, Reader.read_fields, Reader.register_layout, declared.Record.Record}
-use Rattle.stored_form.proofs.{Digits.length_bytes, NumberLists.length_encode_numbers, Lengths.allows_short, Lengths.curve_lengths, Readings.then_found}
+use Rattle.stored_form.specs.{Number.encode_number, Reading.Reading, Reading.found, Reading.refused as unread, Reading.checked, Reading.◌then◌, Head.degree_length, Head.count_length, Head.class_length, Head.encode_field, Elements.encode_elements}
+use Rattle.stored_form.specs.{Fields.degree_field, Fields.count_field, Fields.released_field, Fields.count_refusal, Fields.released_refusal, Classes.curve_field, Classes.curve_fields_bytes, Classes.decode_class, Classes.decode_row, Classes.encode_row, Classes.encode_class, Classes.class_field, Classes.decode_curve}
+use Rattle.stored_form.specs.{Record.empty_record, Record.curve_of_degree, Tags.rules, Reader.read_field, Reader.read_fields, Reader.register_layout, declared.Record.Record}
+use Rattle.stored_form.proofs.{Digits.length_bytes, NumberLists.length_encode_numbers, Lengths.allows_short, Readings.then_found}
 use Rattle.stored_form_theorems.specs.Fields.{Field}
-use Rattle.stored_form_theorems.proofs.{Bodies.body_read, Places.apart, Places.whole, CurveRoundTrips.decoded_degree, CurveRoundTrips.curve_allowed, CurveRoundTrips.curve_unrefused, ClassRoundTrips.class_length_of}
+use Rattle.stored_form_theorems.proofs.{Bodies.body_read, Places.apart, Places.whole, ClassRoundTrips.class_length_of}
 use Rattle.seal.specs.Records.{register_fields, register_record_bytes}
 use Rattle.seal.proofs.Decoding.{of_bodies}
 
@@ -89,23 +88,13 @@ module _ (g : Register) (same : of_bodies g ≡ g) (fails : ¬ (register_refusal
       (first.0, halves.0, third.0, second.0, all.0, first.1, first.2, third.1, third.2, second.2)
 
   -- the refusal of the register, by the checks of its fields
-  of_degree : let d = decode_number (encode_number degree_length g.curve.degree) in ¬ (degree_refusal d ≡ 0) → degree_refusal d ≡ register_refusal b
+  of_degree : ¬ (degree_refusal b.curve.degree ≡ 0) → degree_refusal b.curve.degree ≡ register_refusal b
   unfolding register_refusal curve_refusal
-  of_degree nz = first_due _ (first_due _ (ap degree_refusal (sym (decoded_degree _ (encode_curve g.curve)))) nz) nz
+  of_degree nz = first_due _ (first_due _ refl nz) nz
 
-  -- the check of its curve's field is that of the curve, since a stored curve has the length due to it
-  curve_check : ℕ
-  curve_check = curve_refusal b.curve or_else plain_refusal (length (encode_curve g.curve)) b.curve
-
-  check_is : curve_check ≡ curve_refusal b.curve
-  unfolding curve_check
-  check_is =
-      ap (λ (n : ℕ). curve_refusal b.curve or_else n) (ap (plain_refusal _) (ap (λ (t : Register). t.curve) same) ∙ curve_unrefused g.curve)
-      ∙ then_none (curve_refusal b.curve)
-
-  of_curve : ¬ (curve_check ≡ 0) → curve_check ≡ register_refusal b
+  of_curve : ¬ (curve_refusal b.curve ≡ 0) → curve_refusal b.curve ≡ register_refusal b
   unfolding register_refusal
-  of_curve nz = check_is ∙ first_due _ refl (λ z. nz (check_is ∙ z))
+  of_curve nz = first_due _ refl nz
 
   of_count : curve_refusal b.curve ≡ 0 → ¬ (count_refusal b.count ≡ 0) → count_refusal b.count ≡ register_refusal b
   unfolding register_refusal
@@ -120,14 +109,13 @@ module _ (g : Register) (same : of_bodies g ≡ g) (fails : ¬ (register_refusal
   of_seal z y x = rw (z, y, x)
 
   pub register_unread : read_fields register_layout empty_record (register_record_bytes g ++ rest) 0 ≡ unread (register_refusal (of_bodies g))
-  unfolding rules degree_field curve_field count_field released_field class_field curve_of_degree curve_with curve_check
+  unfolding rules degree_field curve_field count_field released_field class_field curve_of_degree curve_with decode_curve coefficients
   register_unread =
       let p = stands in
       next_fails 0x40 (0x41 ∷ 0x42 ∷ 0x45 ∷ 0x43 ∷ []) empty_record s 0 (encode_number degree_length g.curve.degree) (rw (length_bytes degree_length g.curve.degree) refl) p.5
       (λ x.
-      next_fails 0x41 (0x42 ∷ 0x45 ∷ 0x43 ∷ []) _ s _ (encode_curve g.curve) (curve_lengths (with_curve (curve_of_degree (decode_number (encode_number degree_length g.curve.degree))) empty_record) _ ∙ curve_allowed g.curve) p.6
-      (λ checked.
-      let y = sym check_is ∙ checked in
+      next_fails 0x41 (0x42 ∷ 0x45 ∷ 0x43 ∷ []) _ s _ (encode_elements (coefficients g.curve)) (rw (length_encode_numbers 8 (coefficients g.curve)) refl) p.6
+      (λ y.
       next_fails 0x42 (0x45 ∷ 0x43 ∷ []) _ s _ (encode_number count_length g.count) (rw (length_bytes count_length g.count) refl) p.7
       (λ z.
       next_fails 0x45 (0x43 ∷ []) _ s _ (encode_number count_length g.released) (rw (length_bytes count_length g.released) refl) p.8

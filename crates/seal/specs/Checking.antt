@@ -47,10 +47,10 @@ numbers Opposite = 101 ∷ class_numbers
 numbers Double = 101 ∷ class_numbers
 numbers Half = 101 ∷ class_numbers
 numbers Sum = 101 ∷ class_numbers
-numbers Commit = 101 ∷ 102 ∷ 103 ∷ 104 ∷ 105 ∷ 106 ∷ 107 ∷ 109 ∷ 110 ∷ 111 ∷ 112 ∷ 114 ∷ 120 ∷ 125 ∷ []
-numbers Undo = 101 ∷ 102 ∷ 103 ∷ 104 ∷ 105 ∷ 106 ∷ 107 ∷ 109 ∷ 110 ∷ 111 ∷ 112 ∷ 113 ∷ 120 ∷ 121 ∷ 125 ∷ []
-numbers Release = 101 ∷ 102 ∷ 103 ∷ 104 ∷ 105 ∷ 106 ∷ 107 ∷ 109 ∷ 110 ∷ 111 ∷ 112 ∷ 120 ∷ 125 ∷ []
-numbers (Stamp s) = 101 ∷ 102 ∷ 103 ∷ 104 ∷ 105 ∷ 106 ∷ 107 ∷ 112 ∷ 115 ∷ 116 ∷ 125 ∷ []
+numbers Commit = 101 ∷ 102 ∷ 103 ∷ 104 ∷ 105 ∷ 106 ∷ 107 ∷ 109 ∷ 110 ∷ 111 ∷ 112 ∷ 114 ∷ 120 ∷ []
+numbers Undo = 101 ∷ 102 ∷ 103 ∷ 104 ∷ 105 ∷ 106 ∷ 107 ∷ 109 ∷ 110 ∷ 111 ∷ 112 ∷ 113 ∷ 120 ∷ 121 ∷ []
+numbers Release = 101 ∷ 102 ∷ 103 ∷ 104 ∷ 105 ∷ 106 ∷ 107 ∷ 109 ∷ 110 ∷ 111 ∷ 112 ∷ 120 ∷ []
+numbers (Stamp s) = 101 ∷ 102 ∷ 103 ∷ 104 ∷ 105 ∷ 106 ∷ 107 ∷ 112 ∷ 115 ∷ 116 ∷ []
 
 -- the lengths that a call writes: of a class, of a register's fields, of a class of degree 1
 abbrev pub lengths : Call → List ℕ

@@ -58,7 +58,7 @@ suppress_archive has s k =
 
 -- the numbers with which the call refuses
 abbrev pub suppress_numbers : List ℕ
-suppress_numbers = 101 ∷ 102 ∷ 103 ∷ 104 ∷ 105 ∷ 106 ∷ 107 ∷ 108 ∷ 109 ∷ 110 ∷ 111 ∷ 112 ∷ 122 ∷ 123 ∷ 124 ∷ 125 ∷ []
+suppress_numbers = 101 ∷ 102 ∷ 103 ∷ 104 ∷ 105 ∷ 106 ∷ 107 ∷ 108 ∷ 109 ∷ 110 ∷ 111 ∷ 112 ∷ 122 ∷ 123 ∷ 124 ∷ []
 
 -- what the call does
 unfoldable pub suppress_call : List ℕ → ℕ → List ℕ → WrittenEffect

@@ -6,12 +6,10 @@
 -- `multiple_of_zero`: 0 times is the neutral class.
 -- `multiple_of_one`: once is the class.
 -- `multiple_of_product`: m n times is m times n times.
--- `multiple_is_sum`: n times is the sum of n terms by the calls, whatever n is.
 -- `doublings_pair`: k doublings by the calls stand for k doublings in the group.
 -- `doublings_are_multiple`: 2^k times is k doublings, for k below 61.
 -- `halves_accept`: the class after k halves, one call after the other, is accepted.
 -- `halves_give`: after k halves the next one is not refused.
--- `halves_are`: the class after k halves is the class halved k times, whatever k is.
 -- `halvings_are_halves`: k halvings give the class after k halves.
 -- `halvings_of_doublings`: k halvings of k doublings give the class.
 -- `doublings_of_halvings`: k doublings of k halvings give the class.
@@ -28,15 +26,15 @@ use mathlib.Core.{Path.◌≡◌, Path.refl, Path.sym, Path.◌∙◌, Path.ap, 
 use native.Mathlib.Omega.{arith}
 use lib.{Dec.lit<, Pow.pow-lt}
 use borrow.Author.Tests.{lt-ltb, le-ltb, le-leb, lt-leb}
-use Rattle.class_group.specs.{Mumford.neutral, Mumford.Reduced, Operations.sum, Operations.double, Half.half, Multiples.multiple, Multiples.repeat}
+use Rattle.class_group.specs.{Mumford.neutral, Operations.sum, Operations.double, Half.half, Multiples.multiple, Multiples.repeat}
 use Rattle.class_group.proofs.{Closed.sum_reduced, Closed.double_reduced, Group.classes, Group.class_doubling, Halving.class_halving}
-use Rattle.class_group.proofs.{GroupLaws.GroupMap, Multiples.map_multiple, Multiples.multiple_member, Multiples.multiple_one, Multiples.multiple_add, Multiples.multiple_mul, Doublings.doublings_multiple, Doublings.halvings_doublings, Doublings.doublings_halvings}
-use Rattle.jacobian.specs.{Checks.unless, Checks.◌or_else◌, Curves.curve, Classes.pair, Classes.class_of}
+use Rattle.class_group.proofs.{Multiples.multiple_one, Multiples.multiple_add, Multiples.multiple_mul, Doublings.doublings_multiple, Doublings.halvings_doublings, Doublings.doublings_halvings}
+use Rattle.jacobian.specs.{Checks.unless, Checks.◌or_else◌, Curves.curve, Classes.pair}
 use Rattle.jacobian.specs.Answer.{Result, result, gives, Accepts, Only, neutral_class, half_answer, sum_answer}
-use Rattle.jacobian.specs.Group.{sum_of, doublings}
+use Rattle.jacobian.specs.Group.{doublings}
 use Rattle.jacobian.specs.declared.{Curve.Curve, Class.Class}
-use Rattle.jacobian.proofs.{Calls.reduced, Calls.class_pair, Calls.sum_gives, Calls.sum_accepts, Calls.double_gives, Calls.half_gives, Group.class_is, Group.gives_own, Group.doublings_accept, Group.group}
-use Rattle.jacobian.proofs.Representation.{accepts_curve, pair_injective, class_of_pair}
+use Rattle.jacobian.proofs.{Calls.reduced, Calls.class_pair, Calls.sum_gives, Calls.sum_accepts, Calls.double_gives, Calls.half_gives, Group.class_is, Group.gives_own, Group.doublings_accept}
+use Rattle.jacobian.proofs.{Representation.pair_injective}
 use Rattle.seal_licence.specs.Multiples.{multiple_limit, halvings_limit, refuses, given, multiple_class, halved_class, multiple_refusal, halvings_refusal, multiple_answer, halvings_answer, HalvingsAnswers, halves}
 use Rattle.seal_licence.proofs.Answers.{halvings_passes}
 use Rattle.seal_licence.proofs.Values.{multiple_accepts, multiple_pair, multiple_none, halved_accepts, halved_pair, halved_none, halved_next}
@@ -83,16 +81,6 @@ module _ {c : Curve} {a : Class} (h : Accepts c a) where
       multiple_gives 1 (lit< tt)
       ∙ ap gives (pair_injective c _ _ (multiple_accepts h 1) h (multiple_pair h 1 ∙ multiple_one (classes (curve c)) (reduced c h)))
 
-  pub multiple_is_sum : (n : ℕ) → multiple_class c a n ≡ multiple (sum_of c) neutral_class n a
-  unfolding multiple_class
-  multiple_is_sum n =
-      let own = group c (accepts_curve h) in
-      let pairs : GroupMap (Accepts c) (sum_of c) (Reduced (curve c)) (sum (curve c)) (pair c.degree) = record {
-        map_closed = λ k. reduced c k;
-        map_sum = λ k l. class_pair c _ (sum_reduced (curve c) (reduced c k) (reduced c l)) (sum_gives c k l);
-      } in
-      ap (class_of c.degree) (sym (map_multiple own (classes (curve c)) pairs n h)) ∙ class_of_pair c _ (multiple_member own n h)
-
   -- ---- k doublings
   pub doublings_pair : (k : ℕ) → pair d (doublings c k a) ≡ repeat (double (curve c)) k (pair d a)
   unfolding repeat
@@ -109,7 +97,7 @@ module _ {c : Curve} {a : Class} (h : Accepts c a) where
       (multiple_pair h (2 ^ k) ∙ sym (doublings_pair k ∙ doublings_multiple (class_doubling (curve c)) k (reduced c h))))
 
   -- ---- k halvings
-  pub halves_are : (k : ℕ) → halves c k a ≡ halved_class c a k
+  halves_are : (k : ℕ) → halves c k a ≡ halved_class c a k
   unfolding repeat
   halves_are zero = sym (halved_none h)
   halves_are (suc k) = ap (λ x. (half_answer c x).class) (halves_are k) ∙ halved_next h k

@@ -1,7 +1,6 @@
 -- The answer of a call by value, as the call in place answers it.
 -- `verdict_number`: equal outcomes have equal numbers.
--- `follows_in_place`, `call_in_place`: the number of the outcome and the register of a call by value are the answer of
--- the call in place.
+-- `call_in_place`: the number of the outcome and the register of a call by value are the answer of the call in place.
 -- `call_unchanged`: for a number other than 0, so are that number and the lent register as it was.
 -- `step_in_place`, `step_unchanged`: the same of what a step promises.
 use Prim.Native.Nat.{ℕ, zero, suc}
@@ -28,7 +27,7 @@ number_of (suc n) = refl
 pub verdict_number : (m n : ℕ) → verdict_of m ≡ verdict_of n → m ≡ n
 verdict_number m n e = sym (number_of m) ∙ ap number e ∙ number_of n
 
-pub follows_in_place : (m : ℕ) (given next : Register) (x : RegisterAnswer) (n : ℕ) → register_reply x ≡ follows m given next → n ≡ outcome_refusal x.outcome
+follows_in_place : (m : ℕ) (given next : Register) (x : RegisterAnswer) (n : ℕ) → register_reply x ≡ follows m given next → n ≡ outcome_refusal x.outcome
     → in_place n x.register ≡ follows m given next
 unfolding in_place
 follows_in_place m given next x n e h =

@@ -9,4 +9,3 @@ pub mod Displacement
 pub mod Checking
 pub mod Edges
 pub mod Valid
-pub mod Carried

@@ -8,7 +8,7 @@ use native.Mathlib.Omega.{arith}
 use lib.ListN.{get_or}
 use Rattle.field_laws.specs.{Field.Field2}
 use Rattle.char2_algebra.specs.{Polynomials.Polynomials}
-use Rattle.char2_algebra.proofs.{Ring.ring2, Ring.⊞_𝟘, Degree.coeff_zero, Degree.con_of_zero, Degree.con_one, Degree.con_add, Degree.con_mul, Degree.coeff_con_add_x_mul, Degree.coeff_con_add_x_mul_suc}
+use Rattle.char2_algebra.proofs.{Ring.ring2, Ring.⊞_𝟘, Degree.coeff_zero, Degree.con_of_zero, Degree.con_one, Degree.con_mul, Degree.coeff_con_add_x_mul, Degree.coeff_con_add_x_mul_suc}
 use Rattle.binary_field_theory.specs.{Element.Accepted, Quadratic.Root}
 use Rattle.binary_field.proofs.Replies.{quadratic_in_field}
 use Rattle.class_group.specs.{Mumford.value, NonSingular.evaluate}
@@ -28,6 +28,15 @@ module _ {K P : Type 0} {F : Field2 K} (A : Polynomials F P) where
   infixl 70 ◌·◌
   infixl 60 ◌⊞ₖ◌
   infixl 70 ◌·ₖ◌
+  con_add : (a b : K) → con (a ⊞ₖ b) ≡ con a ⊞ con b
+  con_add a b = A.ext (con (a ⊞ₖ b)) (con a ⊞ con b) go
+    where
+      go : (i : ℕ) → coeff (con (a ⊞ₖ b)) i ≡ coeff (con a ⊞ con b) i
+      go zero = A.coeff_con (a ⊞ₖ b) ∙ sym (A.coeff_add (con a) (con b) 0 ∙ ap₂ ◌⊞ₖ◌ (A.coeff_con a) (A.coeff_con b))
+      go (suc i) =
+          A.coeff_con_suc (a ⊞ₖ b) i
+          ∙ sym (A.coeff_add (con a) (con b) (suc i) ∙ ap₂ ◌⊞ₖ◌ (A.coeff_con_suc a i) (A.coeff_con_suc b i) ∙ ⊞_𝟘 F.ring 𝟘ₖ)
+
   shifted : (a c k q t : P) → c ⊞ t · (q · (a ⊞ t) ⊞ k) ≡ (t · q ⊞ k) · (a ⊞ t) ⊞ (c ⊞ a · k)
   shifted a c k q t = simp (ring2, R)
 
@@ -35,7 +44,7 @@ module _ {K P : Type 0} {F : Field2 K} (A : Polynomials F P) where
   next_value : (a c k : K) (p q : P) → p ≡ q · (con a ⊞ x) ⊞ con k → con c ⊞ x · p ≡ (x · q ⊞ con k) · (con a ⊞ x) ⊞ con (c ⊞ₖ a ·ₖ k)
   next_value a c k p q e =
       ap (λ z. con c ⊞ x · z) e ∙ shifted (con a) (con c) (con k) q x
-      ∙ ap (λ z. (x · q ⊞ con k) · (con a ⊞ x) ⊞ z) (sym (con_add A c (a ·ₖ k) ∙ ap (λ z. con c ⊞ z) (con_mul A a k)))
+      ∙ ap (λ z. (x · q ⊞ con k) · (con a ⊞ x) ⊞ z) (sym (con_add c (a ·ₖ k) ∙ ap (λ z. con c ⊞ z) (con_mul A a k)))
 
   cancelled : (y q u : P) → y · y ⊞ y ⊞ (q · u ⊞ (y · y ⊞ y)) ≡ q · u
   cancelled y q u = simp (ring2, R)
@@ -44,7 +53,7 @@ module _ {K P : Type 0} {F : Field2 K} (A : Polynomials F P) where
   root_divides : (y k : K) (f u q : P) → y ·ₖ y ⊞ₖ y ≡ k → f ≡ q · u ⊞ con k → con y · con y ⊞ con y ⊞ f ≡ q · u
   root_divides y k f u q e g =
       ap (λ z. con y · con y ⊞ con y ⊞ z)
-      (g ∙ ap (λ z. q · u ⊞ z) (ap con (sym e) ∙ con_add A (y ·ₖ y) y ∙ ap (λ z. z ⊞ con y) (con_mul A y y)))
+      (g ∙ ap (λ z. q · u ⊞ z) (ap con (sym e) ∙ con_add (y ·ₖ y) y ∙ ap (λ z. z ⊞ con y) (con_mul A y y)))
       ∙ cancelled (con y) q u
 
 -- ---- rows of numbers

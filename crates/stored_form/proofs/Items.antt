@@ -1,5 +1,5 @@
 -- Elements decoded from a part of the bytes, and the curves and classes that the code decodes from them.
--- `plain_is`, `full_is`: the rows of a curve's coefficients. `plain_curve_is`, `full_curve_is`: the curve by its length.
+-- `element_more`, `curve_is`: a turn of the loop that decodes a curve's coefficients, and its end.
 -- `row_0` to `row_3`: the rows of up to three elements.
 -- `class_is`: two rows that were decoded make the class that the body decodes to.
 use Prim.Native.Nat.{ℕ, ◌+◌, ◌*◌, ◌-◌, ◌/◌, ◌≤◌}
@@ -7,15 +7,39 @@ use mathlib.Core.Path.{◌≡◌, sym, ap, ◌∙◌}
 use mathlib.Core.List.{List, [], ◌∷◌, ◌++◌, append-nil}
 use native.Mathlib.Omega.{arith}
 use mathlib.Core.Bool.{true}
-use borrow.Author.Tests.{eq-eqb, ne_eqb}
-use lib.ListN.{length, get_or, take, drop}
-use lib.Seq.{drop-drop, take_at, drop_at}
+use lib.Dec.{lit≤}
+use lib.ListN.{length, take, drop, set, replicate}
+use lib.Seq.{sets, drop-drop, take_at, drop_at}
 use Rattle.stored_form.specs.{Number.decode_numbers, Number.decode_number, Number.part, Elements.element_length, Elements.decode_elements, Classes.decode_curve, Classes.decode_row, Classes.decode_class}
-use Rattle.stored_form.specs.{Head.class_length, Head.class_limit, Head.plain_length, Head.full_length}
-use Rattle.jacobian.specs.{Curves.coefficient_count, Curves.plain_count, Curves.curve_with, Curves.plain_with, declared.Class.Class}
-use Rattle.stored_form.proofs.{Parts.length_part, Lengths.class_length_le, NumberLists.length_decode_numbers, NumberLists.decode_numbers_take, NumberLists.decode_numbers_add}
+use Rattle.stored_form.specs.{Head.class_length, Head.class_limit, Head.curve_length}
+use Rattle.jacobian.specs.{Curves.coefficient_count, Curves.curve_with, declared.Class.Class}
+use Rattle.stored_form.proofs.{Parts.length_part, Lengths.class_length_le, Stores.store_next, Stores.filled, NumberLists.length_decode_numbers, NumberLists.decode_numbers_take, NumberLists.decode_numbers_add}
 
 -- ---- what the code decodes
+
+pub element_more : (s : List ℕ) (at i x : ℕ) (d : List ℕ) {r : List ℕ} → r ≡ sets d 0 (decode_elements i (drop at s)) → x ≡ decode_number (part s (at + element_length * i) element_length) →
+    set r i x ≡ sets d 0 (decode_elements (i + 1) (drop at s))
+unfolding decode_numbers
+element_more s at i x d {r} e f =
+    store_next d (decode_elements i (drop at s)) i x (length_decode_numbers 8 i (drop at s)) e
+    ∙ ap (sets d 0)
+    (ap (λ (y : ℕ). decode_elements i (drop at s) ++ y ∷ []) (f ∙ ap (λ (t : List ℕ). decode_number (take element_length t)) (sym (drop-drop (element_length * i) at s)))
+    ∙ sym (decode_numbers_add 8 i 1 (drop at s)))
+
+pub curve_is : (s : List ℕ) (at d i : ℕ) {r : List ℕ} → coefficient_count ≤ i → i ≤ coefficient_count → r ≡ sets (replicate coefficient_count 0) 0 (decode_elements i (drop at s)) →
+    curve_with d r ≡ decode_curve d (part s at curve_length)
+unfolding decode_curve
+curve_is s at d i {r} h₁ h₂ e =
+    let z : i ≡ coefficient_count = omega arith in
+    let es = decode_elements coefficient_count (drop at s) in
+    let long : length es ≡ coefficient_count = length_decode_numbers 8 coefficient_count (drop at s) in
+    let none : coefficient_count - length es ≡ 0 = omega arith in
+    ap (curve_with d)
+    (e ∙ ap (λ (k : ℕ). sets (replicate coefficient_count 0) 0 (decode_elements k (drop at s))) z
+    ∙ filled es coefficient_count (omega arith)
+    ∙ ap (λ (k : ℕ). es ++ replicate k 0) none
+    ∙ append-nil es
+    ∙ sym (decode_numbers_take 8 coefficient_count curve_length (drop at s) (lit≤ tt)))
 
 module _ (s : List ℕ) (at : ℕ) {n : ℕ} where
   pub row_0 : n ≡ 0 → 0 ∷ 0 ∷ 0 ∷ [] ≡ decode_row (decode_elements n (drop at s))
@@ -35,38 +59,6 @@ module _ (s : List ℕ) (at : ℕ) {n : ℕ} where
       c ∷ b ∷ a ∷ [] ≡ decode_row (decode_elements n (drop at s))
   unfolding decode_row decode_numbers
   row_3 e f g h = let i : at + 8 + 8 ≡ at + 16 = omega arith in rw (h, e, f, g, drop-drop 8 at s, drop-drop 8 (at + 8) s, i)
-
--- the rows of three elements and of seven make a curve
-module _ (s : List ℕ) (at d : ℕ) where
-  pub plain_is : {r : List ℕ} → r ≡ decode_row (decode_elements 3 (drop at s)) →
-      plain_with d (get_or r 2 0 ∷ get_or r 1 0 ∷ get_or r 0 0 ∷ []) ≡ plain_with d (decode_elements plain_count (drop at s))
-  unfolding decode_row decode_numbers
-  plain_is e = rw e
-
-  pub full_is : {h l : List ℕ} {f : ℕ} → h ≡ decode_row (decode_elements 3 (drop at s)) → l ≡ decode_row (decode_elements 3 (drop (at + 24) s)) →
-      f ≡ decode_number (part s (at + 48) 8) →
-      curve_with d (get_or h 2 0 ∷ get_or h 1 0 ∷ get_or h 0 0 ∷ get_or l 2 0 ∷ get_or l 1 0 ∷ get_or l 0 0 ∷ f ∷ []) ≡ curve_with d (decode_elements coefficient_count (drop at s))
-  unfolding decode_row decode_numbers
-  full_is e g k =
-      let a : at + 24 + 8 ≡ at + 32 = omega arith in
-      let b : at + 32 + 8 ≡ at + 40 = omega arith in
-      let b₁ : at + 40 + 8 ≡ at + 48 = omega arith in
-      let b₂ : at + 8 + 8 ≡ at + 16 = omega arith in
-      let b₃ : at + 16 + 8 ≡ at + 24 = omega arith in
-      rw (e, g, k, drop-drop 8 at s, drop-drop 8 (at + 8) s, b₂, drop-drop 8 (at + 16) s, b₃, drop-drop 8 (at + 24) s, a, drop-drop 8 (at + 32) s, b, drop-drop 8 (at + 40) s, b₁)
-
--- the elements of a body's part of the bytes
-body_of : (s : List ℕ) (at len k : ℕ) → element_length * k ≤ len → decode_elements k (part s at len) ≡ decode_elements k (drop at s)
-body_of s at len k h = decode_numbers_take 8 k len (drop at s) h
-
-module _ (s : List ℕ) (at d len : ℕ) (within : at + len ≤ length s) where
-  pub plain_curve_is : len ≡ plain_length → plain_with d (decode_elements plain_count (drop at s)) ≡ decode_curve d (part s at len)
-  unfolding decode_curve
-  plain_curve_is e = rw (length_part s at len within, eq-eqb len plain_length e, body_of s at len plain_count (omega arith))
-
-  pub full_curve_is : len ≡ full_length → curve_with d (decode_elements coefficient_count (drop at s)) ≡ decode_curve d (part s at len)
-  unfolding decode_curve
-  full_curve_is e = rw (length_part s at len within, ne_eqb len plain_length (λ h. omega arith), body_of s at len coefficient_count (omega arith))
 
 -- two rows make a class
 module _ (s : List ℕ) (at len : ℕ) (ok : class_length len ≡ true) (within : at + len ≤ length s) where

@@ -1,6 +1,6 @@
 -- The lengths that each tag allows, and the length of a field.
 -- `is_degree_length` and its like: what an allowed length is, tag by tag.
--- `by_class_length`: a class has one of four lengths. `by_curve_length`: a curve has one of two. `by_tag`: a tag that allows a length is one of seven.
+-- `by_class_length`: a class has one of four lengths. `by_tag`: a tag that allows a length is one of seven.
 -- `allows_short`: no allowed length is above that of the longest body.
 -- `length_stored`: a field has three bytes more than its body. `length_count`: the length of a count's field.
 -- `length_released`: the length of a released step's field.
@@ -14,18 +14,11 @@ use lib.Dec.{eqb, lit≤}
 use lib.ListN.{length}
 use borrow.Author.Tests.{ne_eqb, eqb-true, leb-true}
 use Rattle.stored_form.specs.{Number.encode_number, Fields.count_field, Fields.released_field, Tags.rules, Tags.longest_body, declared.Record.Record}
-use Rattle.stored_form.specs.Head.{degree_length, plain_length, full_length, curve_length, count_length, drawing_limit, class_length, class_limit, head_bytes, encode_field}
+use Rattle.stored_form.specs.Head.{degree_length, curve_length, count_length, drawing_limit, class_length, class_limit, head_bytes, encode_field}
 
 pub class_length_last : (n : ℕ) → (n ≡ 0 → ⊥) → (n ≡ 16 → ⊥) → (n ≡ 32 → ⊥) → class_length n ≡ eqb n 48
 unfolding class_length
 class_length_last n h₀ h₁ h₂ = rw (ne_eqb n 0 h₀, ne_eqb n 16 h₁, ne_eqb n 32 h₂)
-
-pub curve_length_last : (n : ℕ) → (n ≡ plain_length → ⊥) → curve_length n ≡ eqb n full_length
-unfolding curve_length
-curve_length_last n h = rw (ne_eqb n plain_length h)
-
-pub full_left : (n : ℕ) → (n ≡ plain_length → ⊥) → curve_length n ≡ true → n ≡ full_length
-full_left n h e = eqb-true n full_length (sym (curve_length_last n h) ∙ e)
 
 -- ---- the lengths that are allowed
 
@@ -52,9 +45,9 @@ module _ (h : Record) where
   unfolding rules
   is_drawing_length e = leb-true _ _ e
 
-  pub curve_lengths : (n : ℕ) → (rules 0x41).allows h n ≡ curve_length n
+  pub is_curve_length : {n : ℕ} → (rules 0x41).allows h n ≡ true → n ≡ curve_length
   unfolding rules
-  curve_lengths n = refl
+  is_curve_length e = eqb-true _ _ e
 
   pub class_lengths : (n : ℕ) → (rules 0x43).allows h n ≡ class_length n
   unfolding rules
@@ -82,12 +75,6 @@ class_length_le = by_class_length (λ n. n ≤ class_limit) (lit≤ tt) (lit≤ 
 pub class_length_even : (n : ℕ) → class_length n ≡ true → 16 * (n / 16) ≡ n
 class_length_even = by_class_length (λ n. 16 * (n / 16) ≡ n) refl refl refl refl
 
-pub by_curve_length : (P : ℕ → Type 0) → P plain_length → P full_length → (n : ℕ) → curve_length n ≡ true → P n
-by_curve_length P p₀ p₁ n h = by_case P n plain_length p₀ (λ a. subst P (sym (full_left n a h)) p₁)
-
-pub curve_length_le : (n : ℕ) → curve_length n ≡ true → n ≤ full_length
-curve_length_le = by_curve_length (λ n. n ≤ full_length) (lit≤ tt) (lit≤ tt)
-
 module _ (h : Record) where
   pub by_tag : (P : ℕ → Type 0) → P 0x40 → P 0x41 → P 0x46 → P 0x42 → P 0x45 → P 0x43 → P 0x44 → (t n : ℕ) → (rules t).allows h n ≡ true → P t
   by_tag P p₀ p₁ p₆ p₂ p₅ p₃ p₄ t n e =
@@ -106,7 +93,7 @@ module _ (h : Record) where
   allows_short t n a =
       by_tag (λ t. (rules t).allows h n ≡ true → n ≤ longest_body)
       (λ e. omega (arith, is_degree_length h e))
-      (λ e. omega (arith, curve_length_le n (sym (curve_lengths h n) ∙ e)))
+      (λ e. omega (arith, is_curve_length h e))
       (λ e. omega (arith, is_drawing_length h e))
       (λ e. omega (arith, is_count_length h e))
       (λ e. omega (arith, is_released_length h e))

@@ -9,11 +9,11 @@ use mathlib.Core.Path.{◌≡◌, refl}
 use mathlib.Core.{Bool.Bool, Bool.true, Bool.false, Bool.cond, Bool.not, List.List, List.[], List.◌∷◌, Logic.inl, Logic.inr}
 use native.Mathlib.Omega.{arith}
 use lib.{Dec.eqb, Dec.leb, Dec.ltb, ListN.length, ListN.get_or}
-use Rattle.jacobian.specs.{Refusals.refusals, Refusals.listed, Refusals.IsRefusal, Refusals.ValidRefusal, Curves.degree_refusal, declared.Curve.Curve}
+use Rattle.jacobian.specs.{Refusals.refusals, Refusals.listed, Refusals.IsRefusal, Refusals.ValidRefusal, Curves.degree_refusal}
 use Rattle.count_limit.proofs.Valid.{count_refusal_valid, released_refusal_valid}
-use Rattle.jacobian.proofs.{Refusals.valid_unless, Refusals.valid_or_else, Refusals.above_100, Valid.curve_refusal_valid, Valid.refusal_valid}
+use Rattle.jacobian.proofs.{Refusals.valid_unless, Refusals.above_100, Valid.curve_refusal_valid, Valid.refusal_valid}
 use Rattle.stored_form.specs.{Reading.Reading, Reading.found, Reading.refused, Reading.refuse, Reading.checked, Reading.◌then◌, Reading.reading_refusal}
-use Rattle.stored_form.specs.{Head.body_length, Fields.drawing_refusal, Fields.end_refusal, Fields.ended, Classes.plain_refusal, Record.empty_record, Tags.Rules, Tags.rules}
+use Rattle.stored_form.specs.{Head.body_length, Fields.drawing_refusal, Fields.end_refusal, Fields.ended, Record.empty_record, Tags.Rules, Tags.rules}
 use Rattle.stored_form.specs.Reader.{read_head_by, read_head, read_body, read_field, read_fields, read_record, read_operations}
 use Rattle.stored_form.specs.Pairs.{pairs_length, pairs_refusal, read_pairs_field, read_pairs}
 use Rattle.stored_form.specs.declared.Record.{Record}
@@ -36,16 +36,12 @@ pub end_refusal_valid : (s : List ℕ) (at : ℕ) → ValidRefusal (end_refusal 
 unfolding end_refusal ValidRefusal IsRefusal refusals listed
 end_refusal_valid s at = either ValidRefusal (ltb at (length s)) (inr refl) (inl refl)
 
-plain_refusal_valid : (n : ℕ) (c : Curve) → ValidRefusal (plain_refusal n c)
-unfolding plain_refusal IsRefusal refusals listed
-plain_refusal_valid n c = valid_unless _ 125 refl
-
 field_refusal_valid : (tag n : ℕ) (h : Record) → ValidRefusal ((rules tag).check n h)
 unfolding rules ValidRefusal
 field_refusal_valid tag n h =
     let P : Rules → Type 0 = λ r. ValidRefusal (r.check n h) in
     either P (eqb tag 0x40) (degree_refusal_valid _)
-    (either P (eqb tag 0x41) (valid_or_else _ _ (curve_refusal_valid _) (plain_refusal_valid n _))
+    (either P (eqb tag 0x41) (curve_refusal_valid _)
     (either P (eqb tag 0x46) (drawing_refusal_valid _)
     (either P (eqb tag 0x42) (count_refusal_valid _)
     (either P (eqb tag 0x45) (released_refusal_valid _ _)

@@ -1,30 +1,18 @@
 -- The fields of a curve and of a class, decoded and encoded (docs/SPECIFICATION.md, 5 and 6).
-use Rattle.std.specs.Prelude.{ℕ, ◌+◌, ◌/◌, eqb, length, take, drop}
-use mathlib.Core.{Bool.cond, Bool.not, Bool.◌&&◌, List.List, List.[], List.◌∷◌, List.◌++◌, List.reverse}
-use Rattle.jacobian.specs.{Checks.unless, Curves.coefficient_count, Curves.plain_count, Curves.coefficients, Curves.plain_coefficients, Curves.is_plain, Curves.curve_with, Curves.plain_with}
+use Rattle.std.specs.Prelude.{ℕ, ◌+◌, ◌/◌, List, [], ◌∷◌, ◌++◌, reverse, length, take, drop}
+use Rattle.jacobian.specs.{Curves.coefficient_count, Curves.coefficients, Curves.curve_with}
 use Rattle.jacobian.specs.declared.{Curve.Curve, Class.Class}
-use Rattle.stored_form.specs.{Head.plain_length, Head.full_length, Head.encode_field, Fields.degree_field, Elements.decode_elements, Elements.encode_elements}
+use Rattle.stored_form.specs.{Head.encode_field, Fields.degree_field, Elements.decode_elements, Elements.encode_elements}
 
--- ---- the curve: f3, f1, f0 of a plain curve, f6 to f0 of any other
+-- ---- the curve: f3, f1, f0
 
 -- the curve that a body decodes to, over the field of degree d
 unfoldable pub decode_curve : ℕ → List ℕ → Curve
-decode_curve d body =
-    cond (eqb (length body) plain_length)
-    (plain_with d (decode_elements plain_count body))
-    (curve_with d (decode_elements coefficient_count body))
-
--- the body of a curve, encoded
-unfoldable pub encode_curve : Curve → List ℕ
-encode_curve c = encode_elements (cond (is_plain c) (plain_coefficients c) (coefficients c))
-
--- 125 for a plain curve that was read from a body of the length of any other, else 0
-unfoldable pub plain_refusal : ℕ → Curve → ℕ
-plain_refusal n c = unless (not (eqb n full_length && is_plain c)) 125
+decode_curve d body = curve_with d (decode_elements coefficient_count body)
 
 -- the field of a curve, 0x41
 unfoldable pub curve_field : Curve → List ℕ
-curve_field c = encode_field 0x41 (encode_curve c)
+curve_field c = encode_field 0x41 (encode_elements (coefficients c))
 
 -- the fields of degree and curve, with which every record begins
 unfoldable pub curve_fields_bytes : Curve → List ℕ

@@ -1,6 +1,6 @@
 -- The lengths of bodies, and the head of a field (docs/SPECIFICATION.md, 5).
 use Rattle.std.specs.Prelude.{ℕ, ◌+◌, ◌*◌, ◌≡◌, Bool, cond, ◌||◌, List, ◌∷◌, ◌++◌, length, eqb, ltb}
-use Rattle.jacobian.specs.Curves.{coefficient_count, plain_count}
+use Rattle.jacobian.specs.Curves.{coefficient_count}
 use Rattle.stored_form.specs.{Number.decode_number, Number.encode_number, Number.part, Elements.element_length}
 
 -- ---- lengths
@@ -9,17 +9,9 @@ use Rattle.stored_form.specs.{Number.decode_number, Number.encode_number, Number
 abbrev pub degree_length : ℕ
 degree_length = 1
 
--- the length of the body of 0x41 for a plain curve
-abbrev pub plain_length : ℕ
-plain_length = plain_count * element_length
-
--- the length of the body of 0x41 for any other curve
-abbrev pub full_length : ℕ
-full_length = coefficient_count * element_length
-
--- whether n is the length of a curve
-unfoldable pub curve_length : ℕ → Bool
-curve_length n = eqb n plain_length || eqb n full_length
+-- the length of the body of 0x41
+abbrev pub curve_length : ℕ
+curve_length = coefficient_count * element_length
 
 -- the length of the bodies of 0x42 and 0x45
 abbrev pub count_length : ℕ

@@ -1,10 +1,10 @@
 -- The rules of each tag: its lengths, how its body is decoded and encoded, its check (docs/SPECIFICATION.md, 5 and 6).
 use Rattle.std.specs.Prelude.{ℕ, max, Bool, false, cond, List, [], eqb, leb}
-use Rattle.jacobian.specs.{Checks.◌or_else◌, Curves.degree_refusal, Curves.curve_refusal, Answer.refusal}
+use Rattle.jacobian.specs.{Curves.coefficients, Curves.degree_refusal, Curves.curve_refusal, Answer.refusal}
 use Rattle.jacobian.specs.declared.Class.{Class}
-use Rattle.stored_form.specs.{Number.decode_number, Number.encode_number, Fields.count_refusal, Fields.released_refusal, Fields.drawing_refusal}
-use Rattle.stored_form.specs.Head.{degree_length, full_length, curve_length, count_length, drawing_limit, class_length, class_limit, pairs_limit, encode_field}
-use Rattle.stored_form.specs.Classes.{decode_curve, encode_curve, plain_refusal, decode_class, encode_class}
+use Rattle.stored_form.specs.{Number.decode_number, Number.encode_number, Elements.encode_elements, Fields.count_refusal, Fields.released_refusal, Fields.drawing_refusal}
+use Rattle.stored_form.specs.Head.{degree_length, curve_length, count_length, drawing_limit, class_length, class_limit, pairs_limit, encode_field}
+use Rattle.stored_form.specs.Classes.{decode_curve, decode_class, encode_class}
 use Rattle.stored_form.specs.Record.{decode_drawing, drawing_name, curve_of_degree, with_curve, with_drawing, with_count, with_released, with_class, with_operation}
 use Rattle.stored_form.specs.declared.Record.{Record}
 
@@ -31,10 +31,10 @@ degree_rules = record {
 -- the curve over the field whose degree was read
 abbrev pub curve_rules : Rules
 curve_rules = record {
-  allows = λ h n. curve_length n;
+  allows = λ h n. eqb n curve_length;
   with_field = λ body h. with_curve (decode_curve h.curve.degree body) h;
-  body = λ h. encode_curve h.curve;
-  check = λ n h. curve_refusal h.curve or_else plain_refusal n h.curve;
+  body = λ h. encode_elements (coefficients h.curve);
+  check = λ n h. curve_refusal h.curve;
 }
 
 -- the drawing number
@@ -91,7 +91,7 @@ rules tag =
 
 -- the length of the longest body that any tag allows, 0x48 included
 abbrev pub longest_body : ℕ
-longest_body = max (max (max drawing_limit full_length) class_limit) pairs_limit
+longest_body = max (max drawing_limit class_limit) pairs_limit
 
 -- the field with this tag that encodes its value of the record
 unfoldable pub field_bytes : ℕ → Record → List ℕ

@@ -1,6 +1,5 @@
-// Bodies decoded by their tags, and the checks 106 to 111, 120 and 125 of their values.
+// Bodies decoded by their tags, and the checks 106 to 111 and 120 of their values.
 ghost use Rattle.std.specs.Prelude.{◌≡◌, true, ◌+◌, ◌≤◌, length};
-ghost use Rattle.jacobian.specs.Checks.{◌or_else◌};
 ghost use Rattle.stored_form.specs.{Number.part, Head.drawing_limit, Record.curve_of_degree, Tags.rules};
 
 use crate::{Record, classes, drawings, numbers};
@@ -27,7 +26,7 @@ pub(crate) fn with_field(tag: u8, h: Record, s: &[u8], at: usize, len: usize) ->
     }
     if tag == crate::CURVE {
         let before = h.curve;
-        let curve = classes::decode_curve(s, at, len, before.degree);
+        let curve = classes::decode_curve(s, at, before.degree);
         more.curve = curve;
         return more;
     }
@@ -57,16 +56,6 @@ pub(crate) fn with_field(tag: u8, h: Record, s: &[u8], at: usize, len: usize) ->
     more
 }
 
-// The refusal n, or m where n is 0.
-fn or_else(n: u32, m: u32) -> u32
-    ensures { result ≡ n or_else m }
-{
-    if n != 0 {
-        return n;
-    }
-    m
-}
-
 // The refusal of the record once a body of len bytes was read, and 0 if there is none.
 pub(crate) fn field_refusal(tag: u8, len: usize, h: Record) -> u32
     requires { tag ≡ 0x46 → h.drawing.len ≤ drawing_limit }
@@ -77,9 +66,7 @@ pub(crate) fn field_refusal(tag: u8, len: usize, h: Record) -> u32
         return binary_field::degree_refusal(curve.degree);
     }
     if tag == crate::CURVE {
-        let n = jacobian::curves::curve_refusal(curve);
-        let m = classes::plain_refusal(len, curve);
-        return or_else(n, m);
+        return jacobian::curves::curve_refusal(curve);
     }
     if tag == crate::DRAWING {
         let drawing = h.drawing;

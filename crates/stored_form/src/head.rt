@@ -1,7 +1,7 @@
 // The head of a field: its tag and the length of its body.
 ghost use Rattle.std.specs.Prelude.{◌≡◌, ◌-◌, length};
 ghost use Rattle.stored_form.specs.Reading.{reading_refusal};
-ghost use Rattle.stored_form.specs.{Head.class_length, Head.curve_length, Head.length_at, Tags.rules, Reader.read_head_by, Reader.read_head, Reader.head_reading};
+ghost use Rattle.stored_form.specs.{Head.class_length, Head.length_at, Tags.rules, Reader.read_head_by, Reader.read_head, Reader.head_reading};
 
 use crate::{Cursor, Record, numbers};
 
@@ -28,16 +28,6 @@ fn class_allows(len: usize) -> bool
     len == 48
 }
 
-// Whether this is the length of a plain curve or of any other.
-fn curve_allows(len: usize) -> bool
-    ensures { result ≡ curve_length len }
-{
-    if len == crate::PLAIN_LENGTH {
-        return true;
-    }
-    len == crate::FULL_LENGTH
-}
-
 // Whether a tag allows this length after the record h.
 fn allows(tag: u8, h: Record, len: usize) -> bool
     ensures { result ≡ (rules tag).allows h len }
@@ -46,7 +36,7 @@ fn allows(tag: u8, h: Record, len: usize) -> bool
         return len == crate::DEGREE_LENGTH;
     }
     if tag == crate::CURVE {
-        return curve_allows(len);
+        return len == crate::CURVE_LENGTH;
     }
     if tag == crate::DRAWING {
         return len <= crate::DRAWING_LIMIT;

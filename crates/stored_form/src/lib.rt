@@ -14,7 +14,7 @@ mod numbers;
 pub mod pairs;
 
 use head::Head;
-use jacobian::curves::{COEFFICIENTS, PLAIN_COEFFICIENTS};
+use jacobian::curves::COEFFICIENTS;
 use jacobian::{Class, Curve};
 
 // The tags.
@@ -53,12 +53,10 @@ pub const HEADER_LAYOUT: [u8; HEADER_FIELDS] = [DEGREE, CURVE, DRAWING, COUNT, C
 // The number of bytes of an element.
 pub const ELEMENT_LENGTH: usize = 8;
 
-// The lengths of the bodies of a degree, of a plain curve and of any other, and of count and released step alike.
+// The lengths of the bodies of degree and curve, and of count and released step alike.
 pub const DEGREE_LENGTH: usize = 1;
 
-pub const PLAIN_LENGTH: usize = PLAIN_COEFFICIENTS * ELEMENT_LENGTH;
-
-pub const FULL_LENGTH: usize = COEFFICIENTS * ELEMENT_LENGTH;
+pub const CURVE_LENGTH: usize = COEFFICIENTS * ELEMENT_LENGTH;
 
 pub const COUNT_LENGTH: usize = 2;
 

@@ -12,16 +12,15 @@ use Rattle.lists.specs.Lists.{none, more}
 use Rattle.binary_field.specs.Checks.{all_hold, first_fails}
 use Rattle.binary_field.proofs.Checking.{degree_checked}
 use Rattle.jacobian.specs.{Checks.Check, Checks.check, Checks.AllHold, Checks.RefusalOf, Checks.unless, Checks.◌or_else◌, Checks.blank, Checking.formed_checks, Checking.Padded}
-use Rattle.jacobian.specs.{Curves.coefficients, Curves.is_plain, Curves.curve_with, Curves.blank_curve, Curves.curve_refusal, Answer.refusal, Classes.class_refusal, declared.Curve.Curve}
-use Rattle.jacobian.proofs.Checking.{refusal_none, refusal_unless, refusal_or_else, refusal_held, held_refusal, curve_checked, class_checked}
+use Rattle.jacobian.specs.{Curves.coefficients, Curves.curve_with, Curves.blank_curve, Curves.curve_refusal, Answer.refusal, Classes.class_refusal}
+use Rattle.jacobian.proofs.Checking.{refusal_none, refusal_unless, refusal_held, held_refusal, curve_checked, class_checked}
 use Rattle.jacobian.proofs.ByValue.Checks.{both, blank_past}
 use Rattle.stored_form.specs.{Number.part, Reading.found, Reading.reading_refusal}
-use Rattle.stored_form.specs.{Head.body_length, Head.full_length, Head.curve_length, Head.class_length, Fields.printable, Fields.drawing_refusal, Fields.count_limit, Fields.count_refusal, Fields.released_refusal, Fields.end_refusal, Fields.ended, Passing.CurvePasses}
-use Rattle.stored_form.specs.{Cuts.fields_end, Elements.decode_elements, Classes.decode_curve, Classes.plain_refusal, Classes.decode_row, Classes.decode_class, Record.empty_record, Record.curve_of_degree, Tags.rules, Reader.read_head_by, Reader.read_head, Reader.read_body, Reader.read_field, Reader.read_fields, Reader.read_record, declared.Record.Record}
-use Rattle.stored_form.proofs.{Parts.length_part, Lengths.by_tag, Lengths.by_curve_length, Lengths.by_class_length, Lengths.class_length_le, NumberLists.length_decode_numbers}
-use Rattle.stored_form_theorems.specs.Checking.{ClassLength, CurveLength, FourZero, LengthAllowed, Printable, value_checks, after_field, with_field_at, head_checks, field_checks, with_fields_at, fields_checks, end_check, record_checks, record_values}
+use Rattle.stored_form.specs.{Head.body_length, Head.class_length, Fields.printable, Fields.drawing_refusal, Fields.count_limit, Fields.count_refusal, Fields.released_refusal, Fields.end_refusal, Fields.ended, Passing.CurvePasses}
+use Rattle.stored_form.specs.{Cuts.fields_end, Elements.decode_elements, Classes.decode_curve, Classes.decode_row, Classes.decode_class, Record.empty_record, Record.curve_of_degree, Tags.rules, Reader.read_head_by, Reader.read_head, Reader.read_body, Reader.read_field, Reader.read_fields, Reader.read_record, declared.Record.Record}
+use Rattle.stored_form.proofs.{Parts.length_part, Lengths.by_tag, Lengths.by_class_length, Lengths.class_length_le, NumberLists.length_decode_numbers}
+use Rattle.stored_form_theorems.specs.Checking.{ClassLength, LengthAllowed, Printable, value_checks, after_field, with_field_at, head_checks, field_checks, with_fields_at, fields_checks, end_check, record_checks, record_values}
 use Rattle.stored_form_theorems.specs.Checking as table
-use Rattle.stored_form_theorems.proofs.CurveRoundTrips.{decoded_degree}
 use Rattle.stored_form_theorems.proofs.CheckedReadings.{Reads, found_reads, refuse_reads, checked_reads, then_reads}
 
 -- what is left of the checks after a first one that holds
@@ -42,19 +41,11 @@ class_length_decides n = (by_class_length ClassLength (inl refl) (inr (inl refl)
     back (inr (inr (inl e))) = rw e refl
     back (inr (inr (inr e))) = rw e refl
 
-curve_length_decides : (n : ℕ) → (curve_length n ≡ true) ↔ CurveLength n
-unfolding curve_length
-curve_length_decides n = (by_curve_length CurveLength (inl refl) (inr refl) n, back)
-  where
-    back : CurveLength n → curve_length n ≡ true
-    back (inl e) = rw e refl
-    back (inr e) = rw e refl
-
 pub length_decides : (tag n : ℕ) (h : Record) → ((rules tag).allows h n ≡ true) ↔ LengthAllowed tag n
 unfolding rules
 length_decides tag n h = (
   λ e. by_tag h (λ t. (rules t).allows h n ≡ true → LengthAllowed t n)
-      (λ e. table.degree refl (eqb-true n 1 e)) (λ e. table.curve refl ((curve_length_decides n).0 e)) (λ e. table.drawing refl (leb-true n 38 e)) (λ e. table.count refl (eqb-true n 2 e))
+      (λ e. table.degree refl (eqb-true n 1 e)) (λ e. table.curve refl (eqb-true n 24 e)) (λ e. table.drawing refl (leb-true n 38 e)) (λ e. table.count refl (eqb-true n 2 e))
       (λ e. table.released refl (eqb-true n 2 e))
       (λ e. table.class refl ((class_length_decides n).0 e)) (λ e. table.operation refl ((class_length_decides n).0 e)) tag n e e,
   back,
@@ -62,7 +53,7 @@ length_decides tag n h = (
   where
     back : LengthAllowed tag n → (rules tag).allows h n ≡ true
     back (table.degree e f) = rw (e, f) refl
-    back (table.curve e f) = rw e ((curve_length_decides n).1 f)
+    back (table.curve e f) = rw (e, f) refl
     back (table.drawing e f) = rw e (le-leb n 38 f)
     back (table.count e f) = rw (e, f) refl
     back (table.released e f) = rw (e, f) refl
@@ -106,41 +97,10 @@ printable_decides xs = (go xs, back)
     back none = refl
     back (more {a} h k) = rw (le-leb 0x20 a h.0, le-leb a 0x7E h.1) (back k)
 
--- ---- a plain curve in seven coefficients
-
-four_zero : (c : Curve) → (is_plain c ≡ true) ↔ FourZero c
-unfolding is_plain blank
-four_zero c = (there, λ z. rw (eq-eqb _ _ z.0, eq-eqb _ _ z.1, eq-eqb _ _ z.2, eq-eqb _ _ z.3) refl)
-  where
-    there : is_plain c ≡ true → FourZero c
-    there e =
-        let p₆ = both (eqb c.f6 0) _ e in
-        let p₅ = both (eqb c.f5 0) _ p₆.1 in
-        let p₄ = both (eqb c.f4 0) _ p₅.1 in
-        let p₂ = both (eqb c.f2 0) _ p₄.1 in
-        (eqb-true _ _ p₆.0, eqb-true _ _ p₅.0, eqb-true _ _ p₄.0, eqb-true _ _ p₂.0)
-
-plain_checked : (n : ℕ) (c : Curve) → RefusalOf (check 125 (¬ ((n ≡ 56) × FourZero c)) ∷ []) (plain_refusal n c)
-unfolding plain_refusal
-plain_checked n c = refusal_unless _ 125 (λ z. omega arith) (there (eqb n full_length) (is_plain c) refl refl, back)
-  where
-    there : (x y : Bool) → eqb n full_length ≡ x → is_plain c ≡ y → not (x && y) ≡ true → ¬ ((n ≡ 56) × FourZero c)
-    there true true e f h p = true≢false (sym h)
-    there true false e f h p = true≢false (sym ((four_zero c).1 p.1) ∙ f)
-    there false y e f h p = true≢false (sym (eq-eqb n 56 p.0) ∙ e)
-
-    back : ¬ ((n ≡ 56) × FourZero c) → not (eqb n full_length && is_plain c) ≡ true
-    back h = go (eqb n full_length) (is_plain c) refl refl
-      where
-        go : (x y : Bool) → eqb n full_length ≡ x → is_plain c ≡ y → not (x && y) ≡ true
-        go true true e f = absurd (h (eqb-true n 56 e, (four_zero c).0 f))
-        go true false e f = refl
-        go false y e f = refl
-
 -- no check refuses the curve of an accepted degree whose coefficients are 0
 zero_curve : (d : ℕ) → (d ≡ 5) ⊎ (d ≡ 61) → CurvePasses (curve_of_degree d)
 unfolding curve_of_degree curve_with coefficients
-zero_curve d h = let z : 0 < 2 ^ d = pow_pos d in refusal_held (curve_checked (curve_of_degree d)) (h, (more z (more z (more z (more z (more z (more z (more z none)))))), tt))
+zero_curve d h = let z : 0 < 2 ^ d = pow_pos d in refusal_held (curve_checked (curve_of_degree d)) (h, (more z (more z (more z none)), tt))
 
 module _ (h : Record) (ok : CurvePasses h.curve) (body : List ℕ) where
   decoded_checked : ClassLength (length body) → RefusalOf (formed_checks h.curve (decode_class body)) (refusal h.curve (decode_class body))
@@ -151,19 +111,16 @@ module _ (h : Record) (ok : CurvePasses h.curve) (body : List ℕ) where
       subst (RefusalOf (formed_checks c a)) (ap (λ (n : ℕ). n or_else class_refusal c a) (sym ok)) (rest (class_checked c a ok) (decoded_form body l))
 
   -- the check of a field's value, where its length is allowed
-  value_checked : (tag : ℕ) → LengthAllowed tag (length body) → let m = (rules tag).with_field body h in RefusalOf (value_checks tag (length body) m) ((rules tag).check (length body) m)
-  unfolding rules drawing_refusal count_refusal count_limit released_refusal
+  value_checked : (tag : ℕ) → LengthAllowed tag (length body) → let m = (rules tag).with_field body h in RefusalOf (value_checks tag m) ((rules tag).check (length body) m)
+  unfolding rules drawing_refusal count_refusal count_limit released_refusal decode_curve curve_with curve_refusal ◌or_else◌
   value_checked tag l = by l
     where
       P : ℕ → Type 0
-      P t = let m = (rules t).with_field body h in RefusalOf (value_checks t (length body) m) ((rules t).check (length body) m)
+      P t = let m = (rules t).with_field body h in RefusalOf (value_checks t m) ((rules t).check (length body) m)
 
       by : LengthAllowed tag (length body) → P tag
       by (table.degree e l) = subst P (sym e) (degree_checked _)
-      by (table.curve e l) =
-          let c = decode_curve h.curve.degree body in
-          let degree = subst (λ (d : ℕ). (d ≡ 5) ⊎ (d ≡ 61)) (sym (decoded_degree h.curve.degree body)) (held_refusal (curve_checked h.curve) ok).0 in
-          subst P (sym e) (rest (refusal_or_else _ _ _ _ (curve_checked c) (λ _. plain_checked (length body) c)) degree)
+      by (table.curve e l) = subst P (sym e) (rest (curve_checked _) (held_refusal (curve_checked h.curve) ok).0)
       by (table.drawing e l) = subst P (sym e) (refusal_unless _ 108 (λ z. omega arith) (printable_decides _))
       by (table.count e l) = subst P (sym e) (refusal_unless _ 109 (λ z. omega arith) (leb-true _ 1024, le-leb _ 1024))
       by (table.released e l) = subst P (sym e) (refusal_unless _ 120 (λ z. omega arith) (leb-true _ _, le-leb _ _))
@@ -171,19 +128,16 @@ module _ (h : Record) (ok : CurvePasses h.curve) (body : List ℕ) where
       by (table.operation e l) = subst P (sym e) (decoded_checked l)
 
   -- the curve of the record with it is one that no check refuses
-  value_kept : (tag : ℕ) → LengthAllowed tag (length body) → let m = (rules tag).with_field body h in AllHold (value_checks tag (length body) m) → CurvePasses m.curve
-  unfolding rules curve_of_degree curve_with
+  value_kept : (tag : ℕ) → LengthAllowed tag (length body) → let m = (rules tag).with_field body h in AllHold (value_checks tag m) → CurvePasses m.curve
+  unfolding rules decode_curve curve_with curve_of_degree
   value_kept tag l = by l
     where
       P : ℕ → Type 0
-      P t = let m = (rules t).with_field body h in AllHold (value_checks t (length body) m) → CurvePasses m.curve
+      P t = let m = (rules t).with_field body h in AllHold (value_checks t m) → CurvePasses m.curve
 
       by : LengthAllowed tag (length body) → P tag
       by (table.degree e l) = subst P (sym e) (λ held. zero_curve _ held.0)
-      by (table.curve e l) =
-          let c = decode_curve h.curve.degree body in
-          let degree = subst (λ (d : ℕ). (d ≡ 5) ⊎ (d ≡ 61)) (sym (decoded_degree h.curve.degree body)) (held_refusal (curve_checked h.curve) ok).0 in
-          subst P (sym e) (λ held. refusal_held (curve_checked c) (degree, (held.0, tt)))
+      by (table.curve e l) = subst P (sym e) (λ held. refusal_held (curve_checked _) ((held_refusal (curve_checked h.curve) ok).0, held))
       by (table.drawing e l) = subst P (sym e) (λ held. ok)
       by (table.count e l) = subst P (sym e) (λ held. ok)
       by (table.released e l) = subst P (sym e) (λ held. ok)
@@ -216,18 +170,11 @@ module _ (tag : ℕ) (h : Record) (ok : CurvePasses h.curve) (s : List ℕ) (at 
   unfolding read_field read_body
   field_reads =
       then_reads _ (read_body tag h s at) (then_reads (λ n next. found (part s (at + 3) n) next) (read_head tag h s at) (head_reads tag ((rules tag).allows h) (LengthAllowed tag) (λ n. length_decides tag n h) s at) (λ _. found_reads refusal_none))
-      (λ held.
-      let body = part s (at + 3) (body_length s at) in
-      let m = with_field_at tag h s at in
-      let within = held.1.1.1.0 in
-      checked_reads _ (subst (λ (n : ℕ). RefusalOf (value_checks tag n m) ((rules tag).check (length body) m)) (length_part s (at + 3) (body_length s at) within) (value_checked h ok body tag (length_allowed within held.1.1.0))))
+      (λ held. checked_reads _ (value_checked h ok (part s (at + 3) (body_length s at)) tag (length_allowed held.1.1.1.0 held.1.1.0)))
 
   -- after a field whose checks hold the curve is still one that no check refuses
   curve_kept : AllHold (field_checks tag h s at) → CurvePasses (with_field_at tag h s at).curve
-  curve_kept held =
-      let within = held.1.1.1.0 in
-      value_kept h ok _ tag (length_allowed within held.1.1.0)
-      (subst (λ (n : ℕ). AllHold (value_checks tag n (with_field_at tag h s at))) (sym (length_part s (at + 3) (body_length s at) within)) held.1.1.1.1)
+  curve_kept held = value_kept h ok _ tag (length_allowed held.1.1.1.0 held.1.1.0) held.1.1.1.1
 
 -- ---- a record
 

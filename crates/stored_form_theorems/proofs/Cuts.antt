@@ -8,12 +8,12 @@ use mathlib.Core.Path.{◌≡◌, refl, sym, ap, ◌∙◌, subst}
 use mathlib.Core.List.{List, ◌++◌}
 use native.Mathlib.{Nat.zero-add, Omega.arith}
 use lib.{Dec.lit≤, ListN.length, ListN.take-append-drop, Seq.take_at, Seq.drop_at}
-use Rattle.jacobian.specs.declared.Curve.{Curve}
-use Rattle.stored_form.specs.{Number.encode_number, Head.degree_length, Head.count_length, Head.body_length, Head.encode_field, Fields.degree_field, Fields.count_field, Fields.released_field}
-use Rattle.stored_form.specs.{Classes.encode_curve, Classes.curve_field, Classes.curve_fields_bytes, Cuts.fields_end, Cuts.take_fields, Cuts.drop_fields}
-use Rattle.stored_form.proofs.{Digits.length_bytes, Lengths.length_stored}
+use Rattle.jacobian.specs.{Curves.coefficients, declared.Curve.Curve}
+use Rattle.stored_form.specs.{Number.encode_number, Head.degree_length, Head.count_length, Head.body_length, Head.encode_field, Elements.encode_elements, Fields.degree_field, Fields.count_field, Fields.released_field}
+use Rattle.stored_form.specs.{Classes.curve_field, Classes.curve_fields_bytes, Cuts.fields_end, Cuts.take_fields, Cuts.drop_fields}
+use Rattle.stored_form.proofs.{Digits.length_bytes, NumberLists.length_encode_numbers, Lengths.length_stored}
 use Rattle.stored_form_theorems.specs.Fields.{Field}
-use Rattle.stored_form_theorems.proofs.{Bodies.stored_length, CurveRoundTrips.curve_body_small, Places.apart, Places.whole}
+use Rattle.stored_form_theorems.proofs.{Bodies.stored_length, Places.apart, Places.whole}
 
 -- k encoded fields, from an offset to the next
 pub data FieldsAt (s : List ℕ) : ℕ → ℕ → ℕ → Type 0 where
@@ -62,8 +62,8 @@ module _ (rest : List ℕ) where
   released_cut n = number_cut 0x45 count_length n (lit≤ tt)
 
   pub curve_cut : (c : Curve) → FieldsAt (curve_fields_bytes c ++ rest) 2 0 (length (curve_fields_bytes c))
-  unfolding curve_fields_bytes degree_field curve_field
+  unfolding curve_fields_bytes degree_field curve_field coefficients
   curve_cut c =
       let f = apart (degree_field c.degree) (curve_field c) (front (curve_fields_bytes c)) in
       field 0x40 (encode_number degree_length c.degree) (omega (arith, length_bytes degree_length c.degree)) f.1
-      (field 0x41 (encode_curve c) (omega (arith, curve_body_small c)) f.2 none)
+      (field 0x41 (encode_elements (coefficients c)) (omega (arith, length_encode_numbers 8 (coefficients c))) f.2 none)

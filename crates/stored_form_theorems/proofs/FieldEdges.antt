@@ -2,9 +2,6 @@
 -- `count_of_1024`: a count of 1,024 is read. `count_of_1025`: a count of 1,025 is refused with 109.
 -- `released_of_count`: a released step that is the count is read. `released_past_count`: one more is refused with 120.
 -- `f3_of_31`: over the field of degree 5 a coefficient f3 = 31 is read. `f3_of_32`: f3 = 32 is refused with 107.
--- `f6_of_31`, `f6_of_32`: the same of f6 in seven coefficients.
--- `plain_in_56`: seven coefficients of which f6, f5, f4 and f2 are 0 are refused with 125.
--- `plain_in_56_over`: with f0 = 32 besides they are refused with 107.
 -- `drawing_of_38`: a drawing number of 38 printable bytes is read. `drawing_of_39`: a length of 39 is refused with 104.
 -- `space_and_tilde`: the bytes 0x20 and 0x7E are printable. `unit_separator`, `delete`: 0x1F and 0x7F are not.
 use Prim.Native.Nat.{ℕ, ◌+◌, ◌*◌, ◌^◌, ◌≤◌, ◌<◌}
@@ -13,9 +10,9 @@ use native.Mathlib.{Nat.le_refl, Omega.arith}
 use lib.{Dec.lit<, ListN.length, ListN.get_or, ListN.replicate}
 use borrow.Author.Tests.{le-leb, lt-leb}
 use Rattle.binary_field.specs.Answer.{below}
-use Rattle.jacobian.specs.{Checks.unless, Checks.◌or_else◌, Checks.blank, Curves.coefficients, Curves.is_plain, Curves.curve_with, Curves.plain_with, Curves.degree_refusal, Curves.coefficient_refusal, Curves.curve_refusal}
-use Rattle.stored_form.specs.{Number.decode_numbers, Number.decode_number, Number.encode_number, Reading.found, Reading.refused, Reading.checked, Head.BytesAt, Head.body_length, Head.curve_length, Head.encode_field, Head.head_bytes}
-use Rattle.stored_form.specs.{Fields.printable, Fields.drawing_refusal, Fields.count_limit, Fields.count_refusal, Fields.released_refusal, Classes.decode_curve, Classes.plain_refusal, Record.with_curve, Record.with_count, Record.with_released, Record.with_drawing, Record.decode_drawing, Tags.rules, Reader.read_field, declared.Record.Record}
+use Rattle.jacobian.specs.{Checks.unless, Checks.◌or_else◌, Curves.coefficients, Curves.curve_with, Curves.degree_refusal, Curves.coefficient_refusal, Curves.curve_refusal}
+use Rattle.stored_form.specs.{Number.decode_numbers, Number.decode_number, Number.encode_number, Reading.found, Reading.refused, Reading.checked, Head.BytesAt, Head.body_length, Head.encode_field, Head.head_bytes}
+use Rattle.stored_form.specs.{Fields.printable, Fields.drawing_refusal, Fields.count_limit, Fields.count_refusal, Fields.released_refusal, Classes.decode_curve, Record.with_curve, Record.with_count, Record.with_released, Record.with_drawing, Record.decode_drawing, Tags.rules, Reader.read_field, declared.Record.Record}
 use Rattle.stored_form.proofs.{Readings.then_found, Heads.head_104, Readers.field_refused, DrawingBytes.name_decoded}
 use Rattle.stored_form_theorems.proofs.Bodies.{body_read}
 
@@ -55,30 +52,13 @@ module _ (h : Record) (s : List ℕ) (at : ℕ) where
   -- ---- the curve, over the field of degree 5
 
   pub f3_of_31 : h.curve.degree ≡ 5 → BytesAt s at (0x41 ∷ 0 ∷ 24 ∷ (replicate 7 0 ++ (31 ∷ replicate 16 0))) →
-      read_field 0x41 h s at ≡ found (with_curve (plain_with 5 (31 ∷ 0 ∷ 0 ∷ [])) h) (at + 27)
-  unfolding rules encode_field head_bytes encode_number decode_number decode_numbers decode_curve plain_with curve_with curve_length is_plain blank plain_refusal coefficients curve_refusal degree_refusal coefficient_refusal below unless ◌or_else◌ checked
+      read_field 0x41 h s at ≡ found (with_curve (record { degree = 5; f3 = 31; f1 = 0; f0 = 0 }) h) (at + 27)
+  unfolding rules encode_field head_bytes encode_number decode_number decode_numbers decode_curve curve_with coefficients curve_refusal degree_refusal coefficient_refusal below unless ◌or_else◌ checked
   f3_of_31 e stands = field_at 0x41 (replicate 7 0 ++ (31 ∷ replicate 16 0)) refl (lit< tt) stands ∙ rw e refl
 
   pub f3_of_32 : h.curve.degree ≡ 5 → BytesAt s at (0x41 ∷ 0 ∷ 24 ∷ (replicate 7 0 ++ (32 ∷ replicate 16 0))) → read_field 0x41 h s at ≡ refused 107
-  unfolding rules encode_field head_bytes encode_number decode_number decode_numbers decode_curve plain_with curve_with curve_length is_plain blank plain_refusal coefficients curve_refusal degree_refusal coefficient_refusal below unless ◌or_else◌ checked
+  unfolding rules encode_field head_bytes encode_number decode_number decode_numbers decode_curve curve_with coefficients curve_refusal degree_refusal coefficient_refusal below unless ◌or_else◌ checked
   f3_of_32 e stands = field_at 0x41 (replicate 7 0 ++ (32 ∷ replicate 16 0)) refl (lit< tt) stands ∙ rw e refl
-
-  pub f6_of_31 : h.curve.degree ≡ 5 → BytesAt s at (0x41 ∷ 0 ∷ 56 ∷ (replicate 7 0 ++ (31 ∷ replicate 48 0))) →
-      read_field 0x41 h s at ≡ found (with_curve (curve_with 5 (31 ∷ 0 ∷ 0 ∷ 0 ∷ 0 ∷ 0 ∷ 0 ∷ [])) h) (at + 59)
-  unfolding rules encode_field head_bytes encode_number decode_number decode_numbers decode_curve plain_with curve_with curve_length is_plain blank plain_refusal coefficients curve_refusal degree_refusal coefficient_refusal below unless ◌or_else◌ checked
-  f6_of_31 e stands = field_at 0x41 (replicate 7 0 ++ (31 ∷ replicate 48 0)) refl (lit< tt) stands ∙ rw e refl
-
-  pub f6_of_32 : h.curve.degree ≡ 5 → BytesAt s at (0x41 ∷ 0 ∷ 56 ∷ (replicate 7 0 ++ (32 ∷ replicate 48 0))) → read_field 0x41 h s at ≡ refused 107
-  unfolding rules encode_field head_bytes encode_number decode_number decode_numbers decode_curve plain_with curve_with curve_length is_plain blank plain_refusal coefficients curve_refusal degree_refusal coefficient_refusal below unless ◌or_else◌ checked
-  f6_of_32 e stands = field_at 0x41 (replicate 7 0 ++ (32 ∷ replicate 48 0)) refl (lit< tt) stands ∙ rw e refl
-
-  pub plain_in_56 : h.curve.degree ≡ 5 → BytesAt s at (0x41 ∷ 0 ∷ 56 ∷ (replicate 55 0 ++ (31 ∷ []))) → read_field 0x41 h s at ≡ refused 125
-  unfolding rules encode_field head_bytes encode_number decode_number decode_numbers decode_curve plain_with curve_with curve_length is_plain blank plain_refusal coefficients curve_refusal degree_refusal coefficient_refusal below unless ◌or_else◌ checked
-  plain_in_56 e stands = field_at 0x41 (replicate 55 0 ++ (31 ∷ [])) refl (lit< tt) stands ∙ rw e refl
-
-  pub plain_in_56_over : h.curve.degree ≡ 5 → BytesAt s at (0x41 ∷ 0 ∷ 56 ∷ (replicate 55 0 ++ (32 ∷ []))) → read_field 0x41 h s at ≡ refused 107
-  unfolding rules encode_field head_bytes encode_number decode_number decode_numbers decode_curve plain_with curve_with curve_length is_plain blank plain_refusal coefficients curve_refusal degree_refusal coefficient_refusal below unless ◌or_else◌ checked
-  plain_in_56_over e stands = field_at 0x41 (replicate 55 0 ++ (32 ∷ [])) refl (lit< tt) stands ∙ rw e refl
 
   -- ---- the drawing number
 

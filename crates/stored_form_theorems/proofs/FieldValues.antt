@@ -11,16 +11,17 @@ use native.Mathlib.{Nat.le_refl, Omega.arith}
 use lib.Dec.{eqb, leb, lit<, lit≤}
 use lib.ListN.{length}
 use borrow.Author.Tests.{eqb-true, leb-true, le-leb}
-use Rattle.jacobian.specs.{Checks.unless, Checks.◌or_else◌, Curves.curve_with, Curves.degree_refusal, Curves.curve_refusal, declared.Curve.Curve}
-use Rattle.jacobian.proofs.ByValue.Checks.{then_zero}
-use Rattle.stored_form.specs.{Number.decode_number, Number.encode_number, Head.encode_field, Head.degree_length, Head.count_length, Head.drawing_limit, Passing.DegreePasses, Passing.CurvePasses, Passing.CountPasses, Passing.ReleasedPasses, Passing.DrawingPasses, Passing.ClassPasses}
+use Rattle.lists.proofs.Lists.{all_of}
+use Rattle.jacobian.specs.{Checks.unless, Curves.coefficients, Curves.curve_with, Curves.degree_refusal, Curves.curve_refusal, declared.Curve.Curve}
+use Rattle.jacobian.proofs.ByValue.{Degrees.by_degree, Checks.curve_passes, Checks.then_zero}
+use Rattle.stored_form.specs.{Number.decode_number, Number.encode_number, Head.encode_field, Head.degree_length, Head.count_length, Head.drawing_limit, Elements.encode_elements, Passing.DegreePasses, Passing.CurvePasses, Passing.CountPasses, Passing.ReleasedPasses, Passing.DrawingPasses, Passing.ClassPasses}
 use Rattle.stored_form.specs.Fields.{degree_field, count_field, released_field, count_limit, count_refusal, released_refusal, drawing_field, drawing_refusal}
-use Rattle.stored_form.specs.Classes.{decode_curve, encode_curve, curve_field, curve_fields_bytes, decode_class, encode_class, class_field}
+use Rattle.stored_form.specs.Classes.{decode_curve, curve_field, curve_fields_bytes, decode_class, encode_class, class_field}
 use Rattle.stored_form.specs.Record.{decode_drawing, drawing_name, empty_record, curve_of_degree, with_curve, with_drawing, with_count, with_released, with_class, with_operation}
 use Rattle.stored_form.specs.{Tags.rules, declared.Record.Record}
-use Rattle.stored_form.proofs.{Digits.length_bytes, Readings.test_passed, DrawingBytes.name_decoded, Lengths.curve_lengths, Lengths.class_lengths, Lengths.operation_lengths, Lengths.is_drawing_length}
+use Rattle.stored_form.proofs.{Digits.length_bytes, NumberLists.length_encode_numbers, Readings.test_passed, DrawingBytes.name_decoded, Lengths.class_lengths, Lengths.operation_lengths, Lengths.is_drawing_length}
 use Rattle.stored_form_theorems.specs.{Fields.FieldLaw, Records.RecordEncodes}
-use Rattle.stored_form_theorems.proofs.{Numbers.number_bytes_small, CurveRoundTrips.decoded_degree, CurveRoundTrips.decode_encode_curve, CurveRoundTrips.curve_allowed, CurveRoundTrips.curve_unrefused, ClassRoundTrips.decode_body, ClassRoundTrips.body_allowed}
+use Rattle.stored_form_theorems.proofs.{Numbers.number_bytes_small, Elements.Small, Elements.numbers_bytes, Elements.fits, ClassRoundTrips.decode_body, ClassRoundTrips.body_allowed}
 use Rattle.stored_form_theorems.proofs.FieldLaws.{field_law, more, first_value}
 
 -- ---- values that pass fit their bytes
@@ -35,6 +36,17 @@ degree_small d h = go (eqb d 5) refl h
 count_small : (n : ℕ) → CountPasses n → n < 256 ^ count_length
 unfolding count_limit
 count_small n h = omega arith
+
+-- the coefficients of a curve that is not refused fit eight bytes each
+curve_fits : (c : Curve) → CurvePasses c → Small (coefficients c)
+curve_fits c ok =
+    let p = curve_passes c ok in
+    let small = by_degree (λ d. 2 ^ d ≤ 2 ^ 61) (lit≤ tt) (lit≤ tt) c.degree p.accepted in
+    all_of (coefficients c) 0 (λ i. fits c.degree small (p.coefficients_below i))
+
+decode_encode_curve : (c : Curve) → CurvePasses c → decode_curve c.degree (encode_elements (coefficients c)) ≡ c
+unfolding decode_curve coefficients curve_with
+decode_encode_curve c ok = rw (numbers_bytes 8 (coefficients c) (curve_fits c ok))
 
 pub degree_passes : (c : Curve) → CurvePasses c → DegreePasses c.degree
 unfolding curve_refusal degree_refusal
@@ -52,14 +64,14 @@ module _ (h : Record) where
       (λ b none fits. test_passed _ (lit< tt) none)
 
   pub curve_law : FieldLaw 0x41 h (λ c. (c.degree ≡ h.curve.degree) × CurvePasses c) curve_field (λ c. with_curve c h) (λ m. m.curve)
-  unfolding rules curve_field ◌or_else◌
+  unfolding rules curve_field decode_curve curve_with coefficients
   curve_law =
-      field_law 0x41 h _ encode_curve (decode_curve h.curve.degree) (λ c. with_curve c h) (λ m. m.curve)
+      field_law 0x41 h _ (λ c. encode_elements (coefficients c)) (decode_curve h.curve.degree) (λ c. with_curve c h) (λ m. m.curve)
       (λ m. refl) (λ c. refl) (λ b. refl)
       (λ c ok.
-      let said = ap (λ (d : ℕ). decode_curve d (encode_curve c)) (sym ok.0) ∙ decode_encode_curve c ok.1 in
-      (said, rw ok.1 (curve_unrefused c), curve_lengths h _ ∙ curve_allowed c))
-      (λ b none fits. (decoded_degree h.curve.degree b, (then_zero _ _ none).0))
+      let said = ap (λ (d : ℕ). decode_curve d (encode_elements (coefficients c))) (sym ok.0) ∙ decode_encode_curve c ok.1 in
+      (said, ok.1, rw (length_encode_numbers 8 (coefficients c)) refl))
+      (λ b none fits. (refl, none))
 
   pub drawing_law : FieldLaw 0x46 h DrawingPasses drawing_field (λ xs. with_drawing (decode_drawing xs) h) (λ m. drawing_name m.drawing)
   unfolding rules drawing_field drawing_refusal unless

@@ -1,11 +1,10 @@
--- Theorems on the stored form. Bytes and values determine each other: for numbers, elements, classes and curves;
+-- Theorems on the stored form. Bytes and values determine each other: for numbers, elements and classes;
 pub mod Numbers
 pub mod Places
 pub mod Cuts
 pub mod Elements
 pub mod Bodies
 pub mod ClassRoundTrips
-pub mod CurveRoundTrips
 -- for a field and a record, with every list of tags;
 pub mod FieldRoundTrips
 pub mod RecordRoundTrips

@@ -10,7 +10,6 @@ use mathlib.Core.List.{List}
 use lib.Dec.{lit<}
 use borrow.Author.Tests.{leb-true}
 use Rattle.jacobian.specs.Curves.{curve_refusal}
-use Rattle.jacobian.proofs.ByValue.Checks.{then_zero}
 use Rattle.stored_form.specs.{Reading.found, Fields.count_refusal, Fields.released_refusal, Passing.CountPasses, Passing.ReleasedPasses, Passing.ClassPasses, Tags.rules}
 use Rattle.stored_form.specs.{Reader.read_record, Reader.curve_layout, Reader.class_layout, Reader.sum_layout, Reader.register_layout, Reader.step_layout, declared.Record.Record}
 use Rattle.stored_form.proofs.{Readings.test_passed, Passing.Holds, Passing.record_holds}
@@ -18,7 +17,7 @@ use Rattle.stored_form.proofs.{Readings.test_passed, Passing.Holds, Passing.reco
 module _ (s : List ℕ) {h : Record} {end : ℕ} where
   pub curve_holds : read_record curve_layout s ≡ found h end → curve_refusal h.curve ≡ 0
   unfolding Holds rules
-  curve_holds = record_holds (λ m. curve_refusal m.curve ≡ 0) s curve_layout (λ d _ c e. (then_zero _ _ e).0)
+  curve_holds = record_holds (λ m. curve_refusal m.curve ≡ 0) s curve_layout (λ d _ c e. e)
 
   pub class_holds : read_record class_layout s ≡ found h end → ClassPasses h.curve h.class
   unfolding Holds rules

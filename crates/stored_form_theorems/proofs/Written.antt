@@ -10,7 +10,7 @@ use lib.Dec.{lit<}
 use lib.ListN.{length}
 use Rattle.jacobian.specs.declared.{Curve.Curve, Class.Class}
 use Rattle.stored_form.specs.{Number.encode_numbers, Number.encode_number, Number.Bytes, Head.degree_length, Head.head_bytes, Head.encode_field, Elements.encode_elements, Fields.degree_field}
-use Rattle.stored_form.specs.Classes.{encode_curve, curve_field, curve_fields_bytes, encode_row, class_field}
+use Rattle.stored_form.specs.Classes.{curve_field, curve_fields_bytes, encode_row, class_field}
 
 pub bytes_append : (xs ys : List ℕ) → Bytes xs → Bytes ys → Bytes (xs ++ ys)
 bytes_append [] ys h k i = k i
@@ -41,7 +41,7 @@ class_bytes tag a t =
     (numbers_are_bytes 8 (encode_row a.degree a.v)))
 
 pub first_bytes : (c : Curve) → Bytes (curve_fields_bytes c)
-unfolding curve_fields_bytes degree_field curve_field encode_curve
+unfolding curve_fields_bytes degree_field curve_field
 first_bytes c =
     bytes_append (degree_field c.degree) (curve_field c) (field_bytes 0x40 _ (lit< tt) (number_bytes degree_length c.degree))
     (field_bytes 0x41 _ (lit< tt) (numbers_are_bytes 8 _))

@@ -3,7 +3,7 @@ use Rattle.std.specs.Prelude.{ℕ, ◌+◌, ◌≤◌, ◌^◌}
 use mathlib.Core.{Path.◌≡◌, Bool.cond, List.List, List.[], List.◌∷◌, List.◌++◌, Logic.◌⊎◌}
 use lib.{Dec.eqb, ListN.length, ListN.get_or}
 use Rattle.lists.specs.Lists.{All}
-use Rattle.jacobian.specs.{Checks.Check, Checks.check, Checking.Below, Checking.degree_check, Checking.formed_checks, Curves.coefficients, declared.Curve.Curve}
+use Rattle.jacobian.specs.{Checks.Check, Checks.check, Checking.Below, Checking.degree_check, Checking.formed_checks, Curves.coefficients}
 use Rattle.stored_form.specs.{Number.part, Head.body_length, Cuts.fields_end, Record.empty_record, Record.drawing_name, Tags.rules, declared.Record.Record}
 
 -- ---- one field
@@ -12,14 +12,10 @@ use Rattle.stored_form.specs.{Number.part, Head.body_length, Cuts.fields_end, Re
 abbrev pub ClassLength : ℕ → Type 0
 ClassLength n = (n ≡ 0) ⊎ (n ≡ 16) ⊎ (n ≡ 32) ⊎ (n ≡ 48)
 
--- n is the length of a curve's body: three coefficients, or seven
-abbrev pub CurveLength : ℕ → Type 0
-CurveLength n = (n ≡ 24) ⊎ (n ≡ 56)
-
 -- n is a length that is allowed for the body of a tag
 pub data LengthAllowed (tag n : ℕ) : Type 0 where
   degree : tag ≡ 0x40 → n ≡ 1 → LengthAllowed tag n
-  curve : tag ≡ 0x41 → CurveLength n → LengthAllowed tag n
+  curve : tag ≡ 0x41 → n ≡ 24 → LengthAllowed tag n
   drawing : tag ≡ 0x46 → n ≤ 38 → LengthAllowed tag n
   count : tag ≡ 0x42 → n ≡ 2 → LengthAllowed tag n
   released : tag ≡ 0x45 → n ≡ 2 → LengthAllowed tag n
@@ -30,16 +26,12 @@ pub data LengthAllowed (tag n : ℕ) : Type 0 where
 abbrev pub Printable : List ℕ → Type 0
 Printable name = All (λ b. (0x20 ≤ b) × (b ≤ 0x7E)) name
 
--- f6, f5, f4 and f2 are 0
-abbrev pub FourZero : Curve → Type 0
-FourZero c = (c.f6 ≡ 0) × (c.f5 ≡ 0) × (c.f4 ≡ 0) × (c.f2 ≡ 0)
-
--- the checks of what the field with this tag says, in the record with it, after a body of n bytes; the length of a
--- class's body gives the class the right form
-abbrev pub value_checks : ℕ → ℕ → Record → List Check
-value_checks tag n h =
+-- the checks of what the field with this tag says, in the record with it; the length of a class's body gives the class
+-- the right form
+abbrev pub value_checks : ℕ → Record → List Check
+value_checks tag h =
     cond (eqb tag 0x40) (degree_check h.curve.degree ∷ [])
-    (cond (eqb tag 0x41) (check 107 (Below (2 ^ h.curve.degree) (coefficients h.curve)) ∷ check 125 (¬ ((n ≡ 56) × FourZero h.curve)) ∷ [])
+    (cond (eqb tag 0x41) (check 107 (Below (2 ^ h.curve.degree) (coefficients h.curve)) ∷ [])
     (cond (eqb tag 0x46) (check 108 (Printable (drawing_name h.drawing)) ∷ [])
     (cond (eqb tag 0x42) (check 109 (h.count ≤ 1024) ∷ [])
     (cond (eqb tag 0x45) (check 120 (h.released ≤ h.count) ∷ [])
@@ -66,7 +58,7 @@ head_checks tag Allowed s at =
 
 -- the checks of the field at an offset, where this tag is expected after the record h
 abbrev pub field_checks : ℕ → Record → List ℕ → ℕ → List Check
-field_checks tag h s at = head_checks tag (LengthAllowed tag) s at ++ value_checks tag (body_length s at) (with_field_at tag h s at)
+field_checks tag h s at = head_checks tag (LengthAllowed tag) s at ++ value_checks tag (with_field_at tag h s at)
 
 -- ---- fields with these tags, one after the other
 

@@ -13,7 +13,7 @@ ZeroOrOneOf ns n = (n ≡ 0) ⊎ OneOf ns n
 
 -- the numbers with which a record of one class or of two is refused
 abbrev pub class_numbers : List ℕ
-class_numbers = 102 ∷ 103 ∷ 104 ∷ 105 ∷ 106 ∷ 107 ∷ 110 ∷ 111 ∷ 112 ∷ 125 ∷ []
+class_numbers = 102 ∷ 103 ∷ 104 ∷ 105 ∷ 106 ∷ 107 ∷ 110 ∷ 111 ∷ 112 ∷ []
 
 -- the lengths of a class's field, degree by degree
 abbrev pub class_field_lengths : List ℕ

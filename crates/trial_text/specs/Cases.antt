@@ -1,7 +1,6 @@
 -- A case of a trial program: a byte for the call, a byte for the degree, then numbers of eight bytes, high byte first.
 -- A byte that the case does not have counts as 0.
 use Rattle.std.specs.Prelude.{ℕ, ◌+◌, ◌*◌, List, [], ◌∷◌, get_or}
-use Rattle.text.specs.{Line.with_bytes, Text.row_text, declared.Line.Line}
 
 -- the number in the four bytes from an offset on
 abbrev pub four_bytes : List ℕ → ℕ → ℕ
@@ -18,23 +17,3 @@ number_at s place = eight_bytes s (2 + 8 * place)
 -- the three numbers from an index on
 abbrev pub row_at : List ℕ → ℕ → List ℕ
 row_at s place = eight_bytes s (2 + 8 * place) ∷ eight_bytes s (2 + 8 * place + 8) ∷ eight_bytes s (2 + 8 * place + 16) ∷ []
-
--- the seven numbers from an index on
-abbrev pub seven_at : List ℕ → ℕ → List ℕ
-seven_at s place =
-    eight_bytes s (2 + 8 * place)
-    ∷ eight_bytes s (2 + 8 * place + 8)
-    ∷ eight_bytes s (2 + 8 * place + 16)
-    ∷ eight_bytes s (2 + 8 * place + 24)
-    ∷ eight_bytes s (2 + 8 * place + 32)
-    ∷ eight_bytes s (2 + 8 * place + 40)
-    ∷ eight_bytes s (2 + 8 * place + 48)
-    ∷ []
-
--- the line with seven coefficients appended, in hexadecimal with commas between
-abbrev pub with_seven : Line → List ℕ → Line
-with_seven line cs =
-    let at : ℕ → ℕ = λ i. get_or cs i 0 in
-    let high = with_bytes line (row_text 3 (at 2 ∷ at 1 ∷ at 0 ∷ [])) in
-    let middle = with_bytes (with_bytes high (0x2C ∷ [])) (row_text 3 (at 5 ∷ at 4 ∷ at 3 ∷ [])) in
-    with_bytes (with_bytes middle (0x2C ∷ [])) (row_text 1 (at 6 ∷ 0 ∷ 0 ∷ []))

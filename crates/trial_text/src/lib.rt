@@ -1,11 +1,10 @@
-// The cases that the trial programs read from standard input, and the coefficients that they print.
+// The cases that the trial programs read from standard input.
 // A case is a byte for the call, a byte for the degree, and numbers of eight bytes each, high byte first.
 ghost use Rattle.std.specs.Prelude.{◌≤◌, ◌<◌, ◌≡◌, get_or};
 ghost use Rattle.io.specs.Counts.{IsPrefixLen};
-ghost use Rattle.trial_text.specs.Cases.{four_bytes, eight_bytes, number_at, row_at, seven_at, with_seven};
+ghost use Rattle.trial_text.specs.Cases.{four_bytes, eight_bytes, number_at, row_at};
 
 use libc::{STDIN_FILENO, STDOUT_FILENO};
-use text::Line;
 
 // Reads a case and answers how many of its bytes the input had; writes `cut short` where it had some but not all.
 pub fn read_case(case: &mut [u8]) -> usize
@@ -73,31 +72,4 @@ pub fn row(case: &[u8], place: u8) -> [u64; 3]
         eight_bytes(case, at + 8),
         eight_bytes(case, at + 16),
     ]
-}
-
-// The seven numbers from an index on.
-pub fn seven(case: &[u8], place: u8) -> [u64; 7]
-    ensures { result ≡ seven_at case.now place }
-{
-    let at = 2 + 8 * (place as usize);
-    [
-        eight_bytes(case, at),
-        eight_bytes(case, at + 8),
-        eight_bytes(case, at + 16),
-        eight_bytes(case, at + 24),
-        eight_bytes(case, at + 32),
-        eight_bytes(case, at + 40),
-        eight_bytes(case, at + 48),
-    ]
-}
-
-// The line with seven coefficients appended, in hexadecimal with commas between.
-pub fn with_seven(line: Line, cs: [u64; 7]) -> Line
-    ensures { result ≡ with_seven line cs }
-{
-    let high = text::with_row(line, 3, [cs[2], cs[1], cs[0]]);
-    let comma = text::with_byte(high, b',');
-    let middle = text::with_row(comma, 3, [cs[5], cs[4], cs[3]]);
-    let second = text::with_byte(middle, b',');
-    text::with_row(second, 1, [cs[6], 0, 0])
 }

@@ -3,7 +3,7 @@
 use super::made::{drawn, Made, Variety};
 use super::ArchiveCase;
 use crate::byte_cases::pairs::drawn_pairs;
-use crate::byte_cases::pool::{pools, pools_of_both_kinds, Pool};
+use crate::byte_cases::pool::{pools, Pool};
 use crate::field::{BENCH, WIDE};
 use crate::jacobian::Class;
 use crate::random::Random;
@@ -28,22 +28,14 @@ fn every_k(random: &mut Random, made: &Made) -> Vec<ArchiveCase> {
     cases
 }
 
-/// Archives of 0 to 12 operations, and some of 64, on plain curves.
+/// Archives of 0 to 12 operations, and some of 64, over both fields, with pairs and without.
 pub fn all_k() -> Vec<ArchiveCase> {
-    all_k_on(Random::new(101), pools(), (0..=12).chain([64]).collect())
-}
-
-/// Archives of 0 to 5 operations on curves of both kinds.
-pub fn all_k_on_both_kinds() -> Vec<ArchiveCase> {
-    all_k_on(Random::new(108), pools_of_both_kinds(), (0..=5).collect())
-}
-
-/// Archives of these numbers of operations, over both fields, with pairs and without.
-fn all_k_on(mut random: Random, pools: Vec<Pool>, numbers: Vec<usize>) -> Vec<ArchiveCase> {
+    let mut random = Random::new(101);
+    let pools = pools();
     let mut cases = vec![];
     for field in [BENCH, WIDE] {
         let of_field: Vec<&Pool> = pools.iter().filter(|pool| pool.curve.field == field).collect();
-        for &n in &numbers {
+        for n in (0..=12).chain([64]) {
             for i in 0..6 {
                 for with_pairs in [false, true] {
                     let pool = *random.pick(&of_field);

@@ -2,28 +2,21 @@
 
 use super::made::{drawn, Made, Variety};
 use super::ArchiveCase;
-use crate::byte_cases::mutation::{change_curve, mutated};
+use crate::byte_cases::mutation::mutated;
 use crate::byte_cases::pairs::{change_pairs, drawn_pairs};
-use crate::byte_cases::pool::{pools, pools_of_both_kinds, Pool};
+use crate::byte_cases::pool::{pools, Pool};
 use crate::random::Random;
 use crate::suppression::GROWTH;
 
-/// Cases without end. In some of those on curves of both kinds another field stands in the curve's place.
+/// Cases without end.
 pub struct Mutated {
     random: Random,
     pools: Vec<Pool>,
-    changes_curve: bool,
 }
 
 impl Mutated {
-    /// On plain curves.
     pub fn new() -> Mutated {
-        Mutated { random: Random::new(103), pools: pools(), changes_curve: false }
-    }
-
-    /// On curves of both kinds (document 02, request 10).
-    pub fn on_both_kinds() -> Mutated {
-        Mutated { random: Random::new(107), pools: pools_of_both_kinds(), changes_curve: true }
+        Mutated { random: Random::new(103), pools: pools() }
     }
 }
 
@@ -83,11 +76,7 @@ impl Iterator for Mutated {
         if random.below(6) == 0 {
             change_pairs(random, made.n() as u16, &mut changed.pairs);
         }
-        let mut fields = changed.fields();
-        if self.changes_curve {
-            change_curve(random, &mut fields, pool);
-        }
-        let input = mutated(random, fields, pool);
+        let input = mutated(random, changed.fields(), pool);
         let k = number_of_operation(random, made.n());
         let length = output_length(random, input.len());
         if input == made.archive.bytes() {

@@ -30,10 +30,6 @@ fn kinds() {
         ("changes", 81_092, [&[0], &beside_room[1..], &[124]].concat()),
         ("pairs", 10_200, vec![0, 102, 104, 105, 112, 122, 123, 124]),
         ("held", 13_008, vec![0, 123, 124]),
-        ("all-k-seven", 1368, vec![0, 101, 123, 124]),
-        ("truncations-seven", 1323, vec![0, 102, 105]),
-        ("changes-seven", 32_132, vec![0, 103, 104, 106, 107, 110, 111, 125]),
-        ("curves", 2334, vec![0, 103, 104, 105, 107, 111, 125]),
     ];
     assert_eq!(expected.clone().map(|(kind, ..)| kind), KINDS);
     for (kind, number, met) in expected {
@@ -84,23 +80,17 @@ fn longest() {
     assert!(accepted.count() > 5);
 }
 
-/// Among the first ten thousand drawn ones every refusal is met over both fields, and many are accepted; among the first
-/// four thousand on curves of both kinds too.
+/// Among the first ten thousand drawn ones every refusal is met over both fields, and many are accepted.
 #[test]
 fn every_outcome() {
-    every_outcome_of(Mutated::new(), 10_000, &[]);
-    every_outcome_of(Mutated::on_both_kinds(), 4000, &[125]);
-}
-
-fn every_outcome_of(mutated: Mutated, number: usize, further: &[u32]) {
-    let cases: Vec<ArchiveCase> = mutated.take(number).collect();
+    let cases: Vec<ArchiveCase> = Mutated::new().take(10_000).collect();
     for degree in [5, 61] {
         let of_field = || cases.iter().filter(|case| case.input.get(3) == Some(&degree));
         let met: BTreeSet<u32> = of_field().map(|case| case.refusal).collect();
         let all = [0, 101].into_iter().chain(103..=105).chain(107..=112).chain(122..=124);
-        assert!(all.clone().chain(further.iter().copied()).all(|number| met.contains(&number)), "{met:?}");
-        assert!(of_field().filter(|case| case.refusal == 0).count() > number / 25);
-        assert!(of_field().filter(|case| case.refusal == 122).count() > number / 100);
+        assert!(all.clone().all(|number| met.contains(&number)), "{met:?}");
+        assert!(of_field().filter(|case| case.refusal == 0).count() > 400);
+        assert!(of_field().filter(|case| case.refusal == 122).count() > 100);
     }
     for number in [102, 106] {
         assert!(cases.iter().any(|case| case.refusal == number));
@@ -110,6 +100,6 @@ fn every_outcome_of(mutated: Mutated, number: usize, further: &[u32]) {
     // the edge of the room, on inputs that are accepted and on others
     for more in [GROWTH - 1, GROWTH] {
         let at_edge = |case: &&ArchiveCase| case.output_length == case.input.len() + more;
-        assert!(cases.iter().filter(at_edge).count() > number / 100);
+        assert!(cases.iter().filter(at_edge).count() > 100);
     }
 }

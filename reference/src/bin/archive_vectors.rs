@@ -1,6 +1,6 @@
 //! Prints cases of the call that suppresses an operation, for tests/archive_calls: `archive_vectors KIND` those of one
-//! of the kinds that src/archive_cases.rs names, `archive_vectors mutated N` the first N drawn ones on plain curves,
-//! `archive_vectors mutated-seven N` those on curves of both kinds. Each case is
+//! of the kinds `all-k`, `full`, `truncations`, `changes`, `pairs` and `held`, `archive_vectors mutated N` the first N
+//! drawn ones (src/archive_cases.rs). Each case is
 //!
 //! - k, in eight bytes, high byte first, as every number here;
 //! - the length of the output, the length of the input, the refusal that is expected or 0, and the length that is
@@ -25,7 +25,6 @@ fn print(cases: impl Iterator<Item = ArchiveCase>) {
 fn run(words: &[String]) -> Option<()> {
     match words {
         [kind, number] if kind == "mutated" => print(Mutated::new().take(number.parse().ok()?)),
-        [kind, number] if kind == "mutated-seven" => print(Mutated::on_both_kinds().take(number.parse().ok()?)),
         [kind] => print(cases(kind)?.into_iter()),
         _ => return None,
     }
@@ -35,8 +34,7 @@ fn run(words: &[String]) -> Option<()> {
 fn main() {
     let words: Vec<String> = std::env::args().skip(1).collect();
     if run(&words).is_none() {
-        eprintln!("usage: archive_vectors KIND with KIND one of {}", KINDS.join(" "));
-        eprintln!("or archive_vectors mutated N, or archive_vectors mutated-seven N");
+        eprintln!("usage: archive_vectors KIND with KIND one of {}, or archive_vectors mutated N", KINDS.join(" "));
         std::process::exit(2);
     }
 }

@@ -1,11 +1,11 @@
 //! Makes archives and the reports expected of `walkreport` for them: `archives samples FOLDER` those that are kept in
-//! examples/, `archives failures FOLDER` those in examples/failures/, `archives views FOLDER` those that are rich in
-//! neutral operations, `archives N FOLDER` the first N of the mutated ones, `archives seven FOLDER` mutated ones on
-//! curves of both kinds. Each is written to FOLDER/NAME.bin, its report to FOLDER/NAME.report. With the failures come
-//! the printed seal of a release, `dozen.seal`, and another tool's report, `low-degrees.other-report`.
+//! examples/, `archives failures FOLDER` those in examples/failures/, `archives views FOLDER` those that are rich in neutral
+//! operations, `archives N FOLDER` the first N of the mutated ones.
+//! Each is written to FOLDER/NAME.bin, its report to FOLDER/NAME.report. With the failures come the printed seal of a
+//! release, `dozen.seal`, and another tool's report, `low-degrees.other-report`.
 
 use reference::archive::report;
-use reference::byte_cases::{archives, archives_on_both_kinds};
+use reference::byte_cases::archives;
 use reference::samples::{failures, other_report, release_seal, samples};
 use reference::view_archives::view_archives;
 use std::fs::write;
@@ -13,9 +13,6 @@ use std::path::Path;
 
 /// How many operations the archives rich in neutral ones have at most.
 const MOST_IN_VIEWS: u32 = 4;
-
-/// How many archives there are on curves of both kinds.
-const OF_BOTH_KINDS: usize = 300;
 
 fn made(kind: &str) -> Option<Vec<(String, Vec<u8>, String)>> {
     if kind == "samples" {
@@ -25,10 +22,10 @@ fn made(kind: &str) -> Option<Vec<(String, Vec<u8>, String)>> {
     if kind == "failures" {
         return Some(failures().map(|(name, bytes)| (name.to_string(), bytes.clone(), report(&bytes))).to_vec());
     }
-    let cases = match kind {
-        "views" => view_archives(MOST_IN_VIEWS).iter().map(|archive| (archive.bytes(), archive.report())).collect(),
-        "seven" => archives_on_both_kinds(OF_BOTH_KINDS),
-        _ => archives(kind.parse().ok()?),
+    let cases = if kind == "views" {
+        view_archives(MOST_IN_VIEWS).iter().map(|archive| (archive.bytes(), archive.report())).collect()
+    } else {
+        archives(kind.parse().ok()?)
     };
     let numbered = |(i, (bytes, report))| (format!("{i:05}"), bytes, report);
     Some(cases.into_iter().enumerate().map(numbered).collect())
@@ -41,7 +38,7 @@ fn main() {
         _ => None,
     };
     let Some((made, folder)) = made else {
-        eprintln!("usage: archives samples | failures | views | seven | N FOLDER");
+        eprintln!("usage: archives samples | failures | views | N FOLDER");
         std::process::exit(2);
     };
     let put = |name: String, bytes: &[u8]| write(folder.join(name), bytes).expect("the folder takes the file");

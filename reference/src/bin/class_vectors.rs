@@ -1,5 +1,5 @@
-//! Makes cases of the program `conformance`: `class_vectors KIND FOLDER [F3 F1 F0 | F6 F5 F4 F3 F2 F1 F0]` writes
-//! what the program is given to FOLDER/stdin and what is expected for that to FOLDER/stdout. The kinds are
+//! Makes cases of the program `conformance`: `class_vectors KIND FOLDER [F3 F1 F0]` writes what the program is given to
+//! FOLDER/stdin and what is expected for that to FOLDER/stdout. The kinds are
 //!
 //! - `stored`, the cases that are kept with the program;
 //! - `thousand`, doubles and halves over GF(2^61);
@@ -8,12 +8,9 @@
 //! - `every-stamp`, those of a curve of the bench field, with the curve's coefficients;
 //! - `bench-multiples` and `order-multiples`, multiples and repeated halves of classes of a curve of the bench field,
 //!   likewise, and `wide-multiples`, those over GF(2^61);
-//! - `thousand-seven`, `bench-stamps-seven`, `wide-stamps-seven` and `wide-multiples-seven`, the same on curves of
-//!   seven coefficients;
-//! - `thousand-carried`, classes carried to the plain curve and back over GF(2^61);
 //! - those of the sweep over every class of a curve of the bench field, which take the curve's coefficients.
 
-use reference::class_cases::{carrying, drawn, multiples, stamps, stored, sweep, Case, CurveValues};
+use reference::class_cases::{drawn, multiples, stamps, stored, sweep, Case, CurveValues};
 use reference::field::BENCH;
 use reference::write_case;
 
@@ -30,15 +27,6 @@ fn on_curve(kind: &str, curve: CurveValues) -> Vec<Case> {
     }
 }
 
-/// The curve of the bench field with three coefficients or with seven, from the highest power down.
-fn curve(coefficients: &[u64]) -> Option<CurveValues> {
-    match *coefficients {
-        [f3, f1, f0] => Some(CurveValues::new(BENCH, f3, f1, f0)),
-        [f6, f5, f4, f3, f2, f1, f0] => Some(CurveValues::with_all(BENCH, [f0, f1, f2, f3, f4, f5, f6])),
-        _ => None,
-    }
-}
-
 /// What the program is given, and what is expected for that.
 fn made(kind: &str, coefficients: &[u64]) -> Option<(Vec<u8>, String)> {
     let cases = match (kind, coefficients) {
@@ -48,12 +36,9 @@ fn made(kind: &str, coefficients: &[u64]) -> Option<(Vec<u8>, String)> {
         ("bench-stamps", []) => stamps::bench(),
         ("wide-stamps", []) => stamps::wide(),
         ("wide-multiples", []) => multiples::wide(),
-        ("thousand-seven", []) => drawn::thousand_of_seven(),
-        ("thousand-carried", []) => carrying::thousand(),
-        ("bench-stamps-seven", []) => stamps::bench_of_seven(),
-        ("wide-stamps-seven", []) => stamps::wide_of_seven(),
-        ("wide-multiples-seven", []) => multiples::wide_of_seven(),
-        _ if ON_CURVE.contains(&kind) || sweep::KINDS.contains(&kind) => on_curve(kind, curve(coefficients)?),
+        (_, &[f3, f1, f0]) if ON_CURVE.contains(&kind) || sweep::KINDS.contains(&kind) => {
+            on_curve(kind, CurveValues::new(BENCH, f3, f1, f0))
+        }
         _ => return None,
     };
     Some((cases.iter().flat_map(Case::bytes).collect(), cases.into_iter().map(|case| case.line).collect()))
@@ -71,9 +56,8 @@ fn main() {
     let words: Vec<String> = std::env::args().skip(1).collect();
     if run(&words).is_none() {
         eprintln!("usage: class_vectors KIND FOLDER with KIND one of");
-        eprintln!("stored thousand common bench-stamps wide-stamps wide-multiples thousand-carried");
-        eprintln!("thousand-seven bench-stamps-seven wide-stamps-seven wide-multiples-seven,");
-        eprintln!("or class_vectors KIND FOLDER F3 F1 F0, or F6 F5 F4 F3 F2 F1 F0, with KIND one of");
+        eprintln!("stored thousand common bench-stamps wide-stamps wide-multiples,");
+        eprintln!("or class_vectors KIND FOLDER F3 F1 F0 with KIND one of");
         eprintln!("{}", [&ON_CURVE[..], &sweep::KINDS].concat().join(" "));
         std::process::exit(2);
     }

@@ -6,11 +6,9 @@
 //!   release: over the bench field, on curves over GF(2^61) where every half is known, and on any curve over GF(2^61);
 //! - `full`, 1,024 commits and the way back, without releases and with them;
 //! - `every-class`, an undo with every class of f = x^7 over the bench field;
-//! - `displacement`, lists of 1 to 64 commits over both fields, each once more with one operation changed;
-//! - `seven`, lists like the first ones on curves of seven coefficients of both fields;
-//! - `carried`, lists on such curves during which the register is carried to the plain curve.
+//! - `displacement`, lists of 1 to 64 commits over both fields, each once more with one operation changed.
 
-use reference::history_cases::{carried, displacement, lists, stored, Trial};
+use reference::history_cases::{displacement, lists, stored, Trial};
 use reference::write_case;
 
 fn made(kind: &str) -> Option<Trial> {
@@ -22,8 +20,6 @@ fn made(kind: &str) -> Option<Trial> {
         "full" => lists::full,
         "every-class" => lists::every_class,
         "displacement" => displacement::lists,
-        "seven" => lists::seven,
-        "carried" => carried::lists,
         _ => return None,
     };
     let mut trial = Trial::new();
@@ -38,8 +34,9 @@ fn main() {
         _ => None,
     };
     let Some((trial, folder)) = wanted else {
-        eprintln!("usage: history_vectors KIND FOLDER with KIND one of");
-        eprintln!("stored bench known-halves wide full every-class displacement seven carried");
+        eprintln!(
+            "usage: history_vectors KIND FOLDER with KIND one of stored bench known-halves wide full every-class displacement"
+        );
         std::process::exit(2);
     };
     write_case(folder, trial.input, trial.output);

@@ -1,17 +1,14 @@
 //! The reference's own `walkreport`: reads an archive on standard input, at most 65,536 bytes of it, and prints its walk
-//! report. SEAL_FAULT names a fault of its letters, of what it makes of pairs or of the curve, on which the tests of
-//! reports have to fail:
+//! report. SEAL_FAULT names a fault of its letters or of what it makes of pairs, on which the tests of reports have to
+//! fail:
 //!
 //! - `reversal-first`: a neutral operation whose next older one is neutral has `R`.
 //! - `newest-not-neutral`: the newest operation has `-` where it is neutral.
 //! - `pairs-refused`: an archive with pairs is refused with 112.
 //! - `pairs-unchecked`: pairs that break their rules are accepted.
-//! - `long-plain`: a plain curve in 56 bytes is accepted.
-//! - `long-first`: it is refused with 125 also where a coefficient is no element.
 
 use reference::archive::{report, Archive, REPORT_LIMIT};
 use reference::jacobian::Class;
-use reference::stored::{is_long_plain, shortened};
 use std::io::{stdin, stdout, Read, Write};
 
 /// The line for so many operations undone, with a fault of its letter.
@@ -20,8 +17,7 @@ fn faulty(fault: &str, archive: &Archive, undone: usize, line: &str) -> String {
     let letter = match fault {
         "reversal-first" if undone > 0 && neutral(undone - 1) && neutral(undone) => "R",
         "newest-not-neutral" if undone == 1 && neutral(0) => "-",
-        "reversal-first" | "newest-not-neutral" | "pairs-refused" | "pairs-unchecked" | "long-plain"
-        | "long-first" => return line.to_string(),
+        "reversal-first" | "newest-not-neutral" | "pairs-refused" | "pairs-unchecked" => return line.to_string(),
         _ => panic!("no fault has the name {fault}"),
     };
     let parts: Vec<&str> = line.split(' ').collect();
@@ -51,8 +47,6 @@ fn main() {
     let printed = match (std::env::var("SEAL_FAULT"), Archive::read(&input)) {
         (Ok(fault), Ok(archive)) => faulty_report(&fault, &archive),
         (Ok(fault), Err(122)) if fault == "pairs-unchecked" => report_before_pairs(&input),
-        (Ok(fault), Err(125)) if fault == "long-plain" => report(&shortened(&input)),
-        (Ok(fault), Err(107)) if fault == "long-first" && is_long_plain(&input) => "refused 125\n".to_string(),
         _ => report(&input),
     };
     stdout().write_all(printed.as_bytes()).expect("standard output takes the bytes");

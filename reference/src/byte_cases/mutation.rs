@@ -1,9 +1,8 @@
 //! Mutations: of the fields of a record, then of its bytes.
 
 use super::pool::Pool;
-use crate::jacobian::plain_row;
 use crate::random::Random;
-use crate::stored::{class_field, curve_field, seven_field, CLASS, COUNT, CURVE, DEGREE, OPERATION, RELEASED};
+use crate::stored::{class_field, CLASS, COUNT, CURVE, DEGREE, OPERATION, RELEASED};
 
 /// Numbers at the edges of the pool's field, or an element.
 fn number(random: &mut Random, pool: &Pool) -> u64 {
@@ -79,47 +78,6 @@ fn change_fields(random: &mut Random, fields: &mut Vec<Vec<u8>>, pool: &Pool) {
             fields[at] = with_body(&fields[at], &body);
         }
         _ => fields[at] = other_content(random, &fields[at], pool),
-    }
-}
-
-/// The curve's lengths that are allowed, and some beside them.
-const CURVE_LENGTHS: [usize; 8] = [24, 56, 23, 25, 55, 57, 0, 48];
-
-/// Another field in the curve's place (document 02, request 10): its head with another length, its body cut or filled
-/// up, a plain curve in 56 bytes, with a number that is no element too, one coefficient of seven replaced, or three
-/// alone.
-fn other_curve(random: &mut Random, pool: &Pool) -> Vec<u8> {
-    let [f0, f1, _, f3, ..] = pool.curve.lower();
-    let plain = plain_row(f3, f1, f0);
-    let with_number = |random: &mut Random, mut lower: [u64; 7], number: u64| {
-        lower[random.below(7)] = number;
-        seven_field(lower)
-    };
-    match random.below(6) {
-        0 => {
-            let mut part = seven_field(pool.curve.lower());
-            part[1..3].copy_from_slice(&(*random.pick(&CURVE_LENGTHS) as u16).to_be_bytes());
-            part
-        }
-        1 => {
-            let mut body = seven_field(pool.curve.lower())[3..].to_vec();
-            body.resize(*random.pick(&CURVE_LENGTHS), 0);
-            with_body(&[CURVE], &body)
-        }
-        2 => seven_field(plain),
-        3 => with_number(random, plain, 1 << pool.curve.field.degree),
-        4 => {
-            let number = number(random, pool);
-            with_number(random, pool.curve.lower(), number)
-        }
-        _ => curve_field(f3, f1, f0),
-    }
-}
-
-/// Puts another field in the curve's place now and then.
-pub fn change_curve(random: &mut Random, fields: &mut [Vec<u8>], pool: &Pool) {
-    if random.below(4) == 0 {
-        fields[1] = other_curve(random, pool);
     }
 }
 

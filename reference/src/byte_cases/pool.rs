@@ -31,13 +31,10 @@ impl Pool {
     }
 }
 
-/// How a curve is drawn: with three coefficients or with seven.
-type Draw = fn(&mut Random, Field) -> Curve;
-
 /// A drawn curve that has a point, which over the bench field not every curve has.
-fn drawn_curve(random: &mut Random, field: Field, draw: Draw) -> Curve {
+fn drawn_curve(random: &mut Random, field: Field) -> Curve {
     loop {
-        let curve = draw(random, field);
+        let curve = Curve::drawn(random, field);
         if field == WIDE || (0..32).any(|a| curve.point(a).is_some()) {
             return curve;
         }
@@ -52,26 +49,7 @@ pub fn pools() -> Vec<Pool> {
     for field in [BENCH, WIDE] {
         let mut curves =
             [[0, 0, 0], [1, 0, 0], [1, 1, 0]].map(|[f3, f1, f0]| Curve::new(field, f3, f1, f0)).to_vec();
-        curves.extend((0..9).map(|_| drawn_curve(&mut random, field, Curve::drawn)));
-        pools.extend(curves.into_iter().map(|curve| Pool::new(&mut random, curve)));
-    }
-    pools
-}
-
-/// Over both fields six drawn curves of seven coefficients, four on which one of f6, f5, f4 and f2 alone is not 0,
-/// and four plain ones (document 02, request 10).
-pub fn pools_of_both_kinds() -> Vec<Pool> {
-    let mut random = Random::new(73);
-    let mut pools = vec![];
-    for field in [BENCH, WIDE] {
-        let mut curves: Vec<Curve> =
-            (0..6).map(|_| drawn_curve(&mut random, field, Curve::drawn_with_all)).collect();
-        for i in [6, 5, 4, 2] {
-            let mut lower = [0; 7];
-            lower[i] = 1;
-            curves.push(Curve::with_all(field, lower));
-        }
-        curves.extend((0..4).map(|_| drawn_curve(&mut random, field, Curve::drawn)));
+        curves.extend((0..9).map(|_| drawn_curve(&mut random, field)));
         pools.extend(curves.into_iter().map(|curve| Pool::new(&mut random, curve)));
     }
     pools
@@ -84,14 +62,12 @@ mod tests {
 
     #[test]
     fn classes_of_every_degree() {
-        for pools in [pools(), pools_of_both_kinds()] {
-            for pool in &pools {
-                assert!(pool.classes.iter().all(|class| pool.curve.is_member(class)));
-            }
-            let degrees = |pool: &Pool| pool.classes.iter().map(Class::degree).collect::<HashSet<usize>>();
-            assert!(pools.iter().filter(|pool| degrees(pool).len() == 4).count() > 20);
+        let pools = pools();
+        for pool in &pools {
+            assert!(pool.classes.iter().all(|class| pool.curve.is_member(class)));
         }
-        assert_eq!(pools_of_both_kinds().iter().filter(|pool| pool.curve.is_plain()).count(), 8);
+        let degrees = |pool: &Pool| pool.classes.iter().map(Class::degree).collect::<HashSet<usize>>();
+        assert!(pools.iter().filter(|pool| degrees(pool).len() == 4).count() > 20);
     }
 
     #[test]

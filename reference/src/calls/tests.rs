@@ -4,8 +4,7 @@
 use super::*;
 use crate::field::{Field, BENCH, WIDE};
 use crate::stored::{
-    count_field, curve_field, curve_fields, degree_field, field, operation_field, released_field, seven_field,
-    CLASS, OPERATION,
+    count_field, curve_field, curve_fields, degree_field, field, operation_field, released_field, CLASS, OPERATION,
 };
 
 const CLASS_CALLS: [Call; 7] =
@@ -138,7 +137,7 @@ fn heads_of_every_field() {
             for length in 0..=300u16 {
                 let allowed: &[u16] = match part[0] {
                     0x40 => &[1],
-                    0x41 => &[24, 56],
+                    0x41 => &[24],
                     0x42 | 0x45 => &[2],
                     _ => &[0, 16, 32, 48],
                 };
@@ -155,40 +154,6 @@ fn heads_of_every_field() {
         let whole = fields.concat();
         for rest in [&[0][..], &[0x43], &[0xff; 3], &[0; 100], &whole] {
             assert_eq!(answered(call, &[&whole, rest].concat()), 112);
-        }
-    }
-}
-
-/// On f = x^7 + 11 x^6 + 9 x^5 + 7 x^4 + 5 x^3, which has [x, 0], every call accepts 56 bytes. 107 comes at each of the
-/// seven, then 125 where f6, f5, f4 and f2 are 0, before what follows is looked at.
-#[test]
-fn curves_of_seven() {
-    for call in CALLS {
-        for d in [BENCH, WIDE] {
-            let (least, lower) = (1u64 << d.degree, [0, 0, 0, 5, 7, 9, 11]);
-            let fields = fields(call, d);
-            let with =
-                |lower: [u64; 7], after: &[u8]| answered(call, &[&fields[0], &seven_field(lower), after].concat());
-            let others = fields[2..].concat();
-            assert!(with(lower, &others) <= 100, "{call:?}");
-            assert_eq!(with(lower, &[&others[..], &[0]].concat()), 112);
-            for after in [&others[..], &[], &[0], &[0xff; 9]] {
-                assert_eq!(with([0; 7], after), 125);
-                assert_eq!(with([least - 1, least - 1, 0, least - 1, 0, 0, 0], after), 125);
-                for i in 0..7 {
-                    for others in [[0; 7], [least - 1; 7], lower] {
-                        let mut row = others;
-                        row[i] = least;
-                        assert_eq!(with(row, after), 107, "before 125");
-                    }
-                }
-            }
-            for i in [6, 5, 4, 2] {
-                let mut row = [0; 7];
-                row[i] = least - 1;
-                let passed = if fields.len() > 2 { 102 } else { 112 };
-                assert_eq!(with(row, &[0]), passed);
-            }
         }
     }
 }

@@ -1,4 +1,4 @@
-//! Classes of every degree over GF(2^61), on curves whose coefficients, three or seven, are drawn from the whole field.
+//! Classes of every degree over GF(2^61), on curves whose three coefficients are drawn from the whole field.
 //!
 //! A class of degree up to 3 is a sum of that many points, distinct or not; one of degree 3 also of five points, and
 //! then u need not have roots.
@@ -15,9 +15,8 @@ use crate::random::Random;
 /// The kinds of classes: how often each of some points is taken.
 pub(super) const KINDS: [&[usize]; 8] = [&[], &[1], &[1, 1], &[2], &[1, 1, 1], &[2, 1], &[3], &[1, 1, 1, 1, 1]];
 
-/// How many curves of three coefficients are drawn, and how many of seven; on each there is one class of every kind.
+/// How many curves are drawn; on each there is one class of every kind.
 const CURVES: usize = 25;
-const CURVES_OF_SEVEN: usize = 5;
 
 /// The sum of points, each taken as often as the kind says, and the first of the points.
 pub(super) fn class_of_kind(random: &mut Random, curve: &Curve, kind: &[usize]) -> (Class, Class) {
@@ -73,62 +72,33 @@ fn known_halves() -> Vec<Case> {
     cases
 }
 
-/// How a curve is drawn: `plain` or `of_seven_coefficients`.
-pub(super) type Draw = fn(&mut Random) -> (CurveValues, Curve);
-
-/// A plain curve.
-pub(super) fn plain(random: &mut Random) -> (CurveValues, Curve) {
-    with_values(Curve::drawn(random, WIDE))
+pub(super) fn drawn_curve(random: &mut Random) -> (CurveValues, Curve) {
+    let values = CurveValues::new(WIDE, random.element(WIDE), random.element(WIDE), random.element(WIDE));
+    (values, values.curve().expect("the curve is accepted"))
 }
 
-/// A curve of seven coefficients.
-pub(super) fn of_seven_coefficients(random: &mut Random) -> (CurveValues, Curve) {
-    with_values(Curve::drawn_with_all(random, WIDE))
-}
-
-fn with_values(curve: Curve) -> (CurveValues, Curve) {
-    ((&curve).into(), curve)
-}
-
-/// Every call on a class of every kind on some curves.
-fn on_curves(mut random: Random, draw: Draw, number: usize) -> Vec<Case> {
+/// The stored cases.
+pub fn cases() -> Vec<Case> {
+    let mut random = Random::new(61);
     let mut cases = vec![];
-    for _ in 0..number {
-        let (values, curve) = draw(&mut random);
+    for _ in 0..CURVES {
+        let (values, curve) = drawn_curve(&mut random);
         for kind in KINDS {
             cases.extend(on_class(&mut random, values, &curve, kind));
         }
     }
+    cases.extend(known_halves());
     cases
 }
 
-/// The stored cases on plain curves.
-pub fn cases() -> Vec<Case> {
-    [on_curves(Random::new(61), plain, CURVES), known_halves()].concat()
-}
-
-/// Those on curves of seven coefficients.
-pub fn of_seven() -> Vec<Case> {
-    on_curves(Random::new(68), of_seven_coefficients, CURVES_OF_SEVEN)
-}
-
-/// The seven calls on a thousand classes, each on a plain curve of its own; these are not stored.
+/// The seven calls on a thousand classes, each on a curve of its own; these are not stored. By turns of eight the class is a
+/// double, so that its half is of the kind drawn, or it is itself of that kind, and its half is found by solving. Thus the
+/// degrees of a class and of its half are every two that can be.
 pub fn thousand() -> Vec<Case> {
-    thousand_on(Random::new(63), plain)
-}
-
-/// The same on curves of seven coefficients.
-pub fn thousand_of_seven() -> Vec<Case> {
-    thousand_on(Random::new(69), of_seven_coefficients)
-}
-
-/// The seven calls on a thousand classes. By turns of eight the class is a double, so that its half is of the kind
-/// drawn, or it is itself of that kind, and its half is found by solving. Thus the degrees of a class and of its half
-/// are every two that can be.
-fn thousand_on(mut random: Random, draw: Draw) -> Vec<Case> {
+    let mut random = Random::new(63);
     let mut cases = vec![];
     for i in 0..1000 {
-        let (values, curve) = draw(&mut random);
+        let (values, curve) = drawn_curve(&mut random);
         let [of_kind, second] = [KINDS[i % 8], &[1; 5]].map(|kind| class_of_kind(&mut random, &curve, kind).0);
         let (class, its_half) = if i / 8 % 2 == 0 {
             (curve.double(&of_kind), of_kind)
@@ -146,7 +116,7 @@ pub fn common() -> Vec<Case> {
     let mut random = Random::new(64);
     let mut cases = vec![];
     for _ in 0..8 {
-        let (values, curve) = plain(&mut random);
+        let (values, curve) = drawn_curve(&mut random);
         let [class, other] = [0; 2].map(|_| class_of_kind(&mut random, &curve, KINDS[7]).0);
         cases.push(Case::on(MEMBERSHIP, values, &class));
         cases.push(Case::on(DOUBLE, values, &class));

@@ -7,16 +7,11 @@ use super::{
     SUBTRACT_AND_HALVE,
 };
 use crate::field::{Field, BENCH, WIDE};
-use crate::jacobian::Curve;
 use crate::multiples::{HALVINGS_LIMIT, MULTIPLE_LIMIT};
 use crate::stamp::stamp_limit;
 
 /// No class by its degree, by what stands beyond it, and by the size of its numbers.
 pub const NONSENSE: ClassValues = ClassValues { degree: u64::MAX, u: [u64::MAX; 3], v: [u64::MAX; 3] };
-
-/// The powers below x^7 of a plain curve, and all of them.
-const PLAIN_POWERS: [usize; 3] = [3, 1, 0];
-pub(super) const ALL_POWERS: [usize; 7] = [6, 5, 4, 3, 2, 1, 0];
 
 /// Is the call one whose answer is not known before it is made: a half of classes that are accepted, and not neutral?
 fn open_half(call: u8, curve: CurveValues, a: ClassValues, b: ClassValues) -> bool {
@@ -36,9 +31,9 @@ fn every_call(curve: CurveValues, a: ClassValues) -> Vec<Case> {
     calls.map(|call| Case::new(call, curve, a, second(call))).collect()
 }
 
-/// The largest element of the curve's field, and the smallest number that is none.
-fn around(curve: CurveValues) -> [u64; 2] {
-    [(1 << curve.degree) - 1, 1 << curve.degree]
+/// The largest element, and the smallest number that is none.
+fn around(field: Field) -> [u64; 2] {
+    [(1 << field.degree) - 1, 1 << field.degree]
 }
 
 /// 106, whatever else is wrong.
@@ -47,7 +42,7 @@ fn degrees() -> Vec<Case> {
     for degree in [0, 4, 6, 60, 62, 255] {
         for f3 in [0, u64::MAX] {
             for a in [NEUTRAL, NONSENSE] {
-                let curve = CurveValues::plain(degree, f3, 0, 0);
+                let curve = CurveValues { degree, f3, f1: 0, f0: 0 };
                 cases.extend(every_call(curve, a));
                 cases.push(Case::new(CURVE, curve, a, NONSENSE));
             }
@@ -56,12 +51,12 @@ fn degrees() -> Vec<Case> {
     cases
 }
 
-/// 107 for the coefficient of each of these powers, before anything of the class.
-fn coefficients(curve: CurveValues, powers: &[usize]) -> Vec<Case> {
+/// 107 for each coefficient, before anything of the class.
+fn coefficients(field: Field) -> Vec<Case> {
     let mut cases = vec![];
-    for n in around(curve).into_iter().chain([u64::MAX]) {
-        for &i in powers {
-            let curve = curve.with(i, n);
+    for n in around(field).into_iter().chain([u64::MAX]) {
+        for [f3, f1, f0] in [[n, 0, 0], [0, n, 0], [0, 0, n]] {
+            let curve = CurveValues::new(field, f3, f1, f0);
             cases.extend(every_call(curve, NEUTRAL));
             cases.extend(every_call(curve, NONSENSE));
             cases.push(Case::new(CURVE, curve, NONSENSE, NONSENSE));
@@ -79,7 +74,8 @@ fn with_number(curve: CurveValues, class: ClassValues, i: usize, n: u64) -> Vec<
 }
 
 /// 104 for a degree above 3, and for a number other than 0 beyond the degree, an element or not.
-fn shapes(curve: CurveValues) -> Vec<Case> {
+fn shapes(field: Field) -> Vec<Case> {
+    let curve = CurveValues::new(field, 0, 0, 0);
     let mut cases = vec![];
     for degree in [4, 256, 1 << 32, u64::MAX] {
         cases.extend(every_call(curve, ClassValues { degree, ..NEUTRAL }));
@@ -88,7 +84,7 @@ fn shapes(curve: CurveValues) -> Vec<Case> {
     for degree in 0..3 {
         let class = ClassValues { degree: degree as u64, ..NEUTRAL };
         for i in degree..3 {
-            for n in [1, around(curve)[1]] {
+            for n in [1, around(field)[1]] {
                 cases.extend(with_number(curve, class, i, n));
             }
         }
@@ -96,15 +92,16 @@ fn shapes(curve: CurveValues) -> Vec<Case> {
     cases
 }
 
-/// 110 for each coefficient, before 111; the largest element passes. The curve is one with f2, f1 and f0 all 0, on
-/// which the class [x^n, 0] is accepted, and with another number in place of a 0 mostly not.
-fn numbers(curve: CurveValues) -> Vec<Case> {
+/// 110 for each coefficient, before 111; the largest element passes. On f = x^7 the class [x^n, 0] is accepted, and
+/// with another number in place of a 0 mostly not.
+fn numbers(field: Field) -> Vec<Case> {
+    let curve = CurveValues::new(field, 0, 0, 0);
     let mut cases = vec![];
     for degree in 1..=3 {
         let class = ClassValues { degree: degree as u64, ..NEUTRAL };
         cases.extend(every_call(curve, class));
         for i in 0..degree {
-            for n in [1].into_iter().chain(around(curve)) {
+            for n in [1].into_iter().chain(around(field)) {
                 cases.extend(with_number(curve, class, i, n));
             }
         }
@@ -112,24 +109,21 @@ fn numbers(curve: CurveValues) -> Vec<Case> {
     cases
 }
 
-/// The class [x + m, m] of the largest element m, on the curve through that point with m as the coefficient of each of
-/// these powers but x^0.
-fn largest(curve: CurveValues, powers: &[usize]) -> Vec<Case> {
-    let m = around(curve)[0];
-    let values = powers.iter().fold(curve, |curve, &i| curve.with(i, m)).with(0, 0);
-    let Curve { field, f } = values.curve().expect("the curve is accepted");
-    let values = values.with(0, f.at(field, m) ^ field.square(m) ^ m);
-    let class = ClassValues { degree: 1, u: [m, 0, 0], v: [m, 0, 0] };
-    assert!(values.curve().is_ok_and(|curve| class.class(&curve).is_ok()));
-    every_call(values, class)
+/// The class [x + m, m] of the largest element m, on the curve through that point with the largest f3 and f1.
+fn largest(field: Field) -> Vec<Case> {
+    let m = around(field)[0];
+    let f = CurveValues::new(field, m, m, 0).curve().expect("the curve is accepted").f;
+    let f0 = f.at(field, m) ^ field.square(m) ^ m;
+    every_call(CurveValues::new(field, m, m, f0), ClassValues { degree: 1, u: [m, 0, 0], v: [m, 0, 0] })
 }
 
 /// Calls on two classes where one is refused or both are: the first class is done with before the second is begun.
-fn two_classes(curve: CurveValues) -> Vec<Case> {
+fn two_classes(field: Field) -> Vec<Case> {
+    let curve = CurveValues::new(field, 0, 0, 0);
     let accepted = ClassValues { degree: 1, ..NEUTRAL };
     let shape = ClassValues { degree: 4, ..NEUTRAL };
     let beyond = ClassValues { u: [0, 0, 1], ..accepted };
-    let number = ClassValues { v: [around(curve)[1], 0, 0], ..accepted };
+    let number = ClassValues { v: [around(field)[1], 0, 0], ..accepted };
     let no_divisor = ClassValues { u: [1, 0, 0], ..accepted };
     let values = [NEUTRAL, accepted, shape, beyond, number, no_divisor, NONSENSE];
     let mut cases = vec![];
@@ -163,18 +157,9 @@ fn stamps(field: Field) -> Vec<Case> {
         cases.extend(stamps_on(curve, &stamps_around(field)));
         cases.extend(stamps_on(curve, &others));
     }
-    cases.extend(stamps_beside_coefficients(on(0, 0, 0), &PLAIN_POWERS));
-    cases
-}
-
-/// Stamps at the edges, with the largest element and with numbers that are none as the coefficient of each of these
-/// powers.
-fn stamps_beside_coefficients(curve: CurveValues, powers: &[usize]) -> Vec<Case> {
-    let stamps = stamps_around(Field::of_degree(curve.degree).expect("the degree is a field's"));
-    let mut cases = vec![];
-    for n in around(curve).into_iter().chain([u64::MAX]) {
-        for &i in powers {
-            cases.extend(stamps_on(curve.with(i, n), &stamps));
+    for n in around(field).into_iter().chain([u64::MAX]) {
+        for curve in [on(n, 0, 0), on(0, n, 0), on(0, 0, n)] {
+            cases.extend(stamps_on(curve, &stamps_around(field)));
         }
     }
     cases
@@ -185,7 +170,7 @@ fn stamps_of_no_field() -> Vec<Case> {
     let mut cases = vec![];
     for degree in [0, 4, 6, 60, 62, 255] {
         for f3 in [0, u64::MAX] {
-            cases.extend(stamps_on(CurveValues::plain(degree, f3, 0, 0), &stamps_around(WIDE)));
+            cases.extend(stamps_on(CurveValues { degree, f3, f1: 0, f0: 0 }, &stamps_around(WIDE)));
         }
     }
     cases
@@ -226,7 +211,7 @@ fn numbers_of_no_field() -> Vec<Case> {
     for degree in [0, 4, 6, 60, 62, 255] {
         for f3 in [0, u64::MAX] {
             for a in [NEUTRAL, NONSENSE] {
-                let curve = CurveValues::plain(degree, f3, 0, 0);
+                let curve = CurveValues { degree, f3, f1: 0, f0: 0 };
                 cases.extend(with_every_number(curve, a, &[0, MULTIPLE_LIMIT], &[0, HALVINGS_LIMIT + 1]));
             }
         }
@@ -239,7 +224,7 @@ fn numbers_refused_before(field: Field) -> Vec<Case> {
     let curve = CurveValues::new(field, 0, 0, 0);
     let accepted = ClassValues { degree: 1, ..NEUTRAL };
     let refused = [
-        (curve.with(3, u64::MAX), accepted),
+        (CurveValues { f3: u64::MAX, ..curve }, accepted),
         (curve, ClassValues { degree: 4, ..NEUTRAL }),
         (curve, ClassValues { u: [0, 0, 1], ..accepted }),
         (curve, ClassValues { v: [u64::MAX, 0, 0], ..accepted }),
@@ -250,27 +235,23 @@ fn numbers_refused_before(field: Field) -> Vec<Case> {
     refused.into_iter().flat_map(|(curve, a)| with_every_number(curve, a, &factors, &times)).collect()
 }
 
-/// Curves and classes at every edge of a refusal, and beside it: the coefficient of each of these powers, then the
-/// class.
-pub(super) fn around_refusals(curve: CurveValues, powers: &[usize]) -> Vec<(CurveValues, ClassValues)> {
-    let wrong = [coefficients(curve, powers), shapes(curve), numbers(curve)].concat();
-    let once = wrong.into_iter().filter(|case| case.call == MEMBERSHIP);
-    once.map(|case| (case.curve, case.a)).collect()
-}
-
-/// Each of these with a number that is too large beside it.
-fn numbers_after_class(curve: CurveValues, powers: &[usize]) -> Vec<Case> {
-    let beside = |(curve, a)| CALLS_WITH_NUMBER.map(|call| Case::with_number(call, curve, a, u64::MAX, NONSENSE));
-    around_refusals(curve, powers).into_iter().flat_map(beside).collect()
+/// Every refusal of the class, at its edges, with a number that is too large beside it.
+fn numbers_after_class(field: Field) -> Vec<Case> {
+    let wrong = [coefficients, shapes, numbers].into_iter().flat_map(|part| part(field));
+    let once = wrong.filter(|case| case.call == MEMBERSHIP);
+    once.flat_map(|case| {
+        CALLS_WITH_NUMBER.map(|call| Case::with_number(call, case.curve, case.a, u64::MAX, NONSENSE))
+    })
+    .collect()
 }
 
 /// The cases of the calls on a class with a number.
 fn cases_with_number() -> Vec<Case> {
     let mut cases = numbers_of_no_field();
     for field in [BENCH, WIDE] {
-        cases.extend(numbers_beside(field));
-        cases.extend(numbers_refused_before(field));
-        cases.extend(numbers_after_class(CurveValues::new(field, 0, 0, 0), &PLAIN_POWERS));
+        for part in [numbers_beside, numbers_refused_before, numbers_after_class] {
+            cases.extend(part(field));
+        }
     }
     cases
 }
@@ -279,25 +260,11 @@ pub fn cases() -> Vec<Case> {
     let mut cases = degrees();
     cases.extend(stamps_of_no_field());
     for field in [BENCH, WIDE] {
-        let curve = CurveValues::new(field, 0, 0, 0);
-        cases.extend(coefficients(curve, &PLAIN_POWERS));
-        cases.extend([shapes(curve), numbers(curve), largest(curve, &PLAIN_POWERS), two_classes(curve)].concat());
-        cases.extend(stamps(field));
+        for part in [coefficients, shapes, numbers, largest, two_classes, stamps] {
+            cases.extend(part(field));
+        }
     }
     cases.extend(cases_with_number());
-    cases
-}
-
-/// The edges that look at the curve, on f = x^7 + 11 x^6 + 9 x^5 + 7 x^4 + 5 x^3 (document 02, request 10).
-pub fn of_seven() -> Vec<Case> {
-    let mut cases = vec![];
-    for field in [BENCH, WIDE] {
-        let curve = CurveValues::with_all(field, [0, 0, 0, 5, 7, 9, 11]);
-        cases.extend(coefficients(curve, &ALL_POWERS));
-        cases.extend([numbers(curve), largest(curve, &ALL_POWERS), two_classes(curve)].concat());
-        cases.extend(stamps_on(curve, &stamps_around(field)));
-        cases.extend(stamps_beside_coefficients(curve, &ALL_POWERS));
-    }
     cases
 }
 
@@ -313,10 +280,10 @@ mod tests {
     /// Refusals written out by hand, at the edges that document 01 names and in its order.
     #[test]
     fn refusals_by_hand() {
-        let curve = CurveValues::new(BENCH, 31, 0, 0);
+        let curve = CurveValues { degree: 5, f3: 31, f1: 0, f0: 0 };
         assert_eq!(line(curve, NEUTRAL, NEUTRAL), "0::\n");
-        assert_eq!(line(curve.with(3, 32), NONSENSE, NEUTRAL), "refused 107\n");
-        assert_eq!(line(CurveValues::plain(6, 64, 0, 0), NONSENSE, NEUTRAL), "refused 106\n");
+        assert_eq!(line(CurveValues { f3: 32, ..curve }, NONSENSE, NEUTRAL), "refused 107\n");
+        assert_eq!(line(CurveValues { degree: 6, f3: 64, ..curve }, NONSENSE, NEUTRAL), "refused 106\n");
         let class = |degree, u, v| ClassValues { degree, u, v };
         assert_eq!(line(curve, class(4, [0; 3], [0; 3]), NONSENSE), "refused 104\n");
         assert_eq!(line(curve, class(0, [0, 0, 32], [0; 3]), NONSENSE), "refused 104\n");
@@ -332,7 +299,7 @@ mod tests {
     fn stamps_by_hand() {
         let line = |degree, f3, f0, stamp| {
             let lines =
-                stamps_on(CurveValues::plain(degree, f3, 0, f0), &[stamp]).into_iter().map(|case| case.line);
+                stamps_on(CurveValues { degree, f3, f1: 0, f0 }, &[stamp]).into_iter().map(|case| case.line);
             let lines: Vec<String> = lines.collect();
             assert_eq!(lines[0], lines[1], "what stands aside does not count");
             lines[0].clone()
@@ -356,7 +323,7 @@ mod tests {
     fn numbers_by_hand() {
         let class = |degree, u0, v0| ClassValues { degree, u: [u0, 0, 0], v: [v0, 0, 0] };
         let line = |call, degree, f0, a, number| {
-            let curve = CurveValues::plain(degree, 0, 0, f0);
+            let curve = CurveValues { degree, f3: 0, f1: 0, f0 };
             Case::with_number(call, curve, a, number, NONSENSE).line
         };
         for degree in [5, 61] {
@@ -384,7 +351,7 @@ mod tests {
     /// The sums of two classes meet each refusal at each of the two places, and both orders of any two.
     #[test]
     fn refusals_of_two_classes() {
-        let sums = two_classes(CurveValues::new(WIDE, 0, 0, 0)).into_iter().filter(|case| case.call == SUM);
+        let sums = two_classes(WIDE).into_iter().filter(|case| case.call == SUM);
         let lines: Vec<String> = sums.map(|case| case.line).collect();
         let row = |i: usize| lines[7 * i..7 * i + 7].to_vec();
         let second = ["refused 104\n", "refused 104\n", "refused 110\n", "refused 111\n", "refused 104\n"];

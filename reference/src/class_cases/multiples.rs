@@ -1,7 +1,7 @@
 //! Multiples of classes and repeated halves (document 02, request 4). These cases are made when they are run, and not
 //! stored.
 
-use super::drawn::{class_of_kind, of_seven_coefficients, plain, Draw, KINDS};
+use super::drawn::{class_of_kind, drawn_curve, KINDS};
 use super::{Case, CurveValues, HALVINGS, MULTIPLE};
 use crate::bench_classes::all_classes;
 use crate::class_number::class_number;
@@ -84,24 +84,20 @@ fn on_class(random: &mut Random, values: CurveValues, class: &Class) -> Vec<Case
 }
 
 /// The twenty cases on each of some drawn curves, the kinds of classes by turns.
-fn on_curves(mut random: Random, draw: Draw, number: usize) -> Vec<Case> {
+fn on_curves(number: usize) -> Vec<Case> {
+    let mut random = Random::new(67);
     let mut cases = vec![];
     for kind in KINDS.iter().cycle().take(number) {
-        let (values, curve) = draw(&mut random);
+        let (values, curve) = drawn_curve(&mut random);
         let class = class_of_kind(&mut random, &curve, kind).0;
         cases.extend(on_class(&mut random, values, &class));
     }
     cases
 }
 
-/// The cases on forty plain curves over GF(2^61).
+/// The cases on forty curves over GF(2^61).
 pub fn wide() -> Vec<Case> {
-    on_curves(Random::new(67), plain, 40)
-}
-
-/// Those on sixteen curves of seven coefficients.
-pub fn wide_of_seven() -> Vec<Case> {
-    on_curves(Random::new(76), of_seven_coefficients, 16)
+    on_curves(40)
 }
 
 #[cfg(test)]
@@ -135,7 +131,7 @@ mod tests {
     /// Twenty cases on a curve, with every degree among the first eight, and so many of each refusal.
     #[test]
     fn multiples_of_wide_curves() {
-        let cases = on_curves(Random::new(67), plain, 8);
+        let cases = on_curves(8);
         assert_eq!(cases.len(), 160);
         assert_eq!(degrees(&cases), HashSet::from([0, 1, 2, 3]));
         for (line, number) in [("refused 118\n", 24), ("refused 119\n", 16)] {

@@ -1,9 +1,7 @@
 //! Classes of stamps (document 02, request 2). These cases are made when they are run, and not stored.
 
-use super::drawn::{of_seven_coefficients, plain, Draw};
 use super::{Case, CurveValues, NEUTRAL};
 use crate::field::{BENCH, WIDE};
-use crate::jacobian::Curve;
 use crate::random::Random;
 use crate::stamp::stamp_limit;
 
@@ -22,30 +20,15 @@ pub fn bench() -> Vec<Case> {
     curves.flat_map(|bits| on(CurveValues::new(BENCH, bits >> 10, bits >> 5 & 31, bits & 31), 0..4)).collect()
 }
 
-/// Every stamp on 500 drawn curves of seven coefficients of the bench field.
-pub fn bench_of_seven() -> Vec<Case> {
-    let mut random = Random::new(78);
-    let curves = (0..500).map(|_| CurveValues::from(&Curve::drawn_with_all(&mut random, BENCH)));
-    curves.flat_map(|curve| on(curve, 0..4)).collect()
-}
-
 /// The first 64 stamps, the last 64, 120 drawn ones and two that are too large on each of sixteen drawn curves over
 /// GF(2^61).
 pub fn wide() -> Vec<Case> {
-    wide_on(Random::new(66), plain, 16)
-}
-
-/// The same on four curves of seven coefficients.
-pub fn wide_of_seven() -> Vec<Case> {
-    wide_on(Random::new(77), of_seven_coefficients, 4)
-}
-
-/// The same on some curves.
-fn wide_on(mut random: Random, draw: Draw, number: usize) -> Vec<Case> {
+    let mut random = Random::new(66);
     let limit = stamp_limit(WIDE);
     let mut cases = vec![];
-    for _ in 0..number {
-        let (curve, _) = draw(&mut random);
+    for _ in 0..16 {
+        let [f3, f1, f0] = [0; 3].map(|_| random.element(WIDE));
+        let curve = CurveValues::new(WIDE, f3, f1, f0);
         cases.extend(on(curve, (0..64).chain(limit - 64..=limit)));
         cases.extend(on(curve, (0..120).map(|_| random.number() >> 6)));
         cases.extend(on(curve, [u64::MAX]));
@@ -73,10 +56,8 @@ mod tests {
     /// The numbers that tests/conformance counts; the classes of one curve are all different.
     #[test]
     fn stamps_of_many_curves() {
-        for (cases, on_a_curve, too_large, least) in
-            [(bench(), 4, 0, 20), (wide(), 250, 2, 20), (bench_of_seven(), 4, 0, 10), (wide_of_seven(), 250, 2, 4)]
-        {
-            assert!(count(&cases, "refused 116\n") >= least, "{}", count(&cases, "refused 116\n"));
+        for (cases, on_a_curve, too_large) in [(bench(), 4, 0), (wide(), 250, 2)] {
+            assert!(count(&cases, "refused 116\n") >= 20, "{}", count(&cases, "refused 116\n"));
             for of_curve in cases.chunks(on_a_curve) {
                 assert_eq!(of_curve.len(), on_a_curve);
                 assert!(of_curve.iter().all(|case| case.curve == of_curve[0].curve));

@@ -1,20 +1,17 @@
 //! Every class of a curve over the bench field, call by call. These cases are made when they are run, and not stored.
 
 use super::{
-    Case, ClassValues, CurveValues, CARRIED, CARRIED_BACK, DOUBLE_AND_ADD, DOUBLE_IN_STEPS, MEMBERSHIP, NEUTRAL,
-    SUM, SUM_IN_STEPS,
+    Case, ClassValues, CurveValues, DOUBLE_AND_ADD, DOUBLE_IN_STEPS, MEMBERSHIP, NEUTRAL, SUM, SUM_IN_STEPS,
 };
 use crate::bench_classes::all_classes;
-use crate::carrying::{carried, plain_curve};
 use crate::class_number::class_number;
 use crate::field::BENCH;
 use crate::halving::halves_from_doubles;
 use crate::jacobian::{Class, Curve};
 use crate::random::Random;
-use std::collections::HashSet;
 
 /// What is run on every class D of a curve.
-pub const KINDS: [&str; 10] = [
+pub const KINDS: [&str; 9] = [
     "every-class",
     "sum-with-next",
     "sum-with-itself",
@@ -24,7 +21,6 @@ pub const KINDS: [&str; 10] = [
     "double-and-add",
     "subtract-and-halve",
     "pairs",
-    "carried",
 ];
 
 /// The seven calls on every class. The classes come in a drawn order, and the sum is with the next of them, so that each is
@@ -53,14 +49,6 @@ fn on_class(kind: &str, values: CurveValues, curve: &Curve, classes: &[Class], i
     }
 }
 
-/// Every class carried to the plain curve, no two to the same, and what it is there carried back.
-fn carried_both_ways(values: CurveValues, curve: &Curve, classes: &[Class]) -> Vec<Case> {
-    let images: Vec<Class> = classes.iter().map(|class| carried(curve, class)).collect();
-    assert_eq!(images.iter().collect::<HashSet<_>>().len(), classes.len());
-    let case = |(class, image)| [Case::on(CARRIED, values, class), Case::on(CARRIED_BACK, values, image)];
-    classes.iter().zip(&images).flat_map(case).collect()
-}
-
 /// Membership of pairs of which few are classes: all of degree 1, and of degree 2 all with one of 34 u.
 fn pairs(values: CurveValues) -> Vec<Case> {
     let case = |degree, u, v| Case::new(MEMBERSHIP, values, ClassValues { degree, u, v }, NEUTRAL);
@@ -75,8 +63,7 @@ fn pairs(values: CurveValues) -> Vec<Case> {
     cases
 }
 
-/// The cases of a kind on the curve. The list of its classes has to be as long as the points say, its own and those of
-/// its plain curve.
+/// The cases of a kind on the curve. The list of its classes has to be as long as the points say.
 pub fn cases(kind: &str, values: CurveValues) -> Vec<Case> {
     if kind == "pairs" {
         return pairs(values);
@@ -85,11 +72,8 @@ pub fn cases(kind: &str, values: CurveValues) -> Vec<Case> {
     assert_eq!(curve.field, BENCH);
     let classes = all_classes(&curve);
     assert_eq!(classes.len(), class_number(&curve));
-    assert_eq!(classes.len(), class_number(&plain_curve(&curve)));
-    match kind {
-        "every-class" => return every_class(values, &curve, classes),
-        "carried" => return carried_both_ways(values, &curve, &classes),
-        _ => {}
+    if kind == "every-class" {
+        return every_class(values, &curve, classes);
     }
     (0..classes.len()).map(|i| on_class(kind, values, &curve, &classes, i)).collect()
 }

@@ -113,14 +113,9 @@ fn released_above(trial: &mut Trial, field: Field) {
 
 /// A register that fails a check: every call refuses it, whatever the class, and it stays as it was.
 fn failing(trial: &mut Trial, register: RegisterValues) {
-    refusing(trial, register, &[COMMIT, UNDO, RELEASE]);
-}
-
-/// A register that fails a check, and the calls that are tried on it.
-pub(super) fn refusing(trial: &mut Trial, register: RegisterValues, calls: &[u8]) {
     trial.start(register);
     for class in [NEUTRAL, X, NONSENSE] {
-        for &call in calls {
+        for call in [COMMIT, UNDO, RELEASE] {
             trial.refused(call, class);
         }
     }
@@ -132,10 +127,10 @@ fn registers(trial: &mut Trial, field: Field) {
     let a = on_a(field, 1, X);
     let failing_curves = [
         CurveValues { degree: 0, ..a.curve },
-        CurveValues { degree: field.degree as u8 + 1, ..a.curve.with(3, u64::MAX) },
-        a.curve.with(3, 1 << field.degree),
-        a.curve.with(1, u64::MAX),
-        a.curve.with(0, 1 << 63),
+        CurveValues { degree: field.degree as u8 + 1, f3: u64::MAX, ..a.curve },
+        CurveValues { f3: 1 << field.degree, ..a.curve },
+        CurveValues { f1: u64::MAX, ..a.curve },
+        CurveValues { f0: 1 << 63, ..a.curve },
     ];
     for curve in failing_curves {
         failing(trial, RegisterValues { curve, ..a });

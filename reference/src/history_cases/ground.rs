@@ -14,20 +14,11 @@ use crate::jacobian::{Class, Curve};
 use crate::random::Random;
 use std::collections::HashMap;
 
-/// A plain curve whose coefficients are drawn from the whole field.
+/// A curve whose coefficients are drawn from the whole field.
 pub(super) fn drawn_values(random: &mut Random, field: Field) -> CurveValues {
     let [f3, f1, f0] = [0; 3].map(|_| random.element(field));
     CurveValues::new(field, f3, f1, f0)
 }
-
-/// A curve of seven coefficients, drawn likewise.
-pub(super) fn drawn_seven(random: &mut Random, field: Field) -> CurveValues {
-    (&Curve::drawn_with_all(random, field)).into()
-}
-
-/// Curves of seven coefficients 0 and 1, from f0 to f6.
-pub(super) const BINARY: [[u64; 7]; 4] =
-    [[1, 1, 1, 1, 1, 1, 1], [0, 0, 0, 0, 0, 1, 1], [1, 0, 1, 0, 1, 0, 0], [0, 1, 1, 1, 0, 0, 1]];
 
 pub(super) enum Halves<'a> {
     FromDoubles(HashMap<Class, Class>),
@@ -49,7 +40,7 @@ impl Ground<'_> {
         let ground = Ground::for_commits(values, curve);
         let halves = if curve.field == BENCH {
             Halves::FromDoubles(halves_from_doubles(curve, &ground.classes))
-        } else if values.lower.iter().all(|&c| c < 2) {
+        } else if [values.f3, values.f1, values.f0].iter().all(|&c| c < 2) {
             Halves::ByFrobenius(HalfByFrobenius::new(curve))
         } else {
             Halves::FromAnswers

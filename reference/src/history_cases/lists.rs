@@ -5,7 +5,7 @@
 //! The half that an undo needs is known on the curve (`ground`), or from the answer: the new seal is drawn first, and the
 //! class is what leads to it.
 
-use super::ground::{drawn_seven, drawn_values, Ground, Halves, BINARY};
+use super::ground::{drawn_values, Ground, Halves};
 use super::{RegisterValues, Trial, COMMIT, LIMIT, UNDO};
 use crate::class_cases::{ClassValues, CurveValues};
 use crate::field::{BENCH, WIDE};
@@ -14,28 +14,12 @@ use crate::random::Random;
 
 /// How a list is drawn: the count and the released step that it starts from, how many of sixteen calls are commits, how
 /// many are releases, and how many calls there are.
-pub(super) struct Shape {
+struct Shape {
     count: u64,
     released: u64,
     commits: u64,
     releases: u64,
     calls: usize,
-}
-
-impl Shape {
-    /// The shape of the list at place i of those on a curve: commits alone, with releases or without, both, mostly
-    /// undos; from counts at both ends and between, released or not.
-    pub fn at(random: &mut Random, i: usize, calls: usize) -> Shape {
-        let between = random.number() % (LIMIT + 1);
-        let count = [0, LIMIT - 4, 2, between][i % 4];
-        let released = [0, count / 2, 0, count][i % 4];
-        let (commits, releases) = [(16, 0), (13, 3), (3, 0), (8, 0), (8, 1), (12, 1), (16, 0)][i % 7];
-        Shape { count, released, commits, releases, calls }
-    }
-
-    pub fn without_releases(self) -> Shape {
-        Shape { releases: 0, ..self }
-    }
 }
 
 fn make(trial: &mut Trial, call: u8, class: &Class, half: impl FnOnce(&Class) -> Class) {
@@ -69,41 +53,35 @@ fn step(trial: &mut Trial, random: &mut Random, ground: &Ground, call: u8) {
     }
 }
 
-/// The register that a list starts from.
-pub(super) fn start(trial: &mut Trial, random: &mut Random, ground: &Ground, shape: &Shape) {
+/// A list, and taking it back.
+fn list(trial: &mut Trial, random: &mut Random, ground: &Ground, shape: Shape) {
     let seal = if random.number() & 3 == 0 { Class::neutral() } else { ground.class(random) };
-    let Shape { count, released, .. } = *shape;
+    let Shape { count, released, commits, releases, calls } = shape;
     trial.start(RegisterValues { curve: ground.values, count, seal: (&seal).into(), released });
-}
-
-/// The calls of a list.
-pub(super) fn calls(trial: &mut Trial, random: &mut Random, ground: &Ground, shape: &Shape) {
-    for _ in 0..shape.calls {
+    for _ in 0..calls {
         match random.number() % 16 {
-            n if n < shape.releases => trial.release(),
-            n if n < shape.releases + shape.commits => step(trial, random, ground, COMMIT),
+            n if n < releases => trial.release(),
+            n if n < releases + commits => step(trial, random, ground, COMMIT),
             _ => step(trial, random, ground, UNDO),
         }
     }
-}
-
-/// Takes a list back as far as the last release, behind which an undo is refused.
-pub(super) fn take_back(trial: &mut Trial, random: &mut Random, ground: &Ground) {
     trial.take_all_back();
     if trial.register.is_undo_barred() {
         trial.refused(UNDO, (&ground.class(random)).into());
     }
 }
 
-/// Lists on one curve, each taken back.
-fn on_curve(trial: &mut Trial, random: &mut Random, values: CurveValues, lists: usize, number: usize) {
+/// Lists on one curve: commits alone, with releases or without, both, mostly undos; from counts at both ends and
+/// between, released or not.
+fn on_curve(trial: &mut Trial, random: &mut Random, values: CurveValues, lists: usize, calls: usize) {
     let curve = values.curve().expect("the curve is accepted");
     let ground = Ground::new(values, &curve);
     for i in 0..lists {
-        let shape = Shape::at(random, i, number);
-        start(trial, random, &ground, &shape);
-        calls(trial, random, &ground, &shape);
-        take_back(trial, random, &ground);
+        let between = random.number() % (LIMIT + 1);
+        let count = [0, LIMIT - 4, 2, between][i % 4];
+        let released = [0, count / 2, 0, count][i % 4];
+        let (commits, releases) = [(16, 0), (13, 3), (3, 0), (8, 0), (8, 1), (12, 1), (16, 0)][i % 7];
+        list(trial, random, &ground, Shape { count, released, commits, releases, calls });
     }
 }
 
@@ -144,23 +122,6 @@ pub fn wide(trial: &mut Trial) {
     let mut random = Random::new(94);
     for _ in 0..40 {
         let values = drawn_values(&mut random, WIDE);
-        on_curve(trial, &mut random, values, 4, 24);
-    }
-}
-
-/// Lists on curves of seven coefficients: three of the bench field, four over GF(2^61) with coefficients 0 and 1, where
-/// every half is known, and ten drawn ones.
-pub fn seven(trial: &mut Trial) {
-    let mut random = Random::new(112);
-    for _ in 0..3 {
-        let values = drawn_seven(&mut random, BENCH);
-        on_curve(trial, &mut random, values, 20, 30);
-    }
-    for lower in BINARY {
-        on_curve(trial, &mut random, CurveValues::with_all(WIDE, lower), 6, 20);
-    }
-    for _ in 0..10 {
-        let values = drawn_seven(&mut random, WIDE);
         on_curve(trial, &mut random, values, 4, 24);
     }
 }

@@ -1,5 +1,5 @@
 use super::*;
-use crate::byte_cases::pool::{pools, pools_of_both_kinds, Pool};
+use crate::byte_cases::pool::{pools, Pool};
 use crate::field::{BENCH, WIDE};
 use crate::halving::halves_from_doubles;
 use crate::multiples::doublings;
@@ -19,7 +19,7 @@ fn drawn(random: &mut Random, pool: &Pool, n: usize, pairs: Vec<Pair>) -> (Class
 #[test]
 fn ways_agree() {
     let mut random = Random::new(91);
-    for pool in pools().into_iter().chain(pools_of_both_kinds()) {
+    for pool in pools() {
         for n in [1, 2, 5, 9] {
             let (first, archive) = drawn(&mut random, &pool, n, vec![]);
             assert_eq!(archive.walk().last(), Some(&first));

@@ -10,8 +10,7 @@ use reference::calls::{answer, seal_after_commit, Call};
 use reference::jacobian::Class;
 use reference::multiples::{doublings, HALVINGS_LIMIT, MULTIPLE_LIMIT};
 use reference::stamp::{first_class, stamp_limit};
-use reference::stored::{class_field, is_long_plain, register_fields, released_field, shortened};
-use reference::stored::{Reader, Refusal, COUNT_LIMIT};
+use reference::stored::{class_field, register_fields, released_field, Reader, Refusal, COUNT_LIMIT};
 use std::sync::OnceLock;
 
 /// The faults of the eleven calls on classes, stamps and registers, by name.
@@ -65,10 +64,7 @@ use std::sync::OnceLock;
 /// - `release-at-limit`: a release is refused with 114 at count 1,024.
 /// - `release-at-zero`: a release is refused with 113 at count 0.
 /// - `release-takes-operation`: a release passes over a 0x44 after the seal.
-/// - `long-plain`: a plain curve in 56 bytes is accepted.
-/// - `long-first`: it is refused with 125 also where a coefficient is no element.
-/// - `long-backwards`: the seven coefficients of 56 bytes are read from f0 to f6.
-const FAULTS: [&str; 51] = [
+const FAULTS: [&str; 48] = [
     "bound",
     "scratch",
     "beyond",
@@ -117,9 +113,6 @@ const FAULTS: [&str; 51] = [
     "release-at-limit",
     "release-at-zero",
     "release-takes-operation",
-    "long-plain",
-    "long-first",
-    "long-backwards",
 ];
 
 /// The least number of halvings that is too large.
@@ -187,7 +180,7 @@ fn faulty_number(call: Call, right: u32, input: &[u8], length: usize) -> Option<
         }
         ("halvings-bound", Call::Halvings(TOO_OFTEN)) if right == 119 => {
             let halved = answer(Call::Halvings(HALVINGS_LIMIT), input, length).1;
-            Some(answer(Call::Half, &[&input[..after_curve(input)], &halved].concat(), length))
+            Some(answer(Call::Half, &[&input[..31], &halved].concat(), length))
         }
         ("halvings-order", Call::Halvings(TOO_OFTEN..)) if right == 112 => Some((119, vec![])),
         _ => None,
@@ -229,38 +222,17 @@ fn faulty_commit(input: &[u8]) -> Result<Vec<u8>, Refusal> {
     Ok(register_fields(count + 1, released, &next).concat())
 }
 
-/// Where the field after the curve's begins in a record whose curve is read, of 24 bytes or of 56.
-fn after_curve(input: &[u8]) -> usize {
-    7 + input[6] as usize
-}
-
-/// Where the fields 0x45 and 0x43 begin in a record of a register that is read so far.
-fn released_at(input: &[u8]) -> usize {
-    after_curve(input) + 5
-}
-
-fn seal_at(input: &[u8]) -> usize {
-    after_curve(input) + 10
-}
-
-/// Where the field that begins there ends.
-fn field_end(input: &[u8], field: usize) -> usize {
-    field + 3 + input[field + 2] as usize
-}
-
-/// The number of two bytes in the field that begins there.
-fn two_bytes(input: &[u8], field: usize) -> u16 {
-    u16::from_be_bytes([input[field + 3], input[field + 4]])
-}
+/// The places of the fields 0x45 and 0x43 in a record of a register that is read so far.
+const RELEASED_AT: usize = 36;
+const SEAL_AT: usize = 41;
 
 /// The answer to a record with another released step; what is written has the record's own.
 fn with_released(call: Call, input: &[u8], released: u16, length: usize) -> (u32, Vec<u8>) {
     let mut other = input.to_vec();
-    let own = released_at(input)..seal_at(input);
-    other[own.clone()].copy_from_slice(&released_field(released));
+    other[RELEASED_AT..SEAL_AT].copy_from_slice(&released_field(released));
     let (number, mut bytes) = answer(call, &other, length);
     if number <= 100 {
-        bytes[5..10].copy_from_slice(&input[own]);
+        bytes[5..10].copy_from_slice(&input[RELEASED_AT..SEAL_AT]);
     }
     (number, bytes)
 }
@@ -273,7 +245,7 @@ fn faulty_written(call: Call, right: &[u8], input: &[u8]) -> Option<Vec<u8>> {
     match (fault(), call) {
         ("commit-clears", Call::Commit) | ("undo-clears", Call::Undo) => with(&released_field(0)),
         ("release-one-more", Call::Release) => with(&released_field(count + 1)),
-        ("release-keeps", Call::Release) => with(&input[released_at(input)..seal_at(input)]),
+        ("release-keeps", Call::Release) => with(&input[RELEASED_AT..SEAL_AT]),
         ("release-doubles", Call::Release) => {
             let mut reader = Reader::new(input);
             let curve = reader.curve().ok()?;
@@ -291,7 +263,8 @@ fn faulty_written(call: Call, right: &[u8], input: &[u8]) -> Option<Vec<u8>> {
 /// `right` is what should be answered.
 fn faulty_register(call: Call, right: &(u32, Vec<u8>), input: &[u8], length: usize) -> Option<(u32, Vec<u8>)> {
     if right.0 <= 100 {
-        let (count, released) = (two_bytes(input, after_curve(input)), two_bytes(input, released_at(input)));
+        let count = u16::from_be_bytes([input[34], input[35]]);
+        let released = u16::from_be_bytes([input[39], input[40]]);
         return match (fault(), call) {
             ("early-stop", Call::Undo) if released > 0 && count == released + 1 => Some((121, vec![])),
             ("release-at-limit", Call::Release) if count == COUNT_LIMIT => Some((114, vec![])),
@@ -311,12 +284,12 @@ fn faulty_register(call: Call, right: &(u32, Vec<u8>), input: &[u8], length: usi
             let (number, _) = with_released(call, input, 0, length);
             [102, 103, 104, 105, 110, 111].contains(&number).then_some((number, vec![]))
         }
-        ("reads-old", 103) if input.len() > 7 && input.get(released_at(input)) == Some(&0x43) => {
-            let (before, after) = input.split_at(released_at(input));
-            Some(answer(call, &[before, &released_field(0), after].concat(), length))
+        ("reads-old", 103) if input.len() > RELEASED_AT && input[RELEASED_AT] == 0x43 => {
+            let with_released = [&input[..RELEASED_AT], &released_field(0), &input[RELEASED_AT..]].concat();
+            Some(answer(call, &with_released, length))
         }
         ("release-takes-operation", 112) if call == Call::Release => {
-            let seal_end = field_end(input, seal_at(input));
+            let seal_end = SEAL_AT + 3 + input[SEAL_AT + 2] as usize;
             let read = input[seal_end] == 0x44 && answer(Call::Commit, input, length).0 != 112;
             read.then(|| answer(call, &input[..seal_end], length))
         }
@@ -338,72 +311,37 @@ fn faulty_group(call: Call, right: &[u8], input: &[u8]) -> Option<Vec<u8>> {
     }
 }
 
-/// The record with the seven coefficients of a curve of 56 bytes in the other order.
-fn turned(input: &[u8]) -> Vec<u8> {
-    let (body, after) = input[7..].split_at(56);
-    let numbers: Vec<&[u8]> = body.chunks(8).rev().collect();
-    [&input[..7], &numbers.concat(), after].concat()
-}
-
-/// The answer of a call with one of the faults of the curve's field; none where the fault does not show.
-fn faulty_curve(call: Call, right: u32, input: &[u8], length: usize) -> Option<(u32, Vec<u8>)> {
-    match fault() {
-        "long-plain" if right == 125 => Some(answer(call, &shortened(input), length)),
-        "long-first" if right == 107 && is_long_plain(input) => Some((125, vec![])),
-        "long-backwards" if right != 101 && input.len() >= 63 && input[4..7] == [0x41, 0, 56] => {
-            Some(answer(call, &turned(input), length))
-        }
-        _ => None,
-    }
-}
-
-/// Does the field after the curve's have this length in a record whose curve is read?
-fn next_has_length(input: &[u8], length: u8) -> bool {
-    input[after_curve(input) + 2] == length
-}
-
-/// The answer of a call on classes or of a commit, with one of the faults that look at the fields after the curve; none
-/// where the fault does not show.
-fn faulty_fields(call: Call, right: u32, input: &[u8], length: usize) -> Option<(u32, Vec<u8>)> {
-    if right == 111 && fault() == "order" && !call.is_of_register() && next_has_length(input, 16) {
-        let more = input.len() > field_end(input, after_curve(input));
-        return more.then_some((112, vec![]));
-    }
-    if right == 114 && fault() == "limit" {
-        let (mut lower, at) = (input.to_vec(), after_curve(input) + 3);
-        lower[at..at + 2].copy_from_slice(&1023u16.to_be_bytes());
-        let (number, mut bytes) = answer(call, &lower, length);
-        if number <= 100 {
-            bytes[3..5].copy_from_slice(&1025u16.to_be_bytes());
-        }
-        return Some((number, bytes));
-    }
-    if right > 100 || !matches!(call, Call::Half | Call::Sum) {
-        return None;
-    }
-    let class = &input[after_curve(input)..];
-    match (fault(), call) {
-        ("half", Call::Half) if class[2] == 16 => Some((19, class.to_vec())),
-        ("half-by-zero", Call::Half) if class[2] == 32 && class[3..11] == [0; 8] => Some((117, vec![])),
-        ("sum-by-zero", Call::Sum) if class[2] == 16 && class[21] == 16 && class[3..11] == class[22..30] => {
-            Some((117, vec![]))
-        }
-        _ => None,
-    }
-}
-
 /// An answer that is wrong in the way asked for.
 fn faulty(call: Call, input: &[u8], length: usize) -> (u32, Vec<u8>) {
     let right = answer(call, input, length);
-    let of_fields = faulty_curve(call, right.0, input, length);
-    if let Some(wrong) = of_fields.or_else(|| faulty_fields(call, right.0, input, length)) {
-        return wrong;
-    }
     match fault() {
         "bound" if length + 1 == call.output_bound() => {
             let (number, bytes) = answer(call, input, length + 1);
             if bytes.len() <= length {
                 return (number, bytes);
+            }
+        }
+        "order" if right.0 == 111 && !call.is_of_register() && input[33] == 16 && input.len() > 31 + 19 => {
+            return (112, vec![]);
+        }
+        "limit" if right.0 == 114 => {
+            let mut lower = input.to_vec();
+            lower[34..36].copy_from_slice(&1023u16.to_be_bytes());
+            let (number, mut bytes) = answer(call, &lower, length);
+            if number <= 100 {
+                bytes[3..5].copy_from_slice(&1025u16.to_be_bytes());
+            }
+            return (number, bytes);
+        }
+        "half" if call == Call::Half && right.0 <= 100 && input[33] == 16 => {
+            return (19, input[31..].to_vec());
+        }
+        "half-by-zero" if call == Call::Half && right.0 <= 100 && input[33] == 32 && input[34..42] == [0; 8] => {
+            return (117, vec![]);
+        }
+        "sum-by-zero" if call == Call::Sum && right.0 <= 100 && input[33] == 16 && input[52] == 16 => {
+            if input[34..42] == input[53..61] {
+                return (117, vec![]);
             }
         }
         "candidate" | "six" | "lowest-bit" | "stamp-bound" | "stamp-order" => {
@@ -471,7 +409,7 @@ unsafe fn run(call: Call, input: *const u8, input_length: usize, output: *mut u8
     std::ptr::copy_nonoverlapping(written.as_ptr(), output, written.len());
     match fault() {
         "refused-release-writes" if call == Call::Release && answer == 112 => {
-            let seal_end = field_end(bytes, seal_at(bytes));
+            let seal_end = SEAL_AT + 3 + bytes[SEAL_AT + 2] as usize;
             let anyhow = reference::calls::answer(call, &bytes[..seal_end], output_length).1;
             std::ptr::copy_nonoverlapping(anyhow.as_ptr(), output, anyhow.len());
         }

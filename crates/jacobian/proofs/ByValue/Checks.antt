@@ -27,18 +27,17 @@ blank_past (suc n) [] e i h = refl
 blank_past (suc n) (x ∷ r) e zero h = absurd (omega arith)
 blank_past (suc n) (x ∷ r) e (suc i) h = blank_past n r e i (omega arith)
 
--- what holds of every coefficient, and of 1, holds of every number of f's row
-in_row : (P : ℕ → Type 0) (c : Curve) → ((i : ℕ) → P (get_or (coefficients c) i 0)) → P 1 → (i : ℕ) → P (get_or (f_row c) i 0)
-unfolding coefficients f_row
-in_row P c at one zero = at 6
-in_row P c at one (suc zero) = at 5
-in_row P c at one (suc (suc zero)) = at 4
-in_row P c at one (suc (suc (suc zero))) = at 3
-in_row P c at one (suc (suc (suc (suc zero)))) = at 2
-in_row P c at one (suc (suc (suc (suc (suc zero))))) = at 1
-in_row P c at one (suc (suc (suc (suc (suc (suc zero)))))) = at 0
-in_row P c at one (suc (suc (suc (suc (suc (suc (suc zero))))))) = one
-in_row P c at one (suc (suc (suc (suc (suc (suc (suc (suc i)))))))) = at 7
+-- every number of a row a0, a1, 0, a3, 0, 0, 0, 1
+eight : (P : ℕ → Type 0) {a b d : ℕ} → P a → P b → P 0 → P d → P 1 → (i : ℕ) → P (get_or (a ∷ b ∷ 0 ∷ d ∷ 0 ∷ 0 ∷ 0 ∷ 1 ∷ []) i 0)
+eight P a b z d o zero = a
+eight P a b z d o (suc zero) = b
+eight P a b z d o (suc (suc zero)) = z
+eight P a b z d o (suc (suc (suc zero))) = d
+eight P a b z d o (suc (suc (suc (suc zero)))) = z
+eight P a b z d o (suc (suc (suc (suc (suc zero))))) = z
+eight P a b z d o (suc (suc (suc (suc (suc (suc zero)))))) = z
+eight P a b z d o (suc (suc (suc (suc (suc (suc (suc zero))))))) = o
+eight P a b z d o (suc (suc (suc (suc (suc (suc (suc (suc i)))))))) = z
 
 -- ---- a curve that no check refuses
 pub record CurvePasses (c : Curve) : Type 0 where
@@ -47,7 +46,7 @@ pub record CurvePasses (c : Curve) : Type 0 where
   pub f_below : (i : ℕ) → get_or (f_row c) i 0 < 2 ^ c.degree
 
 pub curve_passes : (c : Curve) → curve_refusal c ≡ 0 → CurvePasses c
-unfolding curve_refusal coefficient_refusal
+unfolding curve_refusal coefficients coefficient_refusal f_row
 curve_passes c e =
     let h = then_zero _ _ e in
     let of_degree : degree_refusal c.degree ≡ 0 = search in
@@ -58,7 +57,7 @@ curve_passes c e =
     record {
       accepted = ok;
       coefficients_below = at;
-      f_below = in_row (λ n. n < 2 ^ c.degree) c at (omega arith);
+      f_below = eight (λ n. n < 2 ^ c.degree) (at 2) (at 1) (omega arith) (at 0) (omega arith);
     }
 
 -- ---- a class that no check refuses

@@ -10,4 +10,4 @@ unfolding curve_with
 returns c = refl
 
 pub curve-with-spec : {M : Type 1} → statement M
-curve-with-spec = tie.close (tie.spec (λ c. search rules) (λ c. search rules) (λ c. search rules) (λ c. search rules) (λ c. search rules) (λ c. search rules) (λ c. search rules) returns)
+curve-with-spec = tie.close (tie.spec (λ c. search rules) (λ c. search rules) (λ c. search rules) returns)

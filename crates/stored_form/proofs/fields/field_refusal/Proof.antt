@@ -1,8 +1,7 @@
 -- `fields::field_refusal` meets its contract.
 use borrow.Author.Rules.{rules}
 use Prim.Native.Nat.{ℕ}
-use mathlib.Core.Path.{sym, ap, ap₂, ◌∙◌}
-use Rattle.jacobian.specs.Checks.{◌or_else◌}
+use mathlib.Core.Path.{sym, ap, ◌∙◌}
 use Rattle.stored_form.specs.Tags.{rules}
 use Rattle.stored_form.proofs.Readers.{no_check}
 use Rattle.stored_form.proofs.fields.field_refusal.Statement.{statement}
@@ -14,12 +13,7 @@ returns c = let at = c.before in c.degree_refusal.ensures ∙ sym (ap (λ (t : �
 
 returns-2 : tie.Need-returns-2
 unfolding rules
-returns-2 c =
-    let at = c.before.before.before in
-    let a = at.before.before.before.args in
-    c.or_else.ensures
-    ∙ ap₂ ◌or_else◌ c.before.before.curve_refusal.ensures c.before.plain_refusal.ensures
-    ∙ sym (ap (λ (t : ℕ). (rules t).check a.len a.h) at.if2.taken)
+returns-2 c = let at = c.before in c.curve_refusal.ensures ∙ sym (ap (λ (t : ℕ). (rules t).check at.before.before.before.args.len at.before.before.before.args.h) at.if2.taken)
 
 drawing-refusal-requires : tie.Need-drawing-refusal-requires
 drawing-refusal-requires c κs = c.before.before.before.before.before.pre c.before.if3.taken
@@ -70,8 +64,6 @@ field-refusal-spec =
     (tie.spec
     (λ c κs. search rules)
     returns
-    (λ c κs. search rules)
-    (λ c κs. search rules)
     (λ c κs. search rules)
     returns-2
     drawing-refusal-requires

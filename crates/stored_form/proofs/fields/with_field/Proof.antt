@@ -5,9 +5,9 @@ use mathlib.Core.Path.{◌≡◌, sym, ap, ◌∙◌}
 use mathlib.Core.Bool.{true}
 use native.Mathlib.Omega.{arith}
 use Rattle.jacobian.specs.declared.{Curve.Curve, Class.Class}
-use Rattle.stored_form.specs.{Number.part, Tags.rules, declared.Drawing.Drawing}
+use Rattle.stored_form.specs.{Number.part, Classes.decode_curve, Tags.rules, declared.Drawing.Drawing}
 use Rattle.stored_form.specs.Record.{with_curve, with_drawing, with_count, with_released, with_class, with_operation, curve_of_degree}
-use Rattle.stored_form.proofs.{Digits.byte_fits, Lengths.is_degree_length, Lengths.curve_lengths, Lengths.is_count_length, Lengths.is_released_length, Lengths.is_drawing_length, Lengths.class_left}
+use Rattle.stored_form.proofs.{Digits.byte_fits, Lengths.is_degree_length, Lengths.is_curve_length, Lengths.is_count_length, Lengths.is_released_length, Lengths.is_drawing_length, Lengths.class_left}
 use Rattle.stored_form.proofs.Readers.{operation_left}
 use Rattle.stored_form.proofs.fields.with_field.Statement.{statement}
 use Rattle.stored_form.proofs.fields.with_field.Tie as tie
@@ -38,14 +38,16 @@ returns c =
 decode-curve-requires : tie.Need-decode-curve-requires
 decode-curve-requires c κs =
     let start = c.before.before.before.before in
-    (sym (curve_lengths _ _) ∙ allows start c.before.if2.true, start.requires.1)
+    omega (arith, is_curve_length _ (allows start c.before.if2.true), start.requires.1)
 
 returns-2 : tie.Need-returns-2
 unfolding rules
 returns-2 c =
     let at = c.before.before in
-    let a = at.before.before.before.args in
-    ap (λ (k : Curve). with_curve k a.h) c.decode_curve.ensures
+    let start = at.before.before.before in
+    let a = start.args in
+    ap (λ (k : Curve). with_curve k a.h)
+    (c.decode_curve.ensures ∙ ap (λ (n : ℕ). decode_curve a.h.curve.degree (part a.s.now a.at n)) (sym (is_curve_length a.h {n = a.len} (allows start at.if2.true))))
     ∙ sym (ap (λ (t : ℕ). (rules t).with_field (part a.s.now a.at a.len) a.h) at.if2.true)
 
 decode-drawing-requires : tie.Need-decode-drawing-requires

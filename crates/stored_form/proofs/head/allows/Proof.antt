@@ -13,10 +13,7 @@ returns c = sym (ap (λ (t : ℕ). (rules t).allows c.before.args.h c.before.arg
 
 returns-2 : tie.Need-returns-2
 unfolding rules
-returns-2 c =
-    let at = c.before in
-    let a = at.before.before.args in
-    c.curve-allows.ensures ∙ sym (ap (λ (t : ℕ). (rules t).allows a.h a.len) at.if2.taken)
+returns-2 c = sym (ap (λ (t : ℕ). (rules t).allows c.before.before.args.h c.before.before.args.len) c.if2.taken)
 
 returns-3 : tie.Need-returns-3
 unfolding rules
@@ -59,7 +56,6 @@ allows-spec =
     tie.close
     (tie.spec
     returns
-    (λ c κs. search rules)
     returns-2
     returns-3
     returns-4
