@@ -1,6 +1,8 @@
 // Elements of GF(2^5) and GF(2^61): numbers below 2^d whose bit i is the coefficient of t^i.
 // A call refuses with 106 for a degree other than 5 and 61, then with 110 for a number of 2^d or more.
 // The inverse then refuses 0 with 117.
+#![tactic(auto)]
+
 ghost use Rattle.std.specs.Prelude.{◌≡◌, [], ◌∷◌};
 ghost use Rattle.binary_field.specs.Checks.{unless};
 ghost use Rattle.binary_field.specs.Answer.{reply, below, bound, degree_refusal, element_refusal, inverse_refusal, sum_reply, product_reply, square_reply, root_reply, inverse_reply, solution_reply, quadratic_reply};

@@ -46,7 +46,7 @@ module _ {X : Type 0} {Member : X → Type 0} {◌⊞◌ : X → X → X} {neutr
   start_displacement h k none = refl
   start_displacement {s} {t} h k (more {a = d} {l = l} m r) =
       ap (λ z. walked z l) (moved h k m)
-      ∙ start_displacement (forward_closed s d h m) (double_member D k) r
+      ∙ start_displacement {s = double s ⊞ d} {t = double t} (forward_closed s d h m) (double_member D k) r
       ∙ ap (λ z. walked (double s ⊞ d) l ⊞ z) (repeat_inner double (length l) t)
 
   pub forward_injective : {s t : X} {l : List X} → Member s → Member t → All Member l → walked s l ≡ walked t l → s ≡ t
@@ -65,7 +65,7 @@ module _ {X : Type 0} {Member : X → Type 0} {◌⊞◌ : X → X → X} {neutr
   forward_end {s} h (more {a = d} {l = l} k r) =
       let n = length l in
       let w = weighted_sum ◌⊞◌ neutral double l in
-      forward_end (forward_closed s d h k) r
+      forward_end {s = double s ⊞ d} (forward_closed s d h k) r
       ∙ ap (λ z. z ⊞ w) (doublings_sum D n (double_member D h) k ∙ ap (λ z. z ⊞ repeat double n d) (repeat_inner double n s))
       ∙ G.assoc (double_member D (doublings_member D n h)) (doublings_member D n k) (weighted_member r)
 

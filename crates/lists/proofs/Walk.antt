@@ -34,20 +34,20 @@ module _ {X Y : Type 0} (rule : X → Y → X) where
     pub foldl_member : {s : X} {l : List Y} → State s → All Step l → State (foldl rule s l)
     unfolding foldl
     foldl_member h none = h
-    foldl_member {s} h (more {a = c} k r) = foldl_member (closed s c h k) r
+    foldl_member {s} h (more {a = c} k r) = foldl_member {s = rule s c} (closed s c h k) r
 
     pub foldl_agrees : (other : X → Y → X) → ((s : X) (c : Y) → State s → Step c → rule s c ≡ other s c)
         → {s : X} {l : List Y} → State s → All Step l → foldl rule s l ≡ foldl other s l
     unfolding foldl
     foldl_agrees other same h none = refl
     foldl_agrees other same {s} h (more {a = c} {l = l} k r) =
-        foldl_agrees other same (closed s c h k) r ∙ ap (λ z. foldl other z l) (same s c h k)
+        foldl_agrees other same {s = rule s c} (closed s c h k) r ∙ ap (λ z. foldl other z l) (same s c h k)
 
     pub foldl_injective : ((s t : X) (c : Y) → State s → State t → Step c → rule s c ≡ rule t c → s ≡ t)
         → {s t : X} {l : List Y} → State s → State t → All Step l → foldl rule s l ≡ foldl rule t l → s ≡ t
     unfolding foldl
     foldl_injective one h k none e = e
-    foldl_injective one {s} {t} h k (more {a = c} m r) e = one s t c h k m (foldl_injective one (closed s c h m) (closed t c k m) r e)
+    foldl_injective one {s} {t} h k (more {a = c} m r) e = one s t c h k m (foldl_injective one {s = rule s c} {t = rule t c} (closed s c h m) (closed t c k m) r e)
 
 module _ {X Y : Type 0} {State : X → Type 0} {Step : Y → Type 0} {rule back : X → Y → X} (R : Reversible State Step rule back) where
   pub foldl_state : {s : X} {l : List Y} → State s → All Step l → State (foldl rule s l)
@@ -57,7 +57,7 @@ module _ {X Y : Type 0} {State : X → Type 0} {Step : Y → Type 0} {rule back 
   unfolding foldl
   foldl_reverse h none = refl
   foldl_reverse {s} h (more {a = c} {l = l} k r) =
-      foldl_reverse_cons back (foldl rule (rule s c) l) c l ∙ ap (λ z. back z c) (foldl_reverse (R.rule_closed h k) r) ∙ R.back_rule h k
+      foldl_reverse_cons back (foldl rule (rule s c) l) c l ∙ ap (λ z. back z c) (foldl_reverse {s = rule s c} (R.rule_closed h k) r) ∙ R.back_rule h k
 
   pub walk_reverse : {s : X} {l : List Y} → State s → All Step l → walk back (foldl rule s l) (reverse l) ≡ reverse (walk rule s l)
   unfolding foldl walk
@@ -65,7 +65,7 @@ module _ {X Y : Type 0} {State : X → Type 0} {Step : Y → Type 0} {rule back 
   walk_reverse {s} h (more {a = c} {l = l} k r) =
       ap (walk back (foldl rule (rule s c) l)) (reverse-cons c l)
       ∙ walk_append back (foldl rule (rule s c) l) (reverse l) c
-      ∙ ap (λ m. m ++ (back (foldl back (foldl rule (rule s c) l) (reverse l)) c ∷ [])) (walk_reverse (R.rule_closed h k) r)
+      ∙ ap (λ m. m ++ (back (foldl back (foldl rule (rule s c) l) (reverse l)) c ∷ [])) (walk_reverse {s = rule s c} (R.rule_closed h k) r)
       ∙ ap (λ z. reverse (walk rule (rule s c) l) ++ (z ∷ [])) (ap (λ z. back z c) (foldl_reverse (R.rule_closed h k) r) ∙ R.back_rule h k)
       ∙ sym (reverse-cons s (walk rule (rule s c) l))
 

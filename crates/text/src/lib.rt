@@ -1,5 +1,7 @@
 // Lines of text by value: rows of bytes with their length. Bytes, numbers, classes and refusals are appended to a line,
 // and a line is written to standard output.
+#![tactic(auto)]
+
 ghost use Rattle.std.specs.Prelude.{◌≤◌, ◌<◌, min, ◌≡◌, [], ◌∷◌, ◌++◌};
 ghost use Rattle.text.specs.{Line.line_room, Line.with_bytes, Line.in_line, Text.digit, Text.digits, Text.decimal, Text.hexadecimal, Text.row_text, Text.class_text, Text.refusal_text};
 

@@ -1,0 +1,13 @@
+-- `spread_32` meets its contract: the two halves are spread apart.
+use borrow.Author.Rules.{rules}
+use lib.{Bits.mask_lt, Dec.lit≤}
+use Rattle.binary_field_theory.proofs.Words.Halves.{spread_joined}
+use Rattle.binary_field.proofs.spreading.spread_32.Goals as goal
+
+pub returns : goal.returns
+returns c =
+    rw (c.spread_16.ensures, c.spread_16-2.ensures)
+    (spread_joined 16 c.args.w c.requires.1 (lit≤ tt))
+
+pub spread_16-requires-2 : goal.spread_16-requires-2
+spread_16-requires-2 c = (c.requires.0, mask_lt c.args.w 16)

@@ -1,0 +1,20 @@
+-- `square` meets its contract.
+use mathlib.Core.Path.{◌∙◌}
+use borrow.Author.Rules.{rules}
+use Rattle.binary_field.specs.Answer.{square_reply}
+use Rattle.binary_field.proofs.Replies.{refuses, replies, none_refused, refusal_twice}
+use Rattle.binary_field.proofs.square.Goals as goal
+
+pub returns-then-n-ne0 : goal.returns-then-n-ne0
+unfolding square_reply
+returns-then-n-ne0 c = refuses _ (c.refusal-n.ensures ∙ refusal_twice _ _) c.if-n-ne0.true
+
+pub square_of-requires : goal.square_of-requires
+square_of-requires c =
+    let p = none_refused _ _ _ c.refusal-n.ensures c.if-n-ne0.false in
+    (p.0, p.1, c.spreads-table.ensures)
+
+pub returns : goal.returns
+unfolding square_reply
+returns c =
+    replies (c.refusal-n.ensures ∙ refusal_twice _ _) c.if-n-ne0.false c.square_of.ensures
