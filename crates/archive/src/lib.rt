@@ -10,7 +10,7 @@ pub mod skipping;
 use stored_form::{Cursor, HEADER_FIELDS, HEADER_LAYOUT, Offset, Record};
 
 // What is expected next.
-#[derive(Drop)]
+#[derive(Clone, Copy)]
 pub enum Expected {
     // The field of the header with this index.
     Header(usize),
@@ -25,14 +25,14 @@ pub enum Expected {
 }
 
 // The state of the reading: what is expected next, and the record of what was read.
-#[derive(Drop)]
+#[derive(Clone, Copy)]
 pub struct Reader {
     pub expected: Expected,
     pub values: Record,
 }
 
 // The state after a field, with the offset of the next one; the first state on a refusal.
-#[derive(Drop)]
+#[derive(Clone, Copy)]
 pub struct Advance {
     pub offset: Offset,
     pub reader: Reader,

@@ -154,9 +154,9 @@ pub record Sized (a : RowPair) : Type 0 where
   pub u_size : length a.u ≡ 12
   pub v_size : length a.v ≡ 12
 
--- a pair of the code has rows of twelve numbers; the logic says it of each row under a map that changes no number
-pub sized : (a : RowPair) → length (map (λ v. v) a.u) ≡ 12 → length (map (λ v. v) a.v) ≡ 12 → Sized a
-sized a u v = record { u_size = sym (length-map a.u (λ v. v)) ∙ u; v_size = sym (length-map a.v (λ v. v)) ∙ v }
+-- a pair of the code has rows of twelve numbers
+pub sized : (a : RowPair) → length a.u ≡ 12 → length a.v ≡ 12 → Sized a
+sized a u v = record { u_size = u; v_size = v }
 
 -- rows of which the check is true
 pub record Shown (d : ℕ) (f : List ℕ) (a : RowPair) : Type 0 where

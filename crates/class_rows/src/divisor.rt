@@ -10,7 +10,7 @@ ghost use Rattle.class_rows.specs.internal.Check.{Decides, FormedPair, FormedRow
 use crate::row::{Row, RowPair, divide, length, square_row, sum_rows};
 
 // Whether a pair is a divisor, and if so its cofactor.
-#[derive(Drop)]
+#[derive(Clone, Copy)]
 pub(crate) struct Check {
     pub divisor: bool,
     pub w: Row,

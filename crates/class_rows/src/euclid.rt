@@ -7,7 +7,7 @@ ghost use Rattle.class_rows.specs.internal.Bezout.{Combines};
 use crate::row::{Row, divide, leading, length, one, product_rows, scale, sum_rows};
 
 // A common divisor g = s a + t b.
-#[derive(Drop)]
+#[derive(Clone, Copy)]
 pub(crate) struct Combination {
     pub g: Row,
     pub s: Row,

@@ -1,6 +1,8 @@
 // Pairs of rows of coefficients, for the calls on classes by value in the crate above: whether a pair is a reduced
 // divisor of the curve of the row f, and the operations on one such pair and on two. Each function checks its rows, by
 // one division for each pair. The quotient w = (v² + v + f) / u serves the double and the half.
+#![tactic(auto)]
+
 ghost use mathlib.Core.{Path.◌≡◌, Bool.false};
 ghost use Rattle.class_rows.specs.{Checked.is_divisor, Answer.UnaryAnswers, Answer.BinaryAnswers};
 
@@ -20,7 +22,7 @@ use crate::row::RowPair;
 use crate::sums::{binary_of_reduced, unary_of_reduced};
 
 // The operations on one pair.
-#[derive(Drop)]
+#[derive(Clone, Copy)]
 pub enum Unary {
     Opposite,
     Double,
@@ -28,7 +30,7 @@ pub enum Unary {
 }
 
 // The operations on two pairs.
-#[derive(Drop)]
+#[derive(Clone, Copy)]
 pub enum Binary {
     Sum,
     DoubleAndAdd,
@@ -36,7 +38,7 @@ pub enum Binary {
 }
 
 // Whether the rows given are divisors, and if so the resulting pair with the number of reduction steps.
-#[derive(Drop)]
+#[derive(Clone, Copy)]
 pub struct RowsAnswer {
     pub divisor: bool,
     pub rows: CountedRows,

@@ -15,14 +15,14 @@ use crate::quotient::quotient;
 use crate::row::{Row, RowPair, divide, length, monic, one, product_rows, square_row, sum_rows};
 
 // A reduced pair, and how many reduction steps led to it.
-#[derive(Drop)]
+#[derive(Clone, Copy)]
 pub struct CountedRows {
     pub pair: RowPair,
     pub steps: u32,
 }
 
 // The composition of a double: u² with the remainder v of v² + f modulo u², and the quotient.
-#[derive(Drop)]
+#[derive(Clone, Copy)]
 struct Squared {
     pub pair: RowPair,
     pub quotient: Row,

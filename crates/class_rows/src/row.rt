@@ -10,21 +10,21 @@ use crate::element::{inverted, product_of, root_of, squared, sum_of};
 pub type Row = [u64; 12];
 
 // A Mumford pair as two rows.
-#[derive(Drop)]
+#[derive(Clone, Copy)]
 pub struct RowPair {
     pub u: Row,
     pub v: Row,
 }
 
 // The quotient and the remainder of a division.
-#[derive(Drop)]
+#[derive(Clone, Copy)]
 pub(crate) struct Division {
     pub quotient: Row,
     pub remainder: Row,
 }
 
 // The index of the leading coefficient, and its inverse.
-#[derive(Drop)]
+#[derive(Clone, Copy)]
 pub(crate) struct Lead {
     pub top: usize,
     pub inverse: u64,

@@ -15,7 +15,7 @@ use jacobian::{Class, ClassAnswer, Curve, Outcome};
 // kept. In C's layout, since a host keeps a register and lends it; `released` is last, so that an initialiser by
 // position that was written before it came keeps its meaning.
 #[repr(C)]
-#[derive(Drop)]
+#[derive(Clone, Copy)]
 pub struct Register {
     pub curve: Curve,
     pub count: u64,
@@ -24,14 +24,14 @@ pub struct Register {
 }
 
 // What a call on a register answers. On a refusal the register is the one given.
-#[derive(Drop)]
+#[derive(Clone, Copy)]
 pub struct RegisterAnswer {
     pub outcome: Outcome,
     pub register: Register,
 }
 
 // The two steps of a register: a commit takes an operation in, an undo takes the last one out.
-#[derive(Drop)]
+#[derive(Clone, Copy)]
 pub enum Step {
     Commit,
     Undo,

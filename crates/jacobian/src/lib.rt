@@ -16,7 +16,7 @@ use class_rows::{Binary, Unary, binary_rows, unary_rows};
 
 // A curve. Curves and classes have C's layout, since a register in C's layout contains them.
 #[repr(C)]
-#[derive(Drop)]
+#[derive(Clone, Copy)]
 pub struct Curve {
     pub degree: u8,
     pub f3: u64,
@@ -26,7 +26,7 @@ pub struct Curve {
 
 // A class: the degree of u, the coefficients of u below its leading 1, and those of v, the lowest power first.
 #[repr(C)]
-#[derive(Drop)]
+#[derive(Clone, Copy)]
 pub struct Class {
     pub degree: u64,
     pub u: [u64; 3],
@@ -34,14 +34,14 @@ pub struct Class {
 }
 
 // Acceptance, or a refusal with its number.
-#[derive(Drop)]
+#[derive(Clone, Copy)]
 pub enum Outcome {
     Accepted,
     Refused(u32),
 }
 
 // The answer of a call: the outcome, and a class with the number of reduction steps that led to it.
-#[derive(Drop)]
+#[derive(Clone, Copy)]
 pub struct ClassAnswer {
     pub outcome: Outcome,
     pub class: Class,

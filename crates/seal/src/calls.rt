@@ -23,7 +23,7 @@ pub extern "C" fn seal_membership(input: &[u8]) -> u32
 }
 
 // The calls that write.
-#[derive(Drop)]
+#[derive(Clone, Copy)]
 enum Call {
     Opposite,
     Double,

@@ -24,7 +24,7 @@ const NEUTRAL_OPERATION: [u8; 3] = [stored_form::OPERATION, 0, 0];
 
 // What a call answers that writes an archive: 0 and the length written, or the number of a refusal and 0.
 #[repr(C)]
-#[derive(Drop)]
+#[derive(Clone, Copy)]
 pub struct Written {
     pub refusal: u32,
     pub length: u64,

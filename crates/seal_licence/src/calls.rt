@@ -13,7 +13,7 @@ use written_form::effect::Output;
 use written_form::{effect, writing};
 
 // The two calls on the class of a record: n times it, and the class halved k times.
-#[derive(Drop)]
+#[derive(Clone, Copy)]
 enum Call {
     Multiple(u64),
     Halvings(u64),

@@ -17,7 +17,7 @@ const DIGITS: u64 = 61;
 pub const HALVINGS_LIMIT: u64 = 64;
 
 // A class, or a refusal with the neutral class. The reduction steps of the calls in between are not counted.
-#[derive(Drop)]
+#[derive(Clone, Copy)]
 pub struct ClassResult {
     pub outcome: Outcome,
     pub class: Class,

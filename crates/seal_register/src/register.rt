@@ -9,7 +9,7 @@ use history::{Register, Step};
 use jacobian::Class;
 
 // The number that a call in place answers, and the register that it leaves.
-#[derive(Drop)]
+#[derive(Clone, Copy)]
 struct Changed {
     refusal: u32,
     left: Register,

@@ -11,7 +11,7 @@ use jacobian::{Class, Curve};
 
 // The state of a walk: a seal with 0, or the number of a refusal with the neutral class.
 #[repr(C)]
-#[derive(Drop)]
+#[derive(Clone, Copy)]
 pub struct RowWalk {
     pub refusal: u32,
     pub seal: Class,

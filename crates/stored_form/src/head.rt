@@ -6,7 +6,7 @@ ghost use Rattle.stored_form.specs.{Head.class_length, Head.length_at, Tags.rule
 use crate::{Cursor, Record, numbers};
 
 // The head of a field: the body's length and the offset after the body.
-#[derive(Drop)]
+#[derive(Clone, Copy)]
 pub enum Head {
     Body { len: usize, next: Cursor },
     Refused(u32),

@@ -74,27 +74,27 @@ pub const PAIR_LENGTH: usize = 4;
 pub const PAIRS_LIMIT: usize = 8192;
 
 // An offset in the input.
-#[derive(Drop)]
+#[derive(Clone, Copy)]
 pub struct Cursor {
     pub at: usize,
 }
 
 // The offset of the next field, or the number of the refusal.
-#[derive(Drop)]
+#[derive(Clone, Copy)]
 pub enum Offset {
     Next(Cursor),
     Refused(u32),
 }
 
 // A drawing number: len bytes, and 0 after them.
-#[derive(Drop)]
+#[derive(Clone, Copy)]
 pub struct Drawing {
     pub len: usize,
     pub bytes: [u8; DRAWING_LIMIT],
 }
 
 // A record: what the fields read so far say. Of two classes the first is the previous one.
-#[derive(Drop)]
+#[derive(Clone, Copy)]
 pub struct Record {
     pub curve: Curve,
     pub drawing: Drawing,
@@ -106,7 +106,7 @@ pub struct Record {
 }
 
 // A record with the offset of the next field; the empty record on a refusal.
-#[derive(Drop)]
+#[derive(Clone, Copy)]
 pub struct Read {
     pub offset: Offset,
     pub values: Record,

@@ -16,7 +16,7 @@ use stored_form::{Cursor, DRAWING_LIMIT, Offset};
 use text::Line;
 
 // The line that is expected next.
-#[derive(Drop)]
+#[derive(Clone, Copy)]
 pub enum Stage {
     // A refusal's number.
     Refusal(u32),
@@ -31,7 +31,7 @@ pub enum Stage {
 }
 
 // The report's state: the next line, the reader of the second pass, the last seal and the operation to undo next.
-#[derive(Drop)]
+#[derive(Clone, Copy)]
 pub struct Report {
     pub stage: Stage,
     pub reader: Reader,
@@ -40,14 +40,14 @@ pub struct Report {
 }
 
 // The report's state, and the offset of the next field.
-#[derive(Drop)]
+#[derive(Clone, Copy)]
 pub struct Progress {
     pub report: Report,
     pub next: Cursor,
 }
 
 // A line, the report's state after it, and the offset of the next field.
-#[derive(Drop)]
+#[derive(Clone, Copy)]
 pub struct LineAnswer {
     pub line: Line,
     pub report: Report,

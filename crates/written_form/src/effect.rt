@@ -16,7 +16,7 @@ pub const REGISTER_ROOM: usize = COUNT_ROOM + COUNT_ROOM + stored_form::CLASS_RO
 pub const ROOM: usize = REGISTER_ROOM;
 
 // The response of a call: its answer, and the bytes to write at the start of the lent output, the first len of the buffer.
-#[derive(Drop)]
+#[derive(Clone, Copy)]
 pub struct Output {
     pub answer: u32,
     pub len: usize,

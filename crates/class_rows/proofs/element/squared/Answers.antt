@@ -1,0 +1,9 @@
+-- `element::squared` meets its contract: the call answers the square.
+use mathlib.Core.Path.{◌∙◌}
+use Rattle.row_theory.proofs.Rows.Answers.{square_answers, number_is}
+use borrow.Author.Rules.{rules}
+use Rattle.class_rows.proofs.element.squared.Goals as goal
+
+pub returns : goal.returns
+returns c =
+    let pre = c.requires in number_is _ _ (c.number.ensures _ (c.square.ensures ∙ square_answers _ pre.0 _ pre.1))
