@@ -1,6 +1,8 @@
 // Reduced divisor classes on y² + y = f(x) over GF(2^5) and GF(2^61), by value.
 // The checks come in the stored order: 106 and 107 for the curve, then 104, 110 and 111 for each class.
 // On a refusal the class of the answer is the neutral one, and no step was made.
+#![tactic(auto)]
+
 ghost use Rattle.std.specs.Prelude.{ℕ, ◌≡◌, true};
 ghost use Rattle.class_group.specs.Reduction.{Counted};
 ghost use Rattle.row_theory.specs.Field.{Poly};

@@ -1,0 +1,9 @@
+-- `membership` meets its contract.
+use mathlib.Core.Path.{◌∙◌, ap}
+use Rattle.jacobian.specs.Answer.{verdict_of, membership_answer}
+use borrow.Author.Rules.{rules}
+use Rattle.jacobian.proofs.membership.Goals as goal
+
+pub returns : goal.returns
+unfolding membership_answer
+returns c = c.outcome_of.ensures ∙ ap verdict_of c.class_refusal.ensures

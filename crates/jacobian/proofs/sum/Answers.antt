@@ -1,0 +1,8 @@
+-- `sum` meets its contract.
+use Rattle.jacobian.specs.Answer.{sum_answer}
+use borrow.Author.Rules.{rules}
+use Rattle.jacobian.proofs.sum.Goals as goal
+
+pub returns : goal.returns
+unfolding sum_answer
+returns c = c.on_two.ensures
