@@ -1,5 +1,7 @@
 // The limit of operations: no register counts more, no row of classes is longer, and no stored count is larger.
 // A register's released step is at most its count.
+#![tactic(auto)]
+
 ghost use Rattle.std.specs.Prelude.{◌≡◌};
 ghost use Rattle.count_limit.specs.Limit.{count_refusal, released_refusal};
 

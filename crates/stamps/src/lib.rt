@@ -1,6 +1,8 @@
 // The class of a stamp, by value: of eight candidates x the first for which y² + y = f(x) has a root, with the root
 // whose lowest bit is 0. The checks come in this order: 106 and 107 for the curve, 115 for the stamp, and 116 where no
 // candidate has a root.
+#![tactic(auto)]
+
 ghost use Rattle.std.specs.Prelude.{ℕ, ◌-◌, ◌<◌, ◌^◌, ◌≡◌};
 ghost use Rattle.std.proofs.Math.Option.{some};
 ghost use Rattle.binary_field_theory.specs.Element.{Accepted};

@@ -1,0 +1,13 @@
+-- `value_at` meets its contract: the loop holds the value of the coefficients from index i on.
+use Prim.Native.Nat.{◌≤◌}
+use lib.ListN.{drop}
+use native.Mathlib.Omega.{arith}
+use Rattle.row_theory.specs.internal.Elements.{Is}
+use Rattle.stamps.proofs.Values.{evaluated, in_field, no_place, one_place_more, all_places}
+use Rattle.stamps.proofs.value_at.Given as goal
+
+abbrev pub invariant-loop-i : goal.invariant-loop-i
+invariant-loop-i l = (l.i ≤ 12) × Is l.d l.r (evaluated l.d (drop l.i l.f) l.x)
+
+abbrev pub decreases-loop-i : goal.decreases-loop-i
+decreases-loop-i l = l.i
