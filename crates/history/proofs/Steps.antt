@@ -32,7 +32,7 @@ module _ {c : Curve} where
   steps_accepted {seal} (a ∷ ops) hs (more ha has) =
       let e = step_is hs ha in
       more (ap (λ (x : Result). x.outcome) e)
-      (subst (λ (b : Class). All (λ x. x.outcome ≡ accepted) (steps_back c b ops)) (sym (ap (λ (x : Result). x.class) e)) (steps_accepted ops (undo_sound hs ha) has))
+      (subst (λ (b : Class). All (λ x. x.outcome ≡ accepted) (steps_back c b ops)) (sym (ap (λ (x : Result). x.class) e)) (steps_accepted {seal = undo_seal c seal a} ops (undo_sound hs ha) has))
 
 -- ---- a walk whose steps are not refused
 sealed_accepted : (n : ℕ) (s : Class) → (sealed n s).outcome ≡ accepted → (sealed n s).class ≡ s

@@ -2,8 +2,10 @@
 // register given. The refusal is that of the first check that fails, in the stored order: 106 and 107 of the curve, 109
 // of the count, 120 of the released step, 104, 110 and 111 of the seal and then of the class, last 114, or 113 and 121.
 // One step of a walk, which has no register, is jacobian::subtract_and_halve.
+#![tactic(auto)]
+
 ghost use Rattle.std.specs.Prelude.{ℕ, ◌≡◌};
-ghost use Rattle.jacobian.specs.{Checks.◌or_else◌, Curves.curve_refusal, Answer.refusal_of_two, Answer.reply, Answer.result};
+ghost use Rattle.jacobian.specs.{Checks.◌or_else◌, Curves.curve_refusal, Answer.refusal_of_two, Answer.reply, Answer.result as class_result};
 ghost use Rattle.jacobian.specs.declared.Class.{Class as Seal};
 ghost use Rattle.count_limit.specs.Limit.{count_refusal, released_refusal};
 ghost use Rattle.history.specs.declared.Register.{Register as Value};
@@ -127,7 +129,7 @@ fn kept(register: Register, n: u32) -> RegisterAnswer
 
 // The register with this count and the answered seal, or the answered refusal with the register as it was given.
 fn followed(register: Register, count: u64, answer: ClassAnswer) -> RegisterAnswer
-    ensures* { λ r. ⌜ ((n : ℕ) (seal : Seal) → result (reply answer) ≡ sealed n seal → register_reply r ≡ follows n register (with_count_and_seal count seal register)) ⌝ }
+    ensures { (n : ℕ) (seal : Seal) → class_result (reply answer) ≡ sealed n seal → register_reply result ≡ follows n register (with_count_and_seal count seal register) }
 {
     let outcome = answer.outcome;
     let n = jacobian::outcome_refusal(outcome);

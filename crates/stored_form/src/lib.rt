@@ -1,6 +1,8 @@
 // Reading the stored form. A field is a one-byte tag, a two-byte length and a body, high byte first.
 // A record is a list of fields; its layout lists the tags that are expected, in order.
 // A reader answers the record with the offset of the next field, or the number of a refusal with the empty record.
+#![tactic(auto)]
+
 ghost use Rattle.std.specs.Prelude.{◌≡◌};
 ghost use Rattle.stored_form.specs.Reading.{found, refused, checked};
 ghost use Rattle.stored_form.specs.{Fields.end_refusal, Record.empty_record};

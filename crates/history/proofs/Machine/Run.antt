@@ -38,12 +38,12 @@ module _ {State Call : Type 0} (M : Machine State Call) where
     pub last_holds : {s : State} (cs : List Call) → Holds s → Holds (last M s cs)
     unfolding last foldl
     last_holds [] h = h
-    last_holds {s} (c ∷ cs) h = last_holds cs (keeps s c h)
+    last_holds {s} (c ∷ cs) h = last_holds {s = M.next s c} cs (keeps s c h)
 
     pub run_all : {P : Event State Call → Type 0} → ((s : State) (c : Call) → Holds s → P (event M s c)) → {s : State} (cs : List Call) → Holds s → All P (run M s cs)
     unfolding run
     run_all p [] h = none
-    run_all p {s} (c ∷ cs) h = more (p s c h) (run_all p cs (keeps s c h))
+    run_all p {s} (c ∷ cs) h = more (p s c h) (run_all p {s = M.next s c} cs (keeps s c h))
 
   -- each accepted call of the list fits where all calls do
   run_fit : {Fits : Call → Type 0} (s : State) {cs : List Call} → All Fits cs → All (λ e. e.outcome ≡ accepted → Fits e.call) (run M s cs)

@@ -28,11 +28,11 @@ enum_known-root c = search rules
 pub returns-in-Root : goal.returns-in-Root
 returns-in-Root c =
     let p = c.requires in c.point.ensures
-    ∙ ap (stamped 0) (found_at _ _ _ c.loop-i.i (omega arith) c.loop-i.invariant.1 (class_found _ _ _ p.0 c.value_at.ensures c.root-1.given.1 c.quadratic_root-root.ensures))
+    ∙ ap (stamped 0) (found_at _ _ _ c.loop-i.i (omega arith) c.loop-i.invariant.1 (class_found _ _ _ p.0 c.value_at.ensures c.in-Root.is c.quadratic_root-root.ensures))
 
 pub loop-i-preserved : goal.loop-i-preserved
 loop-i-preserved c =
-    let p = c.requires in (omega arith, one_more _ _ _ _ c.loop-i.invariant.1 (class_missed _ _ _ p.0 c.value_at.ensures c.quadratic_root-root.result (λ y e. no_key (rw e at c.in_default.keys2)) c.quadratic_root-root.ensures))
+    let p = c.requires in (omega arith, one_more _ _ _ _ c.loop-i.invariant.1 (class_missed _ _ _ p.0 c.value_at.ensures c.quadratic_root-root.result c.in_default.not-Root c.quadratic_root-root.ensures))
 
 pub returns : goal.returns
 returns c =

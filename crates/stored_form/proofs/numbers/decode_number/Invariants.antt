@@ -1,0 +1,15 @@
+-- `numbers::decode_number` meets its contract: after i turns n is the number of the first i bytes.
+use borrow.Author.Rules.{rules}
+use Prim.Native.Nat.{ℕ, ◌+◌, ◌*◌, ◌^◌, ◌≤◌, ◌<◌, ◌-◌}
+use mathlib.Core.Path.{◌≡◌, ap, ◌∙◌}
+use lib.ListN.{get_or}
+use native.Mathlib.Omega.{arith}
+use Rattle.stored_form.specs.Number.{decode_number, part}
+use Rattle.stored_form.proofs.Digits.{turn, turn_fits}
+use Rattle.stored_form.proofs.numbers.decode_number.Given as goal
+
+abbrev pub invariant-loop-i : goal.invariant-loop-i
+invariant-loop-i l = (l.i ≤ l.k) × (l.n ≡ decode_number (part l.s l.at l.i))
+
+abbrev pub decreases-loop-i : goal.decreases-loop-i
+decreases-loop-i l = l.k - l.i

@@ -1,0 +1,14 @@
+-- `read_fields` meets its contract: reading the fields from the i-th on gives what reading all of them gives.
+use borrow.Author.Rules.{rules}
+use Prim.Native.Nat.{◌-◌}
+use mathlib.Core.Path.{◌≡◌, refl, sym, ap, ◌∙◌}
+use lib.ListN.{length, drop}
+use Rattle.stored_form.specs.Reader.{read_fields, read_of}
+use Rattle.stored_form.proofs.Readers.{offset_found, offset_refused, fields_more, fields_refused, fields_ended}
+use Rattle.stored_form.proofs.read_fields.Given as goal
+
+abbrev pub invariant-loop-i : goal.invariant-loop-i
+invariant-loop-i l = read_fields l.tags l.initial.values l.s l.initial.at ≡ read_fields (drop l.i l.tags) l.values l.s l.at
+
+abbrev pub decreases-loop-i : goal.decreases-loop-i
+decreases-loop-i l = length l.tags - l.i
