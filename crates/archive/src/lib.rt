@@ -1,4 +1,6 @@
 // Reading an archive: a state by value, and one step for each field.
+#![tactic(auto)]
+
 ghost use Rattle.std.specs.Prelude.{◌≡◌, get_or};
 ghost use Rattle.stored_form.specs.Reading.{found, refused};
 ghost use Rattle.stored_form.specs.Reader.{header_layout};

@@ -95,7 +95,7 @@ unfolding operation_fields class_field
 operations_at {s} {at} c none f = let e = f.ends in subst (λ (n : ℕ). FieldsAt s 0 at n) (omega arith) none
 operations_at c (more {a = a} {l = l} h r) f =
     let p = apart (class_field 0x44 a) (operation_fields l) f in
-    field 0x44 (encode_class a) (class_small 0x44 c a h) p.1 (operations_at c r p.2)
+    field 0x44 (encode_class a) (class_small 0x44 c a h) p.1 (operations_at {at = p.0} c r p.2)
 
 module _ {s : List ℕ} {a : Archive} (l : Layout s a) (ok : Storable a) where
   pub operation_place : (i : ℕ) → i ≤ length a.operations →

@@ -9,13 +9,13 @@
 use Prim.Native.Nat.{ℕ, zero, suc, ◌+◌, ◌*◌, ◌/◌, ◌%◌, ◌^◌, ◌<◌}
 use mathlib.Core.{Path.◌≡◌, Path.refl, Path.sym, Path.ap, Path.ap₂, Path.◌∙◌, Bool.Bool, Bool.true, Bool.false, Bool.cond, Bool.◌&&◌}
 use mathlib.Core.{Logic.◌⊎◌, Logic.inl, Logic.inr, Option.Option, Option.none, Option.some, Option.some-ne-none, Option.some-injective}
-use native.Mathlib.{Numerals.add-one, Decide.ℕ_discrete, Omega.arith}
-use lib.{Dec.T, Dec.eqb, Pow.pow_pos}
+use native.Mathlib.{Numerals.add-one, Omega.arith}
+use lib.{Dec.eqb, Pow.pow_pos}
 use borrow.Author.Tests.{eq-eqb, eqb-true}
-use Rattle.binary_field_theory.specs.{Carryless.◌⊕◌, Element.low, Element.square, Element.squarings, Search.first}
+use Rattle.binary_field_theory.specs.{Carryless.◌⊕◌, Element.low, Element.square, Element.squarings}
 use Rattle.binary_field_theory.specs.Quadratic.{quadratic, Root, even_solution, even_root, EvenRoot, traces, trace, half_traces, half_trace}
-use Rattle.binary_field_theory.proofs.{Sums.bit_cases, Sums.bit_lt, Sums.sums, Sums.sum_zero, Sums.zero_sum, Sums.sum_self, Sums.sum_self_left, Sums.sum_comm, Sums.sum_assoc, Sums.sum_cancel, Sums.sum_middle, Sums.sum_odd, Sums.sum_lt, Linear.additive_zero, Certificate.Certified, Certificate.idempotent_lt}
-use Rattle.binary_field_theory.proofs.{Frobenius.frobenius, Search.none_before, Search.first_found, Search.found_first, Search.all_none}
+use Rattle.binary_field_theory.proofs.{Sums.bit_cases, Sums.bit_lt, Sums.sums, Sums.sum_zero, Sums.zero_sum, Sums.sum_self, Sums.sum_self_left, Sums.sum_assoc, Sums.sum_cancel, Sums.sum_middle, Sums.sum_odd, Sums.sum_lt, Linear.additive_zero, Certificate.Certified, Certificate.idempotent_lt}
+use Rattle.binary_field_theory.proofs.{Frobenius.frobenius, Search.first_found, Search.found_first, Search.all_none}
 use Rattle.binary_field_theory.proofs.Products
 use Rattle.binary_field_theory.proofs.Power
 

@@ -12,7 +12,7 @@
 -- `none_by_trace`: if the trace is not 0, `even_root` finds none.
 use Prim.Native.Nat.{ℕ, ◌%◌, ◌^◌, ◌<◌}
 use mathlib.Core.Path.{◌≡◌, sym, ap, ◌∙◌}
-use mathlib.Core.{Logic.◌↔◌, Logic.◌⊎◌, Option.Option, Option.none, Option.some}
+use mathlib.Core.{Logic.◌↔◌, Logic.◌⊎◌, Option.none, Option.some}
 use native.Mathlib.Omega.{arith}
 use Rattle.binary_field_theory.specs.{Carryless.◌⊕◌, Element.Accepted, Element.product, Element.root, Element.inverse, Element.OneRoot, Element.OneInverse}
 use Rattle.binary_field_theory.specs.Quadratic.{Root, EvenRoot, even_root, trace, half_trace}

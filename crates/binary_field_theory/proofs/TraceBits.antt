@@ -8,7 +8,7 @@ use native.Mathlib.{Nat.zero-mul, Nat.one-mul, Omega.arith}
 use lib.Dec.{T}
 use Rattle.binary_field_theory.specs.{Carryless.◌⊕◌, Carryless.digits_to, Carryless.digits, Carryless.clmul, Carryless.reduce, Carryless.remainder, Element.Accepted, Element.low, Element.product, Element.square, Element.squarings}
 use Rattle.binary_field_theory.specs.Quadratic.{traces, trace}
-use Rattle.binary_field_theory.proofs.{Sums.bit_cases, Sums.bit_lt, Sums.sum_zero, Sums.zero_sum, Sums.sum_self, Sums.sum_shr, Sums.sum_odd, Sums.sum_middle, Linear.Additive, Linear.additive_zero, Linear.basis, Linear.same, Linear.same_at, Certificate.certified}
+use Rattle.binary_field_theory.proofs.{Sums.bit_cases, Sums.bit_lt, Sums.sum_zero, Sums.sum_self, Sums.sum_shr, Sums.sum_odd, Sums.sum_middle, Linear.Additive, Linear.additive_zero, Linear.basis, Linear.same, Linear.same_at, Certificate.certified}
 use Rattle.binary_field_theory.proofs.{Products.low_lt, Products.degree_cases, Products.square_sum, Power.squarings_zero, Power.squarings_suc, Power.squarings_lt, Quadratic.trace_bit}
 
 -- the sum of the digits at positions 0 and d - 2

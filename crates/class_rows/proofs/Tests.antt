@@ -3,9 +3,9 @@
 -- `divisor_iff`: of rows of twelve numbers it is true exactly where the degree is 5 or 61, f is monic of degree 7, and
 -- the rows are a reduced class of its curve.
 use Prim.Native.Nat.{ℕ, zero, suc, ◌-◌, ◌≤◌, ◌<◌, ◌^◌}
-use mathlib.Core.{Path.◌≡◌, Path.refl, Path.sym, Path.◌∙◌, Path.ap, Path.subst, Bool.Bool, Bool.true, Bool.false, Bool.◌&&◌, List.List, List.[], List.◌∷◌, List.map, Logic.◌↔◌}
+use mathlib.Core.{Path.◌≡◌, Path.refl, Path.sym, Path.◌∙◌, Path.ap, Path.subst, Bool.Bool, Bool.true, Bool.false, Bool.◌&&◌, List.List, List.[], List.◌∷◌, Logic.◌↔◌}
 use native.Mathlib.Omega.{arith}
-use lib.{Dec.T, Dec.ltb, ListN.length, ListN.get_or, ListN.length-map}
+use lib.{Dec.T, Dec.ltb, ListN.length, ListN.get_or}
 use borrow.Author.Tests.{eqb-true, eq-eqb, ltb-true, lt-ltb, leb-true, le-leb}
 use Rattle.binary_field_theory.specs.Element.{is_degree, Accepted}
 use Rattle.binary_field.specs.Answer.{below}

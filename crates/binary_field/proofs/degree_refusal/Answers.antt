@@ -1,6 +1,5 @@
 -- `degree_refusal` meets its contract.
 use mathlib.Core.Path.{sym, ◌∙◌}
-use borrow.Author.Rules.{rules}
 use Rattle.binary_field.proofs.Degrees.{bound_zero, bound_nonzero}
 use Rattle.binary_field.proofs.degree_refusal.Goals as goal
 

@@ -1,5 +1,4 @@
 -- `inverse` meets its contract.
-use borrow.Author.Rules.{rules}
 use Rattle.binary_field.proofs.Replies.{inverse_refuses, inverse_answers, inverse_unrefused}
 use Rattle.binary_field.proofs.inverse.Goals as goal
 

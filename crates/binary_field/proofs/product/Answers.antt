@@ -1,5 +1,4 @@
 -- `product` meets its contract.
-use borrow.Author.Rules.{rules}
 use Rattle.binary_field.specs.Answer.{product_reply}
 use Rattle.binary_field.proofs.Replies.{refuses, replies, none_refused}
 use Rattle.binary_field.proofs.product.Goals as goal

@@ -1,5 +1,4 @@
 -- `quadratic_root` meets its contract.
-use borrow.Author.Rules.{rules}
 use Rattle.binary_field_theory.specs.Carryless.{◌⊕◌}
 use Rattle.binary_field.proofs.Replies.{none_refused, quadratic_refused, no_root_by_trace, root_by_trace}
 use Rattle.binary_field.proofs.quadratic_root.Goals as goal

@@ -1,6 +1,5 @@
 -- `refusal` meets its contract: the range is tested after the degree.
 use mathlib.Core.{Path.sym, Path.◌∙◌, Path.ap, List.[], List.◌∷◌}
-use borrow.Author.Rules.{rules}
 use Rattle.binary_field.specs.{Checks.unless, Answer.below, Answer.element_refusal}
 use Rattle.binary_field.proofs.{Checks.first_due, Checks.next_due, Degrees.accepted_degree, Degrees.bound_accepted}
 use Rattle.binary_field.proofs.refusal.Goals as goal

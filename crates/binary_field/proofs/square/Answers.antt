@@ -1,6 +1,5 @@
 -- `square` meets its contract.
 use mathlib.Core.Path.{◌∙◌}
-use borrow.Author.Rules.{rules}
 use Rattle.binary_field.specs.Answer.{square_reply}
 use Rattle.binary_field.proofs.Replies.{refuses, replies, none_refused, refusal_twice}
 use Rattle.binary_field.proofs.square.Goals as goal

@@ -1,6 +1,5 @@
 -- `square_root` meets its contract.
 use mathlib.Core.Path.{◌∙◌}
-use borrow.Author.Rules.{rules}
 use Rattle.binary_field.specs.Answer.{root_reply}
 use Rattle.binary_field.proofs.Replies.{refuses, replies, none_refused, refusal_twice}
 use Rattle.binary_field.proofs.square_root.Goals as goal

@@ -1,6 +1,5 @@
 -- `sum` meets its contract.
 use mathlib.Core.Path.{refl}
-use borrow.Author.Rules.{rules}
 use Rattle.binary_field_theory.specs.Carryless.{◌⊕◌}
 use Rattle.binary_field.specs.Answer.{sum_reply}
 use Rattle.binary_field.proofs.Replies.{refuses, replies}

@@ -1,7 +1,6 @@
 -- `accepts_curve` meets its contract.
 use mathlib.Core.Path.{◌∙◌, ap}
 use Rattle.jacobian.specs.Answer.{verdict_of, curve_answer}
-use borrow.Author.Rules.{rules}
 use Rattle.jacobian.proofs.accepts_curve.Goals as goal
 
 pub returns : goal.returns

@@ -2,7 +2,6 @@
 use Prim.Native.Nat.{ℕ}
 use mathlib.Core.Path.{sym, ap, ap₂, ◌∙◌}
 use native.Mathlib.Omega.{arith}
-use borrow.Author.{Tests.not-true, Tests.not-false, Rules.rules}
 use Rattle.jacobian.specs.{Checks.unless, declared.Class.Class, Answer.accepted, Answer.answered}
 use Rattle.jacobian.proofs.{ByValue.Answers.at_refusal, ByValue.Answers.refused_answered, ByValue.Pairs.stands_class}
 use Rattle.jacobian.proofs.answered.Goals as goal

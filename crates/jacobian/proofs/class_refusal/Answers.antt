@@ -2,7 +2,6 @@
 use mathlib.Core.Path.{refl, sym, ◌∙◌}
 use Rattle.jacobian.specs.Answer.{refusal}
 use Rattle.jacobian.proofs.{ByValue.Checks.then_zero, ByValue.Checks.next_due, ByValue.Refusals.form_first}
-use borrow.Author.Rules.{rules}
 use Rattle.jacobian.proofs.class_refusal.Goals as goal
 
 pub returns-then-n-ne0 : goal.returns-then-n-ne0

@@ -1,7 +1,6 @@
 -- `curve_and_form_refusal` meets its contract: the class after the curve.
 use mathlib.Core.Path.{sym, ◌∙◌}
 use Rattle.jacobian.proofs.ByValue.Checks.{first_due, next_due, curve_passes}
-use borrow.Author.Rules.{rules}
 use Rattle.jacobian.proofs.curve_and_form_refusal.Goals as goal
 
 pub returns-then-n-ne0 : goal.returns-then-n-ne0

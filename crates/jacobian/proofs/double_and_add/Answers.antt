@@ -1,6 +1,5 @@
 -- `double_and_add` meets its contract.
 use Rattle.jacobian.specs.Answer.{double_and_add_answer}
-use borrow.Author.Rules.{rules}
 use Rattle.jacobian.proofs.double_and_add.Goals as goal
 
 pub returns : goal.returns

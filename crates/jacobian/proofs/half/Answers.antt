@@ -2,7 +2,6 @@
 use mathlib.Core.Path.{sym, subst}
 use Rattle.jacobian.specs.Answer.{Reply, Only, IsHalf, half_answer}
 use Rattle.jacobian.proofs.Calls.{half_is_only}
-use borrow.Author.Rules.{rules}
 use Rattle.jacobian.proofs.half.Goals as goal
 
 pub returns : goal.returns

@@ -1,7 +1,6 @@
 -- `membership` meets its contract.
 use mathlib.Core.Path.{◌∙◌, ap}
 use Rattle.jacobian.specs.Answer.{verdict_of, membership_answer}
-use borrow.Author.Rules.{rules}
 use Rattle.jacobian.proofs.membership.Goals as goal
 
 pub returns : goal.returns

@@ -4,7 +4,6 @@ use Rattle.class_rows.specs.Operations.{unary}
 use Rattle.class_rows.proofs.Answers.{unary_divisor, unary_stands}
 use Rattle.jacobian.specs.{Curves.curve, Classes.pair}
 use Rattle.jacobian.proofs.{ByValue.Checks.then_zero, ByValue.Passing.row_curve_is, ByValue.Passing.rows_pair_is, ByValue.Refusals.form_first, ByValue.Refusals.form_shape, ByValue.Refusals.one_due, ByValue.Answers.at_refusal, ByValue.Answers.refused_answered}
-use borrow.Author.Rules.{rules}
 use Rattle.jacobian.proofs.on_one.Goals as goal
 
 pub returns-then-n-ne0 : goal.returns-then-n-ne0

@@ -4,7 +4,6 @@ use Rattle.class_rows.specs.Operations.{binary}
 use Rattle.class_rows.proofs.Answers.{binary_divisor, binary_stands}
 use Rattle.jacobian.specs.{Curves.curve, Classes.pair}
 use Rattle.jacobian.proofs.{ByValue.Passing.row_curve_is, ByValue.Passing.rows_pair_is, ByValue.Refusals.form_shape, ByValue.Refusals.two_due, ByValue.Answers.at_refusal, ByValue.Answers.refused_answered}
-use borrow.Author.Rules.{rules}
 use Rattle.jacobian.proofs.on_two.Goals as goal
 
 pub returns-then-n-ne0 : goal.returns-then-n-ne0

@@ -1,6 +1,5 @@
 -- `opposite` meets its contract.
 use Rattle.jacobian.specs.Answer.{opposite_answer}
-use borrow.Author.Rules.{rules}
 use Rattle.jacobian.proofs.opposite.Goals as goal
 
 pub returns : goal.returns

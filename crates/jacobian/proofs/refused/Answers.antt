@@ -1,7 +1,6 @@
 -- `refused` meets its contract.
 use mathlib.Core.Path.{ap}
 use Rattle.jacobian.specs.{declared.Class.Class, Answer.refused}
-use borrow.Author.Rules.{rules}
 use Rattle.jacobian.proofs.refused.Goals as goal
 
 pub returns : goal.returns

@@ -2,7 +2,6 @@
 use mathlib.Core.Path.{sym, subst}
 use Rattle.jacobian.specs.Answer.{Reply, Only, Precedes, subtract_and_halve_answer}
 use Rattle.jacobian.proofs.{Calls.two_accept, Moves.subtract_and_halve_is_only}
-use borrow.Author.Rules.{rules}
 use Rattle.jacobian.proofs.subtract_and_halve.Goals as goal
 
 pub returns : goal.returns

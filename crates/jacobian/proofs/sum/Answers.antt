@@ -1,6 +1,5 @@
 -- `sum` meets its contract.
 use Rattle.jacobian.specs.Answer.{sum_answer}
-use borrow.Author.Rules.{rules}
 use Rattle.jacobian.proofs.sum.Goals as goal
 
 pub returns : goal.returns

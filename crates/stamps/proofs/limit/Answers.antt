@@ -1,7 +1,6 @@
 -- `limit` meets its contract, degree by degree.
 use Prim.Native.Nat.{ℕ, ◌-◌, ◌/◌, ◌^◌}
 use mathlib.Core.Path.{◌≡◌, refl, ◌∙◌, ap}
-use borrow.Author.Rules.{rules}
 use Rattle.binary_field_theory.specs.Element.{Accepted}
 use Rattle.binary_field.proofs.Degrees.{bound_accepted}
 use Rattle.jacobian.proofs.ByValue.Degrees.{by_degree}

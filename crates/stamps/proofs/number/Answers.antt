@@ -1,5 +1,4 @@
 -- `number` meets its contract: the number is that of the answer's element.
-use borrow.Author.Rules.{rules}
 use Rattle.binary_field.proofs.Replies.{element_is, no_refusal}
 use Rattle.stamps.proofs.number.Goals as goal
 

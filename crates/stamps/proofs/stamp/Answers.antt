@@ -1,5 +1,4 @@
 -- `stamp` meets its contract.
-use borrow.Author.Rules.{rules}
 use Rattle.jacobian.proofs.ByValue.{Checks.curve_passes, Passing.on_curve}
 use Rattle.stamps.proofs.Search.{refused_first, answered_last, passed}
 use Rattle.stamps.proofs.stamp.Goals as goal

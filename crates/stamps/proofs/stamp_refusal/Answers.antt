@@ -1,7 +1,6 @@
 -- `stamp_refusal` meets its contract.
 use mathlib.Core.Path.{sym, ◌∙◌}
 use native.Mathlib.Omega.{arith}
-use borrow.Author.Rules.{rules}
 use Rattle.jacobian.proofs.ByValue.Checks.{first_due, curve_passes}
 use Rattle.stamps.specs.Stamps.{stamp_refusal}
 use Rattle.stamps.proofs.Search.{too_large, none_due}

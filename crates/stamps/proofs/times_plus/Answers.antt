@@ -1,6 +1,5 @@
 -- `times_plus` meets its contract: product and sum are answered, since their numbers are in range.
 use mathlib.Core.Path.{◌∙◌}
-use borrow.Author.Rules.{rules}
 use Rattle.row_theory.proofs.Rows.Answers.{sum_answers, product_answers, number_is}
 use Rattle.stamps.proofs.Values.{zero_plus, sum_with}
 use Rattle.stamps.proofs.times_plus.Goals as goal

@@ -1,9 +1,8 @@
 -- `value_at` meets its contract: the loop holds the value of the coefficients from index i on.
 use Prim.Native.Nat.{◌≤◌}
 use lib.ListN.{drop}
-use native.Mathlib.Omega.{arith}
 use Rattle.row_theory.specs.internal.Elements.{Is}
-use Rattle.stamps.proofs.Values.{evaluated, in_field, no_place, one_place_more, all_places}
+use Rattle.stamps.proofs.Values.{evaluated}
 use Rattle.stamps.proofs.value_at.Given as goal
 
 abbrev pub invariant-loop-i : goal.invariant-loop-i

@@ -1,5 +1,5 @@
 -- `clmul32` meets its contract.
-use Prim.Native.Nat.{ℕ, ◌*◌, ◌^◌, ◌<◌}
+use Prim.Native.Nat.{ℕ, ◌*◌, ◌^◌}
 use native.Mathlib.Nat.{lt_of_le_of_lt}
 use lib.{Bits.bit_and, Bits.and_le_r, Dec.T, Dec.ltb, Dec.lit<}
 use mir.Syntax.{w64}

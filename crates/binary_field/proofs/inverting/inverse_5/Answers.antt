@@ -1,5 +1,4 @@
 -- `inverse_5` meets its contract: each product makes the next power 2^k - 1 of the chain, and the last is squared.
-use borrow.Author.Rules.{rules}
 use Rattle.binary_field_theory.proofs.Words.ChainSteps.{first, joins, last}
 use Rattle.binary_field.proofs.inverting.inverse_5.Goals as goal
 

@@ -1,5 +1,4 @@
 -- `inverse_of` meets its contract, degree by degree.
-use borrow.Author.Rules.{rules}
 use Rattle.binary_field_theory.proofs.Degrees.{other_degree}
 use Rattle.binary_field.proofs.inverting.inverse_of.Goals as goal
 

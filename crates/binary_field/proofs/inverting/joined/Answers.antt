@@ -1,8 +1,5 @@
 -- `joined` meets its contract: after i turns the loop holds x, squared i times.
-use mathlib.Core.Path.{◌≡◌}
-use Prim.Native.Nat.{◌≤◌, ◌<◌, ◌-◌, ◌^◌}
 use native.Mathlib.Omega.{arith}
-use Rattle.binary_field_theory.specs.Element.{squarings}
 use Rattle.binary_field_theory.proofs.Words.ChainSteps.{none_squared, once_more, all_squared, multiplied}
 use Rattle.binary_field.proofs.inverting.joined.Goals as goal
 

@@ -1,5 +1,4 @@
 -- `joined_sixfold` meets its contract.
-use borrow.Author.Rules.{rules}
 use Rattle.binary_field_theory.proofs.Words.ChainSteps.{multiplied}
 use Rattle.binary_field.proofs.inverting.joined_sixfold.Goals as goal
 

@@ -1,9 +1,7 @@
 -- `multisquare` meets its contract: after i turns the loop holds what the i lowest digits give.
 use mathlib.Core.Path.{◌≡◌}
-use Prim.Native.Nat.{◌≤◌, ◌-◌, ◌*◌, ◌/◌, ◌%◌, ◌^◌}
-use native.Mathlib.Omega.{arith}
+use Prim.Native.Nat.{◌≤◌, ◌-◌, ◌*◌, ◌%◌, ◌^◌}
 use Rattle.binary_field_theory.specs.Element.{squarings}
-use Rattle.binary_field_theory.proofs.Words.Multisquares.{place_lt, no_digit, one_digit_more, all_digits}
 use Rattle.binary_field.proofs.multisquaring.multisquare.Given as goal
 
 abbrev pub invariant-loop-i : goal.invariant-loop-i

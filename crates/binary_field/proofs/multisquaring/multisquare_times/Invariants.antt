@@ -1,9 +1,7 @@
 -- `multisquare_times` meets its contract: after i turns the loop holds a, squared 6 i times.
 use mathlib.Core.Path.{◌≡◌}
 use Prim.Native.Nat.{◌≤◌, ◌<◌, ◌-◌, ◌*◌, ◌^◌}
-use native.Mathlib.Omega.{arith}
 use Rattle.binary_field_theory.specs.Element.{squarings}
-use Rattle.binary_field_theory.proofs.Words.ChainSteps.{none_squared, six_more, all_squared}
 use Rattle.binary_field.proofs.multisquaring.multisquare_times.Given as goal
 
 abbrev pub invariant-loop-i : goal.invariant-loop-i

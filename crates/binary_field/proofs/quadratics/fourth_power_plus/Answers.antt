@@ -1,6 +1,5 @@
 -- `fourth_power_plus` meets its contract.
 use mathlib.Core.Path.{refl}
-use borrow.Author.Rules.{rules}
 use Rattle.binary_field_theory.proofs.Words.{ChainSteps.none_squared, ChainSteps.once_more, HalfTraces.power_added}
 use Rattle.binary_field.proofs.quadratics.fourth_power_plus.Goals as goal
 

@@ -1,5 +1,4 @@
 -- `half_trace_5` meets its contract: each step adds a term.
-use borrow.Author.Rules.{rules}
 use Rattle.binary_field_theory.specs.Quadratic.{half_trace}
 use Rattle.binary_field_theory.proofs.Words.HalfTraces.{one_term, terms_added}
 use Rattle.binary_field.proofs.quadratics.half_trace_5.Goals as goal

@@ -1,5 +1,4 @@
 -- `half_trace_of` meets its contract, degree by degree.
-use borrow.Author.Rules.{rules}
 use Rattle.binary_field_theory.proofs.Degrees.{other_degree}
 use Rattle.binary_field.proofs.quadratics.half_trace_of.Goals as goal
 

@@ -1,6 +1,5 @@
 -- `multisquare_plus` meets its contract.
 use mathlib.Core.Path.{refl}
-use borrow.Author.Rules.{rules}
 use Rattle.binary_field_theory.proofs.Words.HalfTraces.{power_added}
 use Rattle.binary_field.proofs.quadratics.multisquare_plus.Goals as goal
 

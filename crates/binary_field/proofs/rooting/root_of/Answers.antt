@@ -1,5 +1,4 @@
 -- `root_of` meets its contract.
-use borrow.Author.Rules.{rules}
 use Rattle.binary_field_theory.proofs.Words.Roots.{root_made, odd_below}
 use Rattle.binary_field.proofs.rooting.root_of.Goals as goal
 

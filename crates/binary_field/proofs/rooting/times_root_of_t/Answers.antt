@@ -1,6 +1,5 @@
 -- `times_root_of_t` meets its contract: the squares of the two roots of t are computed.
 use mathlib.Core.Path.{ap, ◌∙◌}
-use borrow.Author.Rules.{rules}
 use native.Mathlib.Nat.{lt_of_lt_of_le}
 use lib.Dec.{lit<, lit≤}
 use Rattle.binary_field_theory.specs.{Carryless.remainder, Element.low, Element.product}

@@ -1,5 +1,4 @@
 -- `spread_16` meets its contract: the two halves are spread apart.
-use borrow.Author.Rules.{rules}
 use lib.{Bits.mask_lt, Dec.lit≤}
 use Rattle.binary_field_theory.proofs.Words.Halves.{spread_joined}
 use Rattle.binary_field.proofs.spreading.spread_16.Goals as goal

@@ -1,7 +1,4 @@
 -- `spread_8` meets its contract by the table's rule.
-use borrow.Author.Rules.{rules}
-use native.Mathlib.Omega.{arith}
-use Rattle.binary_field_theory.proofs.Spread.{spread_lt}
 use Rattle.binary_field.proofs.spreading.spread_8.Goals as goal
 
 -- TODO overflow-cast-result

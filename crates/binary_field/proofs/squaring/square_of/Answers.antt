@@ -1,6 +1,5 @@
 -- `square_of` meets its contract: the square is the spread number, folded.
 use mathlib.Core.Path.{ap, sym, ◌∙◌}
-use borrow.Author.Rules.{rules}
 use native.Mathlib.Nat.{lt_of_lt_of_le}
 use lib.{Bits.mask_lt, Dec.lit≤}
 use Rattle.binary_field_theory.specs.{Carryless.remainder, Element.low}

@@ -1,6 +1,5 @@
 -- `compose_common`: e is a divisor of u1 and u2, all products fit a row, and the joined pair is the composition.
 use native.Mathlib.Omega.{arith}
-use borrow.Author.Rules.{rules}
 use Rattle.class_rows.proofs.DoubleRows.{reduced_semi}
 use Rattle.class_rows.proofs.ComposeRows.{Common, sum_len, third_len, divisor_len, cofactor_short, sum_short, first_short, second_s_short, second_t_short, e_nonzero, part₁_short, part₂_short, part₁_nonzero, part₂_nonzero, common_stands}
 -- the function's entry, from the second use of Euclid's rule

@@ -1,6 +1,5 @@
 -- `compose_rows`: where the divisor of u1 and u2 is 1, the composition by the coefficient of u1 alone.
 use native.Mathlib.Omega.{arith}
-use borrow.Author.Rules.{rules}
 use Rattle.class_rows.proofs.DoubleRows.{reduced_len}
 use Rattle.class_rows.proofs.ComposeRows.{u_nonzero, u_short, sum_len, first_len, coprime_stands}
 use Rattle.row_theory.proofs.Rows.Length.{places_len}

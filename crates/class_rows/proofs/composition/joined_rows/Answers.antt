@@ -1,6 +1,5 @@
 -- `joined_rows`: m modulo d2 is shorter than d2, so the products fit a row; d1 d2 is not 0.
 use native.Mathlib.Omega.{arith}
-use borrow.Author.Rules.{rules}
 use Rattle.class_rows.proofs.ComposeRows.{joined_nonzero, joined_less, joined_stands}
 use Rattle.class_rows.proofs.composition.joined_rows.Goals as goal
 

@@ -1,6 +1,5 @@
 -- `multiple_row`: three products and a sum, all of which fit a row.
 use native.Mathlib.Omega.{arith}
-use borrow.Author.Rules.{rules}
 use Rattle.row_theory.specs.Field.{poly}
 use Rattle.class_rows.proofs.ComposeRows.{product_len, multiple_stands}
 use Rattle.class_rows.proofs.composition.multiple_row.Goals as goal

@@ -1,7 +1,6 @@
 -- `checked` meets its contract: the division decides, and its quotient is the cofactor.
 use mathlib.Core.{Path.refl, Path.sym, Bool.true≢false}
 use native.Mathlib.Omega.{arith}
-use borrow.Author.Tests.{not-true, not-false}
 use Rattle.char2_algebra.proofs.Lead.{monic_nonzero}
 use Rattle.row_theory.specs.Field.{𝔸}
 use Rattle.row_theory.proofs.Rows.Length.{places_len}

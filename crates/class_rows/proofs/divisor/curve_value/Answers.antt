@@ -1,6 +1,5 @@
 -- `divisor::curve_value` meets its contract.
 use mathlib.Core.Path.{◌∙◌, ap}
-use borrow.Author.Rules.{rules}
 use Rattle.row_theory.specs.Field.{𝔸, poly}
 use Rattle.row_theory.proofs.Rows.Coefficients.{stands_eq}
 use Rattle.class_rows.proofs.divisor.curve_value.Goals as goal

@@ -1,6 +1,5 @@
 -- `in_form` meets its contract.
 use mathlib.Core.Path.{refl, sym, ◌∙◌}
-use borrow.Author.Tests.{not-true, not-false}
 use Rattle.binary_field.proofs.Degrees.{accepted_degree, degree_accepted}
 use Rattle.class_rows.proofs.CheckRows.{decides_not, decides_false, decides_iff}
 use Rattle.class_rows.proofs.divisor.in_form.Goals as goal

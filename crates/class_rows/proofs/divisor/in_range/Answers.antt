@@ -1,8 +1,7 @@
 -- `in_range` meets its contract. The invariant: the numbers below i are elements.
-use Prim.Native.Nat.{◌-◌, ◌≤◌}
 use mathlib.Core.Path.{refl}
 use native.Mathlib.Omega.{arith}
-use Rattle.class_rows.proofs.CheckRows.{bound_is, Below, below_none, below_more, below_all, decides_true, decides_false}
+use Rattle.class_rows.proofs.CheckRows.{bound_is, below_none, below_more, below_all, decides_true, decides_false}
 use Rattle.class_rows.proofs.divisor.in_range.Goals as goal
 
 pub returns-then-r-i : goal.returns-then-r-i

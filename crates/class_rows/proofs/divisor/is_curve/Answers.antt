@@ -1,6 +1,5 @@
 -- `is_curve` meets its contract.
 use mathlib.Core.Path.{refl, sym, ◌∙◌, ap, subst}
-use borrow.Author.Tests.{not-true, not-false}
 use Rattle.char2_algebra.specs.Lead.{Monic}
 use Rattle.row_theory.specs.Field.{𝔸, poly}
 use Rattle.class_rows.proofs.CheckRows.{decides_not, decides_false, decides_iff}

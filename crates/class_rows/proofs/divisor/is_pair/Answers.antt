@@ -1,7 +1,6 @@
 -- `is_pair` meets its contract: each test in turn.
 use mathlib.Core.Path.{refl}
 use native.Mathlib.Omega.{arith}
-use borrow.Author.Tests.{not-true, not-false}
 use Rattle.class_rows.proofs.CheckRows.{decides_not, decides_false, decides_iff}
 use Rattle.row_theory.proofs.Rows.Length.{places_len}
 use Rattle.class_rows.proofs.divisor.is_pair.Goals as goal

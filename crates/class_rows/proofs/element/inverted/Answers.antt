@@ -1,7 +1,6 @@
 -- `element::inverted` meets its contract: the element is not 0, so that the call answers its inverse.
 use mathlib.Core.Path.{◌∙◌}
 use Rattle.row_theory.proofs.Rows.{Elements.el_nonzero, Answers.inverse_one, Answers.inverse_answers, Answers.inverse_inverts}
-use borrow.Author.Rules.{rules}
 use Rattle.class_rows.proofs.element.inverted.Goals as goal
 
 pub returns : goal.returns

@@ -1,7 +1,6 @@
 -- `element::product_of` meets its contract: the call answers the product.
 use mathlib.Core.Path.{◌∙◌}
 use Rattle.row_theory.proofs.Rows.Answers.{zero_times, times_zero, one_times, times_one, product_answers, number_is}
-use borrow.Author.Rules.{rules}
 use Rattle.class_rows.proofs.element.product_of.Goals as goal
 
 pub returns : goal.returns

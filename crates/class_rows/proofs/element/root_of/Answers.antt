@@ -1,7 +1,6 @@
 -- `element::root_of` meets its contract: the call answers the square root.
 use mathlib.Core.Path.{◌∙◌}
 use Rattle.row_theory.proofs.Rows.Answers.{root_answers, number_is}
-use borrow.Author.Rules.{rules}
 use Rattle.class_rows.proofs.element.root_of.Goals as goal
 
 pub returns : goal.returns

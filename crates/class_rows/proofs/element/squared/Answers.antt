@@ -1,7 +1,6 @@
 -- `element::squared` meets its contract: the call answers the square.
 use mathlib.Core.Path.{◌∙◌}
 use Rattle.row_theory.proofs.Rows.Answers.{square_answers, number_is}
-use borrow.Author.Rules.{rules}
 use Rattle.class_rows.proofs.element.squared.Goals as goal
 
 pub returns : goal.returns

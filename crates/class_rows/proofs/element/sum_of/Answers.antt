@@ -1,7 +1,6 @@
 -- `element::sum_of` meets its contract: the call answers the sum.
 use mathlib.Core.Path.{◌∙◌}
 use Rattle.row_theory.proofs.Rows.Answers.{sum_answers, number_is}
-use borrow.Author.Rules.{rules}
 use Rattle.class_rows.proofs.element.sum_of.Goals as goal
 
 pub returns : goal.returns

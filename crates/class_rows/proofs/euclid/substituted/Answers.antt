@@ -1,6 +1,5 @@
 -- `substituted`: the coefficients that one step of Euclid's rule gives.
 use mathlib.Core.Path.{refl, ap}
-use borrow.Author.Rules.{rules}
 use Rattle.row_theory.specs.Field.{𝔸, poly}
 use Rattle.row_theory.proofs.Rows.Coefficients.{stands_eq}
 use Rattle.class_rows.proofs.euclid.substituted.Goals as goal

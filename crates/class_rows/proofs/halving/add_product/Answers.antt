@@ -2,7 +2,6 @@
 use mathlib.Core.Path.{ap}
 use Rattle.row_theory.specs.Field.{𝔸, poly}
 use Rattle.row_theory.proofs.Rows.Coefficients.{stands_eq}
-use borrow.Author.Rules.{rules}
 use Rattle.class_rows.proofs.halving.add_product.Goals as goal
 
 pub returns : goal.returns

@@ -1,5 +1,4 @@
 -- `exchanged_row` meets its contract: the row of 1 is added to v + k u.
-use borrow.Author.Rules.{rules}
 use Rattle.row_theory.proofs.HalfRows.Rows.{exchanged_stands}
 use Rattle.class_rows.proofs.halving.exchanged_row.Goals as goal
 

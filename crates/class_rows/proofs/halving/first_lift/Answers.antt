@@ -1,6 +1,5 @@
 -- `first_lift` meets its contract: the square of √w3 is w3, so no coefficient is squared.
 use Rattle.row_theory.proofs.{Rows.Elements.zero_lt, HalfRows.Rows.quartic_fits, HalfRows.Parts3.first_lift_stands}
-use borrow.Author.Rules.{rules}
 use Rattle.class_rows.proofs.halving.first_lift.Goals as goal
 
 pub lifted_row-requires : goal.lifted_row-requires

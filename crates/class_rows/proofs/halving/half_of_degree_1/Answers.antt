@@ -1,7 +1,6 @@
 -- `half_of_degree_1` meets its contract: its calls give the lift of the rule (row_theory,
 -- proofs/HalfRows/Computed1.antt).
 use native.Mathlib.Omega.{arith}
-use borrow.Author.Rules.{rules}
 use Rattle.row_theory.proofs.HalfRows.{Rows.quadratic_fits, Rows.quartic_fits, Computed1.Computed1, Computed1.root_nonzero_1, Computed1.result_1}
 use Rattle.class_rows.proofs.ReductionRows.{stands_pair_eq}
 -- the states after the roots, and at the entry

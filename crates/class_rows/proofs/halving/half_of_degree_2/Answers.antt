@@ -1,6 +1,5 @@
 -- `half_of_degree_2` meets its contract: u is a square where u1 is 0.
 use Rattle.row_theory.proofs.HalfRows.Computed2.{root_nonzero_2_square, result_2_square}
-use borrow.Author.Rules.{rules}
 use Rattle.class_rows.proofs.ReductionRows.{stands_pair_eq}
 use Rattle.class_rows.proofs.halving.half_of_degree_2.Goals as goal
 

@@ -1,7 +1,6 @@
 -- `half_of_degree_3` meets its contract: the first lift is a square where t is 0, else the second lift gives one
 -- (row_theory, proofs/HalfRows/Computed3.antt, Lifted3.antt).
 use native.Mathlib.Omega.{arith}
-use borrow.Author.Rules.{rules}
 use Rattle.row_theory.proofs.HalfRows.{Rows.quadratic_fits, Lifted3.Lifted3, Lifted3.root_len, Lifted3.result_3}
 use Rattle.row_theory.proofs.HalfRows.Computed3.{Computed3, first_lift_short, root_nonzero_3_square, result_3_square}
 use Rattle.class_rows.proofs.ReductionRows.{stands_pair_eq, pair_stands}

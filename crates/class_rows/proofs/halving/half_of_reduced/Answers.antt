@@ -1,6 +1,5 @@
 -- `half_of_reduced` gives the half: the class itself where it is neutral, else the pair of the rule for its degree.
 use native.Mathlib.Omega.{arith}
-use borrow.Author.Rules.{rules}
 use Rattle.class_rows.proofs.HalfRows.Class.{NonNeutral, half_neutral, halving_rows, half_1, half_2, half_3}
 use Rattle.class_rows.proofs.DoubleRows.{reduced_len}
 use Rattle.row_theory.proofs.Rows.{Length.places_len, Fill.zeros_range, Fill.zeros_poly}

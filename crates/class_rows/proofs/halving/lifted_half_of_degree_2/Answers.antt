@@ -1,7 +1,6 @@
 -- `lifted_half_of_degree_2` meets its contract: its calls give the lift of the rule (row_theory,
 -- proofs/HalfRows/Computed2.antt).
 use native.Mathlib.Omega.{arith}
-use borrow.Author.Rules.{rules}
 use Rattle.row_theory.proofs.Rows.Elements.{one_lt}
 use Rattle.row_theory.proofs.HalfRows.{Rows.quadratic_fits, Rows.quartic_fits, Computed2.Computed2, Computed2.root_nonzero_2, Computed2.result_2}
 use Rattle.class_rows.proofs.ReductionRows.{stands_pair_eq}

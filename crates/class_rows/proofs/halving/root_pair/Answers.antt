@@ -2,7 +2,6 @@
 use mathlib.Core.Path.{sym, ◌∙◌, ap}
 use Rattle.row_theory.specs.{Field.𝔸, internal.Halving.root_pair}
 use Rattle.row_theory.proofs.Rows.Coefficients.{stands_eq}
-use borrow.Author.Rules.{rules}
 use Rattle.class_rows.proofs.halving.root_pair.Goals as goal
 
 pub divide-s-requires : goal.divide-s-requires

@@ -2,7 +2,6 @@
 use native.Mathlib.Omega.{arith}
 use Rattle.row_theory.proofs.{Rows.Elements.zero_lt, Rows.Elements.one_lt, HalfRows.Rows.quadratic_fits, HalfRows.Parts3.divisor_nonzero}
 use Rattle.row_theory.proofs.HalfRows.Parts3.{remainder_len, sum_len, second_remainder_stands}
-use borrow.Author.Rules.{rules}
 use Rattle.class_rows.proofs.halving.second_remainder.Goals as goal
 
 pub product_rows-p-requires : goal.product_rows-p-requires

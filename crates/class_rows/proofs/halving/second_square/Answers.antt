@@ -1,6 +1,5 @@
 -- `second_square` meets its contract: the summands as the rows stand for them.
 use Rattle.row_theory.proofs.{Rows.Elements.zero_lt, Rows.Elements.one_lt, HalfRows.Rows.quartic_fits, HalfRows.Parts3.second_square_stands}
-use borrow.Author.Rules.{rules}
 use Rattle.class_rows.proofs.halving.second_square.Goals as goal
 
 pub lifted_row-requires : goal.lifted_row-requires

@@ -1,7 +1,6 @@
 -- `quotient::product_at` meets its contract. The invariant: the sum is that of the terms from q's coefficients below j.
-use Prim.Native.Nat.{◌+◌, ◌-◌}
 use native.Mathlib.Omega.{arith}
-use Rattle.row_theory.proofs.QuotientRows.{Partial, partial_start, partial_turn, partial_end}
+use Rattle.row_theory.proofs.QuotientRows.{partial_start, partial_turn, partial_end}
 use Rattle.class_rows.proofs.quotient.product_at.Goals as goal
 
 pub loop-j-init : goal.loop-j-init

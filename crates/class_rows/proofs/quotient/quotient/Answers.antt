@@ -1,11 +1,9 @@
 -- `quotient::quotient` meets its contract. The invariant: from x^k on a + q b has no coefficient, and q has none below
 -- k less b's degree.
-use Prim.Native.Nat.{suc, ◌≤◌}
-use mathlib.Core.Path.{◌≡◌}
 use native.Mathlib.Omega.{arith}
 use Rattle.char2_algebra.proofs.{Lead.monic_nonzero, Degree.len_nonzero}
-use Rattle.row_theory.specs.{Field.𝔸, Row.row_len}
-use Rattle.row_theory.proofs.{Rows.Coefficients.row_len_length, QuotientRows.Divided, QuotientRows.divided_start, QuotientRows.divided_turn, QuotientRows.divided_end}
+use Rattle.row_theory.specs.{Field.𝔸}
+use Rattle.row_theory.proofs.{Rows.Coefficients.row_len_length, QuotientRows.divided_start, QuotientRows.divided_turn, QuotientRows.divided_end}
 use Rattle.row_theory.proofs.Rows.Length.{places_len}
 use Rattle.class_rows.proofs.quotient.quotient.Goals as goal
 

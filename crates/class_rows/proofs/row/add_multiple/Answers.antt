@@ -1,9 +1,7 @@
 -- `row::add_multiple` meets its contract. The invariant: the numbers below shift + i are those of a + c x^shift b, the
 -- others those of a.
-use Prim.Native.Nat.{◌+◌, ◌-◌, ◌≤◌}
 use native.Mathlib.Omega.{arith}
-use Rattle.row_theory.specs.{Field.𝔸, Field.el, Field.poly, internal.Elements.x_power}
-use Rattle.row_theory.proofs.Rows.{Fill.Filled, Fill.filled_start, Fill.filled_turn, Fill.filled_to, Fill.filled_end, Sums.added_turn, Sums.added_past, Length.places_len}
+use Rattle.row_theory.proofs.Rows.{Fill.filled_start, Fill.filled_turn, Fill.filled_to, Fill.filled_end, Sums.added_turn, Sums.added_past, Length.places_len}
 use Rattle.row_theory.proofs.{Rows.Coefficients.stands_eq, Rows.Coefficients.self_stands, Rows.Sums.multiple_zero, Rows.Sums.added_below}
 use Rattle.class_rows.proofs.row.add_multiple.Goals as goal
 

@@ -1,8 +1,7 @@
 -- `row::leading` meets its contract: the index of the leading number is one below the length.
-use Prim.Native.Nat.{◌-◌}
 use mathlib.Core.Path.{sym}
 use native.Mathlib.Omega.{arith}
-use Rattle.row_theory.proofs.Rows.{Length.places_len, Lead.length_pos, Lead.Leads, Lead.leads, Lead.lead_row, Answers.inverts_eq}
+use Rattle.row_theory.proofs.Rows.{Length.places_len, Lead.length_pos, Lead.leads, Lead.lead_row, Answers.inverts_eq}
 use Rattle.class_rows.proofs.row.leading.Goals as goal
 
 pub overflow_sub-top : goal.overflow_sub-top

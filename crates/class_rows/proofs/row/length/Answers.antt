@@ -2,7 +2,7 @@
 use Prim.Native.Nat.{◌≤◌}
 use mathlib.Core.Path.{◌≡◌, sym, ◌∙◌}
 use native.Mathlib.Omega.{arith}
-use Rattle.row_theory.proofs.Rows.Length.{Blank, blank_start, blank_less, places_is}
+use Rattle.row_theory.proofs.Rows.Length.{blank_start, blank_less, places_is}
 use Rattle.class_rows.proofs.row.length.Goals as goal
 
 pub returns : goal.returns

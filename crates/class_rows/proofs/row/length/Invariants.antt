@@ -1,8 +1,6 @@
 -- `row::length` meets its contract. The invariant: the numbers from n on are 0.
 use Prim.Native.Nat.{◌≤◌}
-use mathlib.Core.Path.{◌≡◌, sym, ◌∙◌}
-use native.Mathlib.Omega.{arith}
-use Rattle.row_theory.proofs.Rows.Length.{Blank, blank_start, blank_less, places_is}
+use Rattle.row_theory.proofs.Rows.Length.{Blank}
 use Rattle.class_rows.proofs.row.length.Given as goal
 
 abbrev pub invariant-loop-n : goal.invariant-loop-n

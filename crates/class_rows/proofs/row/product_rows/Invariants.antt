@@ -1,8 +1,6 @@
 -- `row::product_rows` meets its contract. The invariant: the row stands for the part of a below x^i, times b.
 use Prim.Native.Nat.{◌-◌, ◌≤◌}
-use native.Mathlib.Omega.{arith}
-use Rattle.row_theory.proofs.{Rows.Length.length_le, Rows.Multiply.Partial, Rows.Multiply.partial_start, Rows.Multiply.partial_turn, Rows.Multiply.partial_end}
-use Rattle.row_theory.proofs.Rows.Length.{places_len}
+use Rattle.row_theory.proofs.{Rows.Multiply.Partial}
 use Rattle.class_rows.proofs.row.product_rows.Given as goal
 
 abbrev pub invariant-loop-i : goal.invariant-loop-i

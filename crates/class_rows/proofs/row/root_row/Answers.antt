@@ -1,11 +1,7 @@
 -- `row::root_row` meets its contract. The invariant: the numbers below i are those of the square root, the others 0.
-use Prim.Native.Nat.{◌-◌, ◌≤◌}
 use mathlib.Core.Path.{refl, sym, ◌∙◌}
 use native.Mathlib.Omega.{arith}
-use lib.ListN.{replicate}
-use Rattle.char2_algebra.specs.Square.{sqrt}
-use Rattle.row_theory.specs.Field.{𝔸, poly}
-use Rattle.row_theory.proofs.{Rows.Length.length_le, Rows.Fill.Filled, Rows.Fill.zeros_range, Rows.Fill.coeff_zeros, Rows.Fill.filled_start, Rows.Length.places_len}
+use Rattle.row_theory.proofs.{Rows.Length.length_le, Rows.Fill.zeros_range, Rows.Fill.coeff_zeros, Rows.Fill.filled_start, Rows.Length.places_len}
 use Rattle.row_theory.proofs.{Rows.Fill.filled_turn, Rows.Fill.filled_end, Rows.Squares.root_at, Rows.Squares.root_past}
 use Rattle.class_rows.proofs.row.root_row.Goals as goal
 

@@ -1,10 +1,7 @@
 -- `row::square_row` meets its contract. The invariant: the numbers below 2 i are those of a², the others 0.
-use Prim.Native.Nat.{◌+◌, ◌-◌, ◌≤◌}
 use mathlib.Core.Path.{refl, sym, ◌∙◌}
 use native.Mathlib.Omega.{arith}
-use lib.ListN.{replicate}
-use Rattle.row_theory.specs.Field.{𝔸, poly}
-use Rattle.row_theory.proofs.Rows.{Fill.Filled, Fill.zeros_range, Fill.coeff_zeros, Fill.filled_start, Fill.filled_turn, Squares.squared_past, Length.places_len}
+use Rattle.row_theory.proofs.Rows.{Fill.zeros_range, Fill.coeff_zeros, Fill.filled_start, Fill.filled_turn, Squares.squared_past, Length.places_len}
 use Rattle.row_theory.proofs.{Rows.Fill.filled_skip, Rows.Fill.filled_to, Rows.Fill.filled_end, Rows.Squares.squared_at, Rows.Squares.squared_odd}
 use Rattle.class_rows.proofs.row.square_row.Goals as goal
 

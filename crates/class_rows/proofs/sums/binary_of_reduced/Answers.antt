@@ -1,5 +1,4 @@
 -- `binary_of_reduced` meets its contract: each operation is its own function.
-use borrow.Author.Rules.{rules}
 use Rattle.class_rows.proofs.sums.binary_of_reduced.Goals as goal
 
 pub sum_of_reduced-requires : goal.sum_of_reduced-requires

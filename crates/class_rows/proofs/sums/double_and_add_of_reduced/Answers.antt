@@ -1,6 +1,5 @@
 -- `double_and_add_of_reduced` meets its contract.
 use native.Mathlib.Omega.{arith}
-use borrow.Author.Rules.{rules}
 use Rattle.class_rows.proofs.MoveRows.{doubled_reduced, doubled_steps, summed_steps, double_and_add_stands}
 use Rattle.class_rows.proofs.sums.double_and_add_of_reduced.Goals as goal
 

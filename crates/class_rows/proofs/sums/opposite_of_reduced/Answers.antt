@@ -1,7 +1,6 @@
 -- `opposite_of_reduced` meets its contract: the neutral class is its own opposite.
 use native.Mathlib.Omega.{arith}
 use Rattle.class_rows.proofs.OppositeRows.{opposite_short, opposite_long}
-use borrow.Author.Rules.{rules}
 use Rattle.row_theory.proofs.Rows.Length.{places_len}
 use Rattle.class_rows.proofs.sums.opposite_of_reduced.Goals as goal
 

@@ -1,6 +1,5 @@
 -- `unary_of_reduced` meets its contract: each operation is its own function, an opposite and a half without steps.
 use mathlib.Core.Path.{refl}
-use borrow.Author.Rules.{rules}
 use Rattle.class_rows.proofs.sums.unary_of_reduced.Goals as goal
 
 pub opposite_of_reduced-opposed-requires : goal.opposite_of_reduced-opposed-requires

@@ -3,7 +3,7 @@ use mathlib.Core.Path.{◌≡◌}
 use mathlib.Core.Bool.{false, and-true}
 use Prim.Native.Nat.{◌≤◌, ◌<◌}
 use lib.{Dec.ltb, ListN.get_or}
-use borrow.Author.{Rules.rules, Tests.lt-ltb, Tests.le-ltb}
+use borrow.Author.{Tests.lt-ltb, Tests.le-ltb}
 use Rattle.binary_field.specs.Answer.{below}
 use Rattle.jacobian.proofs.ByValue.Threes.{by_three}
 use Rattle.jacobian.proofs.classes.all_below.Goals as goal

@@ -1,7 +1,6 @@
 -- `blank_from` meets its contract. The invariant: the numbers from index n up to index i are 0.
 use Prim.Native.Nat.{◌-◌, ◌≤◌}
-use native.Mathlib.Omega.{arith}
-use Rattle.jacobian.proofs.ByValue.Below.{BlankTo, blank_none, blank_more, padded_all, padded_fails}
+use Rattle.jacobian.proofs.ByValue.Below.{BlankTo}
 use Rattle.jacobian.proofs.classes.blank_from.Given as goal
 
 abbrev pub invariant-loop-i : goal.invariant-loop-i

@@ -1,8 +1,7 @@
 -- `divisor_refusal` meets its contract.
-use mathlib.Core.Path.{◌≡◌, sym, ◌∙◌, ap}
-use Rattle.jacobian.specs.{Checks.unless, Classes.class_refusal}
+use mathlib.Core.Path.{sym, ◌∙◌, ap}
+use Rattle.jacobian.specs.{Checks.unless}
 use Rattle.jacobian.proofs.ByValue.Refusals.{form_shape, class_due}
-use borrow.Author.Rules.{rules}
 use Rattle.jacobian.proofs.classes.divisor_refusal.Goals as goal
 
 pub to_rows-rows-requires : goal.to_rows-rows-requires

@@ -1,7 +1,6 @@
 -- `form_refusal` meets its contract: the range after the shape.
 use Rattle.jacobian.specs.internal.Refusals.{form_refusal}
 use Rattle.jacobian.proofs.ByValue.Checks.{first_due, next_due}
-use borrow.Author.Rules.{rules}
 use Rattle.jacobian.proofs.classes.form_refusal.Goals as goal
 
 pub returns-then-shape-ne0 : goal.returns-then-shape-ne0

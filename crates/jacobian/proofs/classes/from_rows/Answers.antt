@@ -6,7 +6,6 @@ use native.Mathlib.Omega.{arith}
 use Rattle.row_theory.proofs.Rows.Length.{places_len}
 use Rattle.jacobian.specs.Answer.{neutral_class}
 use Rattle.jacobian.proofs.ByValue.Pairs.{class_of_rows}
-use borrow.Author.Rules.{rules}
 use Rattle.jacobian.proofs.classes.from_rows.Goals as goal
 
 pub returns-then-n-lt2 : goal.returns-then-n-lt2

@@ -4,7 +4,6 @@ use mathlib.Core.List.{[], ◌∷◌, ◌++◌}
 use lib.ListN.{get_or, take}
 use Rattle.row_theory.specs.Row.{filled}
 use Rattle.jacobian.proofs.ByValue.Threes.{by_three, is_three}
-use borrow.Author.Rules.{rules}
 use Rattle.jacobian.proofs.classes.leading_one.Goals as goal
 
 pub returns-then-n-eq0 : goal.returns-then-n-eq0

@@ -2,7 +2,6 @@
 use mathlib.Core.Path.{sym}
 use native.Mathlib.Omega.{arith}
 use Rattle.jacobian.proofs.ByValue.Pairs.{first_one, first_two, first_three}
-use borrow.Author.Rules.{rules}
 use Rattle.jacobian.proofs.classes.narrowed.Goals as goal
 
 pub returns-then-n-eq1 : goal.returns-then-n-eq1

@@ -1,7 +1,6 @@
 -- `range_refusal` meets its contract: each return by the tests that led to it.
 use Prim.Native.Nat.{◌^◌}
 use mathlib.Core.Path.{◌≡◌, sym, ◌∙◌}
-use borrow.Author.{Tests.not-true, Tests.not-false, Rules.rules}
 use Rattle.binary_field.proofs.Degrees.{bound_accepted}
 use Rattle.jacobian.specs.{Checks.unless, Classes.range_refusal}
 use Rattle.jacobian.proofs.classes.range_refusal.Goals as goal

@@ -1,6 +1,6 @@
 -- `same_class` meets its contract: each return by the tests that led to it.
 use mathlib.Core.Path.{sym, ◌∙◌}
-use borrow.Author.{Tests.eq-eqb, Tests.ne_eqb, Tests.not-true, Tests.not-false, Rules.rules}
+use borrow.Author.{Tests.eq-eqb, Tests.ne_eqb}
 use Rattle.jacobian.specs.Classes.{same_class}
 use Rattle.jacobian.proofs.classes.same_class.Goals as goal
 

@@ -1,5 +1,5 @@
 -- `same_row` meets its contract: each return by the tests that led to it.
-use borrow.Author.{Tests.eq-eqb, Tests.ne_eqb, Rules.rules}
+use borrow.Author.{Tests.eq-eqb, Tests.ne_eqb}
 use Rattle.jacobian.specs.Classes.{same_row}
 use Rattle.jacobian.proofs.classes.same_row.Goals as goal
 

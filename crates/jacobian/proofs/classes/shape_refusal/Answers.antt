@@ -1,6 +1,6 @@
 -- `shape_refusal` meets its contract: each return by the tests that led to it.
 use mathlib.Core.Path.{sym, ◌∙◌}
-use borrow.Author.{Tests.le-leb, Tests.lt-leb, Tests.not-true, Tests.not-false, Rules.rules}
+use borrow.Author.{Tests.le-leb, Tests.lt-leb}
 use Rattle.jacobian.specs.{Checks.unless, Classes.shape_refusal}
 use Rattle.jacobian.proofs.classes.shape_refusal.Goals as goal
 

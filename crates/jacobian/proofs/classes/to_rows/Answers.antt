@@ -1,6 +1,5 @@
 -- `to_rows` meets its contract.
 use Rattle.jacobian.specs.Classes.{u_row}
-use borrow.Author.Rules.{rules}
 use Rattle.jacobian.proofs.classes.to_rows.Goals as goal
 
 pub returns : goal.returns

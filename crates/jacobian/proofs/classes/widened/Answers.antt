@@ -4,7 +4,6 @@ use mathlib.Core.List.{[], ◌∷◌}
 use lib.ListN.{get_or}
 use Rattle.row_theory.specs.Row.{filled}
 use Rattle.jacobian.proofs.ByValue.Threes.{by_three}
-use borrow.Author.Rules.{rules}
 use Rattle.jacobian.proofs.classes.widened.Goals as goal
 
 pub returns : goal.returns

@@ -1,6 +1,5 @@
 -- `blank_curve` meets its contract.
 use Rattle.jacobian.specs.Curves.{blank_curve}
-use borrow.Author.Rules.{rules}
 use Rattle.jacobian.proofs.curves.blank_curve.Goals as goal
 
 pub returns : goal.returns

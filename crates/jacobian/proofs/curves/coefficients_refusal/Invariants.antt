@@ -1,11 +1,7 @@
 -- `coefficients_refusal` meets its contract. The invariant: the numbers before index i are below m.
 use Prim.Native.Nat.{◌-◌, ◌≤◌}
-use lib.ListN.{get_or}
-use native.Mathlib.Omega.{arith}
-use borrow.Author.Rules.{rules}
-use Rattle.jacobian.specs.{Checks.unless, Curves.coefficient_count, Curves.coefficients}
-use Rattle.binary_field.specs.Answer.{below}
-use Rattle.jacobian.proofs.ByValue.Below.{BelowTo, below_none, below_more, below_all, below_fails}
+use Rattle.jacobian.specs.{Curves.coefficient_count}
+use Rattle.jacobian.proofs.ByValue.Below.{BelowTo}
 use Rattle.jacobian.proofs.curves.coefficients_refusal.Given as goal
 
 abbrev pub invariant-loop-i : goal.invariant-loop-i

@@ -1,6 +1,5 @@
 -- `curve_refusal` meets its contract: the coefficients are tested after the degree.
 use mathlib.Core.Path.{sym, ◌∙◌, ap}
-use borrow.Author.Rules.{rules}
 use Rattle.binary_field.specs.Answer.{below}
 use Rattle.binary_field.proofs.{Checks.first_due, Checks.next_due, Degrees.accepted_degree, Degrees.bound_accepted}
 use Rattle.jacobian.specs.{Checks.unless, Curves.coefficients, Curves.coefficient_refusal, Curves.curve_refusal}

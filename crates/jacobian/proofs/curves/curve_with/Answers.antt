@@ -1,7 +1,6 @@
 -- `curve_with` meets its contract.
 use mathlib.Core.Path.{refl}
 use Rattle.jacobian.specs.Curves.{curve_with}
-use borrow.Author.Rules.{rules}
 use Rattle.jacobian.proofs.curves.curve_with.Goals as goal
 
 pub returns : goal.returns
