@@ -5,7 +5,11 @@
 // second number. The line is the element in hexadecimal, for 6 `no root` where there is none, or `refused` and the
 // refusal's number. Any other first byte is answered by `no such call`, and fewer than 18 bytes at the end by
 // `cut short`.
+#![tactic(auto)]
+
 use binary_field::{Answer, Solution};
+use std::io;
+use std::io::{Read, Write};
 use text::Line;
 
 // The text of an answer.
@@ -41,10 +45,10 @@ fn call_text(call: u8, d: u8, a: u64, b: u64) -> Line {
 }
 
 // Reads one case, writes its line, and answers whether to go on.
-fn answer_case() -> bool {
+fn answer_case<R: Read, W: Write>(input: &mut R, out: &mut W) -> io::Result<bool> {
     let mut case = [0u8; 18];
-    if trial_text::read_case(&mut case) < 18 {
-        return false;
+    if trial_text::read_case(input, out, &mut case)? < 18 {
+        return Ok(false);
     }
     let told = call_text(
         case[0],
@@ -52,14 +56,18 @@ fn answer_case() -> bool {
         trial_text::number(&case, 0),
         trial_text::number(&case, 1),
     );
-    text::write_line(text::with_byte(told, b'\n'));
-    true
+    text::write_line(out, text::with_byte(told, b'\n'))?;
+    Ok(true)
 }
 
-// A proved loop has to end, and the input need not. So the turns are counted down, from a number that no run uses up.
-fn main() {
-    let mut turns = u64::MAX;
-    while turns > 0 && answer_case() {
-        turns -= 1;
+// A proved loop has to end, and the input need not. So the turns are counted, up to a number that no run uses up.
+fn main(rt: HostRuntime) -> io::Result<()> {
+    let mut input = rt.stdin();
+    let mut out = rt.stdout();
+    for _ in 0..u64::MAX {
+        if !answer_case(&mut input, &mut out)? {
+            break;
+        }
     }
+    Ok(())
 }

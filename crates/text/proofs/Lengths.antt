@@ -2,7 +2,7 @@
 -- `decimal_short`: a number in decimal has at most 20 bytes.
 -- `class_short`: a class has at most 122 bytes.
 -- `refusal_short`: a refusal has at most 28 bytes.
-use Prim.Native.Nat.{ℕ, zero, suc, ◌+◌, ◌/◌, ◌%◌, ◌≤◌}
+use Prim.Native.Nat.{ℕ, zero, suc, ◌/◌, ◌%◌, ◌≤◌}
 use mathlib.Core.Bool.{Bool, true, false, cond}
 use mathlib.Core.List.{List, [], ◌∷◌, ◌++◌}
 use native.Mathlib.Omega.{arith}

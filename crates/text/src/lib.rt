@@ -1,11 +1,14 @@
 // Lines of text by value: rows of bytes with their length. Bytes, numbers, classes and refusals are appended to a line,
-// and a line is written to standard output.
+// and a line is written to any writer, as to standard output. A buffer of bytes is filled from any reader.
 #![tactic(auto)]
 
-ghost use Rattle.std.specs.Prelude.{◌≤◌, ◌<◌, min, ◌≡◌, [], ◌∷◌, ◌++◌};
+ghost use Rattle.std.specs.Prelude.{◌≤◌, ◌<◌, min, ◌≡◌, [], ◌∷◌, ◌++◌, length, take, IfOk, OnOk};
+ghost use Rattle.std.specs.Io.{ReadsAtMost};
+ghost use Rattle.std.specs.Io.KnownBytes.{Appends, Consumes, IsAtEnd};
 ghost use Rattle.text.specs.{Line.line_room, Line.with_bytes, Line.in_line, Text.digit, Text.digits, Text.decimal, Text.hexadecimal, Text.row_text, Text.class_text, Text.refusal_text};
 
-use libc::STDOUT_FILENO;
+use std::io;
+use std::io::{Read, Write};
 
 // The most digits of a number of 64 bits in decimal.
 const DECIMAL_DIGITS: usize = 20;
@@ -172,19 +175,38 @@ fn within(len: usize) -> usize
     LINE
 }
 
-// Writes the first len bytes of a buffer to standard output and answers how many these are, at most all.
-fn write_bytes(len: usize, bytes: [u8; LINE]) -> usize
-    ensures { result ≡ min len line_room }
+// Writes the first len bytes of a buffer and answers how many these are, at most all.
+fn write_bytes<W: Write>(out: &mut W, len: usize, bytes: [u8; LINE]) -> io::Result<usize>
+    ensures count { IfOk result (λ n. n ≡ min len line_room) }
+    ensures written { OnOk result (Appends (W.contents out.old) (W.contents out.new) (take len bytes)) }
 {
     let n = within(len);
-    io::write_all(STDOUT_FILENO, &bytes[..n]);
-    n
+    out.write_all(&bytes[..n])?;
+    Ok(n)
 }
 
-// Writes a line to standard output and answers how many bytes it has.
-pub fn write_line(line: Line) -> usize
-    ensures { result ≡ min line.len line_room }
+// Writes a line and answers how many bytes it has.
+pub fn write_line<W: Write>(out: &mut W, line: Line) -> io::Result<usize>
+    ensures count { IfOk result (λ n. n ≡ min line.len line_room) }
+    ensures written { OnOk result (Appends (W.contents out.old) (W.contents out.new) (take line.len line.bytes)) }
 {
     let bytes = line.bytes;
-    write_bytes(line.len, bytes)
+    write_bytes(out, line.len, bytes)
+}
+
+// Reads until the buffer is full or the input ends, and answers how many bytes it put at the buffer's start.
+pub fn read_full<R: Read>(input: &mut R, buf: &mut [u8]) -> io::Result<usize>
+    ensures count { ReadsAtMost result buf.new }
+    ensures taken { IfOk result (λ n. Consumes (R.remaining input.old) (R.remaining input.new) (take n buf.new)) }
+    ensures end { IfOk result (λ n. n < length buf.new → IsAtEnd (R.remaining input.new)) }
+{
+    let mut done = 0;
+    while done < buf.len() {
+        let n = input.read(&mut buf[done..])?;
+        if n == 0 {
+            break;
+        }
+        done += n;
+    }
+    Ok(done)
 }

@@ -1,6 +1,6 @@
 -- A case of a trial program: a byte for the call, a byte for the degree, then numbers of eight bytes, high byte first.
 -- A byte that the case does not have counts as 0.
-use Rattle.std.specs.Prelude.{ℕ, ◌+◌, ◌*◌, List, [], ◌∷◌, get_or}
+use Rattle.std.specs.Prelude.{ℕ, ◌+◌, ◌*◌, List, [], ◌∷◌, get_or, cond, ltb, codes}
 
 -- the number in the four bytes from an offset on
 abbrev pub four_bytes : List ℕ → ℕ → ℕ
@@ -17,3 +17,7 @@ number_at s place = eight_bytes s (2 + 8 * place)
 -- the three numbers from an index on
 abbrev pub row_at : List ℕ → ℕ → List ℕ
 row_at s place = eight_bytes s (2 + 8 * place) ∷ eight_bytes s (2 + 8 * place + 8) ∷ eight_bytes s (2 + 8 * place + 16) ∷ []
+
+-- what is written where the input had n bytes of a case of this size: `cut short` and a line feed for some but not all
+abbrev pub cut_short : ℕ → ℕ → List ℕ
+cut_short n size = cond (ltb 0 n) (cond (ltb n size) (codes "cut short\n") []) []

@@ -1,20 +1,31 @@
 // The cases that the trial programs read from standard input.
 // A case is a byte for the call, a byte for the degree, and numbers of eight bytes each, high byte first.
-ghost use Rattle.std.specs.Prelude.{◌≤◌, ◌<◌, ◌≡◌, get_or};
-ghost use Rattle.io.specs.Counts.{IsPrefixLen};
-ghost use Rattle.trial_text.specs.Cases.{four_bytes, eight_bytes, number_at, row_at};
+#![tactic(auto)]
 
-use libc::{STDIN_FILENO, STDOUT_FILENO};
+ghost use Rattle.std.specs.Prelude.{◌≤◌, ◌<◌, ◌≡◌, get_or, length, take, IfOk};
+ghost use Rattle.std.specs.Io.{ReadsAtMost};
+ghost use Rattle.std.specs.Io.KnownBytes.{Appends, Consumes, IsAtEnd};
+ghost use Rattle.trial_text.specs.Cases.{four_bytes, eight_bytes, number_at, row_at, cut_short};
+
+use std::io;
+use std::io::{Read, Write};
 
 // Reads a case and answers how many of its bytes the input had; writes `cut short` where it had some but not all.
-pub fn read_case(case: &mut [u8]) -> usize
-    ensures { IsPrefixLen result case.new }
+pub fn read_case<R: Read, W: Write>(
+    input: &mut R,
+    out: &mut W,
+    case: &mut [u8],
+) -> io::Result<usize>
+    ensures count { ReadsAtMost result case.new }
+    ensures taken { IfOk result (λ n. Consumes (R.remaining input.old) (R.remaining input.new) (take n case.new)) }
+    ensures end { IfOk result (λ n. n < length case.new → IsAtEnd (R.remaining input.new)) }
+    ensures told { IfOk result (λ n. Appends (W.contents out.old) (W.contents out.new) (cut_short n (length case.new))) }
 {
-    let n = io::read_full(STDIN_FILENO, case);
+    let n = text::read_full(input, case)?;
     if n > 0 && n < case.len() {
-        io::write_all(STDOUT_FILENO, b"cut short\n");
+        out.write_all(b"cut short\n")?;
     }
-    n
+    Ok(n)
 }
 
 // The byte at an offset of the case; 0 after its end.

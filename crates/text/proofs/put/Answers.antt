@@ -1,7 +1,6 @@
 -- `put` meets its contract.
 use borrow.Author.Tests.{lt-ltb, le-ltb}
 use Rattle.text.specs.Line.{with_byte, with_bytes}
-use borrow.Author.Rules.{rules}
 use Rattle.text.proofs.put.Goals as goal
 
 pub returns-then-at-out : goal.returns-then-at-out

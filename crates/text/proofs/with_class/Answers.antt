@@ -1,7 +1,6 @@
 -- `with_class` meets its contract.
 use Rattle.text.specs.Text.{class_text}
 use Rattle.text.proofs.Appending.{then}
-use borrow.Author.Rules.{rules}
 use Rattle.text.proofs.with_class.Goals as goal
 
 pub returns : goal.returns

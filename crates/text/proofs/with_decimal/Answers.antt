@@ -1,6 +1,5 @@
 -- `with_decimal` meets its contract.
 use Rattle.text.specs.Text.{decimal}
-use borrow.Author.Rules.{rules}
 use Rattle.text.proofs.with_decimal.Goals as goal
 
 pub returns : goal.returns

@@ -1,6 +1,5 @@
 -- `with_hexadecimal` meets its contract.
 use Rattle.text.specs.Text.{hexadecimal}
-use borrow.Author.Rules.{rules}
 use Rattle.text.proofs.with_hexadecimal.Goals as goal
 
 pub returns : goal.returns

@@ -1,7 +1,6 @@
 -- `with_refusal` meets its contract.
 use Rattle.text.specs.Text.{refusal_text}
 use Rattle.text.proofs.Appending.{then}
-use borrow.Author.Rules.{rules}
 use Rattle.text.proofs.with_refusal.Goals as goal
 
 pub returns : goal.returns

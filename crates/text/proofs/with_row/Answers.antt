@@ -1,6 +1,5 @@
 -- `with_row` meets its contract.
 use Rattle.text.proofs.{Appending.then, Appending.then_none, Appending.then_same, Digits.row_0, Digits.row_1, Digits.row_2, Digits.row_3}
-use borrow.Author.Rules.{rules}
 use Rattle.text.proofs.with_row.Goals as goal
 
 pub returns-then-n-eq0 : goal.returns-then-n-eq0

@@ -1,6 +1,5 @@
 -- `with_two` meets its contract.
 use Rattle.text.proofs.Appending.{then}
-use borrow.Author.Rules.{rules}
 use Rattle.text.proofs.with_two.Goals as goal
 
 pub returns : goal.returns
