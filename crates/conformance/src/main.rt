@@ -18,11 +18,15 @@
 // with commas between, then for 8 and 9 a space and the number of steps; for 1 and 12 `accepted`; or `refused` and the
 // refusal's number. Any other first byte is answered by `no such call`, and fewer than 138 bytes at the end by
 // `cut short`.
+#![tactic(auto)]
+
 ghost use Rattle.std.specs.Prelude.{◌≤◌};
 
 use jacobian::{Class, ClassAnswer, Curve, Outcome};
 use seal_licence::multiples;
 use seal_licence::multiples::ClassResult;
+use std::io;
+use std::io::{Read, Write};
 use text::Line;
 
 // The class whose seven numbers start at an index of the case.
@@ -135,20 +139,24 @@ fn call_text(call: u8, curve: Curve, a: Class, b: Class) -> Line {
 }
 
 // Reads one case, writes its line, and answers whether to go on.
-fn answer_case() -> bool {
+fn answer_case<R: Read, W: Write>(input: &mut R, out: &mut W) -> io::Result<bool> {
     let mut case = [0u8; 138];
-    if trial_text::read_case(&mut case) < 138 {
-        return false;
+    if trial_text::read_case(input, out, &mut case)? < 138 {
+        return Ok(false);
     }
     let told = call_text(case[0], curve(&case), class(&case, 3), class(&case, 10));
-    text::write_line(text::with_byte(told, b'\n'));
-    true
+    text::write_line(out, text::with_byte(told, b'\n'))?;
+    Ok(true)
 }
 
-// A proved loop has to end, and the input need not. So the turns are counted down, from a number that no run uses up.
-fn main() {
-    let mut turns = u64::MAX;
-    while turns > 0 && answer_case() {
-        turns -= 1;
+// A proved loop has to end, and the input need not. So the turns are counted, up to a number that no run uses up.
+fn main(rt: HostRuntime) -> io::Result<()> {
+    let mut input = rt.stdin();
+    let mut out = rt.stdout();
+    for _ in 0..u64::MAX {
+        if !answer_case(&mut input, &mut out)? {
+            break;
+        }
     }
+    Ok(())
 }

@@ -12,10 +12,14 @@
 // checks.
 // A start has no line. Any other first byte is answered by `no such call`, and fewer than 154 bytes at the end by
 // `cut short`.
+#![tactic(auto)]
+
 ghost use Rattle.std.specs.Prelude.{◌≤◌};
 
 use history::{Register, RegisterAnswer};
 use jacobian::{Class, Outcome};
+use std::io;
+use std::io::{Read, Write};
 use text::Line;
 
 // Whether to go on, and the register to go on with.
@@ -61,8 +65,9 @@ fn with_counts(line: Line, count: u64, released: u64) -> Line {
 }
 
 // Writes a line and a line feed.
-fn write_told(told: Line) {
-    text::write_line(text::with_byte(told, b'\n'));
+fn write_told<W: Write>(out: &mut W, told: Line) -> io::Result<()> {
+    text::write_line(out, text::with_byte(told, b'\n'))?;
+    Ok(())
 }
 
 // The text of a call on the register.
@@ -81,9 +86,9 @@ fn answer_text(answer: RegisterAnswer) -> Line {
 }
 
 // Writes the text of a call on the register and returns the register of its answer.
-fn write_answer(answer: RegisterAnswer) -> Register {
-    write_told(answer_text(answer));
-    answer.register
+fn write_answer<W: Write>(out: &mut W, answer: RegisterAnswer) -> io::Result<Register> {
+    write_told(out, answer_text(answer))?;
+    Ok(answer.register)
 }
 
 // The text of a register: all its numbers.
@@ -102,36 +107,45 @@ fn register_text(register: Register) -> Line {
 }
 
 // Makes the call of a case, writes its line and returns the next register.
-fn answer_record(record: &[u8; 154], register: Register) -> Register {
+fn answer_record<W: Write>(
+    out: &mut W,
+    record: &[u8; 154],
+    register: Register,
+) -> io::Result<Register> {
     match record[0] {
-        0 => started(record),
-        1 => write_answer(register.commit(class(record, 12))),
-        2 => write_answer(register.undo(class(record, 12))),
+        0 => Ok(started(record)),
+        1 => write_answer(out, register.commit(class(record, 12))),
+        2 => write_answer(out, register.undo(class(record, 12))),
         3 => {
-            write_told(register_text(register));
-            register
+            write_told(out, register_text(register))?;
+            Ok(register)
         }
-        4 => write_answer(register.release()),
+        4 => write_answer(out, register.release()),
         _ => {
-            write_told(text::with_bytes(text::empty(), b"no such call"));
-            register
+            write_told(out, text::with_bytes(text::empty(), b"no such call"))?;
+            Ok(register)
         }
     }
 }
 
 // Reads one case and answers it.
-fn next_record(register: Register) -> Turn {
+fn next_record<R: Read, W: Write>(
+    input: &mut R,
+    out: &mut W,
+    register: Register,
+) -> io::Result<Turn> {
     let mut record = [0u8; 154];
-    if trial_text::read_case(&mut record) < 154 {
-        return Turn {
+    if trial_text::read_case(input, out, &mut record)? < 154 {
+        return Ok(Turn {
             more: false,
             register,
-        };
+        });
     }
-    Turn {
+    let next = answer_record(out, &record, register)?;
+    Ok(Turn {
         more: true,
-        register: answer_record(&record, register),
-    }
+        register: next,
+    })
 }
 
 // The register before the first start. Its degree is 0, so every call refuses it.
@@ -145,15 +159,17 @@ fn unset() -> Register {
     }
 }
 
-// A proved loop has to end, and the input need not. So the turns are counted down, from a number that no run uses up.
-fn main() {
-    let mut turns = u64::MAX;
+// A proved loop has to end, and the input need not. So the turns are counted, up to a number that no run uses up.
+fn main(rt: HostRuntime) -> io::Result<()> {
+    let mut input = rt.stdin();
+    let mut out = rt.stdout();
     let mut register = unset();
-    let mut more = true;
-    while turns > 0 && more {
-        let turn = next_record(register);
+    for _ in 0..u64::MAX {
+        let turn = next_record(&mut input, &mut out, register)?;
         register = turn.register;
-        more = turn.more;
-        turns -= 1;
+        if !turn.more {
+            break;
+        }
     }
+    Ok(())
 }
