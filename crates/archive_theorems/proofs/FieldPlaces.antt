@@ -90,12 +90,12 @@ operation_fields_append [] ys = refl
 operation_fields_append (x ∷ xs) ys =
     ap (λ (l : List ℕ). class_field 0x44 x ++ l) (operation_fields_append xs ys) ∙ sym (append_assoc (class_field 0x44 x) (operation_fields xs) (operation_fields ys))
 
-operations_at : {s : List ℕ} {at end : ℕ} (c : Curve) {ops : List Class} → All (ClassPasses c) ops → Field s at (operation_fields ops) end → FieldsAt s (length ops) at end
+operations_at : (c : Curve) {s : List ℕ} {at end : ℕ} {ops : List Class} → All (ClassPasses c) ops → Field s at (operation_fields ops) end → FieldsAt s (length ops) at end
 unfolding operation_fields class_field
-operations_at {s} {at} c none f = let e = f.ends in subst (λ (n : ℕ). FieldsAt s 0 at n) (omega arith) none
+operations_at c {s} {at} none f = let e = f.ends in subst (λ (n : ℕ). FieldsAt s 0 at n) (omega arith) none
 operations_at c (more {a = a} {l = l} h r) f =
     let p = apart (class_field 0x44 a) (operation_fields l) f in
-    field 0x44 (encode_class a) (class_small 0x44 c a h) p.1 (operations_at {at = p.0} c r p.2)
+    field 0x44 (encode_class a) (class_small 0x44 c a h) p.1 (operations_at c {at = p.0} r p.2)
 
 module _ {s : List ℕ} {a : Archive} (l : Layout s a) (ok : Storable a) where
   pub operation_place : (i : ℕ) → i ≤ length a.operations →

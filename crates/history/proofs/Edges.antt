@@ -13,7 +13,7 @@
 -- `above_limit_refused`: at 1,025 or more every call is refused with 109.
 -- `released_above_count`: at a count up to 1,024 with a released step above it every call is refused with 120.
 use Prim.Native.Nat.{ℕ, ◌+◌, ◌≤◌, ◌<◌}
-use mathlib.Core.Path.{◌≡◌, refl, sym, ◌∙◌, ap, ap₂}
+use mathlib.Core.Path.{◌≡◌, sym, ◌∙◌, ap, ap₂}
 use native.Mathlib.Omega.{arith}
 use borrow.Author.Tests.{eq-eqb, ne_eqb}
 use Rattle.jacobian.specs.{Checks.◌or_else◌, Curves.curve_refusal, Classes.class_refusal, Answer.accepted, Answer.refused, Answer.refusal, Answer.refusal_of_two}

@@ -6,7 +6,7 @@
 -- `released_grows`: no list of calls makes the released step smaller.
 -- `above_released`: from a register that passes its checks no list of calls leads to a count below its released step.
 -- `none_behind`: so after an accepted release no list of calls leads to a smaller count.
-use Prim.Native.Nat.{ℕ, ◌≤◌}
+use Prim.Native.Nat.{◌≤◌}
 use mathlib.Core.Path.{◌≡◌, refl, ◌∙◌, ap}
 use mathlib.Core.Bool.{Bool, true, false, cond}
 use mathlib.Core.List.{List, ◌∷◌}

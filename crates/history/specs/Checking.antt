@@ -2,7 +2,7 @@
 -- refuse (docs/SPECIFICATION.md, 4 and 6).
 use Rattle.std.specs.Prelude.{ℕ}
 use mathlib.Core.{Path.◌≡◌, Bool.true, List.List, List.[], List.◌∷◌, List.◌++◌}
-use Rattle.jacobian.specs.{Checks.Check, Checks.check, Checks.RefusalOf, Refusals.listed, Answer.accepted, Answer.refused, Checking.curve_checks, Checking.class_checks, declared.Class.Class}
+use Rattle.jacobian.specs.{Checks.Check, Checks.check, Checks.RefusalOf, Refusals.listed, Answer.accepted, Answer.refused, Checking.curve_checks, Checking.class_checks}
 use Rattle.count_limit.specs.{Limit.count_limit, Checking.count_check, Checking.released_check}
 use Rattle.history.specs.{Register.RegisterReply, Calls.Call, Calls.step, Calls.release}
 use Rattle.history.specs.declared.{Register.Register, Step.Step, Step.TheVariants.Commit, Step.TheVariants.Undo}

@@ -1,6 +1,8 @@
 // An archive's walk report, line by line.
 // The archive is read twice: once for all checks, then operation by operation as the lines are made.
 // Each line needs the report's state and the input from the next field on.
+#![tactic(auto)]
+
 ghost use Rattle.std.specs.Prelude.{◌≡◌, ℕ, ◌-◌, min, List, take};
 ghost use Rattle.stored_form.specs.{Head.drawing_limit, Record.drawing_name};
 ghost use Rattle.text.specs.Line.{in_line};
@@ -47,7 +49,7 @@ pub struct Progress {
 }
 
 // A line, the report's state after it, and the offset of the next field.
-#[derive(Clone, Copy)]
+#[derive(Drop)]
 pub struct LineAnswer {
     pub line: Line,
     pub report: Report,

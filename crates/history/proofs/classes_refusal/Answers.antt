@@ -3,7 +3,6 @@ use mathlib.Core.Path.{refl, sym, ◌∙◌}
 use Rattle.jacobian.specs.Answer.{refusal_of_two}
 use Rattle.jacobian.proofs.ByValue.Checks.{first_due, next_due}
 use Rattle.history.proofs.Numbers.{second_refused}
-use borrow.Author.Rules.{rules}
 use Rattle.history.proofs.classes_refusal.Goals as goal
 
 pub returns-then-n-ne0 : goal.returns-then-n-ne0

@@ -1,6 +1,5 @@
 -- `count_refusal` meets its contract.
 use Rattle.jacobian.proofs.ByValue.Checks.{first_due, next_due}
-use borrow.Author.Rules.{rules}
 use Rattle.history.proofs.count_refusal.Goals as goal
 
 pub returns-then-n-ne0 : goal.returns-then-n-ne0

@@ -5,7 +5,6 @@ use borrow.Author.Tests.{eq-eqb, ne_eqb}
 use Rattle.count_limit.specs.Limit.{count_limit}
 use Rattle.history.specs.Register.{edge_refusal}
 use Rattle.history.specs.declared.{Step.Step, Step.TheVariants.Commit, Step.TheVariants.Undo}
-use borrow.Author.Rules.{rules}
 -- the refusal of a step that is known to be this one
 use Rattle.history.proofs.edge_refusal.Goals as goal
 

@@ -3,7 +3,6 @@ use mathlib.Core.Path.{sym, ◌∙◌, ap}
 use Rattle.history.specs.Register.{with_count_and_seal}
 use Rattle.history.proofs.Registers.{at_number, at_none}
 use Rattle.history.proofs.Answers.{answer_refusal, answer_seal}
-use borrow.Author.Rules.{rules}
 use Rattle.history.proofs.followed.Goals as goal
 
 pub returns-then-n-ne0 : goal.returns-then-n-ne0

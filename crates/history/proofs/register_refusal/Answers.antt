@@ -1,10 +1,9 @@
 -- `register_refusal` meets its contract.
-use mathlib.Core.Path.{refl, sym, ◌∙◌, ap}
+use mathlib.Core.Path.{sym, ◌∙◌}
 use Rattle.jacobian.specs.{Checks.◌or_else◌, Answer.refusal}
 use Rattle.history.specs.Register.{register_refusal}
 use Rattle.jacobian.proofs.ByValue.Checks.{first_due, next_due}
 use Rattle.history.proofs.Numbers.{register_counts}
-use borrow.Author.Rules.{rules}
 use Rattle.history.proofs.register_refusal.Goals as goal
 
 pub returns-then-n-ne0 : goal.returns-then-n-ne0

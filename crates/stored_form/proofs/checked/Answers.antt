@@ -1,5 +1,4 @@
 -- `checked` meets its contract.
-use borrow.Author.Rules.{rules}
 use mathlib.Core.Path.{sym, ap, ◌∙◌}
 use Rattle.stored_form.specs.Reader.{read_of}
 use Rattle.stored_form.proofs.Readings.{checked_some, checked_none}

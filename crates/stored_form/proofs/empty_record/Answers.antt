@@ -1,5 +1,4 @@
 -- `empty_record` meets its contract.
-use borrow.Author.Rules.{rules}
 use mathlib.Core.Path.{ap₂}
 use lib.ListN.{replicate}
 use Rattle.jacobian.specs.declared.{Curve.Curve, Class.Class}

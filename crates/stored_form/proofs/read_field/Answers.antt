@@ -1,8 +1,7 @@
 -- `read_field` meets its contract.
-use borrow.Author.Rules.{rules}
-use mathlib.Core.Path.{◌≡◌, sym, ap, ◌∙◌}
+use mathlib.Core.Path.{sym, ap, ◌∙◌}
 use native.Mathlib.Omega.{arith}
-use Rattle.stored_form.specs.{Reading.found, Reading.reading_refusal, Reader.read_head, Reader.head_reading, Reader.read_of}
+use Rattle.stored_form.specs.{Reading.reading_refusal, Reader.head_reading, Reader.read_of}
 use Rattle.stored_form.proofs.{Readings.refused_number, Readers.field_refused, Readers.field_asks, Readers.field_read, Readers.drawing_within}
 use Rattle.stored_form.proofs.read_field.Goals as goal
 

@@ -1,9 +1,6 @@
 -- `read_fields` meets its contract: reading the fields from the i-th on gives what reading all of them gives.
-use borrow.Author.Rules.{rules}
-use Prim.Native.Nat.{◌-◌}
-use mathlib.Core.Path.{◌≡◌, refl, sym, ap, ◌∙◌}
-use lib.ListN.{length, drop}
-use Rattle.stored_form.specs.Reader.{read_fields, read_of}
+use mathlib.Core.Path.{refl, sym, ap, ◌∙◌}
+use Rattle.stored_form.specs.Reader.{read_of}
 use Rattle.stored_form.proofs.Readers.{offset_found, offset_refused, fields_more, fields_refused, fields_ended}
 use Rattle.stored_form.proofs.read_fields.Goals as goal
 

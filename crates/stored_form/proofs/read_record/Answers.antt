@@ -1,5 +1,4 @@
 -- `read_record` meets its contract.
-use borrow.Author.Rules.{rules}
 use Prim.Native.Nat.{ℕ}
 use mathlib.Core.Path.{◌≡◌, sym, ap, ◌∙◌}
 use Rattle.stored_form.specs.{Reading.found, Reading.checked, Fields.ended, Record.empty_record, Reader.read_fields, Reader.read_record, Reader.read_of}

@@ -1,5 +1,4 @@
 -- `refused` meets its contract.
-use borrow.Author.Rules.{rules}
 use mathlib.Core.Path.{ap}
 use Rattle.stored_form.specs.declared.{Record.Record, Offset.TheVariants.Refused}
 use Rattle.stored_form.specs.Reader.{read_of}

@@ -2,7 +2,6 @@
 use mathlib.Core.Path.{refl, sym, ◌∙◌}
 use Rattle.history.specs.Register.{with_released, release_answer}
 use Rattle.history.proofs.Registers.{at_number, at_none}
-use borrow.Author.Rules.{rules}
 use Rattle.history.proofs.Register.release.Goals as goal
 
 pub returns-then-n-ne0 : goal.returns-then-n-ne0

@@ -11,7 +11,6 @@ use Rattle.history.proofs.Registers.{OffEdge, at_number, edge_off}
 use Rattle.history.proofs.Numbers.{then_positive, counts_refused, step_failing, step_within, step_follows}
 use Rattle.history.proofs.Promises.{step_promised}
 use Rattle.history.proofs.Answers.{double_and_add_sealed, subtract_and_halve_sealed}
-use borrow.Author.Rules.{rules}
 use Rattle.history.proofs.Register.step.Goals as goal
 
 pub kept-requires : goal.kept-requires

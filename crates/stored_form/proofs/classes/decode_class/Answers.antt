@@ -1,5 +1,4 @@
 -- `classes::decode_class` meets its contract.
-use borrow.Author.Rules.{rules}
 use Rattle.stored_form.proofs.Items.{row_asks, row_asks_2, class_is}
 use Rattle.stored_form.proofs.classes.decode_class.Goals as goal
 

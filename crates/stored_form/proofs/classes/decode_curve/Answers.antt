@@ -1,11 +1,9 @@
 -- `classes::decode_curve` meets its contract: after i turns i coefficients are read.
 use borrow.Author.Rules.{rules}
-use Prim.Native.Nat.{◌-◌, ◌≤◌}
-use mathlib.Core.Path.{◌≡◌, refl, ◌∙◌}
-use lib.ListN.{drop, replicate}
-use lib.Seq.{sets}
+use mathlib.Core.Path.{refl, ◌∙◌}
+use lib.ListN.{replicate}
 use Rattle.jacobian.specs.Curves.{coefficient_count}
-use Rattle.stored_form.specs.{Number.decode_numbers, Elements.decode_elements}
+use Rattle.stored_form.specs.{Number.decode_numbers}
 use Rattle.stored_form.proofs.Items.{element_more, curve_is}
 use Rattle.stored_form.proofs.classes.decode_curve.Goals as goal
 

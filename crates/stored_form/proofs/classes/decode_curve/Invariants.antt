@@ -1,12 +1,10 @@
 -- `classes::decode_curve` meets its contract: after i turns i coefficients are read.
-use borrow.Author.Rules.{rules}
 use Prim.Native.Nat.{◌-◌, ◌≤◌}
-use mathlib.Core.Path.{◌≡◌, refl, ◌∙◌}
+use mathlib.Core.Path.{◌≡◌}
 use lib.ListN.{drop, replicate}
 use lib.Seq.{sets}
 use Rattle.jacobian.specs.Curves.{coefficient_count}
-use Rattle.stored_form.specs.{Number.decode_numbers, Elements.decode_elements}
-use Rattle.stored_form.proofs.Items.{element_more, curve_is}
+use Rattle.stored_form.specs.{Elements.decode_elements}
 use Rattle.stored_form.proofs.classes.decode_curve.Given as goal
 
 abbrev pub invariant-loop-i : goal.invariant-loop-i

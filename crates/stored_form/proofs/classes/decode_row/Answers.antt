@@ -1,5 +1,4 @@
 -- `classes::decode_row` meets its contract.
-use borrow.Author.Rules.{rules}
 use native.Mathlib.Omega.{arith}
 use mathlib.Core.Path.{◌≡◌}
 use Rattle.stored_form.proofs.Items.{row_0, row_1, row_2, row_3}

@@ -1,10 +1,8 @@
 -- `drawings::all_printable` meets its contract: the bytes from index i on decide.
 use borrow.Author.Rules.{rules}
-use Prim.Native.Nat.{◌≤◌, ◌-◌}
+use Prim.Native.Nat.{◌-◌}
 use mathlib.Core.Path.{◌≡◌, refl, sym, ◌∙◌}
-use lib.ListN.{length, take, drop}
 use native.Mathlib.Omega.{arith}
-use Rattle.stored_form.specs.Fields.{printable}
 use Rattle.stored_form.proofs.DrawingBytes.{too_low, too_high, one_more, none_left}
 use Rattle.stored_form.proofs.drawings.all_printable.Goals as goal
 

@@ -1,11 +1,9 @@
 -- `drawings::decode_drawing` meets its contract: after i turns the first i bytes are copied.
-use borrow.Author.Rules.{rules}
 use Prim.Native.Nat.{◌-◌, ◌≤◌}
-use mathlib.Core.Path.{◌≡◌, refl}
+use mathlib.Core.Path.{◌≡◌}
 use lib.ListN.{replicate}
 use lib.Seq.{sets}
 use Rattle.stored_form.specs.{Number.part, Head.drawing_limit}
-use Rattle.stored_form.proofs.DrawingBytes.{copy_more, drawing_copied}
 use Rattle.stored_form.proofs.drawings.decode_drawing.Given as goal
 
 abbrev pub invariant-loop-i : goal.invariant-loop-i

@@ -1,5 +1,4 @@
 -- `drawings::drawing_refusal` meets its contract.
-use borrow.Author.Rules.{rules}
 use mathlib.Core.Path.{sym, ◌∙◌}
 use Rattle.jacobian.specs.Checks.{unless}
 use Rattle.stored_form.specs.{Fields.drawing_refusal, Record.drawing_name}

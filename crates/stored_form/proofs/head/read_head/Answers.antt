@@ -1,5 +1,4 @@
 -- `head::read_head` meets its contract.
-use borrow.Author.Rules.{rules}
 use mathlib.Core.Path.{ap, ◌∙◌}
 use mathlib.Core.Bool.{Bool}
 use Rattle.stored_form.specs.Reader.{read_head_by}

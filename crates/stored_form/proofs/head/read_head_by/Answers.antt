@@ -1,8 +1,6 @@
 -- `head::read_head_by` meets its contract: each return cites the law of the check that it makes.
-use borrow.Author.Rules.{rules}
 use mathlib.Core.Path.{refl, sym}
 use native.Mathlib.Omega.{arith}
-use borrow.Author.Tests.{not-true, not-false}
 use Rattle.stored_form.specs.Head.{body_length}
 use Rattle.stored_form.proofs.Heads.{head_102, head_103, head_104, head_105, head_whole}
 use Rattle.stored_form.proofs.head.read_head_by.Goals as goal

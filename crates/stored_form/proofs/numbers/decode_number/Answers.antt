@@ -1,8 +1,7 @@
 -- `numbers::decode_number` meets its contract: after i turns n is the number of the first i bytes.
 use borrow.Author.Rules.{rules}
-use Prim.Native.Nat.{ℕ, ◌+◌, ◌*◌, ◌^◌, ◌≤◌, ◌<◌, ◌-◌}
+use Prim.Native.Nat.{ℕ}
 use mathlib.Core.Path.{◌≡◌, ap, ◌∙◌}
-use lib.ListN.{get_or}
 use native.Mathlib.Omega.{arith}
 use Rattle.stored_form.specs.Number.{decode_number, part}
 use Rattle.stored_form.proofs.Digits.{turn, turn_fits}

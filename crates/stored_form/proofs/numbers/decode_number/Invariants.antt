@@ -1,11 +1,7 @@
 -- `numbers::decode_number` meets its contract: after i turns n is the number of the first i bytes.
-use borrow.Author.Rules.{rules}
-use Prim.Native.Nat.{ℕ, ◌+◌, ◌*◌, ◌^◌, ◌≤◌, ◌<◌, ◌-◌}
-use mathlib.Core.Path.{◌≡◌, ap, ◌∙◌}
-use lib.ListN.{get_or}
-use native.Mathlib.Omega.{arith}
+use Prim.Native.Nat.{◌≤◌, ◌-◌}
+use mathlib.Core.Path.{◌≡◌}
 use Rattle.stored_form.specs.Number.{decode_number, part}
-use Rattle.stored_form.proofs.Digits.{turn, turn_fits}
 use Rattle.stored_form.proofs.numbers.decode_number.Given as goal
 
 abbrev pub invariant-loop-i : goal.invariant-loop-i

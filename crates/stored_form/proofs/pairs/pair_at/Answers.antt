@@ -1,5 +1,4 @@
 -- `pairs::pair_at` meets its contract.
-use borrow.Author.Rules.{rules}
 use mathlib.Core.Path.{◌∙◌}
 use native.Mathlib.Omega.{arith}
 use Rattle.stored_form.proofs.PairBytes.{pair_beyond, pair_there}

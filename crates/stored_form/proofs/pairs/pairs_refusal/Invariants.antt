@@ -1,14 +1,9 @@
 -- `pairs::pairs_refusal` meets its contract: the pairs from the i-th on decide.
-use borrow.Author.Rules.{rules}
-use Prim.Native.Nat.{◌+◌, ◌*◌, ◌≤◌, ◌-◌}
-use mathlib.Core.Path.{◌≡◌, refl, sym, ap, ◌∙◌}
-use mathlib.Core.Bool.{Bool}
-use native.Mathlib.Omega.{arith}
+use Prim.Native.Nat.{◌≤◌, ◌-◌}
+use mathlib.Core.Path.{◌≡◌}
 use lib.ListN.{drop}
-use borrow.Author.Tests.{not-true, not-false}
-use Rattle.jacobian.specs.Checks.{unless}
-use Rattle.stored_form.specs.{Number.decode_numbers, Pairs.pairs_after, Pairs.pairs_refusal}
-use Rattle.stored_form.proofs.PairBytes.{from, pair_refused, pair_passed, pairs_none}
+use Rattle.stored_form.specs.{Number.decode_numbers, Pairs.pairs_after}
+use Rattle.stored_form.proofs.PairBytes.{from}
 use Rattle.stored_form.proofs.pairs.pairs_refusal.Given as goal
 
 abbrev pub invariant-loop-i : goal.invariant-loop-i

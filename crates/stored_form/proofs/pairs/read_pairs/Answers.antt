@@ -1,5 +1,4 @@
 -- `pairs::read_pairs` meets its contract.
-use borrow.Author.Rules.{rules}
 use mathlib.Core.Path.{sym, ap, ◌∙◌}
 use Rattle.stored_form.specs.Pairs.{offset_of}
 use Rattle.stored_form.proofs.PairBytes.{no_pairs, other_byte, field_due}

@@ -1,9 +1,8 @@
 -- `pairs::read_pairs_field` meets its contract.
-use borrow.Author.Rules.{rules}
 use mathlib.Core.Path.{◌≡◌, sym, ap, ◌∙◌}
 use mathlib.Core.Bool.{Bool}
 use native.Mathlib.Omega.{arith}
-use Rattle.stored_form.specs.{Reading.found, Reading.reading_refusal, Reader.read_head_by, Reader.head_reading, Pairs.pairs_length, Pairs.offset_of}
+use Rattle.stored_form.specs.{Reading.reading_refusal, Reader.read_head_by, Reader.head_reading, Pairs.pairs_length, Pairs.offset_of}
 use Rattle.stored_form.proofs.{Readings.refused_number, Readings.checked_some, Readings.checked_none, Heads.head_by_length}
 use Rattle.stored_form.proofs.PairBytes.{field_cut, field_asks, field_checked}
 -- the head that was read, with whatever length
