@@ -27,6 +27,6 @@ returns-in_default c =
 pub returns : goal.returns
 unfolding begin first_report
 returns c =
-    let s = c.args.s.now in let reader = c.read_header-t.result.reader in ap (λ (a : Class). progress (report_at First reader reader.values.class a) c.in-Next.is.0.at) c.neutral-operation.ensures
+    let s = c.args.s.now in let reader = c.read_header-t.result.reader in ap (λ (a : Class). progress (report_at First reader reader.values.class a) c.in-Next.next.at) c.neutral-operation.ensures
     ∙ ap first_report (sym (advance_found c.read_header-t.result c.read_header-t.ensures c.in-Next.is))
     ∙ begin_first (read_header s) (sym c.archive_refusal-n.ensures ∙ c.if-n-ne0.false)

@@ -15,10 +15,7 @@ pub slice_bounds-bytes-end : goal.slice_bounds-bytes-end
 slice_bounds-bytes-end c = omega (arith, c.name_length-n.ensures, c.well_formed.1.1.0.1.0.1)
 
 pub slice_bounds-first_line-end : goal.slice_bounds-first_line-end
-slice_bounds-first_line-end c = sym (length-take-le _ _ (slice_bounds-bytes-end c))
-
-pub first_line-requires : goal.first_line-requires
-first_line-requires c = omega (arith, slice_bounds-first_line-end c, c.name_length-n.ensures)
+slice_bounds-first_line-end c = sym (length-take-le _ _ (omega (arith, c.name_length-n.ensures, c.well_formed.1.1.0.1.0.1)))
 
 pub returns : goal.returns
 returns c =

@@ -14,7 +14,7 @@ returns-in-First c = line_staged _ _ _ c.in-First.is (c.answer_line-in-First.ens
 
 pub returns-in-Last : goal.returns-in-Last
 unfolding next_of
-returns-in-Last c = line_staged _ _ _ c.in-Last.is c.last_Line.ensures
+returns-in-Last c = line_staged _ _ _ c.in-Last.is c.last_line.ensures
 
 pub returns-in-Undo : goal.returns-in-Undo
 unfolding next_of
