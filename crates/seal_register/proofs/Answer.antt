@@ -4,8 +4,7 @@
 -- `call_unchanged`: for a number other than 0, so are that number and the lent register as it was.
 -- `step_in_place`, `step_unchanged`: the same of what a step promises.
 use Prim.Native.Nat.{ℕ, zero, suc}
-use mathlib.Core.{Path.◌≡◌, Path.refl, Path.sym, Path.◌∙◌, Path.ap, Bool.not}
-use lib.Dec.{T, eqb}
+use mathlib.Core.{Path.◌≡◌, Path.refl, Path.sym, Path.◌∙◌, Path.ap}
 use Rattle.jacobian.specs.{Answer.Verdict, Answer.accepted, Answer.refused, Answer.verdict, Answer.verdict_of, Answer.outcome_refusal, declared.Class.Class}
 use Rattle.jacobian.proofs.ByValue.Answers.{outcome_refusal_is}
 use Rattle.history.specs.{Register.RegisterReply, Register.register_reply, Register.follows, Register.StepAnswers, Calls.Call, Calls.step, Calls.answer, Calls.next_register}
@@ -40,8 +39,8 @@ module _ (r : Register) (c : Call) where
   pub call_in_place : (x : RegisterAnswer) (n : ℕ) → register_reply x ≡ answer r c → n ≡ outcome_refusal x.outcome → in_place n x.register ≡ answer r c
   call_in_place x n e h = follows_in_place _ r (next_register r c) x n (e ∙ answer_follows r c) h ∙ sym (answer_follows r c)
 
-  pub call_unchanged : (n : ℕ) (told : Register) → in_place n told ≡ answer r c → T (not (eqb n 0)) → in_place n r ≡ answer r c
-  call_unchanged zero told e h = absurd h
+  pub call_unchanged : (n : ℕ) (told : Register) → in_place n told ≡ answer r c → ¬ (n ≡ 0) → in_place n r ≡ answer r c
+  call_unchanged zero told e h = absurd (h refl)
   call_unchanged (suc n) told e h = ap (in_place (suc n)) (sym (refusal_leaves r c n told e)) ∙ e
 
 module _ (k : Step) (r : Register) (a : Class) where
@@ -49,6 +48,6 @@ module _ (k : Step) (r : Register) (a : Class) where
   unfolding answer
   step_in_place x n h e = step_promised r a k (call_in_place r (step k a) x n (step_answered r a k h) e)
 
-  pub step_unchanged : (n : ℕ) (told : Register) → StepAnswers k r a (in_place n told) → T (not (eqb n 0)) → StepAnswers k r a (in_place n r)
+  pub step_unchanged : (n : ℕ) (told : Register) → StepAnswers k r a (in_place n told) → ¬ (n ≡ 0) → StepAnswers k r a (in_place n r)
   unfolding answer
   step_unchanged n told e h = step_promised r a k (call_unchanged r (step k a) n told (step_answered r a k e) h)
