@@ -22,6 +22,6 @@ pub fn append(source: &[u8], start: usize, end: usize, output: &mut [u8], at: us
         return room + 1;
     }
     let next = at + (end - start);
-    bytes::copy(&source[start..end], &mut output[at..next]);
+    output[at..next].copy_from_slice(&source[start..end]);
     next
 }

@@ -1,7 +1,7 @@
 // The fields that calls on byte areas write, encoded into a buffer.
 ghost use Rattle.std.specs.Prelude.{◌≡◌, ◌++◌, ◌+◌, ◌*◌, ◌/◌, ◌%◌, ◌^◌, ◌≤◌, ◌<◌, min, length};
 ghost use Rattle.std.proofs.lemmas.List.Edits.{sets};
-ghost use Rattle.jacobian.specs.Answer.{verdict, reply, result};
+ghost use Rattle.jacobian.specs.Answer.{verdict, reply, result as class_result};
 ghost use Rattle.stored_form.specs.Number.{encode_number};
 ghost use Rattle.stored_form.specs.Head.{class_room, count_length, head_bytes, encode_field};
 ghost use Rattle.stored_form.specs.Elements.{element_length, encode_elements};
@@ -17,7 +17,7 @@ use stored_form::{COUNT_LENGTH, ELEMENT_LENGTH};
 // Byte i of a number, counted from the lowest.
 fn byte_of(x: u64, i: usize) -> u8
     requires { i < element_length }
-    ensures* { λ r. ⌜ r ≡ x / 256 ^ i % 256 ⌝ }
+    ensures { result ≡ x / 256 ^ i % 256 }
 {
     ((x >> (8 * i)) % 256) as u8
 }
@@ -25,7 +25,7 @@ fn byte_of(x: u64, i: usize) -> u8
 // The buffer with the k lowest bytes of a number stored at an offset, high byte first.
 fn with_number(buffer: [u8; ROOM], at: usize, k: usize, x: u64) -> [u8; ROOM]
     requires { (k ≤ element_length) × (at + k ≤ room) }
-    ensures* { λ r. ⌜ r ≡ sets buffer at (encode_number k x) ⌝ }
+    ensures { result ≡ sets buffer at (encode_number k x) }
 {
     let mut r = buffer;
     let mut i = 0;
@@ -39,7 +39,7 @@ fn with_number(buffer: [u8; ROOM], at: usize, k: usize, x: u64) -> [u8; ROOM]
 // The buffer with the head of a field stored at an offset.
 fn with_head(buffer: [u8; ROOM], at: usize, tag: u8, len: usize) -> [u8; ROOM]
     requires { at + 3 ≤ room }
-    ensures* { λ r. ⌜ r ≡ sets buffer at (head_bytes tag len) ⌝ }
+    ensures { result ≡ sets buffer at (head_bytes tag len) }
 {
     let mut r = buffer;
     r[at] = tag;
@@ -49,7 +49,7 @@ fn with_head(buffer: [u8; ROOM], at: usize, tag: u8, len: usize) -> [u8; ROOM]
 // The buffer with the coefficients below degree n stored at an offset, highest power first.
 fn with_coefficients(buffer: [u8; ROOM], at: usize, n: usize, r: [u64; 3]) -> [u8; ROOM]
     requires { (n ≤ 3) × (at + element_length * n ≤ room) }
-    ensures* { λ t. ⌜ (t ≡ sets buffer at (encode_elements (encode_row n r))) × (length r ≡ 3) ⌝ }
+    ensures { (result ≡ sets buffer at (encode_elements (encode_row n r))) × (length r ≡ 3) }
 {
     let mut t = buffer;
     let mut i = n;
@@ -63,7 +63,7 @@ fn with_coefficients(buffer: [u8; ROOM], at: usize, n: usize, r: [u64; 3]) -> [u
 
 // The number of coefficients of a row below a degree.
 fn places_of(degree: u64) -> usize
-    ensures* { λ r. ⌜ r ≡ min degree 3 ⌝ }
+    ensures { result ≡ min degree 3 }
 {
     if degree < 3 {
         return degree as usize;
@@ -74,7 +74,7 @@ fn places_of(degree: u64) -> usize
 // The output of a buffer with the field of a class at an offset, and of all bytes before it.
 fn with_class(buffer: [u8; ROOM], at: usize, a: Class) -> Output
     requires { at + class_room ≤ room }
-    ensures* { λ r. ⌜ (r ≡ filled buffer at (class_field 0x43 a)) × (length (class_field 0x43 a) ≤ class_room) ⌝ }
+    ensures { (result ≡ filled buffer at (class_field 0x43 a)) × (length (class_field 0x43 a) ≤ class_room) }
 {
     let n = places_of(a.degree);
     let each = ELEMENT_LENGTH * n;
@@ -94,7 +94,7 @@ fn with_class(buffer: [u8; ROOM], at: usize, a: Class) -> Output
 // The buffer with the field of a count or of a released step, by its tag, stored at an offset.
 fn with_count(buffer: [u8; ROOM], at: usize, tag: u8, n: u64) -> [u8; ROOM]
     requires { at + count_room ≤ room }
-    ensures* { λ r. ⌜ r ≡ sets buffer at (encode_field tag (encode_number count_length n)) ⌝ }
+    ensures { result ≡ sets buffer at (encode_field tag (encode_number count_length n)) }
 {
     let headed = with_head(buffer, at, tag, COUNT_LENGTH);
     with_number(headed, at + 3, COUNT_LENGTH, n)
@@ -102,7 +102,7 @@ fn with_count(buffer: [u8; ROOM], at: usize, tag: u8, n: u64) -> [u8; ROOM]
 
 // The response with the field of a class, or with the refusal.
 pub fn class_output(a: ClassAnswer) -> Output
-    ensures* { λ r. ⌜ response_of r ≡ class_response (result (reply a)) ⌝ }
+    ensures { response_of result ≡ class_response (class_result (reply a)) }
 {
     let o = a.outcome;
     let class = a.class;
@@ -114,7 +114,7 @@ pub fn class_output(a: ClassAnswer) -> Output
 
 // The response with the fields of a count, a released step and a seal, or with the refusal.
 pub fn register_output(o: Outcome, count: u64, released: u64, seal: Class) -> Output
-    ensures* { λ r. ⌜ response_of r ≡ on_outcome (verdict o) (count_field count ++ released_field released ++ class_field 0x43 seal) ⌝ }
+    ensures { response_of result ≡ on_outcome (verdict o) (count_field count ++ released_field released ++ class_field 0x43 seal) }
 {
     match o {
         Outcome::Refused(n) => refusal_output(n),
