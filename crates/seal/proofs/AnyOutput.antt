@@ -12,7 +12,6 @@ use Rattle.written_form.proofs.Wrote.{same_given}
 use Rattle.seal.specs.{Calls.answered, Calls.tags, Calls.room, Calls.called, Checking.least_output, Checking.last_checks, Checking.numbers, Checking.lengths, Steps.Request, Steps.request_call}
 use Rattle.seal.specs.declared.calls.Call.{Call}
 use Rattle.seal.specs.declared.calls.Call.TheVariants.{Opposite, Double, Half, Sum, Stamp}
-use Rattle.seal.specs.declared.calls.Call.TheVariants as Call
 use Rattle.seal.proofs.{Checking.call_checked, WroteOrRefused.lengths_low, WroteOrRefused.room_is}
 
 -- the numbers of a call's checks after that of the room are its own

@@ -10,7 +10,7 @@
 -- `seals_stored`: the seal fields that were kept are the fields of the seals that they decode to.
 -- So the theorems of the crate history on lists of calls hold of byte calls. What is kept is the stored form of the
 -- register that it decodes to (`last_stored` of ByteSteps).
-use Prim.Native.Nat.{ℕ, ◌≤◌}
+use Prim.Native.Nat.{◌≤◌}
 use mathlib.Core.Path.{◌≡◌, refl, sym, ap, ap₂, ◌∙◌, subst}
 use mathlib.Core.List.{List, ◌∷◌, map}
 use lib.Dec.{lit<}

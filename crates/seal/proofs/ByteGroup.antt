@@ -231,7 +231,7 @@ pub doubled_holds : {c : Curve} {a : Class} {fields s : List ℕ} {outs : List (
 unfolding foldl repeat
 doubled_holds none x = x
 doubled_holds {c} {a} {fields} {s} (more {a = out} {l = outs} room rooms) x =
-    subst (λ (b : Class). Holds c b fields (doubled_record outs (record_double out s))) (repeat_inner (double_of c) (length outs) a) (doubled_holds rooms (double_holds out room x))
+    subst (λ (b : Class). Holds c b fields (doubled_record outs (record_double out s))) (repeat_inner (double_of c) (length outs) a) (doubled_holds {a = double_of c a} rooms (double_holds out room x))
 
 module _ {fields s : List ℕ} (x : ReadWith fields s) {outs : List (List ℕ)} (rooms : ClassRooms outs) where
   pub doublings_write : (out : List ℕ) → class_room ≤ length out

@@ -29,7 +29,6 @@ use Rattle.seal.specs.Calls.{register_response, answered, membership_call, tags,
 use Rattle.seal.specs.Checking.{last_checks, checks, lengths}
 use Rattle.seal.specs.declared.calls.Call.{Call}
 use Rattle.seal.specs.declared.calls.Call.TheVariants.{Opposite, Double, Half, Sum, Stamp}
-use Rattle.seal.specs.declared.calls.Call.TheVariants as Call
 use Rattle.seal.proofs.Passing.{Given, curve_holds, class_holds, sum_holds, register_holds, step_holds, opposite_given, double_given, half_given, sum_given}
 
 pub membership_checked : (s : List ℕ) → RefusalOf (record_checks class_layout s) (membership_call s)

@@ -38,7 +38,6 @@ use Rattle.seal.specs.Checking.{least_output, last_checks, checks, lengths}
 use Rattle.seal.specs.Steps.{Request, request_call}
 use Rattle.seal.specs.declared.calls.Call.{Call}
 use Rattle.seal.specs.declared.calls.Call.TheVariants.{Opposite, Double, Half, Sum, Stamp}
-use Rattle.seal.specs.declared.calls.Call.TheVariants as Call
 use Rattle.seal.proofs.{Passing.register_holds, Passing.step_holds, Checking.call_checked, Promises.undo_writes, ByteFailing.call_unread, ByteFailing.record_fails}
 use Rattle.seal.proofs.ByteRegister.{commit_of_record, undo_of_record, release_of_record, unwritten, call_written}
 

@@ -13,7 +13,7 @@ use mathlib.Core.List.{List, ◌++◌}
 use native.Mathlib.Omega.{arith}
 use lib.ListN.{length}
 use Rattle.jacobian.specs.Answer.{Verdict, accepted, refused}
-use Rattle.history.specs.{Machine.Event, Machine.event, Machine.turned, declared.Register.Register}
+use Rattle.history.specs.{Machine.event, Machine.turned, declared.Register.Register}
 use Rattle.history.specs.Calls as history
 use Rattle.history.specs.Calls.{answer}
 use Rattle.history.proofs.{Registers.passes_register, OneCall.answer_curve, OneCall.accepted_passes, OneCall.reversible}

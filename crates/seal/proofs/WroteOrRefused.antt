@@ -31,7 +31,6 @@ use Rattle.seal.specs.Steps.{Request, step, release, request_call}
 use Rattle.seal.specs.Checking.{numbers, lengths}
 use Rattle.seal.specs.declared.calls.Call.{Call}
 use Rattle.seal.specs.declared.calls.Call.TheVariants.{Opposite, Double, Half, Sum, Stamp}
-use Rattle.seal.specs.declared.calls.Call.TheVariants as Call
 use Rattle.seal.proofs.Checking.{membership_checked, call_verdict, call_checked}
 use Rattle.seal.proofs.ByteRegister.{requested, of_record, unwritten}
 

@@ -1,6 +1,6 @@
 -- What the checks of each byte call require, in checking order, and which numbers and lengths it answers
 -- (docs/SPECIFICATION.md, 6 and 7).
-use Rattle.std.specs.Prelude.{ℕ, ◌+◌, ◌-◌, ◌^◌, ◌≤◌, ◌<◌, length}
+use Rattle.std.specs.Prelude.{ℕ, ◌-◌, ◌^◌, ◌≤◌, ◌<◌, length}
 use mathlib.Core.{Path.◌≡◌, List.List, List.[], List.◌∷◌, List.◌++◌}
 use Rattle.jacobian.specs.Checks.{Check, check}
 use Rattle.stamps.specs.Stamps.{SomeRoot}

@@ -1,2 +1,4 @@
 // The calls for C on byte areas.
+#![tactic(auto)]
+
 pub mod calls;
