@@ -1,5 +1,4 @@
 -- `suppress::both_replaced` meets its contract.
-use borrow.Author.Rules.{rules}
 use mathlib.Core.Path.{ap, ◌∙◌}
 use Rattle.written_form.specs.Ranges.{append}
 use Rattle.seal_archive.specs.internal.Accepted.{replaced, both_replaced}

@@ -1,6 +1,5 @@
 -- `suppress::doublings` meets its contract: before turn i the class has been doubled i times.
-use borrow.Author.Rules.{rules}
-use Prim.Native.Nat.{suc, ◌+◌, ◌≤◌, ◌-◌}
+use Prim.Native.Nat.{suc, ◌+◌}
 use mathlib.Core.Path.{◌≡◌, refl, ◌∙◌, ap}
 use native.Mathlib.Omega.{arith}
 use Rattle.class_group.specs.Multiples.{repeat}

@@ -1,9 +1,7 @@
 -- `suppress::held` meets its contract.
-use borrow.Author.Rules.{rules}
 use mathlib.Core.Path.{sym, ap, ◌∙◌}
 use native.Mathlib.Omega.{arith}
 use Prim.Native.Nat.{ℕ, ◌/◌}
-use Rattle.stored_form.specs.Number.{Bytes}
 use Rattle.seal_archive.proofs.Held.{pairs_number, pairs_at, pairs_inside, held_empty}
 -- the bytes of the input
 use Rattle.seal_archive.proofs.suppress.held.Goals as goal

@@ -1,5 +1,4 @@
 -- `suppress::held_by` meets its contract: before each turn the pairs that were looked at do not hold operation k.
-use borrow.Author.Rules.{rules}
 use Prim.Native.Nat.{suc, ◌-◌}
 use mathlib.Core.Path.{◌≡◌, sym, ◌∙◌, subst}
 use native.Mathlib.Omega.{arith}

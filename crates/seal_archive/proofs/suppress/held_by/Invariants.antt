@@ -1,11 +1,7 @@
 -- `suppress::held_by` meets its contract: before each turn the pairs that were looked at do not hold operation k.
-use borrow.Author.Rules.{rules}
-use Prim.Native.Nat.{suc, ◌-◌}
-use mathlib.Core.Path.{◌≡◌, sym, ◌∙◌, subst}
-use native.Mathlib.Omega.{arith}
 use Rattle.stored_form.specs.Number.{Bytes}
 use Rattle.seal_archive.specs.internal.Accepted.{AtPairs}
-use Rattle.seal_archive.proofs.Held.{HeldSoFar, held_begin, later_low, held_found, held_turn, held_none}
+use Rattle.seal_archive.proofs.Held.{HeldSoFar}
 use Rattle.seal_archive.proofs.suppress.held_by.Given as goal
 
 abbrev pub invariant-loop-i : goal.invariant-loop-i

@@ -1,5 +1,4 @@
 -- `suppress::new_seal` meets its contract.
-use borrow.Author.Rules.{rules}
 use mathlib.Core.Path.{ap, ◌∙◌}
 use Rattle.jacobian.specs.{Answer.Reply, Answer.result, Answer.sum_answer, Group.opposite_of, Group.doublings}
 use Rattle.stored_form.specs.declared.Read.{Read}

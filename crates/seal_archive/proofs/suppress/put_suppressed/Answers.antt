@@ -1,5 +1,4 @@
 -- `suppress::put_suppressed` meets its contract.
-use borrow.Author.Rules.{rules}
 use mathlib.Core.Path.{refl, ap, ◌∙◌}
 use native.Mathlib.Omega.{arith}
 use Rattle.stored_form.specs.Number.{Bytes}

@@ -1,5 +1,4 @@
 -- `suppress::seal_less` meets its contract.
-use borrow.Author.Rules.{rules}
 use mathlib.Core.Path.{ap, ◌∙◌}
 use Rattle.jacobian.specs.Answer.{Reply, opposite_answer, sum_answer}
 use Rattle.seal_archive.proofs.suppress.seal_less.Goals as goal

@@ -1,5 +1,4 @@
 -- `suppress::seal_suppress` meets its contract.
-use borrow.Author.Rules.{rules}
 use mathlib.Core.Path.{sym, ap, ◌∙◌}
 use native.Mathlib.Omega.{arith}
 use Rattle.seal_archive.specs.Suppress.{written_effect, refuse_archive}

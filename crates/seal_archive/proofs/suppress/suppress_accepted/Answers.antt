@@ -1,5 +1,4 @@
 -- `suppress::suppress_accepted` meets its contract.
-use borrow.Author.Rules.{rules}
 use mathlib.Core.Path.{sym, ap, ◌∙◌}
 use native.Mathlib.Omega.{arith}
 use Rattle.stored_form.specs.Number.{Bytes}
