@@ -1,2 +1,4 @@
 // The calls for C on whole archives.
+#![tactic(auto)]
+
 pub mod suppress;

@@ -1,5 +1,4 @@
 -- `after_header` meets its contract.
-use borrow.Author.Rules.{rules}
 use native.Mathlib.Omega.{arith}
 use Rattle.archive.proofs.ReaderSteps.{header_more, header_over}
 use Rattle.archive.proofs.after_header.Goals as goal

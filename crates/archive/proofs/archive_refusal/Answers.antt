@@ -1,10 +1,9 @@
 -- `archive_refusal` meets its contract: reading what is left has the refusal of the archive.
-use borrow.Author.Rules.{rules}
-use mathlib.Core.Path.{◌≡◌, sym, ap, ◌∙◌}
+use mathlib.Core.Path.{sym, ap, ◌∙◌}
 use Rattle.stored_form.specs.Reading.{reading_refusal}
 use Rattle.stored_form.proofs.Readings.{then_found, then_refused}
-use Rattle.archive.specs.{Archive.archive_refusal, Reader.read_next}
-use Rattle.archive.proofs.ReaderSteps.{left, one_step, begun, nothing_left, rank, less_left, advance_found, advance_refused, advance_refusal}
+use Rattle.archive.specs.{Reader.read_next}
+use Rattle.archive.proofs.ReaderSteps.{one_step, begun, nothing_left, less_left, advance_found, advance_refused, advance_refusal}
 use Rattle.archive.proofs.archive_refusal.Goals as goal
 
 pub loop-r-init : goal.loop-r-init

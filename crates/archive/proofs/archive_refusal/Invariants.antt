@@ -1,10 +1,8 @@
 -- `archive_refusal` meets its contract: reading what is left has the refusal of the archive.
-use borrow.Author.Rules.{rules}
-use mathlib.Core.Path.{◌≡◌, sym, ap, ◌∙◌}
+use mathlib.Core.Path.{◌≡◌}
 use Rattle.stored_form.specs.Reading.{reading_refusal}
-use Rattle.stored_form.proofs.Readings.{then_found, then_refused}
-use Rattle.archive.specs.{Archive.archive_refusal, Reader.read_next}
-use Rattle.archive.proofs.ReaderSteps.{left, one_step, begun, nothing_left, rank, less_left, advance_found, advance_refused, advance_refusal}
+use Rattle.archive.specs.{Archive.archive_refusal}
+use Rattle.archive.proofs.ReaderSteps.{left, rank}
 use Rattle.archive.proofs.archive_refusal.Given as goal
 
 abbrev pub invariant-loop-r : goal.invariant-loop-r

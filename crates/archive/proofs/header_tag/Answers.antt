@@ -1,5 +1,4 @@
 -- `header_tag` meets its contract.
-use borrow.Author.Rules.{rules}
 use mathlib.Core.Path.{sym}
 use lib.ListN.{get_or-eq_default}
 use Rattle.stored_form.specs.Reader.{header_layout}

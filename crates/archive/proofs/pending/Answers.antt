@@ -1,5 +1,4 @@
 -- `pending` meets its contract.
-use borrow.Author.Rules.{rules}
 use mathlib.Core.Path.{sym, ap}
 use Rattle.archive.specs.Reader.{pending}
 use Rattle.archive.proofs.pending.Goals as goal

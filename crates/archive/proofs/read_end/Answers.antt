@@ -1,5 +1,4 @@
 -- `read_end` meets its contract.
-use borrow.Author.Rules.{rules}
 use Prim.Native.Nat.{ℕ}
 use mathlib.Core.Path.{sym, ap, ◌∙◌}
 use Rattle.stored_form.specs.{Reading.found, Reading.checked, Fields.ended}

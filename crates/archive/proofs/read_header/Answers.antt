@@ -1,5 +1,4 @@
 -- `read_header` meets its contract.
-use borrow.Author.Rules.{rules}
 use mathlib.Core.Path.{◌≡◌, sym, ap, ◌∙◌}
 use Rattle.stored_form.specs.Reading.{found}
 use Rattle.stored_form.specs.{Record.empty_record, Reader.header_layout, Reader.read_fields, Reader.read_of}

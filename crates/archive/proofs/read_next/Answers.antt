@@ -1,5 +1,4 @@
 -- `read_next` meets its contract.
-use borrow.Author.Rules.{rules}
 use mathlib.Core.Path.{sym, ap, ◌∙◌}
 use Rattle.archive.specs.declared.Expected.{Expected}
 use Rattle.archive.specs.Reader.{read_expected, read_next, advance_of}

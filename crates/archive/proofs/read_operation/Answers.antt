@@ -1,5 +1,4 @@
 -- `read_operation` meets its contract.
-use borrow.Author.Rules.{rules}
 use mathlib.Core.Path.{sym, ap, ◌∙◌}
 use Prim.Native.Nat.{ℕ, ◌-◌}
 use Rattle.stored_form.proofs.Readers.{offset_found, offset_refused_as}

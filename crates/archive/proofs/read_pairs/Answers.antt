@@ -1,5 +1,4 @@
 -- `read_pairs` meets its contract.
-use borrow.Author.Rules.{rules}
 use mathlib.Core.Path.{sym, ap, ◌∙◌}
 use Rattle.stored_form.specs.{Reading.refused, Reader.offset_refusal}
 use Rattle.stored_form.proofs.Readings.{then_found, then_refused}

@@ -1,5 +1,4 @@
 -- `start` meets its contract.
-use borrow.Author.Rules.{rules}
 use mathlib.Core.Path.{ap}
 use Rattle.archive.specs.Reader.{reader, start}
 use Rattle.archive.specs.declared.Expected.TheVariants.{Header}

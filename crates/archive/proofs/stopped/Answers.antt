@@ -1,5 +1,4 @@
 -- `stopped` meets its contract.
-use borrow.Author.Rules.{rules}
 use mathlib.Core.Path.{ap}
 use Rattle.stored_form.specs.declared.Offset.TheVariants.{Refused}
 use Rattle.archive.specs.declared.Reader.{Reader}

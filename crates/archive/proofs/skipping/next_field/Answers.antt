@@ -1,5 +1,4 @@
 -- `skipping::next_field` meets its contract.
-use borrow.Author.Rules.{rules}
 use mathlib.Core.Path.{◌∙◌}
 use native.Mathlib.Omega.{arith}
 use Rattle.archive.proofs.Skipped.{length_inside, next_end, next_within}

@@ -1,6 +1,5 @@
 -- `skipping::skip_fields` meets its contract: before turn i, i fields are passed over.
-use borrow.Author.Rules.{rules}
-use Prim.Native.Nat.{ℕ, suc, ◌+◌, ◌-◌, ◌≤◌}
+use Prim.Native.Nat.{ℕ, suc, ◌+◌}
 use mathlib.Core.Path.{◌≡◌, refl, sym, ap, ◌∙◌}
 use native.Mathlib.Omega.{arith}
 use Rattle.archive.specs.Skipping.{next_field, skip_fields}

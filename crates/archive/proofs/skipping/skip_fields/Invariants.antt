@@ -1,10 +1,7 @@
 -- `skipping::skip_fields` meets its contract: before turn i, i fields are passed over.
-use borrow.Author.Rules.{rules}
-use Prim.Native.Nat.{ℕ, suc, ◌+◌, ◌-◌, ◌≤◌}
-use mathlib.Core.Path.{◌≡◌, refl, sym, ap, ◌∙◌}
-use native.Mathlib.Omega.{arith}
-use Rattle.archive.specs.Skipping.{next_field, skip_fields}
-use Rattle.archive.proofs.Skipped.{skip_more}
+use Prim.Native.Nat.{◌-◌, ◌≤◌}
+use mathlib.Core.Path.{◌≡◌}
+use Rattle.archive.specs.Skipping.{skip_fields}
 use Rattle.archive.proofs.skipping.skip_fields.Given as goal
 
 abbrev pub invariant-loop-i : goal.invariant-loop-i
