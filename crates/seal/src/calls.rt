@@ -12,8 +12,7 @@ use written_form::effect::Output;
 use written_form::{effect, writing};
 
 // Whether the record's pair is a class of its curve: 0 if it is, else the refusal.
-#[unsafe(no_mangle)]
-pub extern "C" fn seal_membership(input: &[u8]) -> u32
+pub fn seal_membership(input: &[u8]) -> u32
     ensures { result ≡ membership_call input.now }
 {
     let tags = stored_form::CLASS_LAYOUT;
@@ -103,32 +102,28 @@ fn step_call(call: Call, input: &[u8], output: &mut [u8]) -> u32
 }
 
 // The opposite of the class.
-#[unsafe(no_mangle)]
-pub extern "C" fn seal_opposite(input: &[u8], output: &mut [u8]) -> u32
+pub fn seal_opposite(input: &[u8], output: &mut [u8]) -> u32
     ensures { effect result output.new ≡ opposite_call input.now output.old }
 {
     class_call(Call::Opposite, input, output)
 }
 
 // The double of the class.
-#[unsafe(no_mangle)]
-pub extern "C" fn seal_double(input: &[u8], output: &mut [u8]) -> u32
+pub fn seal_double(input: &[u8], output: &mut [u8]) -> u32
     ensures { effect result output.new ≡ double_call input.now output.old }
 {
     class_call(Call::Double, input, output)
 }
 
 // The half of the class: the one class whose double it is.
-#[unsafe(no_mangle)]
-pub extern "C" fn seal_half(input: &[u8], output: &mut [u8]) -> u32
+pub fn seal_half(input: &[u8], output: &mut [u8]) -> u32
     ensures { Halves input.now output.old (effect result output.new) }
 {
     class_call(Call::Half, input, output)
 }
 
 // The sum of the two classes.
-#[unsafe(no_mangle)]
-pub extern "C" fn seal_sum(input: &[u8], output: &mut [u8]) -> u32
+pub fn seal_sum(input: &[u8], output: &mut [u8]) -> u32
     ensures { effect result output.new ≡ sum_call input.now output.old }
 {
     let tags = stored_form::SUM_LAYOUT;
@@ -136,24 +131,21 @@ pub extern "C" fn seal_sum(input: &[u8], output: &mut [u8]) -> u32
 }
 
 // The register after a commit of the class.
-#[unsafe(no_mangle)]
-pub extern "C" fn seal_commit(input: &[u8], output: &mut [u8]) -> u32
+pub fn seal_commit(input: &[u8], output: &mut [u8]) -> u32
     ensures { effect result output.new ≡ commit_call input.now output.old }
 {
     step_call(Call::Commit, input, output)
 }
 
 // The register after an undo of the class.
-#[unsafe(no_mangle)]
-pub extern "C" fn seal_undo(input: &[u8], output: &mut [u8]) -> u32
+pub fn seal_undo(input: &[u8], output: &mut [u8]) -> u32
     ensures { Undoes input.now output.old (effect result output.new) }
 {
     step_call(Call::Undo, input, output)
 }
 
 // The register after a release: its released step is the count.
-#[unsafe(no_mangle)]
-pub extern "C" fn seal_release(input: &[u8], output: &mut [u8]) -> u32
+pub fn seal_release(input: &[u8], output: &mut [u8]) -> u32
     ensures { effect result output.new ≡ release_call input.now output.old }
 {
     let tags = stored_form::REGISTER_LAYOUT;
@@ -161,8 +153,7 @@ pub extern "C" fn seal_release(input: &[u8], output: &mut [u8]) -> u32
 }
 
 // The class of the stamp on the curve of the record.
-#[unsafe(no_mangle)]
-pub extern "C" fn seal_stamp(input: &[u8], stamp: u64, output: &mut [u8]) -> u32
+pub fn seal_stamp(input: &[u8], stamp: u64, output: &mut [u8]) -> u32
     ensures { effect result output.new ≡ stamp_call stamp input.now output.old }
 {
     let tags = stored_form::CURVE_LAYOUT;

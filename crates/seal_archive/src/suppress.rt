@@ -199,8 +199,7 @@ fn suppress_accepted(s: &[u8], k: u64, output: &mut [u8]) -> Written
 
 // Suppresses operation k of an archive, counted 1 to n from the oldest: the new archive is written to the output.
 // 101 comes first, then every check of the archive, then 123 of k, and last 124 of an operation that is held.
-#[unsafe(no_mangle)]
-pub extern "C" fn seal_suppress(input: &[u8], k: u64, output: &mut [u8]) -> Written
+pub fn seal_suppress(input: &[u8], k: u64, output: &mut [u8]) -> Written
     ensures { written_effect result output.new ≡ suppress_call input.now k output.old }
 {
     if output.len() < GROWTH {

@@ -59,16 +59,14 @@ fn class_call(call: Call, input: &[u8], output: &mut [u8]) -> u32
 }
 
 // n times the class.
-#[unsafe(no_mangle)]
-pub extern "C" fn seal_multiple(input: &[u8], n: u64, output: &mut [u8]) -> u32
+pub fn seal_multiple(input: &[u8], n: u64, output: &mut [u8]) -> u32
     ensures { effect result output.new ≡ multiple_call n input.now output.old }
 {
     class_call(Call::Multiple(n), input, output)
 }
 
 // The class halved k times: the one class that k doublings take to it.
-#[unsafe(no_mangle)]
-pub extern "C" fn seal_halvings(input: &[u8], k: u64, output: &mut [u8]) -> u32
+pub fn seal_halvings(input: &[u8], k: u64, output: &mut [u8]) -> u32
     ensures { HalvesTimes k input.now output.old (effect result output.new) }
 {
     class_call(Call::Halvings(k), input, output)

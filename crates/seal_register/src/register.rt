@@ -55,8 +55,7 @@ fn released(register: Register) -> Changed
 }
 
 // The lent register becomes the one after a commit; on a refusal it stays as it was.
-#[unsafe(no_mangle)]
-pub extern "C" fn seal_register_commit(register: &mut Register, class: Class) -> u32
+pub fn seal_register_commit(register: &mut Register, class: Class) -> u32
     ensures { in_place result register.new ≡ commit_answer register.old class }
 {
     let a = committed(*register, class);
@@ -67,8 +66,7 @@ pub extern "C" fn seal_register_commit(register: &mut Register, class: Class) ->
 }
 
 // The lent register becomes the one after an undo; on a refusal it stays as it was.
-#[unsafe(no_mangle)]
-pub extern "C" fn seal_register_undo(register: &mut Register, class: Class) -> u32
+pub fn seal_register_undo(register: &mut Register, class: Class) -> u32
     ensures { UndoAnswers register.old class (in_place result register.new) }
 {
     let a = undone(*register, class);
@@ -79,8 +77,7 @@ pub extern "C" fn seal_register_undo(register: &mut Register, class: Class) -> u
 }
 
 // The lent register becomes the one after a release; on a refusal it stays as it was.
-#[unsafe(no_mangle)]
-pub extern "C" fn seal_register_release(register: &mut Register) -> u32
+pub fn seal_register_release(register: &mut Register) -> u32
     ensures { in_place result register.new ≡ release_answer register.old }
 {
     let a = released(*register);

@@ -86,8 +86,7 @@ fn walked_on(curve: Curve, w: RowWalk, a: Class) -> RowWalk
 
 // The earliest seal, from which commits of the row's classes, oldest first, lead to the last one; or the refusal of the
 // first check that fails.
-#[unsafe(no_mangle)]
-pub extern "C" fn seal_walk_row(curve: Curve, last: Class, row: &[Class]) -> RowWalk
+pub fn seal_walk_row(curve: Curve, last: Class, row: &[Class]) -> RowWalk
     ensures { RowWalkAnswers curve last row.now (reached result) }
 {
     let mut w = started(curve, last, row.len());
