@@ -5,7 +5,7 @@
 -- `operations_end`, `place_within`: where they end, and that each begins within the bytes.
 -- `pairs_counted`, `pairs_end`, `pair_stands`: how many pairs there are, where they end, and a pair by its place.
 -- `operation_neutral`: the length in its head says whether an operation is neutral.
-use Prim.Native.Nat.{ℕ, zero, suc, ◌+◌, ◌*◌, ◌-◌, ◌/◌, ◌^◌, ◌≤◌, ◌<◌}
+use Prim.Native.Nat.{ℕ, zero, suc, ◌+◌, ◌*◌, ◌/◌, ◌^◌, ◌≤◌, ◌<◌}
 use mathlib.Core.Path.{◌≡◌, refl, sym, ap, ◌∙◌, subst}
 use mathlib.Core.Bool.{true}
 use mathlib.Core.List.{List, [], ◌∷◌, ◌++◌, append_assoc}

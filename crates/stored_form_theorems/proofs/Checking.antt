@@ -11,7 +11,7 @@ use borrow.Author.Tests.{ltb-true, ltb-false, le-ltb, leb-true, le-leb, eqb-true
 use Rattle.lists.specs.Lists.{none, more}
 use Rattle.binary_field.specs.Checks.{all_hold, first_fails}
 use Rattle.binary_field.proofs.Checking.{degree_checked}
-use Rattle.jacobian.specs.{Checks.Check, Checks.check, Checks.AllHold, Checks.RefusalOf, Checks.unless, Checks.◌or_else◌, Checks.blank, Checking.formed_checks, Checking.Padded}
+use Rattle.jacobian.specs.{Checks.Check, Checks.AllHold, Checks.RefusalOf, Checks.unless, Checks.◌or_else◌, Checks.blank, Checking.formed_checks, Checking.Padded}
 use Rattle.jacobian.specs.{Curves.coefficients, Curves.curve_with, Curves.blank_curve, Curves.curve_refusal, Answer.refusal, Classes.class_refusal}
 use Rattle.jacobian.proofs.Checking.{refusal_none, refusal_unless, refusal_held, held_refusal, curve_checked, class_checked}
 use Rattle.jacobian.proofs.ByValue.Checks.{both, blank_past}

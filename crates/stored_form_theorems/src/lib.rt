@@ -1,1 +1,3 @@
+#![tactic(auto)]
+
 // Theorems on the stored form: bytes and values determine each other. Definitions and theorems, no code.

@@ -2,9 +2,10 @@
 // and a line is written to any writer, as to standard output. A buffer of bytes is filled from any reader.
 #![tactic(auto)]
 
-ghost use Rattle.std.specs.Prelude.{◌≤◌, ◌<◌, min, ◌≡◌, [], ◌∷◌, ◌++◌, length, take, IfOk, OnOk};
+ghost use Rattle.std.specs.Prelude.{◌≤◌, ◌<◌, min, ◌≡◌, [], ◌∷◌, ◌++◌, length, take, IfOk, IfErr, OnOk};
 ghost use Rattle.std.specs.Io.{ReadsAtMost};
 ghost use Rattle.std.specs.Io.KnownBytes.{Appends, Consumes, IsAtEnd};
+ghost use Rattle.text.specs.Failures.{AppendsFront, ConsumesFront};
 ghost use Rattle.text.specs.{Line.line_room, Line.with_bytes, Line.in_line, Text.digit, Text.digits, Text.decimal, Text.hexadecimal, Text.row_text, Text.class_text, Text.refusal_text};
 
 use std::io;
@@ -175,30 +176,50 @@ fn within(len: usize) -> usize
     LINE
 }
 
+// Writes all of some bytes. Where a write fails or takes nothing, a front of them was written.
+pub fn write_whole<W: Write>(out: &mut W, bytes: &[u8]) -> io::Result<()>
+    ensures written { OnOk result (Appends (W.contents out.old) (W.contents out.new) bytes.now) }
+    ensures failed { IfErr result (λ _. AppendsFront (W.contents out.old) (W.contents out.new) bytes.now) }
+{
+    let mut done = 0;
+    while done < bytes.len() {
+        let n = out.write(&bytes[done..])?;
+        if n == 0 {
+            return Err(io::Error::from(io::ErrorKind::WriteZero));
+        }
+        done += n;
+    }
+    Ok(())
+}
+
 // Writes the first len bytes of a buffer and answers how many these are, at most all.
 fn write_bytes<W: Write>(out: &mut W, len: usize, bytes: [u8; LINE]) -> io::Result<usize>
     ensures count { IfOk result (λ n. n ≡ min len line_room) }
     ensures written { OnOk result (Appends (W.contents out.old) (W.contents out.new) (take len bytes)) }
+    ensures failed { IfErr result (λ _. AppendsFront (W.contents out.old) (W.contents out.new) (take len bytes)) }
 {
     let n = within(len);
-    out.write_all(&bytes[..n])?;
+    write_whole(out, &bytes[..n])?;
     Ok(n)
 }
 
-// Writes a line and answers how many bytes it has.
+// Writes a line and answers how many bytes it has. Where a write fails, a front of the line was written.
 pub fn write_line<W: Write>(out: &mut W, line: Line) -> io::Result<usize>
     ensures count { IfOk result (λ n. n ≡ min line.len line_room) }
     ensures written { OnOk result (Appends (W.contents out.old) (W.contents out.new) (take line.len line.bytes)) }
+    ensures failed { IfErr result (λ _. AppendsFront (W.contents out.old) (W.contents out.new) (take line.len line.bytes)) }
 {
     let bytes = line.bytes;
     write_bytes(out, line.len, bytes)
 }
 
-// Reads until the buffer is full or the input ends, and answers how many bytes it put at the buffer's start.
+// Reads until the buffer is full or the input ends, and answers how many bytes it put at the buffer's start. Where a
+// read fails, what was read before stands there.
 pub fn read_full<R: Read>(input: &mut R, buf: &mut [u8]) -> io::Result<usize>
     ensures count { ReadsAtMost result buf.new }
     ensures taken { IfOk result (λ n. Consumes (R.remaining input.old) (R.remaining input.new) (take n buf.new)) }
     ensures end { IfOk result (λ n. n < length buf.new → IsAtEnd (R.remaining input.new)) }
+    ensures failed { IfErr result (λ _. ConsumesFront (R.remaining input.old) (R.remaining input.new) buf.new) }
 {
     let mut done = 0;
     while done < buf.len() {

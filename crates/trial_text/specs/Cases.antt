@@ -18,6 +18,10 @@ number_at s place = eight_bytes s (2 + 8 * place)
 abbrev pub row_at : List ℕ → ℕ → List ℕ
 row_at s place = eight_bytes s (2 + 8 * place) ∷ eight_bytes s (2 + 8 * place + 8) ∷ eight_bytes s (2 + 8 * place + 16) ∷ []
 
+-- what is written where a case is cut short
+abbrev pub cut_short_line : List ℕ
+cut_short_line = codes "cut short\n"
+
 -- what is written where the input had n bytes of a case of this size: `cut short` and a line feed for some but not all
 abbrev pub cut_short : ℕ → ℕ → List ℕ
-cut_short n size = cond (ltb 0 n) (cond (ltb n size) (codes "cut short\n") []) []
+cut_short n size = cond (ltb 0 n) (cond (ltb n size) cut_short_line []) []

@@ -2,10 +2,11 @@
 // A case is a byte for the call, a byte for the degree, and numbers of eight bytes each, high byte first.
 #![tactic(auto)]
 
-ghost use Rattle.std.specs.Prelude.{◌≤◌, ◌<◌, ◌≡◌, get_or, length, take, IfOk};
+ghost use Rattle.std.specs.Prelude.{◌≤◌, ◌<◌, ◌≡◌, get_or, length, take, IfOk, IfErr};
 ghost use Rattle.std.specs.Io.{ReadsAtMost};
 ghost use Rattle.std.specs.Io.KnownBytes.{Appends, Consumes, IsAtEnd};
-ghost use Rattle.trial_text.specs.Cases.{four_bytes, eight_bytes, number_at, row_at, cut_short};
+ghost use Rattle.text.specs.Failures.{AppendsFront, ConsumesFront};
+ghost use Rattle.trial_text.specs.Cases.{four_bytes, eight_bytes, number_at, row_at, cut_short, cut_short_line};
 
 use std::io;
 use std::io::{Read, Write};
@@ -20,10 +21,11 @@ pub fn read_case<R: Read, W: Write>(
     ensures taken { IfOk result (λ n. Consumes (R.remaining input.old) (R.remaining input.new) (take n case.new)) }
     ensures end { IfOk result (λ n. n < length case.new → IsAtEnd (R.remaining input.new)) }
     ensures told { IfOk result (λ n. Appends (W.contents out.old) (W.contents out.new) (cut_short n (length case.new))) }
+    ensures failed { IfErr result (λ _. ConsumesFront (R.remaining input.old) (R.remaining input.new) case.new × AppendsFront (W.contents out.old) (W.contents out.new) cut_short_line) }
 {
     let n = text::read_full(input, case)?;
     if n > 0 && n < case.len() {
-        out.write_all(b"cut short\n")?;
+        text::write_whole(out, b"cut short\n")?;
     }
     Ok(n)
 }

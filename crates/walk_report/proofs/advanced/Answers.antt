@@ -1,6 +1,5 @@
 -- `advanced` meets its contract.
 use mathlib.Core.Path.{sym, ap, ◌∙◌}
-use borrow.Author.Rules.{rules}
 use Rattle.archive.proofs.ReaderSteps.{advance_found, advance_refused}
 use Rattle.walk_report.specs.Steps.{progress}
 use Rattle.walk_report.specs.declared.Report.{Report}

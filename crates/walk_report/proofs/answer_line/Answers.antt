@@ -1,6 +1,5 @@
 -- `answer_line` meets its contract.
 use mathlib.Core.Path.{ap₂}
-use borrow.Author.Rules.{rules}
 use Rattle.walk_report.specs.Steps.{line_answer}
 use Rattle.walk_report.specs.declared.Report.{Report}
 use Rattle.text.specs.declared.Line.{Line}

@@ -1,6 +1,5 @@
 -- `begin` meets its contract.
 use mathlib.Core.Path.{sym, ap, ◌∙◌}
-use borrow.Author.Rules.{rules}
 use Prim.Native.Nat.{ℕ}
 use Rattle.jacobian.specs.declared.Class.{Class}
 use Rattle.archive.specs.Reader.{read_header}

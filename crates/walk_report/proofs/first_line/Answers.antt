@@ -5,7 +5,6 @@ use Prim.Native.Nat.{ℕ}
 use lib.ListN.{take}
 use native.Mathlib.Omega.{arith}
 use lib.Seq.{length-take-le}
-use borrow.Author.Rules.{rules}
 use Rattle.text.specs.Line.{in_line}
 use Rattle.walk_report.specs.Lines.{first_line}
 use Rattle.walk_report.proofs.Advances.{take_min}

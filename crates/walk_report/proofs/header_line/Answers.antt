@@ -1,5 +1,4 @@
 -- `header_line` meets its contract.
-use borrow.Author.Rules.{rules}
 use Rattle.stored_form.specs.Record.{drawing_name}
 use Rattle.walk_report.proofs.header_line.Goals as goal
 

@@ -1,5 +1,4 @@
 -- `next_line` meets its contract.
-use borrow.Author.Rules.{rules}
 use Rattle.walk_report.specs.Steps.{next_of}
 use Rattle.walk_report.proofs.Advances.{line_staged}
 use Rattle.walk_report.proofs.next_line.Goals as goal

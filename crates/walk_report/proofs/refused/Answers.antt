@@ -1,6 +1,5 @@
 -- `refused` meets its contract.
 use mathlib.Core.Path.{ap₂}
-use borrow.Author.Rules.{rules}
 use Rattle.jacobian.specs.declared.Class.{Class}
 use Rattle.archive.specs.declared.Reader.{Reader}
 use Rattle.walk_report.specs.Steps.{report_at, progress, refused_report}

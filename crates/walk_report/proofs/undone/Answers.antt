@@ -1,6 +1,5 @@
 -- `undone` meets its contract.
 use mathlib.Core.Path.{ap}
-use borrow.Author.Rules.{rules}
 use Rattle.jacobian.specs.Answer.{Reply}
 use Rattle.walk_report.proofs.Advances.{undone_made}
 use Rattle.walk_report.proofs.undone.Goals as goal

@@ -2,7 +2,6 @@
 use mathlib.Core.Path.{ap, ◌∙◌}
 use Rattle.jacobian.specs.{Classes.same_class, Answer.Reply}
 use Rattle.walk_report.specs.Walk.{opposed}
-use borrow.Author.Rules.{rules}
 use Rattle.walk_report.proofs.letters.opposed.Goals as goal
 
 pub returns : goal.returns

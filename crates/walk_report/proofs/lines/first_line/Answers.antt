@@ -2,7 +2,6 @@
 use Rattle.walk_report.specs.Lines.{first_line}
 use Rattle.text.proofs.Appending.{then, then_none, then_same, laid}
 use Rattle.walk_report.proofs.LineParts.{part_none, part_some, first_short}
-use borrow.Author.Rules.{rules}
 use Rattle.walk_report.proofs.lines.first_line.Goals as goal
 
 pub returns-then-drawing-eq0 : goal.returns-then-drawing-eq0

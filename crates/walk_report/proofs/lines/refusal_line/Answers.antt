@@ -2,7 +2,6 @@
 use Rattle.walk_report.specs.Lines.{refusal_line}
 use Rattle.text.proofs.Appending.{then, laid}
 use Rattle.walk_report.proofs.LineParts.{refusal_line_short}
-use borrow.Author.Rules.{rules}
 use Rattle.walk_report.proofs.lines.refusal_line.Goals as goal
 
 pub returns : goal.returns

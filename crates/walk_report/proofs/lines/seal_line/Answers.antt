@@ -2,7 +2,6 @@
 use Rattle.walk_report.specs.Lines.{line}
 use Rattle.text.proofs.Appending.{then, laid}
 use Rattle.walk_report.proofs.LineParts.{seal_short}
-use borrow.Author.Rules.{rules}
 use Rattle.walk_report.proofs.lines.seal_line.Goals as goal
 
 pub returns : goal.returns
