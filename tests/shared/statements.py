@@ -149,8 +149,11 @@ def on_a_case(said):
     return set(filter(re.compile(r"(?:If|On|Match)[A-Z]\w*|(?:Reads|Writes)AtMost").fullmatch, words(said)))
 
 
-def is_equation_on_ok(said):
-    """Is what is said of a result an equation for its value, where it has one?"""
+def is_equation_on_ok(said, value):
+    """Is what is said of a result with such a value, where it has one, an equation for it; of one that has no value, an
+    equation for what was written?"""
+    if value == "()":
+        return bool(re.fullmatch(r"OnOk result \(Appends \(W\.contents out\.old\) \(W\.contents out\.new\) [^λ→]*\)", said))
     return bool(re.fullmatch(r"IfOk result \(λ (\w+)\. \1 ≡ [^λ→≡]*\)", said))
 
 
