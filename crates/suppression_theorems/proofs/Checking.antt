@@ -4,7 +4,7 @@
 -- `suppress_wrote_or_refused`: it wrote into an output with room, or refused with a listed number and changed no byte.
 -- `suppress_decides`: its member `refusal` alone decides which of the two.
 -- `same_answer`, `same_bytes`: neither the answer nor a byte written depends on what the output held.
-use Prim.Native.Nat.{ℕ, zero, suc, ◌+◌, ◌-◌, ◌≤◌}
+use Prim.Native.Nat.{ℕ, zero, suc, ◌+◌, ◌≤◌}
 use mathlib.Core.Path.{◌≡◌, refl, sym, ap, ◌∙◌, subst}
 use mathlib.Core.Bool.{Bool, true, false, true≢false, not, ◌&&◌}
 use mathlib.Core.List.{List, [], ◌∷◌, ◌++◌}

@@ -16,7 +16,7 @@ use mathlib.Core.Bool.{Bool, true, false}
 use mathlib.Core.List.{List, reverse}
 use native.Mathlib.Omega.{arith}
 use lib.Dec.{leb}
-use lib.ListN.{length, get_or, drop}
+use lib.ListN.{length, drop}
 use lib.Seq.{take-append_seam}
 use borrow.Author.Tests.{leb-true, leb-false}
 use Rattle.jacobian.specs.{Answer.neutral_class, Group.difference, Group.doublings, declared.Class.Class}

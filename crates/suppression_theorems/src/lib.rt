@@ -1,1 +1,3 @@
+#![tactic(auto)]
+
 // Theorems on the call that suppresses an operation; no code.

@@ -28,4 +28,4 @@ joined_rows-requires c =
 pub returns : goal.returns
 returns c =
     let d = c.args.d in let I = c.bezout-first.ensures in let n = places_len _ c.length-n.ensures d I.g_range in
-    coprime_stands d c.requires.1 c.requires.2 I c.sum_rows-sum.ensures (omega (arith, n, c.if-n-ne1.false)) c.product_rows-m.ensures c.joined_rows.ensures
+    coprime_stands d c.requires.1 c.requires.2 I c.sum_rows-sum.ensures (omega (arith, n)) c.product_rows-m.ensures c.joined_rows.ensures
