@@ -1,7 +1,7 @@
 /* Compares two variants of a model that differ in one operation: seals both, and works out from the change alone how
  * far the seal of the one has to move to be that of the other.
  *
- *     rt staticlib seal
+ *     tests/build seal
  *     cc -Iinclude -o compare_variants examples/compare_variants.c target/staticlib/libseal.a
  *     ./compare_variants
  *

@@ -1,6 +1,6 @@
 /* Prints multiples of a class, and goes from the class to a multiple and back by halvings.
  *
- *     rt staticlib seal_licence
+ *     tests/build seal_licence
  *     cc -Iinclude -o licence_numbers examples/licence_numbers.c target/staticlib/libseal_licence.a
  *     ./licence_numbers             # seven numbers, of which the last is too large
  *     ./licence_numbers 7 1000      # or these

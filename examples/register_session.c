@@ -1,7 +1,7 @@
 /* Keeps one register for a session: commits in place, meets a refusal, undoes, and walks back over the row of the
  * classes that it kept.
  *
- *     rt staticlib seal_register
+ *     tests/build seal_register
  *     cc -Iinclude -o register_session examples/register_session.c target/staticlib/libseal_register.a
  *     ./register_session
  *

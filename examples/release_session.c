@@ -2,8 +2,7 @@
  * the undo behind the release is refused, of which the user is told. Then the model is stored with its released step
  * and goes on by bytes.
  *
- *     rt staticlib seal
- *     rt staticlib seal_register
+ *     tests/build seal seal_register
  *     cc -Iinclude -o release_session examples/release_session.c target/staticlib/libseal.a \
  *         target/staticlib/libseal_register.a
  *     ./release_session

@@ -1,6 +1,6 @@
 /* Seals a model: commits three operations, undoes them, and prints the register after each call.
  *
- *     rt staticlib seal
+ *     tests/build seal
  *     cc -Iinclude -o seal_model examples/seal_model.c target/staticlib/libseal.a
  *     ./seal_model                  # the first seal is neutral
  *     ./seal_model 2:0,1:1,1        # or a given class, here [x^2 + 1, x + 1]

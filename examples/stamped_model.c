@@ -1,7 +1,7 @@
 /* Seals a model whose operations are known by stamps: makes the class of each, commits them, undoes them, and prints
  * the register after each call.
  *
- *     rt staticlib seal
+ *     tests/build seal
  *     cc -Iinclude -o stamped_model examples/stamped_model.c target/staticlib/libseal.a
  *     ./stamped_model               # three operations
  *     ./stamped_model 20 30 40      # or up to sixteen with these stamps

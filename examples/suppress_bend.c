@@ -1,6 +1,6 @@
 /* Switches off an operation in the middle of an archive and keeps the later ones, or says why it stays.
  *
- *     rt staticlib seal_archive
+ *     tests/build seal_archive
  *     cc -Iinclude -o suppress_bend examples/suppress_bend.c target/staticlib/libseal_archive.a
  *     ./suppress_bend examples/bends.bin 2                 # a bend with a hole beside it, which holds it
  *     ./suppress_bend examples/bends.bin 3                 # the other bend: prints the old seal and the new one

@@ -2,7 +2,7 @@
  *
  * To build and link (x86-64 Linux, nothing else is linked):
  *
- *     rt staticlib seal
+ *     tests/build seal
  *     cc -Iinclude model.c target/staticlib/libseal.a
  *
  * Stored form. A field has a tag of one byte, its body's length in two bytes, and the body. Numbers are stored high

@@ -2,7 +2,7 @@
  *
  * To build and link (x86-64 Linux, nothing else is linked):
  *
- *     rt staticlib seal_archive
+ *     tests/build seal_archive
  *     cc -Iinclude model.c target/staticlib/libseal_archive.a
  *
  * It may be linked together with the libraries of seal.h, seal_register.h and seal_licence.h.

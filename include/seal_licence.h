@@ -3,7 +3,7 @@
  *
  * To build and link (x86-64 Linux, nothing else is linked):
  *
- *     rt staticlib seal_licence
+ *     tests/build seal_licence
  *     cc -Iinclude licence.c target/staticlib/libseal_licence.a
  *
  * It may be linked together with the libraries of seal.h, seal_register.h and seal_archive.h.

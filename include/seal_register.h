@@ -3,7 +3,7 @@
  *
  * To build and link (x86-64 Linux, nothing else is linked):
  *
- *     rt staticlib seal_register
+ *     tests/build seal_register
  *     cc -Iinclude model.c target/staticlib/libseal_register.a
  *
  * A commit, an undo or a release answers 0 where it is accepted, and the register is then the one that follows. Else

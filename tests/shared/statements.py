@@ -60,7 +60,7 @@ def declarations(text):
 
 
 def words(said):
-    return set(re.findall(r"[^\s(){}\[\],;⌜⌝]+", said))
+    return set(re.findall(r"[^\s(){}\[\],;]+", said))
 
 
 def read(path):
@@ -71,7 +71,7 @@ def read(path):
 def place(full, kind):
     """The file of some crate's folder (`specs` or `proofs`) that an import leads to, and the name that it takes from
     there."""
-    m = re.match(rf"Rattle·([^.·]+)(?:·{kind}\.{kind}|\.{kind})\.(.+)$", full)
+    m = re.match(rf"Rattle\.([^.]+)\.{kind}\.(.+)$", full)
     parts = m[2].split(".") if m else []
     for n in range(len(parts), 0, -1):
         path = f"crates/{m[1]}/{kind}/{'/'.join(parts[:n])}.antt"
@@ -87,6 +87,18 @@ def bound(said):
     return {n for b in binders for n in b.split()}
 
 
+def clauses(head):
+    """The clauses of a function's head: whether each is a `requires` or an `ensures`, and what it says. Nothing where
+    one of them is not read."""
+    found = re.findall(r"^\s*(requires|ensures)(?: \w+)? \{ (.*) \}$", head, re.M)
+    return found if len(found) == len(re.findall(r"\b(?:requires|ensures)\b", head)) else []
+
+
+def contracts(text):
+    """The lines of a file of code that are no code: clauses and ghost items, but no imports."""
+    return "\n".join(re.findall(r"^\s*(?:requires|ensures|invariant|decreases|ghost (?!use\b)).*", text, re.M))
+
+
 def hidden(name, text):
     """The words of the statement of a theorem that lead to a declaration under proofs/: imported from there, or
     another one of its own file. A name that the statement binds leads nowhere."""
@@ -95,7 +107,7 @@ def hidden(name, text):
     for word in words(own[name][0]):
         if word.split(".")[0] in binds:
             continue
-        for w in (word, word.split(".")[0], f"_{word}_"):
+        for w in (word, word.split(".")[0], f"◌{word}◌"):
             if (w in own and w != name) or (w in names and place(names[w], "proofs")[0]):
                 found.add(word)
     return found
@@ -132,10 +144,23 @@ def cases(name, held):
     return re.findall(rf"^{re.escape(name)}\b.*? = (.*)", held, re.M)
 
 
+def on_a_case(said):
+    """The words of what is said that the toolchain's library has for what holds of one case of a result alone."""
+    return set(filter(re.compile(r"(?:If|On|Match)[A-Z]\w*|(?:Reads|Writes)AtMost").fullmatch, words(said)))
+
+
+def is_equation_on_ok(said, value):
+    """Is what is said of a result with such a value, where it has one, an equation for it; of one that has no value, an
+    equation for what was written?"""
+    if value == "()":
+        return bool(re.fullmatch(r"OnOk result \(Appends \(W\.contents out\.old\) \(W\.contents out\.new\) [^λ→]*\)", said))
+    return bool(re.fullmatch(r"IfOk result \(λ (\w+)\. \1 ≡ [^λ→≡]*\)", said))
+
+
 def is_equation(said, names, held=""):
     """Is what is said an equation, or a record of specs/ whose first field is one, or a type that is so in each case?"""
     if " ≡ " in said and "→" not in said:
-        return True
+        return not on_a_case(said)
     name = said.split(" ")[0]
     if name in names:
         path, name = place(names[name], "specs")
@@ -149,9 +174,9 @@ def is_equation(said, names, held=""):
 
 
 def conditions(ensures, text):
-    """What an `ensures` promises under a condition: an arrow of its own, or a record of specs/ with an arrow in a
-    field, which it names, or which is named by a type that it names."""
-    found = {"→"} if "→" in ensures else set()
+    """What an `ensures` promises under a condition: an arrow of its own, a word for one case of a result, or a record
+    of specs/ with an arrow in a field, which it names, or which is named by a type that it names."""
+    found = on_a_case(ensures) | ({"→"} if "→" in ensures else set())
     names = imports(text)
     for word in words(ensures):
         path, name = place(names.get(word, ""), "specs")

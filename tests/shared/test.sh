@@ -52,26 +52,14 @@ reference() { # PROGRAM WORD..
     cargo run --quiet --release --offline --manifest-path reference/Cargo.toml --bin "$program" -- "$@"
 }
 
-# Builds target/staticlib/libNAME.a where something that it is made of is newer, one at a time and once in a run of
-# tests/run, whose tests have the folder TESTS_BUILT in common.
-library() { # NAME
-    local built=${TESTS_BUILT:-$room} file=target/staticlib/lib$1.a
-    (
-        flock 9
-        [ -e "$built/$1" ] && exit
-        if ! [ -e "$file" ] || [ -n "$(find crates crates.txt -newer "$file" -print -quit)" ]; then
-            rt staticlib "$1" || exit
-        fi
-        : >"$built/$1"
-    ) 9>"$built/lock"
+# Proves and builds libraries for C and programs by tests/build, and prints what that said where it failed.
+build() { # NAME..
+    tests/build "$@" >"$room/built" 2>&1 || { cat "$room/built" && return 1; }
 }
 
-# Builds the libraries that a test needs; the test ends, without its counts, where one cannot be built.
+# Builds the libraries and programs that a test needs; the test ends, without its counts, where one cannot be built.
 needs() { # NAME..
-    local name
-    for name in "$@"; do
-        library "$name" >"$room/built" 2>&1 || { cat "$room/built" && exit 1; }
-    done
+    build "$@" || exit 1
 }
 
 # Builds a C program of sources and of libraries, which come last, with gcc's checks of addresses and of undefined
