@@ -6,7 +6,6 @@ use Rattle.stored_form.specs.declared.Record.{Record}
 use Rattle.stored_form.proofs.{Readings.then_found, Readings.then_refused, Readers.offset_found, Readers.offset_refused_as}
 use Rattle.archive.specs.declared.Expected.{Expected}
 use Rattle.archive.specs.Reader.{reader, read_header, advance_of}
--- the fields
 use Rattle.archive.proofs.read_header.Goals as goal
 
 pub returns-in_default : goal.returns-in_default

@@ -6,7 +6,6 @@ use Rattle.stored_form.specs.Reader.{header_layout, read_field, read_of}
 use Rattle.stored_form.proofs.Readers.{offset_found, offset_refused_as}
 use Rattle.archive.specs.Reader.{read_header_field, advance_of}
 use Rattle.archive.proofs.ReaderSteps.{step_refused, step_found}
--- the field
 use Rattle.archive.proofs.read_header_field.Goals as goal
 
 pub returns-in_default : goal.returns-in_default

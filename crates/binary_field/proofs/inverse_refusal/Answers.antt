@@ -6,7 +6,6 @@ use borrow.Author.Tests.{lt-ltb}
 use Rattle.binary_field.specs.{Checks.unless, Answer.inverse_refusal}
 use Rattle.binary_field.proofs.Checks.{first_due, next_due}
 use Rattle.binary_field.proofs.Replies.{refusal_twice}
--- the element 0
 use Rattle.binary_field.proofs.inverse_refusal.Goals as goal
 
 pub returns-then-a-eq0 : goal.returns-then-a-eq0

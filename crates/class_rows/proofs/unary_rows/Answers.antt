@@ -1,7 +1,6 @@
 -- `unary_rows` meets its contract.
 use borrow.Author.Tests.{not-true, not-false}
 use Rattle.class_rows.proofs.{Tests.Sized, Tests.sized, Answers.unary_refused, Answers.unary_given}
--- the rows given have twelve numbers each
 use Rattle.class_rows.proofs.unary_rows.Goals as goal
 
 pub returns-then-not-check : goal.returns-then-not-check

@@ -5,9 +5,9 @@ use borrow.Author.Tests.{eq-eqb, ne_eqb}
 use Rattle.count_limit.specs.Limit.{count_limit}
 use Rattle.history.specs.Register.{edge_refusal}
 use Rattle.history.specs.declared.{Step.Step, Step.TheVariants.Commit, Step.TheVariants.Undo}
--- the refusal of a step that is known to be this one
 use Rattle.history.proofs.edge_refusal.Goals as goal
 
+-- the refusal of a step that is known to be this one
 known : (k j : Step) (n released : ℕ) {m : ℕ} → k ≡ j → edge_refusal j n released ≡ m → m ≡ edge_refusal k n released
 known k j n released is e = sym (ap (λ i. edge_refusal i n released) is ∙ e)
 

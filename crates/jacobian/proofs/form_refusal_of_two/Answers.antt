@@ -3,9 +3,9 @@ use Prim.Native.Nat.{ℕ}
 use mathlib.Core.Path.{◌≡◌, refl, sym, ◌∙◌}
 use Rattle.jacobian.specs.{Answer.refusal, Answer.refusal_of_two, internal.Refusals.FormRefusalOfTwo, declared.Curve.Curve, declared.Class.Class}
 use Rattle.jacobian.proofs.{ByValue.Checks.then_zero, ByValue.Checks.first_due, ByValue.Checks.next_due, ByValue.Checks.curve_passes, ByValue.Refusals.class_first, ByValue.Refusals.form_first}
--- a refusal other than 0
 use Rattle.jacobian.proofs.form_refusal_of_two.Goals as goal
 
+-- a refusal other than 0
 refuses : {c : Curve} {a b : Class} {n : ℕ} → ¬ (n ≡ 0) → n ≡ refusal_of_two c a b → FormRefusalOfTwo c a b n
 refuses h e = record { refused = λ _. e; none = λ z. absurd (h z) }
 

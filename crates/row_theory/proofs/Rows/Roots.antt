@@ -5,7 +5,7 @@ use native.Mathlib.Omega.{arith}
 use Rattle.field_laws.specs.Field.{Field2}
 use Rattle.char2_algebra.specs.{Polynomials.Polynomials, Square.tail, Square.sqrt_to, Square.sqrt}
 use Rattle.char2_algebra.proofs.{Degree.coeff_zero, Degree.coeff_tail, Degree.len_tail, Degree.coeff_con_add_x_mul, Degree.coeff_con_add_x_mul_suc}
-use Rattle.char2_algebra.proofs.Square.{root_zero}
+pub use Rattle.char2_algebra.proofs.Square.{root_zero}
 
 module _ {K P : Type 0} {F : Field2 K} (A : Polynomials F P) where
   open A use {coeff, len}

@@ -4,7 +4,6 @@ use mathlib.Core.Path.{◌≡◌, sym, ap, ◌∙◌}
 use Rattle.stored_form.specs.{Reading.found, Reading.checked, Fields.ended, Record.empty_record, Reader.read_fields, Reader.read_record, Reader.read_of}
 use Rattle.stored_form.specs.declared.Record.{Record}
 use Rattle.stored_form.proofs.{Readings.then_found, Readings.then_refused, Readers.offset_found, Readers.offset_refused}
--- the fields
 use Rattle.stored_form.proofs.read_record.Goals as goal
 
 pub returns-in_default : goal.returns-in_default

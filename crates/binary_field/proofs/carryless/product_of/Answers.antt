@@ -4,9 +4,9 @@ use Prim.Native.Nat.{ℕ, ◌^◌, ◌<◌}
 use native.Mathlib.Omega.{arith}
 use Rattle.binary_field_theory.specs.{Carryless.remainder, Element.Accepted, Element.low, Element.product}
 use Rattle.binary_field_theory.proofs.{Degrees.other_degree, Words.Sizes.elements_lt}
--- ---- over GF(2^5)
 use Rattle.binary_field.proofs.carryless.product_of.Goals as goal
 
+-- ---- over GF(2^5)
 short : {a d : ℕ} → d ≡ 5 → a < 2 ^ d → a < 2 ^ 5
 short {a} e h = rw e at h
 

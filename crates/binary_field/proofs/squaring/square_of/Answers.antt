@@ -4,9 +4,9 @@ use native.Mathlib.Nat.{lt_of_lt_of_le}
 use lib.{Bits.mask_lt, Dec.lit≤}
 use Rattle.binary_field_theory.specs.{Carryless.remainder, Element.low}
 use Rattle.binary_field_theory.proofs.{Degrees.other_degree, Products.square_spread, Spread.spread_lt, Words.Halves.spread_words}
--- ---- over GF(2^5)
 use Rattle.binary_field.proofs.squaring.square_of.Goals as goal
 
+-- ---- over GF(2^5)
 pub fold_5-requires : goal.fold_5-requires
 fold_5-requires c =
     rw c.spread_32.ensures (spread_lt 5 _ (rw c.if-d-eq5.true at c.requires.1))

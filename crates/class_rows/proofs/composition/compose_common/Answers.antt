@@ -2,7 +2,6 @@
 use native.Mathlib.Omega.{arith}
 use Rattle.class_rows.proofs.DoubleRows.{reduced_semi}
 use Rattle.class_rows.proofs.ComposeRows.{Common, sum_len, third_len, divisor_len, cofactor_short, sum_short, first_short, second_s_short, second_t_short, e_nonzero, part₁_short, part₂_short, part₁_nonzero, part₂_nonzero, common_stands}
--- the function's entry, from the second use of Euclid's rule
 use Rattle.class_rows.proofs.composition.compose_common.Goals as goal
 
 pub sum_rows-c-requires : goal.sum_rows-c-requires

@@ -6,7 +6,6 @@ use Rattle.row_theory.specs.Field.{𝔸}
 use Rattle.row_theory.proofs.Rows.Length.{places_len}
 use Rattle.class_rows.specs.internal.Check.{FormedRows}
 use Rattle.class_rows.proofs.{CheckRows.decides_not, CheckRows.decides_false, CheckRows.formed_divisor, CheckRows.division_decides, ReductionRows.cofactor_row}
--- all that is checked before the division
 use Rattle.class_rows.proofs.divisor.checked.Goals as goal
 
 pub returns-then-not-in_form : goal.returns-then-not-in_form

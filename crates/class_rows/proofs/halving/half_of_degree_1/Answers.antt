@@ -3,7 +3,6 @@
 use native.Mathlib.Omega.{arith}
 use Rattle.row_theory.proofs.HalfRows.{Rows.quadratic_fits, Rows.quartic_fits, Computed1.Computed1, Computed1.root_nonzero_1, Computed1.result_1}
 use Rattle.class_rows.proofs.ReductionRows.{stands_pair_eq}
--- the states after the roots, and at the entry
 use Rattle.class_rows.proofs.halving.half_of_degree_1.Goals as goal
 
 pub lifted_row-p-requires : goal.lifted_row-p-requires

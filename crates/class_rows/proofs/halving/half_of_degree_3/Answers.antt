@@ -4,7 +4,6 @@ use native.Mathlib.Omega.{arith}
 use Rattle.row_theory.proofs.HalfRows.{Rows.quadratic_fits, Lifted3.Lifted3, Lifted3.root_len, Lifted3.result_3}
 use Rattle.row_theory.proofs.HalfRows.Computed3.{Computed3, first_lift_short, root_nonzero_3_square, result_3_square}
 use Rattle.class_rows.proofs.ReductionRows.{stands_pair_eq, pair_stands}
--- the states at the entry, and after the first lift and its root
 use Rattle.class_rows.proofs.halving.half_of_degree_3.Goals as goal
 
 pub exchanged_row-o-requires : goal.exchanged_row-o-requires

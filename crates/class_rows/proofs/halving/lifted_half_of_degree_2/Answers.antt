@@ -4,7 +4,6 @@ use native.Mathlib.Omega.{arith}
 use Rattle.row_theory.proofs.Rows.Elements.{one_lt}
 use Rattle.row_theory.proofs.HalfRows.{Rows.quadratic_fits, Rows.quartic_fits, Computed2.Computed2, Computed2.root_nonzero_2, Computed2.result_2}
 use Rattle.class_rows.proofs.ReductionRows.{stands_pair_eq}
--- the states after the rows of k and m, after the roots, and at the entry
 use Rattle.class_rows.proofs.halving.lifted_half_of_degree_2.Goals as goal
 
 pub quartic_row-m-requires : goal.quartic_row-m-requires

@@ -1,7 +1,6 @@
 -- `row::monic` meets its contract. The leading number becomes 1 without a product.
 use native.Mathlib.Omega.{arith}
 use Rattle.row_theory.proofs.Rows.{Lead.leads_at, Lead.low_range, Monic.monic_already, Monic.monic_made}
--- the leading number has index top
 use Rattle.class_rows.proofs.row.monic.Goals as goal
 
 pub leading-first-requires : goal.leading-first-requires

@@ -15,7 +15,7 @@ overflow_sub-number c =
     let e : c.loop-i.i ≡ suc (c.loop-i.i - 1) = omega (arith, c.loop-i-test.true) in
     let turn : (b : Bytes c.args.s.now) (p : AtPairs c.args.s.now c.args.first c.args.n c.args.begin c.args.m) → HeldSoFar b p c.args.k c.loop-i.at c.loop-i.number (suc (c.loop-i.i - 1)) =
     λ b p. subst (HeldSoFar b p c.args.k c.loop-i.at c.loop-i.number) e (c.loop-i.invariant b p) in
-    let b : Bytes c.args.s.now = λ i. (c.shared_slice_known-1.given i).fits in
+    let b : Bytes c.args.s.now = λ i. (c.type_inv.s i).fits in
     later_low _ _ _ (turn b c.requires) c.pair_at-p.ensures
 
 pub returns-then-holds : goal.returns-then-holds
@@ -23,7 +23,7 @@ returns-then-holds c =
     let e : c.loop-i.i ≡ suc (c.loop-i.i - 1) = omega (arith, c.loop-i-test.true) in
     let turn : (b : Bytes c.args.s.now) (p : AtPairs c.args.s.now c.args.first c.args.n c.args.begin c.args.m) → HeldSoFar b p c.args.k c.loop-i.at c.loop-i.number (suc (c.loop-i.i - 1)) =
     λ b p. subst (HeldSoFar b p c.args.k c.loop-i.at c.loop-i.number) e (c.loop-i.invariant b p) in
-    let b : Bytes c.args.s.now = λ i. (c.shared_slice_known-1.given i).fits in
+    let b : Bytes c.args.s.now = λ i. (c.type_inv.s i).fits in
     held_found _ _ _ (turn b c.requires) c.pair_at-p.ensures c.skip_fields-at.ensures (sym c.holds.ensures ∙ c.if-holds.true)
 
 pub loop-i-preserved : goal.loop-i-preserved
@@ -37,5 +37,5 @@ loop-i-preserved c =
 pub returns : goal.returns
 returns c =
     let e : c.loop-i.i ≡ 0 = omega (arith, c.loop-i-test.false) in
-    let b : Bytes c.args.s.now = λ i. (c.shared_slice_known-1.given i).fits in
+    let b : Bytes c.args.s.now = λ i. (c.type_inv.s i).fits in
     held_none b c.requires _ (subst (HeldSoFar b c.requires _ _ _) e (c.loop-i.invariant b c.requires))

@@ -8,7 +8,7 @@ use Rattle.seal_archive.proofs.suppress.put_suppressed.Goals as goal
 
 pub returns : goal.returns
 returns c =
-    let b : Bytes c.args.s.now = λ i. (c.shared_slice_known-1.given i).fits in
+    let b : Bytes c.args.s.now = λ i. (c.type_inv.s i).fits in
     let at_operation = c.skip_fields-operation.ensures in let bytes = ap (λ (r : Response). r.bytes) (c.new_seal-o.ensures ∙ new_seal_field b c.requires at_operation) in
     let copied = c.both_replaced.ensures in copied.0
     ∙ both_written b c.requires c.skip_fields-seal.ensures at_operation c.next_field-next.ensures _ _ copied.1 bytes _ refl

@@ -21,7 +21,7 @@ decode_number-requires c =
 
 pub overflow_cast-decode_number : goal.overflow_cast-decode_number
 overflow_cast-decode_number c =
-    record { fits = byte_fits c.args.s.now (λ i. (c.shared_slice_known-1.given i).fits) c.args.at (is_degree_length _ (allowed c.args.tag c.args.len c.args.h c.requires.0 c.if-tag-eq-DEGREE.true)) c.decode_number.ensures }
+    record { fits = byte_fits c.args.s.now (λ i. (c.type_inv.s i).fits) c.args.at (is_degree_length _ (allowed c.args.tag c.args.len c.args.h c.requires.0 c.if-tag-eq-DEGREE.true)) c.decode_number.ensures }
 
 pub returns-then-tag-eq-DEGREE : goal.returns-then-tag-eq-DEGREE
 unfolding rules

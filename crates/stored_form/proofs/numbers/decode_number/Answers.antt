@@ -14,14 +14,14 @@ loop-i-init c = search rules
 pub overflow_mul-n : goal.overflow_mul-n
 overflow_mul-n c = omega (
   arith,
-  (turn_fits c.args.s.now (λ i. (c.shared_slice_known-1.given i).fits) c.args.at c.args.k _ _
+  (turn_fits c.args.s.now (λ i. (c.type_inv.s i).fits) c.args.at c.args.k _ _
       c.requires.0 c.requires.1 c.loop-i-test.true c.loop-i.invariant.1),
 )
 
 pub overflow_add-n : goal.overflow_add-n
 overflow_add-n c = omega (
   arith,
-  (turn_fits c.args.s.now (λ i. (c.shared_slice_known-1.given i).fits) c.args.at c.args.k _ _
+  (turn_fits c.args.s.now (λ i. (c.type_inv.s i).fits) c.args.at c.args.k _ _
       c.requires.0 c.requires.1 c.loop-i-test.true c.loop-i.invariant.1),
   c.wide.ensures,
 )

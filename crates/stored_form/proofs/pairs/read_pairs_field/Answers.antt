@@ -5,7 +5,6 @@ use native.Mathlib.Omega.{arith}
 use Rattle.stored_form.specs.{Reading.reading_refusal, Reader.read_head_by, Reader.head_reading, Pairs.pairs_length, Pairs.offset_of}
 use Rattle.stored_form.proofs.{Readings.refused_number, Readings.checked_some, Readings.checked_none, Heads.head_by_length}
 use Rattle.stored_form.proofs.PairBytes.{field_cut, field_asks, field_checked}
--- the head that was read, with whatever length
 use Rattle.stored_form.proofs.pairs.read_pairs_field.Goals as goal
 
 pub returns-in_default : goal.returns-in_default
