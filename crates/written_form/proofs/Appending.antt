@@ -6,10 +6,10 @@
 -- `append_over`: after a range that does not fit, no range fits.
 use Prim.Native.Nat.{ℕ, ◌+◌, ◌-◌, ◌≤◌, ◌<◌}
 use mathlib.Core.Path.{◌≡◌, refl, sym, ap, ap₂, ◌∙◌}
-use mathlib.Core.{Bool.Bool, Bool.true, Bool.false, Bool.cond, Bool.◌&&◌, List.List, List.◌++◌, List.append_assoc}
+use mathlib.Core.{Bool.Bool, Bool.true, Bool.false, Bool.cond, Bool.◌&&◌, List.List, List.[], List.◌++◌, List.append-nil, List.append_assoc}
 use native.Mathlib.Omega.{arith}
-use lib.{Dec.leb, ListN.length, ListN.take, ListN.drop, ListN.length-append, ListN.length-drop}
-use lib.Seq.{drop-drop, take-append_seam, drop-append_seam}
+use lib.{Dec.leb, ListN.length, ListN.take, ListN.drop, ListN.drop_of_length-le, ListN.length-append, ListN.length-drop}
+use lib.Seq.{take-length, drop-drop, take-append_seam, drop-append_seam}
 use borrow.Author.Tests.{le-leb, lt-leb}
 use Rattle.stored_form.specs.Number.{part}
 use Rattle.stored_form.proofs.Parts.{length_part}
@@ -44,12 +44,18 @@ module _ (s : List ℕ) (start end : ℕ) (out : List ℕ) (at : ℕ) where
   append_fits h k l = rw (all_fits _ _ _ _ _ h k l)
 
   -- as the code copies it: from a part of the source to a part of the output of the same length
-  pub append_copied : start ≤ end → end ≤ length s → at + (end - start) ≤ length out → {copied : List ℕ} → let n = end - start in
-      copied ≡ part s start n → effect (at + n) (take at out ++ (copied ++ drop (at + n - at) (drop at out))) ≡ append s start end (effect at out)
-  append_copied h k l e =
+  pub append_copied : start ≤ end → end ≤ length s → (l : at + (end - start) ≤ length out) → {copied : List ℕ} → let n = end - start in let m = at + n - at in
+      copied ≡ take (length (part s start n)) (part s start n) ++ drop (length (part s start n)) (part out at m)
+      → effect (at + n) (take at out ++ (copied ++ drop m (drop at out))) ≡ append s start end (effect at out)
+  append_copied h k l {copied} e =
       let n = end - start in
+      let X = part s start n in
       let same : at + n - at ≡ n = omega arith in
-      rw (e, same, drop-drop) (sym (append_fits h k l))
+      let long : length X ≡ n = length_part s start n (omega arith) in
+      let own : length (part out at n) ≡ n = length_part out at n l in
+      let rest : drop (length X) (part out at n) ≡ [] = drop_of_length-le (part out at n) {i = length X} (omega arith) in
+      let all : copied ≡ X = e ∙ rw (same, take-length X, rest, append-nil) in
+      rw (all, same, drop-drop) (sym (append_fits h k l))
 
 -- ---- ranges one after the other
 

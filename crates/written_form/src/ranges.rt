@@ -1,7 +1,19 @@
 // Ranges of bytes, appended to the lent output one after the other.
-ghost use Rattle.std.specs.Prelude.{◌≡◌};
+ghost use Rattle.std.specs.Prelude.{◌≡◌, ◌≤◌, ◌++◌, length, drop};
 ghost use Rattle.written_form.specs.Effect.{effect};
 ghost use Rattle.written_form.specs.Ranges.{append};
+
+// Copies a source to the front of an output that has room for it.
+fn copy(source: &[u8], output: &mut [u8])
+    requires { length source.now ≤ length output.old }
+    ensures { output.new ≡ source.now ++ drop (length source.now) output.old }
+{
+    let mut i = 0;
+    while i < source.len() {
+        output[i] = source[i];
+        i += 1;
+    }
+}
 
 // Copies the bytes of a source from start to end to an offset in the output, and answers the offset after them.
 // If they do not fit, no byte changes and the answer is the output's length plus 1, after which no range fits.
@@ -22,6 +34,6 @@ pub fn append(source: &[u8], start: usize, end: usize, output: &mut [u8], at: us
         return room + 1;
     }
     let next = at + (end - start);
-    output[at..next].copy_from_slice(&source[start..end]);
+    copy(&source[start..end], &mut output[at..next]);
     next
 }

@@ -1,7 +1,17 @@
 -- `ranges::append` meets its contract.
+use mathlib.Core.Path.{◌≡◌, sym, ap, ◌∙◌}
+use mathlib.Core.List.{List, ◌++◌}
 use native.Mathlib.Omega.{arith}
+use Prim.Native.Nat.{ℕ, ◌+◌, ◌-◌}
+use lib.ListN.{length, take, drop}
+use lib.Seq.{take-length}
 use Rattle.written_form.proofs.Appending.{ends_first, source_short, output_short, append_outside, append_copied}
+use Rattle.stored_form.specs.Number.{part}
 use Rattle.written_form.proofs.ranges.append.Goals as goal
+
+-- a row is the front of itself of its length
+whole_front : (row rest : List ℕ) {all : List ℕ} → all ≡ row ++ rest → all ≡ take (length row) row ++ rest
+whole_front row rest e = e ∙ ap (λ (l : List ℕ). l ++ rest) (sym (take-length row))
 
 pub returns-then-end-start : goal.returns-then-end-start
 returns-then-end-start c = append_outside _ _ _ _ _ (ends_first _ _ _ _ _ c.if-end-start.true)
@@ -16,4 +26,8 @@ pub returns-then-room-at-2 : goal.returns-then-room-at-2
 returns-then-room-at-2 c = append_outside _ _ _ _ _ (output_short _ _ _ _ _ (omega arith) (omega arith) (omega arith))
 
 pub returns : goal.returns
-returns c = append_copied _ _ _ _ _ (omega arith) (omega arith) (omega arith) c.copy_from_slice.ensures.after
+returns c =
+    let n = c.args.end - c.args.start in
+    let row = part c.args.source.now c.args.start n in
+    let rest = drop (length row) (part c.args.output.now c.args.at (c.args.at + n - c.args.at)) in
+    append_copied _ _ _ _ _ (omega arith) (omega arith) (omega arith) (whole_front row rest c.copy.ensures)
