@@ -16,14 +16,14 @@ use Rattle.binary_field.proofs.RefusalOf.{refusal_unless, refusal_or_else}
 
 -- ---- the tests
 
-and-true : (x y : Bool) → (x && y) ≡ true → (x ≡ true) × (y ≡ true)
-and-true true y e = (refl, e)
-and-true false y e = absurd (true≢false (sym e))
+and_true : (x y : Bool) → (x && y) ≡ true → (x ≡ true) × (y ≡ true)
+and_true true y e = (refl, e)
+and_true false y e = absurd (true≢false (sym e))
 
 below_all : (m : ℕ) (ns : List ℕ) → below m ns ≡ true → Below m ns
 unfolding below
 below_all m [] e = none
-below_all m (n ∷ ns) e = let h = and-true (ltb n m) (below m ns) e in more (ltb-true n m h.0) (below_all m ns h.1)
+below_all m (n ∷ ns) e = let h = and_true (ltb n m) (below m ns) e in more (ltb-true n m h.0) (below_all m ns h.1)
 
 all_below : (m : ℕ) {ns : List ℕ} → Below m ns → below m ns ≡ true
 unfolding below

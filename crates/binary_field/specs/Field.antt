@@ -25,11 +25,11 @@ module _ (d : ℕ) (ok : Accepted d) where
         is_set = hedberg (Fin-discrete (2 ^ d));
         add_comm = λ x y. element_path d (Sums.sum_comm x.0 y.0);
         add_assoc = λ x y z. element_path d (Sums.sum_assoc x.0 y.0 z.0);
-        add-zero = λ x. element_path d (Sums.sum_zero x.0);
+        add_zero = λ x. element_path d (Sums.sum_zero x.0);
         add_self = λ x. element_path d (Sums.sum_self x.0);
         mul_comm = λ x y. element_path d (Products.product_comm d x.0 y.0);
         mul_assoc = λ x y z. element_path d (Products.product_assoc d (low_lt d ok) x.0 y.0 z.0);
-        mul-one = λ x. element_path d (Products.product_one d (low_lt d ok) x.0 x.1);
+        mul_one = λ x. element_path d (Products.product_one d (low_lt d ok) x.0 x.1);
         mul_add = λ x y z. element_path d (Products.product_sum d (low_lt d ok) x.0 y.0 z.0);
       }
 

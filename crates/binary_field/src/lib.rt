@@ -16,14 +16,14 @@ mod spreading;
 mod squaring;
 
 // An element, or a refusal with its number.
-#[derive(Drop)]
+#[derive(Clone, Copy)]
 pub enum Answer {
     Element(u64),
     Refused(u32),
 }
 
 // The answer to an equation that may have no root.
-#[derive(Drop)]
+#[derive(Clone, Copy)]
 pub enum Solution {
     Root(u64),
     NoRoot,

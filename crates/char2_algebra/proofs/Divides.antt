@@ -16,7 +16,7 @@ module _ {A : Type 0} (R : Ring2 A) where
   divides_zero b = (𝟘, sym (𝟘_· R b))
 
   pub one_divides : (a : A) → Divides R 𝟙 a
-  one_divides a = (a, sym (R.mul-one a))
+  one_divides a = (a, sym (R.mul_one a))
 
   pub divides_right : (a b : A) → Divides R b (a · b)
   divides_right a b = (a, refl)

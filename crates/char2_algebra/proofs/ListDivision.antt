@@ -140,7 +140,7 @@ module _ {K : Type 0} (F : Field2 K) where
   invert_law a h = by_test (discrete a 𝟙)
     where
       by_test : (d : Dec (a ≡ 𝟙)) → a · elim d [ yes _ ↦ 𝟙 | no _ ↦ inverse_of F a h ] ≡ 𝟙
-      by_test (yes e) = K_ring.mul-one a ∙ e
+      by_test (yes e) = K_ring.mul_one a ∙ e
       by_test (no _) = F.mul_inverse a h
 
   pub divide_short : (p b : List K) → Trimmed F b → ¬ (b ≡ []) → length (trim F (divide_lists F p b).1) < length b

@@ -103,7 +103,7 @@ module _ {K : Type 0} (F : Field2 K) where
             ∙ K_ring.add_assoc (coeff F p i) (coeff F q i) (coeff F r i)
             ∙ ap (λ z. coeff F p i ⊞ z) (sym (coeff_add q r i))
             ∙ sym (coeff_add p (add F q r) i));
-        add-zero = λ p. ext (add F p (zero_polynomial F)) p (λ i. coeff_add p (zero_polynomial F) i ∙ ap (λ z. coeff F p i ⊞ z) (coeff_zero i) ∙ K_ring.add-zero (coeff F p i));
+        add_zero = λ p. ext (add F p (zero_polynomial F)) p (λ i. coeff_add p (zero_polynomial F) i ∙ ap (λ z. coeff F p i ⊞ z) (coeff_zero i) ∙ K_ring.add_zero (coeff F p i));
         add_self = λ p. ext (add F p p) (zero_polynomial F) (λ i. coeff_add p p i ∙ K_ring.add_self (coeff F p i) ∙ sym (coeff_zero i));
         mul_comm = λ p q. ext (mul F p q) (mul F q p) (λ i. coeff_mul p q i ∙ conv_comm K_ring (coeff F p) (coeff F q) i ∙ sym (coeff_mul q p i));
         mul_assoc = λ p q r.
@@ -113,7 +113,7 @@ module _ {K : Type 0} (F : Field2 K) where
             ∙ conv_assoc K_ring (coeff F p) (coeff F q) (coeff F r) i
             ∙ ap (λ f. conv K_ring (coeff F p) f i) (sym (fun_ext (coeff_mul q r)))
             ∙ sym (coeff_mul p (mul F q r) i));
-        mul-one = λ p.
+        mul_one = λ p.
             ext (mul F p (con F 𝟙)) p
             (λ i. coeff_mul p (con F 𝟙) i
             ∙ conv_comm K_ring (coeff F p) (coeff F (con F 𝟙)) i

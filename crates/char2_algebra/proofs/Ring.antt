@@ -20,7 +20,7 @@ module _ {A : Type 0} (R : Ring2 A) where
   ⊞_left_comm a b c = sym (⊞_assoc a b c) ∙ ap (λ z. z ⊞ c) (⊞_comm a b) ∙ ⊞_assoc b a c
 
   pub ⊞_𝟘 : (a : A) → a ⊞ 𝟘 ≡ a
-  ⊞_𝟘 a = R.add-zero a
+  ⊞_𝟘 a = R.add_zero a
 
   pub 𝟘_⊞ : (a : A) → 𝟘 ⊞ a ≡ a
   𝟘_⊞ a = ⊞_comm 𝟘 a ∙ ⊞_𝟘 a
@@ -41,7 +41,7 @@ module _ {A : Type 0} (R : Ring2 A) where
   ·_left_comm a b c = sym (·_assoc a b c) ∙ ap (λ z. z · c) (·_comm a b) ∙ ·_assoc b a c
 
   pub ·_𝟙 : (a : A) → a · 𝟙 ≡ a
-  ·_𝟙 a = R.mul-one a
+  ·_𝟙 a = R.mul_one a
 
   pub 𝟙_· : (a : A) → 𝟙 · a ≡ a
   𝟙_· a = ·_comm 𝟙 a ∙ ·_𝟙 a

@@ -209,8 +209,8 @@ module _ {P : Type 0} (R : Ring2 P) (f : P) where
     u₁≢𝟘 = u≢𝟘;
     u₂≢𝟘 = u≢𝟘;
     bezout = double_bezout R u v;
-    part₁ = sym (R.mul-one u);
-    part₂ = sym (R.mul-one u);
+    part₁ = sym (R.mul_one u);
+    part₂ = sym (R.mul_one u);
     part₃ = double_part R v;
     u_is = refl;
     v_is = double_numerator R f u v;

@@ -74,11 +74,11 @@ module _ {P : Type 0} (R : Ring2 P) (f : P) where
     is_set = Σ_set R.is_set (λ p. R.is_set);
     add_comm = λ x y i. (R.add_comm x.0 y.0 i, R.add_comm x.1 y.1 i);
     add_assoc = λ x y z i. (R.add_assoc x.0 y.0 z.0 i, R.add_assoc x.1 y.1 z.1 i);
-    add-zero = λ x i. (R.add-zero x.0 i, R.add-zero x.1 i);
+    add_zero = λ x i. (R.add_zero x.0 i, R.add_zero x.1 i);
     add_self = λ x i. (R.add_self x.0 i, R.add_self x.1 i);
     mul_comm = λ x y i. (comm₀ R f x.0 x.1 y.0 y.1 i, comm₁ R x.0 x.1 y.0 y.1 i);
     mul_assoc = λ x y z i. (assoc₀ R f x.0 x.1 y.0 y.1 z.0 z.1 i, assoc₁ R f x.0 x.1 y.0 y.1 z.0 z.1 i);
-    mul-one = λ x i. (one₀ R f x.0 x.1 i, one₁ R x.0 x.1 i);
+    mul_one = λ x i. (one₀ R f x.0 x.1 i, one₁ R x.0 x.1 i);
     mul_add = λ x y z i. (distrib₀ R f x.0 x.1 y.0 y.1 z.0 z.1 i, distrib₁ R x.0 x.1 y.0 y.1 z.0 z.1 i);
   }
 

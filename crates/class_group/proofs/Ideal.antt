@@ -36,7 +36,7 @@ module _ {B : Type 0} (S : Ring2 B) where
     more : {z : B} (a b c : B) → I a → J b → Product I J c → z ≡ a · b ⊞ c → Product I J z
 
   pub product_of : {I J : B → Type 0} (a b : B) → I a → J b → Product I J (a · b)
-  product_of a b i j = more {z = a · b} a b 𝟘 i j (none refl) (sym (S.add-zero (a · b)))
+  product_of a b i j = more {z = a · b} a b 𝟘 i j (none refl) (sym (S.add_zero (a · b)))
 
   pub product_within : {I J I' J' : B → Type 0} → Within I I' → Within J J' → Within (Product I J) (Product I' J')
   product_within h k z (none e) = none e

@@ -127,7 +127,7 @@ module _ {K P : Type 0} {F : Field2 K} (A : Polynomials F P) where
         Even A 𝟙 3 (lifted A (root (coeff w 5)) (root (coeff w 3)) (root (coeff w 1 ⊞ root (coeff w 3))) u w)
     row_1 =
         record {
-          top = 𝕂.mul_comm 𝟙 _ ∙ 𝕂.mul-one _ ∙ lifted_past A _ _ _ u w 2 ∙ stays 𝕂 _ _ _ _ _ _ _ (u_past 6 (omega arith)) (u_past 4 (omega arith)) (u_past 2 (omega arith)) ∙ w_top;
+          top = 𝕂.mul_comm 𝟙 _ ∙ 𝕂.mul_one _ ∙ lifted_past A _ _ _ u w 2 ∙ stays 𝕂 _ _ _ _ _ _ _ (u_past 6 (omega arith)) (u_past 4 (omega arith)) (u_past 2 (omega arith)) ∙ w_top;
           past = past;
           odd =
               odd_by_three
@@ -150,7 +150,7 @@ module _ {K P : Type 0} {F : Field2 K} (A : Polynomials F P) where
   pub row_2_square : (u : P) → len u ≡ 3 → coeff u 2 ≡ 𝟙 → coeff u 1 ≡ 𝟘 → Even A 𝟙 1 u
   row_2_square u u_len u_top e =
       record {
-        top = 𝕂.mul_comm 𝟙 _ ∙ 𝕂.mul-one _ ∙ u_top;
+        top = 𝕂.mul_comm 𝟙 _ ∙ 𝕂.mul_one _ ∙ u_top;
         past = past;
         odd = odd_by_three u 3 (omega arith) past e (past 3 (omega arith)) (past 5 (omega arith));
       }
@@ -227,7 +227,7 @@ module _ {K P : Type 0} {F : Field2 K} (A : Polynomials F P) where
     pub row_3_square : root (coeff L 1) ≡ 𝟘 → Even A 𝟙 2 L
     row_3_square e =
         record {
-          top = 𝕂.mul_comm 𝟙 _ ∙ 𝕂.mul-one _ ∙ L_four;
+          top = 𝕂.mul_comm 𝟙 _ ∙ 𝕂.mul_one _ ∙ L_four;
           past = L_past;
           odd = odd_by_three L 5 (omega arith) L_past (sym (F.root_square _) ∙ ap (λ z. z · z) e ∙ ·_𝟘 𝕂 𝟘) L_three (L_past 5 (omega arith));
         }

@@ -12,7 +12,7 @@ use Rattle.class_group.proofs.Coordinate.{coordinate, conj, norm, mul_conj, cons
 use Rattle.class_group.proofs.Ideal.{Carries, Equivalent}
 use Rattle.class_group.proofs.PairIdeal.{pair_ideal, pair_ideal_u₁, pair_ideal_y₁}
 use Rattle.class_group.proofs.Norm.{norm_nonzero, coordinate_domain}
-use Identities.{multiple_u_eq, multiple_v_eq, unit-eq, unit_divides}
+use Identities.{multiple_u_eq, multiple_v_eq, unit_eq, unit_divides}
 use Cleared.{S, cleared, cleared⁻¹, coordinate₀, coordinate₁}
 use Constant.{constant}
 pub mod Identities
@@ -39,7 +39,7 @@ module _ {K P : Type 0} {F : Field2 K} (A : Polynomials F P) (f : P) (f_len : A.
       let x = r.0 in
       let y = s.0 in
       let e : ◌≡◌ {A = P × P} (g · v, g · 𝟙) (k · y.0, k · y.1) = sym (constant_mul R f g v 𝟙) ∙ s.2 ∙ constant_mul R f k y.0 y.1 in
-      let d_is : g ≡ k · y.1 = sym (R.mul-one g) ∙ ap (λ z. z.1) e in
+      let d_is : g ≡ k · y.1 = sym (R.mul_one g) ∙ ap (λ z. z.1) e in
       let x₁≡𝟘 : x.1 ≡ 𝟘 = integral A k x.1 k≢𝟘 (sym (coordinate₁ R f (g, 𝟘) x u k r.2) ∙ ·_𝟘 R u) in
       record {
         d = y.1;
@@ -51,7 +51,7 @@ module _ {K P : Type 0} {F : Field2 K} (A : Polynomials F P) (f : P) (f_len : A.
   -- with the inclusion the other way round as well, d is a unit
   module _ {u v u' v' g k : P} (g≢𝟘 : ¬ (g ≡ 𝟘)) (forth : Multiple u v u' v' g k) (back : Multiple u' v' u v k g) where
     unit : back.d · forth.d ≡ 𝟙
-    unit = cancel_left A g _ _ g≢𝟘 (unit-eq R g k forth.d back.d forth.d_is back.d_is)
+    unit = cancel_left A g _ _ g≢𝟘 (unit_eq R g k forth.d back.d forth.d_is back.d_is)
 
     divides_u : Divides R u' u
     divides_u = (_, unit_divides R u' u forth.d back.d forth.d_u.0 unit forth.d_u.1)

@@ -24,11 +24,11 @@ module _ {K : Type 0} (F : Field2 K) where
         is_set = laws.is_set;
         add_comm = laws.add_comm;
         add_assoc = laws.add_assoc;
-        add-zero = laws.add-zero;
+        add_zero = laws.add_zero;
         add_self = laws.add_self;
         mul_comm = laws.mul_comm;
         mul_assoc = laws.mul_assoc;
-        mul-one = laws.mul-one;
+        mul_one = laws.mul_one;
         mul_add = laws.mul_add;
       }
 

@@ -15,18 +15,18 @@ use Rattle.jacobian.proofs.{Calls.opposite_gives, Calls.only_neutral, Calls.oppo
 use Rattle.report_theorems.specs.Letters.{plus_one, opposite_class}
 
 module _ (d : ℕ) where
-  add-one : (p : Poly d) → ((𝔸 d).coeff ((𝔸 d).ring.add p (𝔸 d).ring.one) 0).0 ≡ ((𝔸 d).coeff p 0).0 ⊕ 1
+  add_one : (p : Poly d) → ((𝔸 d).coeff ((𝔸 d).ring.add p (𝔸 d).ring.one) 0).0 ≡ ((𝔸 d).coeff p 0).0 ⊕ 1
   unfolding F field ring
-  add-one p = ap (λ (e : K d). e.0) ((𝔸 d).coeff_add p (𝔸 d).ring.one 0 ∙ ap ((F d).ring.add ((𝔸 d).coeff p 0)) (coeff_one (𝔸 d)))
+  add_one p = ap (λ (e : K d). e.0) ((𝔸 d).coeff_add p (𝔸 d).ring.one 0 ∙ ap ((F d).ring.add ((𝔸 d).coeff p 0)) (coeff_one (𝔸 d)))
 
   add_one_suc : (p : Poly d) (i : ℕ) → ((𝔸 d).coeff ((𝔸 d).ring.add p (𝔸 d).ring.one) (suc i)).0 ≡ ((𝔸 d).coeff p (suc i)).0
   add_one_suc p i =
       ap (λ (e : K d). e.0)
-      ((𝔸 d).coeff_add p (𝔸 d).ring.one (suc i) ∙ ap ((F d).ring.add ((𝔸 d).coeff p (suc i))) (coeff_one_suc (𝔸 d) i) ∙ (F d).ring.add-zero ((𝔸 d).coeff p (suc i)))
+      ((𝔸 d).coeff_add p (𝔸 d).ring.one (suc i) ∙ ap ((F d).ring.add ((𝔸 d).coeff p (suc i))) (coeff_one_suc (𝔸 d) i) ∙ (F d).ring.add_zero ((𝔸 d).coeff p (suc i)))
 
   numbers_plus_one : (n : ℕ) → 0 < n → (p : Poly d) → numbers d n ((𝔸 d).ring.add p (𝔸 d).ring.one) ≡ plus_one (numbers d n p)
   unfolding numbers
-  numbers_plus_one n h p = rw (lt-ltb 0 n h, add-one p, add_one_suc p 0, add_one_suc p 1)
+  numbers_plus_one n h p = rw (lt-ltb 0 n h, add_one p, add_one_suc p 0, add_one_suc p 1)
 
 module _ (c : Curve) where
   abbrev d : ℕ

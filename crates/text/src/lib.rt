@@ -21,7 +21,7 @@ const HEXADECIMAL_DIGITS: usize = 16;
 pub const LINE: usize = 320;
 
 // A line: len bytes, and 0 after them.
-#[derive(Drop)]
+#[derive(Clone, Copy)]
 pub struct Line {
     pub len: usize,
     pub bytes: [u8; LINE],

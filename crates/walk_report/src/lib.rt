@@ -49,7 +49,7 @@ pub struct Progress {
 }
 
 // A line, the report's state after it, and the offset of the next field.
-#[derive(Drop)]
+#[derive(Clone, Copy)]
 pub struct LineAnswer {
     pub line: Line,
     pub report: Report,

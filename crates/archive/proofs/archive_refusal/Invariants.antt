@@ -1,4 +1,4 @@
--- `archive_refusal` meets its contract: reading what is left has the refusal of the archive.
+-- The invariant of `archive_refusal`: reading what is left has the refusal of the archive.
 use mathlib.Core.Path.{◌≡◌}
 use Rattle.stored_form.specs.Reading.{reading_refusal}
 use Rattle.archive.specs.{Archive.archive_refusal}

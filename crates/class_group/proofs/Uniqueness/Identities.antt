@@ -23,8 +23,8 @@ module _ {P : Type 0} (R : Ring2 P) where
   pub multiple_v_eq : (g k d u' v v' y t : P) → g ≡ k · d → g · v ≡ k · y → y ⊞ d · v' ≡ t · u' → k · (d · (v ⊞ v')) ≡ k · (t · u')
   multiple_v_eq g k d u' v v' y t h₁ h₂ h₃ = combine R _ _ (both R (both R (by R v h₁) (by R 𝟙 h₂)) (by R k h₃)) (simp (ring2, R))
 
-  pub unit-eq : (g k d d' : P) → g ≡ k · d → k ≡ g · d' → g · (d' · d) ≡ g · 𝟙
-  unit-eq g k d d' h h' = combine R _ _ (both R (by R 𝟙 h) (by R d h')) (simp (ring2, R))
+  pub unit_eq : (g k d d' : P) → g ≡ k · d → k ≡ g · d' → g · (d' · d) ≡ g · 𝟙
+  unit_eq g k d d' h h' = combine R _ _ (both R (by R 𝟙 h) (by R d h')) (simp (ring2, R))
 
   pub unit_divides : (u' a d d' s : P) → d' · d ≡ 𝟙 → d · a ≡ s · u' → a ≡ d' · s · u'
   unit_divides u' a d d' s h h' = combine R _ _ (both R (by R a h) (by R d' h')) (simp (ring2, R))

@@ -1,4 +1,4 @@
--- `first_class` meets its contract: before turn i no candidate below i has a class.
+-- The invariant of `first_class`: before turn i no candidate below i has a class.
 use Prim.Native.Nat.{◌≤◌, ◌-◌}
 use Rattle.stamps.proofs.Search.{NoneYet}
 use Rattle.stamps.proofs.first_class.Given as goal

@@ -1,4 +1,4 @@
--- `value_at` meets its contract: the loop holds the value of the coefficients from index i on.
+-- The invariant of `value_at`: the loop holds the value of the coefficients from index i on.
 use Prim.Native.Nat.{◌≤◌}
 use lib.ListN.{drop}
 use Rattle.row_theory.specs.internal.Elements.{Is}

@@ -1,4 +1,4 @@
--- `read_fields` meets its contract: reading the fields from the i-th on gives what reading all of them gives.
+-- The invariant of `read_fields`: reading the fields from the i-th on gives what reading all of them gives.
 use Prim.Native.Nat.{◌-◌}
 use mathlib.Core.Path.{◌≡◌}
 use lib.ListN.{length, drop}

@@ -1,4 +1,4 @@
--- `with_bytes` meets its contract: the first i bytes are appended.
+-- The invariant of `with_bytes`: the first i bytes are appended.
 use Prim.Native.Nat.{◌-◌, ◌≤◌}
 use mathlib.Core.Path.{◌≡◌}
 use lib.ListN.{length, take}

@@ -1,4 +1,4 @@
--- `skipping::skip_fields` meets its contract: before turn i, i fields are passed over.
+-- The invariant of `skipping::skip_fields`: before turn i, i fields are passed over.
 use Prim.Native.Nat.{◌-◌, ◌≤◌}
 use mathlib.Core.Path.{◌≡◌}
 use Rattle.archive.specs.Skipping.{skip_fields}

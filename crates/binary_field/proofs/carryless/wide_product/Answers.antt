@@ -9,8 +9,8 @@ use Rattle.binary_field.proofs.carryless.wide_product.Goals as goal
 low_fits : (a : ℕ) → bit_and a (2 ^ 31 - 1) < 2 ^ 32
 low_fits a = omega (arith, mask_lt a 31)
 
-both-fit : (a : ℕ) → a < 2 ^ 61 → bit_xor (bit_and a (2 ^ 31 - 1)) (a / 2 ^ 31) < 2 ^ 32
-both-fit a h = xor_lt 32 (bit_and a (2 ^ 31 - 1)) (a / 2 ^ 31) (low_fits a) (omega arith)
+both_fit : (a : ℕ) → a < 2 ^ 61 → bit_xor (bit_and a (2 ^ 31 - 1)) (a / 2 ^ 31) < 2 ^ 32
+both_fit a h = xor_lt 32 (bit_and a (2 ^ 31 - 1)) (a / 2 ^ 31) (low_fits a) (omega arith)
 
 pub returns : goal.returns
 unfolding ◌⊕◌
@@ -22,4 +22,4 @@ pub clmul32-low-requires : goal.clmul32-low-requires
 clmul32-low-requires c = (low_fits c.args.a, low_fits c.args.b)
 
 pub clmul32-both-requires : goal.clmul32-both-requires
-clmul32-both-requires c = (both-fit _ c.requires.0, both-fit _ c.requires.1)
+clmul32-both-requires c = (both_fit _ c.requires.0, both_fit _ c.requires.1)

@@ -1,4 +1,4 @@
--- `joined` meets its contract: after i turns the loop holds x, squared i times.
+-- The invariant of `joined`: after i turns the loop holds x, squared i times.
 use mathlib.Core.Path.{◌≡◌}
 use Prim.Native.Nat.{◌≤◌, ◌<◌, ◌-◌, ◌^◌}
 use Rattle.binary_field_theory.specs.Element.{squarings}

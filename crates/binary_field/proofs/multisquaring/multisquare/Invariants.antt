@@ -1,4 +1,4 @@
--- `multisquare` meets its contract: after i turns the loop holds what the i lowest digits give.
+-- The invariant of `multisquare`: after i turns the loop holds what the i lowest digits give.
 use mathlib.Core.Path.{◌≡◌}
 use Prim.Native.Nat.{◌≤◌, ◌-◌, ◌*◌, ◌%◌, ◌^◌}
 use Rattle.binary_field_theory.specs.Element.{squarings}

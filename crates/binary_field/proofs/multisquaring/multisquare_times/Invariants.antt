@@ -1,4 +1,4 @@
--- `multisquare_times` meets its contract: after i turns the loop holds a, squared 6 i times.
+-- The invariant of `multisquare_times`: after i turns the loop holds a, squared 6 i times.
 use mathlib.Core.Path.{◌≡◌}
 use Prim.Native.Nat.{◌≤◌, ◌<◌, ◌-◌, ◌*◌, ◌^◌}
 use Rattle.binary_field_theory.specs.Element.{squarings}

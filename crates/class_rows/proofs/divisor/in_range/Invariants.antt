@@ -1,4 +1,4 @@
--- `in_range` meets its contract. The invariant: the numbers below i are elements.
+-- The invariant of `in_range`: the numbers below i are elements.
 use Prim.Native.Nat.{◌-◌, ◌≤◌}
 use Rattle.class_rows.proofs.CheckRows.{Below}
 use Rattle.class_rows.proofs.divisor.in_range.Given as goal

@@ -1,4 +1,4 @@
--- `quotient::product_at` meets its contract. The invariant: the sum is that of the terms from q's coefficients below j.
+-- The invariant of `quotient::product_at`: the sum is that of the terms from q's coefficients below j.
 use Prim.Native.Nat.{◌+◌, ◌-◌}
 use Rattle.row_theory.proofs.QuotientRows.{Partial}
 use Rattle.class_rows.proofs.quotient.product_at.Given as goal

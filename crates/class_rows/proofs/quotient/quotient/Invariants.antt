@@ -1,4 +1,4 @@
--- `quotient::quotient` meets its contract. The invariant: from x^k on a + q b has no coefficient, and q has none below
+-- The invariant of `quotient::quotient`: from x^k on a + q b has no coefficient, and q has none below
 -- k less b's degree.
 use Prim.Native.Nat.{suc, ◌≤◌}
 use mathlib.Core.Path.{◌≡◌}

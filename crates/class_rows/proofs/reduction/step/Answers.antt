@@ -14,7 +14,7 @@ sum_rows-other-requires c = let p = c.requires in (p.0, p.1.v_range, (c.one-unit
 pub divide-division-requires : goal.divide-division-requires
 divide-division-requires c =
     let p = c.requires in let m = c.monic-next.ensures in let v_range = p.1.v_range in
-    let m-range = m.in_range in
+    let m_range = m.in_range in
     (p.0, c.sum_rows-other.ensures.in_range, search, λ e. monic_of_nonzero (𝔸 _) _ (cofactor_row_nonzero _ p.1 p.2) (sym m.stands ∙ e))
 
 pub returns : goal.returns

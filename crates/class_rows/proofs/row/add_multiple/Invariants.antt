@@ -1,4 +1,4 @@
--- `row::add_multiple` meets its contract. The invariant: the numbers below shift + i are those of a + c x^shift b, the
+-- The invariant of `row::add_multiple`: the numbers below shift + i are those of a + c x^shift b, the
 -- others those of a.
 use Prim.Native.Nat.{◌+◌, ◌-◌, ◌≤◌}
 use Rattle.row_theory.specs.{Field.𝔸, Field.el, Field.poly, internal.Elements.x_power}

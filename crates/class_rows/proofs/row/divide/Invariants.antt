@@ -1,4 +1,4 @@
--- `row::divide` meets its contract. The invariant: a = q b + r, and r has no numbers from k on.
+-- The invariant of `row::divide`: a = q b + r, and r has no numbers from k on.
 use Prim.Native.Nat.{◌≤◌}
 use Rattle.row_theory.specs.Field.{poly}
 use Rattle.row_theory.proofs.Rows.Divide.{Dividing}

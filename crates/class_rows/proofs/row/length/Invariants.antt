@@ -1,4 +1,4 @@
--- `row::length` meets its contract. The invariant: the numbers from n on are 0.
+-- The invariant of `row::length`: the numbers from n on are 0.
 use Prim.Native.Nat.{◌≤◌}
 use Rattle.row_theory.proofs.Rows.Length.{Blank}
 use Rattle.class_rows.proofs.row.length.Given as goal

@@ -1,4 +1,4 @@
--- `row::product_rows` meets its contract. The invariant: the row stands for the part of a below x^i, times b.
+-- The invariant of `row::product_rows`: the row stands for the part of a below x^i, times b.
 use Prim.Native.Nat.{◌-◌, ◌≤◌}
 use Rattle.row_theory.proofs.{Rows.Multiply.Partial}
 use Rattle.class_rows.proofs.row.product_rows.Given as goal

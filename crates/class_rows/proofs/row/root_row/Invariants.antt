@@ -1,4 +1,4 @@
--- `row::root_row` meets its contract. The invariant: the numbers below i are those of the square root, the others 0.
+-- The invariant of `row::root_row`: the numbers below i are those of the square root, the others 0.
 use Prim.Native.Nat.{◌-◌, ◌≤◌}
 use lib.ListN.{replicate}
 use Rattle.char2_algebra.specs.Square.{sqrt}

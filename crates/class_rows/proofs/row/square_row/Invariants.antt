@@ -1,4 +1,4 @@
--- `row::square_row` meets its contract. The invariant: the numbers below 2 i are those of a², the others 0.
+-- The invariant of `row::square_row`: the numbers below 2 i are those of a², the others 0.
 use Prim.Native.Nat.{◌+◌, ◌-◌, ◌≤◌}
 use lib.ListN.{replicate}
 use Rattle.row_theory.specs.Field.{𝔸, poly}

@@ -1,4 +1,4 @@
--- `blank_from` meets its contract. The invariant: the numbers from index n up to index i are 0.
+-- The invariant of `blank_from`: the numbers from index n up to index i are 0.
 use Prim.Native.Nat.{◌-◌, ◌≤◌}
 use Rattle.jacobian.proofs.ByValue.Below.{BlankTo}
 use Rattle.jacobian.proofs.classes.blank_from.Given as goal

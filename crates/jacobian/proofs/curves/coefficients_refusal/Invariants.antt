@@ -1,4 +1,4 @@
--- `coefficients_refusal` meets its contract. The invariant: the numbers before index i are below m.
+-- The invariant of `coefficients_refusal`: the numbers before index i are below m.
 use Prim.Native.Nat.{◌-◌, ◌≤◌}
 use Rattle.jacobian.specs.{Curves.coefficient_count}
 use Rattle.jacobian.proofs.ByValue.Below.{BelowTo}

@@ -1,4 +1,4 @@
--- `suppress::doublings` meets its contract: before turn i the class has been doubled i times.
+-- The invariant of `suppress::doublings`: before turn i the class has been doubled i times.
 use Prim.Native.Nat.{◌≤◌, ◌-◌}
 use mathlib.Core.Path.{◌≡◌}
 use Rattle.jacobian.specs.{Group.doublings}

@@ -1,4 +1,4 @@
--- `suppress::held_by` meets its contract: before each turn the pairs that were looked at do not hold operation k.
+-- The invariant of `suppress::held_by`: before each turn the pairs that were looked at do not hold operation k.
 use Rattle.stored_form.specs.Number.{Bytes}
 use Rattle.seal_archive.specs.internal.Accepted.{AtPairs}
 use Rattle.seal_archive.proofs.Held.{HeldSoFar}

@@ -1,4 +1,4 @@
--- `digits` meets its contract: before each turn n / 2^i is 0.
+-- The invariant of `digits`: before each turn n / 2^i is 0.
 use Prim.Native.Nat.{◌≤◌, ◌/◌, ◌^◌}
 use mathlib.Core.Path.{◌≡◌}
 use Rattle.seal_licence.proofs.multiples.digits.Given as goal

@@ -1,4 +1,4 @@
--- `halved_of_accepted` meets its contract: before turn i the class has been halved i times.
+-- The invariant of `halved_of_accepted`: before turn i the class has been halved i times.
 use Prim.Native.Nat.{◌≤◌, ◌-◌}
 use mathlib.Core.Path.{◌≡◌}
 use Rattle.seal_licence.specs.Multiples.{halved_class}

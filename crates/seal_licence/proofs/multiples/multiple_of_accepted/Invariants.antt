@@ -1,4 +1,4 @@
--- `multiple_of_accepted` meets its contract: before the turn for digit i - 1 the class is n / 2^i times the one given.
+-- The invariant of `multiple_of_accepted`: before the turn for digit i - 1 the class is n / 2^i times the one given.
 use Prim.Native.Nat.{◌≤◌, ◌/◌, ◌^◌}
 use mathlib.Core.Path.{◌≡◌}
 use Rattle.seal_licence.specs.Multiples.{multiple_class}

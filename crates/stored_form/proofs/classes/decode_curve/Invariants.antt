@@ -1,4 +1,4 @@
--- `classes::decode_curve` meets its contract: after i turns i coefficients are read.
+-- The invariant of `classes::decode_curve`: after i turns i coefficients are read.
 use Prim.Native.Nat.{◌-◌, ◌≤◌}
 use mathlib.Core.Path.{◌≡◌}
 use lib.ListN.{drop, replicate}

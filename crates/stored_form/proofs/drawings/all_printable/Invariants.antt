@@ -1,4 +1,4 @@
--- `drawings::all_printable` meets its contract: the bytes from index i on decide.
+-- The invariant of `drawings::all_printable`: the bytes from index i on decide.
 use Prim.Native.Nat.{◌≤◌, ◌-◌}
 use mathlib.Core.Path.{◌≡◌}
 use lib.ListN.{take, drop}

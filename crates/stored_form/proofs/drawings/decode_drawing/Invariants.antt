@@ -1,4 +1,4 @@
--- `drawings::decode_drawing` meets its contract: after i turns the first i bytes are copied.
+-- The invariant of `drawings::decode_drawing`: after i turns the first i bytes are copied.
 use Prim.Native.Nat.{◌-◌, ◌≤◌}
 use mathlib.Core.Path.{◌≡◌}
 use lib.ListN.{replicate}

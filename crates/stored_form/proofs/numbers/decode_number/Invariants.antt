@@ -1,4 +1,4 @@
--- `numbers::decode_number` meets its contract: after i turns n is the number of the first i bytes.
+-- The invariant of `numbers::decode_number`: after i turns n is the number of the first i bytes.
 use Prim.Native.Nat.{◌≤◌, ◌-◌}
 use mathlib.Core.Path.{◌≡◌}
 use Rattle.stored_form.specs.Number.{decode_number, part}

@@ -1,4 +1,4 @@
--- `pairs::pairs_refusal` meets its contract: the pairs from the i-th on decide.
+-- The invariant of `pairs::pairs_refusal`: the pairs from the i-th on decide.
 use Prim.Native.Nat.{◌≤◌, ◌-◌}
 use mathlib.Core.Path.{◌≡◌}
 use lib.ListN.{drop}

@@ -1,4 +1,4 @@
--- `writing::with_coefficients` meets its contract: those from the i-th on are stored.
+-- The invariant of `writing::with_coefficients`: those from the i-th on are stored.
 use Prim.Native.Nat.{◌≤◌}
 use mathlib.Core.Path.{◌≡◌}
 use mathlib.Core.List.{reverse}

@@ -1,4 +1,4 @@
--- `writing::with_number` meets its contract: after i turns the first i bytes are stored.
+-- The invariant of `writing::with_number`: after i turns the first i bytes are stored.
 use Prim.Native.Nat.{◌≤◌, ◌-◌}
 use mathlib.Core.Path.{◌≡◌}
 use lib.ListN.{take}
