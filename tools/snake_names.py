@@ -4,7 +4,8 @@
 usage: python3 tools/snake_names.py [ROOT]
 
 It changes code of .antt and .rt files below crates/, the old and new lines of must-fail edits, and what stands in backquotes in
-comments and in the Markdown documents. Strings, and names that are not in the list, stay as they are. A second run changes nothing."""
+comments and in the Markdown documents. Strings, and names that are not in the list, stay as they are. A few names are the library's
+too: they are turned only as fields (FIELDS), or in one file or folder (SHARED). It is run once, right after port.py."""
 import glob
 import os
 import re
@@ -14,6 +15,8 @@ HERE = os.path.dirname(os.path.abspath(__file__))
 ROOT = sys.argv[1] if len(sys.argv) > 1 else os.path.join(HERE, "..")
 with open(os.path.join(HERE, "snake_names.txt"), encoding="utf-8") as f:
     NAMES = set(f.read().split("\n")) - {""}
+FIELDS = r"(add-zero|mul-one)"
+SHARED = {"report_theorems/proofs/Opposite": "add-one", "binary_field/proofs/Checking": "and-true", "class_group/proofs/Uniqueness": "unit-eq"}
 TOKEN = re.compile(r"[^\s(){}.,;@\"`:\[\]|!?&*]+")
 CODE = re.compile(r'"(?:[^"\\]|\\.)*"')
 QUOTED = re.compile(r"`[^`\n]+`")
@@ -40,6 +43,18 @@ def code(text):
     return "".join(parts) + tokens(text[end:])
 
 
+def shared(text, path):
+    """A line of antt in which fields, and names that one file or folder declares, are names of the library too."""
+    if re.match(r"\s*(unfoldable |pub )*use ", text) and not re.match(r"\s*use Identities\.", text):
+        return text
+    text = re.sub(rf"(?<=[\w)\]])\.{FIELDS}(?![\w-])", lambda m: "." + snake(m[1]), text)
+    text = re.sub(rf"^(\s+(?:pub )?){FIELDS}(?= [:=] )", lambda m: m[1] + snake(m[2]), text)
+    for place, name in SHARED.items():
+        if place in path:
+            text = re.sub(rf"(?<![\w.-]){name}(?![\w-])", snake(name), text)
+    return text
+
+
 def line(text, comment):
     m = re.search(comment, text)
     at = m.start() if m else len(text)
@@ -60,7 +75,7 @@ def files(pattern):
 
 
 for path in files("crates/*/specs/**/*.antt") + files("crates/*/proofs/**/*.antt"):
-    turn(path, lambda l: line(l, r"(^|(?<=\s))--(?=\s|-*$)"))
+    turn(path, lambda l: shared(line(l, r"(^|(?<=\s))--(?=\s|-*$)"), path))
 for path in files("crates/*/src/**/*.rt"):
     turn(path, lambda l: line(l, r"(^|(?<=\s))//"))
 for path in files("crates/*/must-fail/*.edit"):
