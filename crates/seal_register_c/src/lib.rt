@@ -1,5 +1,5 @@
-// The static library for C of the calls on lent memory (include/seal_register.h): each is the call of seal_register with
-// that name.
+// The static library for C of the calls on lent memory (include/seal_register.h): each is the call of that name of
+// seal_register.
 #![tactic(auto)]
 
 ghost use Rattle.std.specs.Prelude.{◌≡◌};

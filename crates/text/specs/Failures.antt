@@ -1,4 +1,4 @@
--- What a failed write or read leaves: part of the work is done, and no more is known of it than how far it may have come.
+-- What a failed write or read leaves: a part is written or read, and it is not known how much.
 use Rattle.std.specs.Prelude.{ℕ, ◌≤◌, List, Option, length, take}
 use Rattle.std.specs.Io.KnownBytes.{Appends, Consumes}
 
