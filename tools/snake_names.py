@@ -1,11 +1,12 @@
 #!/usr/bin/env python3
-"""Respells this repository's own definitions and lemmas in snake case: the names in tools/snake_names.txt, `a-b` to `a_b`.
+"""Respells this repository's own definitions and lemmas in snake case, `a-b` to `a_b`: those of tools/snake_names.txt.
 
 usage: python3 tools/snake_names.py [ROOT]
 
-It changes code of .antt and .rt files below crates/, the old and new lines of must-fail edits, and what stands in backquotes in
-comments and in the Markdown documents. Strings, and names that are not in the list, stay as they are. A few names are the library's
-too: they are turned only as fields (FIELDS), or in one file or folder (SHARED). It is run once, right after port.py."""
+It changes code of .antt and .rt files below crates/, the old and new lines of must-fail edits, and what stands in
+backquotes in comments and in the Markdown documents. Strings, and names that are not in the list, stay as they are. A
+few names are the library's too: they are turned only as fields (FIELDS), or in one file or folder (SHARED). It is run
+once, right after port.py."""
 import glob
 import os
 import re
