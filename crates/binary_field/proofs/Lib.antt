@@ -6,3 +6,4 @@ pub mod Degrees
 pub mod Replies
 pub mod Valid
 pub mod Checking
+pub mod Refusing
