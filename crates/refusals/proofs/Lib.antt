@@ -1,0 +1,2 @@
+-- Laws of the refusals' numbers.
+pub mod Numbers
