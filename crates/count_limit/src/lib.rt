@@ -3,27 +3,32 @@
 #![tactic(auto)]
 
 ghost use Rattle.std.specs.Prelude.{◌≡◌};
+ghost use Rattle.refusals.specs.Refusals.{refusal_of};
 ghost use Rattle.count_limit.specs.Limit.{count_refusal, released_refusal};
+
+use refusals::Refusal;
 
 // The largest count that is accepted.
 pub const COUNT_LIMIT: u64 = 1024;
 
-// 109 for a count above the limit, else 0.
-pub fn count_refusal(n: u64) -> u32
-    ensures { result ≡ count_refusal n }
+// Refuses a count above the limit.
+#[tactic(auto, using(crate::proofs::Limit::within_limit, crate::proofs::Limit::above_limit), unfolding(crate::specs::Limit::count_limit))]
+pub fn check_count(n: u64) -> Result<(), Refusal>
+    ensures { refusal_of result ≡ count_refusal n }
 {
     if COUNT_LIMIT < n {
-        return 109;
+        return Err(Refusal::CountTooHigh);
     }
-    0
+    Ok(())
 }
 
-// 120 for a released step above this count, else 0.
-pub fn released_refusal(n: u64, released: u64) -> u32
-    ensures { result ≡ released_refusal n released }
+// Refuses a released step above this count.
+#[tactic(auto, using(crate::proofs::Limit::released_within, crate::proofs::Limit::released_above))]
+pub fn check_released(n: u64, released: u64) -> Result<(), Refusal>
+    ensures { refusal_of result ≡ released_refusal n released }
 {
     if n < released {
-        return 120;
+        return Err(Refusal::ReleasedTooHigh);
     }
-    0
+    Ok(())
 }
