@@ -2,12 +2,14 @@
 -- the pair that they stand for.
 -- `unary_refused`, `binary_refused`: where the check fails, the answer is as promised.
 -- `unary_given`, `binary_given`: where it holds, rows that stand for the theory's result are the answer promised.
--- `unary_divisor`, `binary_divisor`: an answer says whether the rows given are divisors.
--- `unary_stands`, `binary_stands`: if they are, the rows of the answer stand for the theory's result.
+-- `unary_divisor`, `binary_divisor`: an answer is given exactly where the rows given are divisors.
+-- `unary_stands`, `binary_stands`: the rows that are given stand for the theory's result.
 use Prim.Native.Nat.{ℕ}
-use mathlib.Core.{Path.◌≡◌, Path.refl, Path.sym, Path.◌∙◌, Path.ap, Path.ap₂, Path.subst, Bool.Bool, Bool.true, Bool.false, Bool.true≢false, Bool.◌&&◌, List.List}
+use mathlib.Core.{Path.◌≡◌, Path.refl, Path.sym, Path.◌∙◌, Path.ap, Path.subst, Bool.Bool, Bool.true, Bool.false, Bool.◌&&◌, List.List}
 use native.Mathlib.Omega.{arith}
 use lib.ListN.{length}
+use Rattle.std.specs.Prelude.{Option, Some, None, is_some}
+use Rattle.std.proofs.lemmas.Option.{same_Some, none-some}
 use Rattle.class_group.specs.Curve as Theory
 use Rattle.class_group.specs.{Mumford.Pair, Mumford.Reduced, Reduction.Counted, Operations.sum, Operations.double, Moves.subtract_and_halve}
 use Rattle.class_group.proofs.{Closed.opposite_reduced, Closed.sum_reduced, Closed.double_reduced, Halving.half_reduced, Halving.double_half, Halving.half_unique}
@@ -15,8 +17,8 @@ use Rattle.class_group.proofs.Moves.{double_and_add_reduced, subtract_and_halve_
 use Rattle.row_theory.specs.{Field.𝔸, Field.Poly}
 use Rattle.row_theory.proofs.Rows.{RowOf.row_of_length, RowOf.row_of_stands, RowOf.row_determined, Coefficients.self_stands}
 use Rattle.class_rows.specs.{Pair.StandsPair, Pair.rows_pair, Pair.rows_of, Core.OnCurve, Core.StandsCounted, Checked.row_curve, Checked.is_divisor, Operations.unary, Operations.binary}
-use Rattle.class_rows.specs.{internal.Check.Decides, Core.Divisor, Answer.answered, Answer.unary_answer, Answer.binary_answer, Answer.Only, Answer.UnaryAnswers, Answer.BinaryAnswers}
-use Rattle.class_rows.specs.declared.{row.RowPair.RowPair, reduction.CountedRows.CountedRows, RowsAnswer.RowsAnswer, Unary.Unary, Unary.TheVariants.Opposite, Unary.TheVariants.Double, Unary.TheVariants.Half, Binary.Binary, Binary.TheVariants.Sum, Binary.TheVariants.DoubleAndAdd, Binary.TheVariants.SubtractAndHalve}
+use Rattle.class_rows.specs.{internal.Check.CheckedRows, Core.Divisor, Answer.Gives, Answer.IsHalf, Answer.Precedes, Answer.answered, Answer.unary_answer, Answer.binary_answer, Answer.Only, Answer.UnaryAnswers, Answer.BinaryAnswers}
+use Rattle.class_rows.specs.declared.{row.RowPair.RowPair, reduction.CountedRows.CountedRows, Unary.Unary, Unary.TheVariants.Opposite, Unary.TheVariants.Double, Unary.TheVariants.Half, Binary.Binary, Binary.TheVariants.Sum, Binary.TheVariants.DoubleAndAdd, Binary.TheVariants.SubtractAndHalve}
 use Rattle.class_rows.proofs.{ReductionRows.pair_eq, ReductionRows.stands_pair_eq, ReductionRows.reduced_on, ReductionRows.reduced_rows, CheckRows.same_answer, CheckRows.both_decide, Tests.both, Tests.Sized, Tests.Shown, Tests.shown, Tests.test, Tests.test_decides}
 
 -- ---- rows and pairs
@@ -82,76 +84,79 @@ module _ (d : ℕ) (C : Theory.Curve (𝔸 d)) where
   binary_reduced SubtractAndHalve r s = subst (Reduced C) (sym (counted_subtract_and_halve_class C _ _)) (subtract_and_halve_reduced C r s)
 
 -- ---- an answer by a test
-module _ (d : ℕ) {t : Bool} (a : RowPair) (c : Counted (Poly d)) where
-  refused_is : {r : RowsAnswer} → t ≡ false → r ≡ record { divisor = false; rows = record { pair = a; steps = 0 } } → r ≡ answered d t a c
+module _ (d : ℕ) {t : Bool} (c : Counted (Poly d)) where
+  refused_is : t ≡ false → None ≡ answered d t c
   unfolding answered
-  refused_is e h = h ∙ ap (λ t. answered d t a c) (sym e)
+  refused_is e = ap (λ t. answered d t c) (sym e)
 
-  given_is : {b : CountedRows} → t ≡ true → Sized b.pair → StandsCounted d b c → record { divisor = true; rows = b } ≡ answered d t a c
+  given_is : {b : CountedRows} → t ≡ true → Sized b.pair → StandsCounted d b c → Some b ≡ answered d t c
   unfolding answered
   given_is e z s =
       let pair = rows_determined d z s.pair_stands in
       let steps = s.steps_is in
-      (λ i. record { divisor = true; rows = record { pair = pair i; steps = steps i } }) ∙ ap (λ t. answered d t a c) (sym e)
+      (λ i. Some (record { pair = pair i; steps = steps i })) ∙ ap (λ t. answered d t c) (sym e)
 
-  -- the rows of an answer whose test is true
-  answer_stands : {r : RowsAnswer} → StandsPair d (rows_of d c.class) c.class → t ≡ true → r ≡ answered d t a c → StandsCounted d r.rows c
+  -- the rows that are given stand for the class
+  answer_stands : {b : CountedRows} → StandsPair d (rows_of d c.class) c.class → t ≡ true → Some b ≡ answered d t c → StandsCounted d b c
   unfolding answered
-  answer_stands {r} s e h = subst (λ (r : RowsAnswer). StandsCounted d r.rows c) (sym (h ∙ ap (λ t. answered d t a c) e)) (record { pair_stands = s; steps_is = refl })
+  answer_stands {b} s e h = subst (λ (r : CountedRows). StandsCounted d r c) (sym (same_Some _ _ (h ∙ ap (λ t. answered d t c) e))) (record { pair_stands = s; steps_is = refl })
 
-  answered_divisor : (answered d t a c).divisor ≡ t
+  answered_is_some : is_some (answered d t c) ≡ t
   unfolding answered
-  answered_divisor = go t
+  answered_is_some = go t
     where
-      go : (t : Bool) → (answered d t a c).divisor ≡ t
+      go : (t : Bool) → is_some (answered d t c) ≡ t
       go true = refl
       go false = refl
 
+-- an answer that is given has one pair
+given_pair : {b : CountedRows} {h : RowPair} → Gives (Some b) h → b.pair ≡ h
+given_pair g = ap (λ r. r.pair) (same_Some _ _ g.is_given)
+
+none_gives : {h : RowPair} → ¬ Gives None h
+none_gives g = none-some _ g.is_given
+
 -- ---- one pair
-module _ {d : ℕ} {f : List ℕ} {a : RowPair} (size : length f ≡ 12) (sized : Sized a) {t : Bool} (decides : Decides t (Divisor d f a)) where
-  unary_tested : t ≡ is_divisor d f a
-  unary_tested = same_answer _ _ decides (test_decides size sized)
+module _ {d : ℕ} {f : List ℕ} {a : RowPair} (size : length f ≡ 12) (sized : Sized a) {r : Option (List ℕ)} (checked : CheckedRows d f (Divisor d f a) a r) where
+  unary_tested : is_some r ≡ is_divisor d f a
+  unary_tested = same_answer _ _ checked.decides (test_decides size sized)
 
-  pub unary_refused : {op : Unary} {r : RowsAnswer} → t ≡ false → r ≡ record { divisor = false; rows = record { pair = a; steps = 0 } } → UnaryAnswers op d f a r
+  pub unary_refused : {op : Unary} → r ≡ None → UnaryAnswers op d f a None
   unfolding unary_answer
-  unary_refused e h =
-      let no = sym unary_tested ∙ e in
-      record { answer = refused_is d a _ no h; is_half = λ _ n. absurd (true≢false (sym n ∙ no)) }
+  unary_refused e = record { answer = refused_is d _ (sym unary_tested ∙ ap is_some e); is_half = λ _ h g. absurd (none_gives g) }
 
-  pub unary_given : (op : Unary) {b : CountedRows} → t ≡ true → Sized b.pair
+  pub unary_given : (op : Unary) {w : List ℕ} {b : CountedRows} → r ≡ Some w → Sized b.pair
       → ((C : Theory.Curve (𝔸 d)) → OnCurve d f C → StandsCounted d b (unary op C (rows_pair d a)))
-      → UnaryAnswers op d f a (record { divisor = true; rows = b })
+      → UnaryAnswers op d f a (Some b)
   unfolding unary_answer
-  unary_given op {b} e z stands =
-      let held = sym unary_tested ∙ e in
+  unary_given op {b = b} e z stands =
+      let held = sym unary_tested ∙ ap is_some e in
       let h = shown held in
       let C = row_curve d f in
       let s = stands C h.on in
       let r = divisor_reduced h in
       record {
-        answer = given_is d a _ held z s;
-        is_half = λ o _.
+        answer = given_is d _ held z s;
+        is_half = λ o k g.
             let half_stands = subst (λ op. StandsPair d b.pair (unary op C (rows_pair d a)).class) o s.pair_stands in
-            only_rows h z half_stands (half_reduced C r) (double_half C r) (λ E k q. half_unique C r k q);
+            subst (Only d f (IsHalf d f a)) (given_pair g) (only_rows h z half_stands (half_reduced C r) (double_half C r) (λ E k q. half_unique C r k q));
       }
 
 -- ---- two pairs
-module _ {d : ℕ} {f : List ℕ} {a b : RowPair} (size : length f ≡ 12) (first : Sized a) (second : Sized b) {t : Bool} (decides : Decides t (Divisor d f a × Divisor d f b)) where
-  binary_tested : t ≡ (is_divisor d f a && is_divisor d f b)
-  binary_tested = same_answer _ _ decides (both_decide _ _ (test_decides size first) (test_decides size second))
+module _ {d : ℕ} {f : List ℕ} {a b : RowPair} (size : length f ≡ 12) (first : Sized a) (second : Sized b) {r : Option (List ℕ)} (checked : CheckedRows d f (Divisor d f a × Divisor d f b) a r) where
+  binary_tested : is_some r ≡ (is_divisor d f a && is_divisor d f b)
+  binary_tested = same_answer _ _ checked.decides (both_decide _ _ (test_decides size first) (test_decides size second))
 
-  pub binary_refused : {op : Binary} {r : RowsAnswer} → t ≡ false → r ≡ record { divisor = false; rows = record { pair = a; steps = 0 } } → BinaryAnswers op d f a b r
+  pub binary_refused : {op : Binary} → r ≡ None → BinaryAnswers op d f a b None
   unfolding binary_answer
-  binary_refused e h =
-      let no = sym binary_tested ∙ e in
-      record { answer = refused_is d a _ no h; taken_back = λ _ n m. absurd (true≢false (sym (ap₂ ◌&&◌ n m) ∙ no)) }
+  binary_refused e = record { answer = refused_is d _ (sym binary_tested ∙ ap is_some e); taken_back = λ _ h g. absurd (none_gives g) }
 
-  pub binary_given : (op : Binary) {r : CountedRows} → t ≡ true → Sized r.pair
-      → ((C : Theory.Curve (𝔸 d)) → OnCurve d f C → StandsCounted d r (binary op C (rows_pair d a) (rows_pair d b)))
-      → BinaryAnswers op d f a b (record { divisor = true; rows = r })
+  pub binary_given : (op : Binary) {w : List ℕ} {c : CountedRows} → r ≡ Some w → Sized c.pair
+      → ((C : Theory.Curve (𝔸 d)) → OnCurve d f C → StandsCounted d c (binary op C (rows_pair d a) (rows_pair d b)))
+      → BinaryAnswers op d f a b (Some c)
   unfolding binary_answer
-  binary_given op {r} e z stands =
-      let held = sym binary_tested ∙ e in
+  binary_given op {c = c} e z stands =
+      let held = sym binary_tested ∙ ap is_some e in
       let divisors = both (is_divisor d f a) (is_divisor d f b) held in
       let h = shown divisors.0 in
       let C = row_curve d f in
@@ -159,36 +164,37 @@ module _ {d : ℕ} {f : List ℕ} {a b : RowPair} (size : length f ≡ 12) (firs
       let m = divisor_reduced h in
       let n = divisor_reduced (shown divisors.1) in
       record {
-        answer = given_is d a _ held z s;
-        taken_back = λ o _ _.
-            let back = subst (λ op. StandsPair d r.pair (binary op C (rows_pair d a) (rows_pair d b)).class) o s.pair_stands in
-            only_rows h z
+        answer = given_is d _ held z s;
+        taken_back = λ o k g.
+            let back = subst (λ op. StandsPair d c.pair (binary op C (rows_pair d a) (rows_pair d b)).class) o s.pair_stands in
+            subst (Only d f (Precedes d f a b)) (given_pair g)
+            (only_rows h z
             (stands_pair_eq d (counted_subtract_and_halve_class C (rows_pair d a) (rows_pair d b)) back)
             (subtract_and_halve_reduced C m n)
             (double_subtract_and_halve C m n)
-            (λ E k q. sym (subtract_double_and_add C k n) ∙ ap (λ S. subtract_and_halve C S (rows_pair d b)) q);
+            (λ E k q. sym (subtract_double_and_add C k n) ∙ ap (λ S. subtract_and_halve C S (rows_pair d b)) q));
       }
 
 -- ---- what a caller uses of the answers
-module _ {op : Unary} {d : ℕ} {f : List ℕ} {a : RowPair} {r : RowsAnswer} (h : UnaryAnswers op d f a r) where
-  pub unary_divisor : r.divisor ≡ is_divisor d f a
+module _ {op : Unary} {d : ℕ} {f : List ℕ} {a : RowPair} {r : Option CountedRows} (h : UnaryAnswers op d f a r) where
+  pub unary_divisor : is_some r ≡ is_divisor d f a
   unfolding unary_answer
-  unary_divisor = ap (λ r. r.divisor) h.answer ∙ answered_divisor d a _
+  unary_divisor = ap is_some h.answer ∙ answered_is_some d _
 
-  pub unary_stands : r.divisor ≡ true → StandsCounted d r.rows (unary op (row_curve d f) (rows_pair d a))
+  pub unary_stands : {c : CountedRows} → r ≡ Some c → StandsCounted d c (unary op (row_curve d f) (rows_pair d a))
   unfolding unary_answer
   unary_stands e =
-      let held = sym unary_divisor ∙ e in
-      answer_stands d a _ (rows_of_stand d (unary_reduced d (row_curve d f) op (divisor_reduced (shown held)))) held h.answer
+      let held = sym unary_divisor ∙ ap is_some e in
+      answer_stands d _ (rows_of_stand d (unary_reduced d (row_curve d f) op (divisor_reduced (shown held)))) held (sym e ∙ h.answer)
 
-module _ {op : Binary} {d : ℕ} {f : List ℕ} {a b : RowPair} {r : RowsAnswer} (h : BinaryAnswers op d f a b r) where
-  pub binary_divisor : r.divisor ≡ (is_divisor d f a && is_divisor d f b)
+module _ {op : Binary} {d : ℕ} {f : List ℕ} {a b : RowPair} {r : Option CountedRows} (h : BinaryAnswers op d f a b r) where
+  pub binary_divisor : is_some r ≡ (is_divisor d f a && is_divisor d f b)
   unfolding binary_answer
-  binary_divisor = ap (λ r. r.divisor) h.answer ∙ answered_divisor d a _
+  binary_divisor = ap is_some h.answer ∙ answered_is_some d _
 
-  pub binary_stands : r.divisor ≡ true → StandsCounted d r.rows (binary op (row_curve d f) (rows_pair d a) (rows_pair d b))
+  pub binary_stands : {c : CountedRows} → r ≡ Some c → StandsCounted d c (binary op (row_curve d f) (rows_pair d a) (rows_pair d b))
   unfolding binary_answer
   binary_stands e =
-      let held = sym binary_divisor ∙ e in
+      let held = sym binary_divisor ∙ ap is_some e in
       let divisors = both (is_divisor d f a) (is_divisor d f b) held in
-      answer_stands d a _ (rows_of_stand d (binary_reduced d (row_curve d f) op (divisor_reduced (shown divisors.0)) (divisor_reduced (shown divisors.1)))) held h.answer
+      answer_stands d _ (rows_of_stand d (binary_reduced d (row_curve d f) op (divisor_reduced (shown divisors.0)) (divisor_reduced (shown divisors.1)))) held (sym e ∙ h.answer)

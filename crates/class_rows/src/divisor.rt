@@ -9,13 +9,6 @@ ghost use Rattle.class_rows.specs.internal.Check.{Decides, FormedPair, FormedRow
 
 use crate::row::{Row, RowPair, divide, length, square_row, sum_rows};
 
-// Whether a pair is a divisor, and if so its cofactor.
-#[derive(Clone, Copy)]
-pub(crate) struct Check {
-    pub divisor: bool,
-    pub w: Row,
-}
-
 // Is every number an element?
 fn in_range(d: u8, r: Row) -> bool
     requires { Accepted d }
@@ -104,33 +97,27 @@ pub(crate) fn curve_value(d: u8, f: Row, v: Row) -> Row
     sum_rows(d, sum, f)
 }
 
-// The check of a pair: is v² + v + f a multiple of u?
-pub(crate) fn checked(d: u8, f: Row, a: RowPair) -> Check
+// The cofactor of a pair, or `None` where it is no divisor: is v² + v + f a multiple of u?
+pub(crate) fn checked(d: u8, f: Row, a: RowPair) -> Option<Row>
     ensures { CheckedRows d f (Divisor d f a) a result }
 {
     if !in_form(d, f, a) {
-        return Check {
-            divisor: false,
-            w: [0; 12],
-        };
+        return None;
     }
-    let u = a.u;
-    let v = a.v;
-    let value = curve_value(d, f, v);
-    let division = divide(d, value, u);
-    let w = division.quotient;
-    let rest = division.remainder;
-    let n = length(rest);
-    Check { divisor: n == 0, w }
+    let value = curve_value(d, f, a.v);
+    let division = divide(d, value, a.u);
+    let n = length(division.remainder);
+    if n == 0 {
+        Some(division.quotient)
+    } else {
+        None
+    }
 }
 
-// The check of two pairs, with the cofactor of the first.
-pub(crate) fn checked_both(d: u8, f: Row, a: RowPair, b: RowPair) -> Check
+// The cofactor of the first pair, or `None` where one of two is no divisor.
+pub(crate) fn checked_both(d: u8, f: Row, a: RowPair, b: RowPair) -> Option<Row>
     ensures { CheckedRows d f (Divisor d f a × Divisor d f b) a result }
 {
-    let second = checked(d, f, b);
-    if !second.divisor {
-        return second;
-    }
+    checked(d, f, b)?;
     checked(d, f, a)
 }

@@ -3,7 +3,7 @@
 // one division for each pair. The quotient w = (v² + v + f) / u serves the double and the half.
 #![tactic(auto)]
 
-ghost use mathlib.Core.{Path.◌≡◌, Bool.false};
+ghost use mathlib.Core.Path.{◌≡◌};
 ghost use Rattle.class_rows.specs.{Checked.is_divisor, Answer.UnaryAnswers, Answer.BinaryAnswers};
 
 mod composition;
@@ -37,61 +37,27 @@ pub enum Binary {
     SubtractAndHalve,
 }
 
-// Whether the rows given are divisors, and if so the resulting pair with the number of reduction steps.
-#[derive(Clone, Copy)]
-pub struct RowsAnswer {
-    pub divisor: bool,
-    pub rows: CountedRows,
-}
-
 // Is the pair a reduced divisor of the curve?
 pub fn is_divisor(d: u8, f: [u64; 12], a: RowPair) -> bool
     ensures { result ≡ is_divisor d f a }
 {
-    let check = checked(d, f, a);
-    check.divisor
+    checked(d, f, a).is_some()
 }
 
-// The answer where a check fails: the first pair given, and no step.
-fn refused(a: RowPair) -> RowsAnswer
-    ensures { result ≡ record { divisor = false; rows = record { pair = a; steps = 0 } } }
-{
-    let rows = CountedRows { pair: a, steps: 0 };
-    RowsAnswer {
-        divisor: false,
-        rows,
-    }
-}
-
-// The operation on one pair. The half of a divisor is the only divisor whose double is the one given.
-pub fn unary_rows(op: Unary, d: u8, f: [u64; 12], a: RowPair) -> RowsAnswer
+// The operation on one pair, or `None` where it is no divisor. The half of a divisor is the only divisor whose double is
+// the one given.
+pub fn unary_rows(op: Unary, d: u8, f: [u64; 12], a: RowPair) -> Option<CountedRows>
     ensures { UnaryAnswers op d f a result }
 {
-    let check = checked(d, f, a);
-    if !check.divisor {
-        return refused(a);
-    }
-    let w = check.w;
-    let rows = unary_of_reduced(op, d, f, a, w);
-    RowsAnswer {
-        divisor: true,
-        rows,
-    }
+    let w = checked(d, f, a)?;
+    Some(unary_of_reduced(op, d, f, a, w))
 }
 
-// The operation on two pairs. The half of the first less the second is the only divisor that doubled, plus the second,
-// is the first.
-pub fn binary_rows(op: Binary, d: u8, f: [u64; 12], a: RowPair, b: RowPair) -> RowsAnswer
+// The operation on two pairs, or `None` where one is no divisor. The half of the first less the second is the only
+// divisor that doubled, plus the second, is the first.
+pub fn binary_rows(op: Binary, d: u8, f: [u64; 12], a: RowPair, b: RowPair) -> Option<CountedRows>
     ensures { BinaryAnswers op d f a b result }
 {
-    let check = checked_both(d, f, a, b);
-    if !check.divisor {
-        return refused(a);
-    }
-    let w = check.w;
-    let rows = binary_of_reduced(op, d, f, a, w, b);
-    RowsAnswer {
-        divisor: true,
-        rows,
-    }
+    let w = checked_both(d, f, a, b)?;
+    Some(binary_of_reduced(op, d, f, a, w, b))
 }

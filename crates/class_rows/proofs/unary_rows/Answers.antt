@@ -1,20 +1,20 @@
 -- `unary_rows` meets its contract.
-use borrow.Author.Tests.{not-true, not-false}
-use Rattle.class_rows.proofs.{Tests.Sized, Tests.sized, Answers.unary_refused, Answers.unary_given}
+use Rattle.std.proofs.Common.{rules}
+use Rattle.class_rows.proofs.{Tests.Sized, CheckRows.check_shows, Answers.unary_refused, Answers.unary_given}
 use Rattle.class_rows.proofs.unary_rows.Goals as goal
 
-pub returns-then-not-check : goal.returns-then-not-check
-returns-then-not-check c =
-    unary_refused c.well_formed.1.1.0.1.0.1 ((let it : Sized c.args.a = let rows = c.well_formed.1.1.1.0.1.1 in sized c.args.a rows.0.1.0.1 rows.1.0.1.0.1 in it)) c.checked-check.ensures.decides (not-true _ c.if-not-check.true) c.refused.ensures
+pub returns-in_err-w : goal.returns-in_err-w
+returns-in_err-w c =
+    let z : Sized c.args.a = record { u_size = search rules; v_size = search rules } in
+    rw c.from_residual.ensures (unary_refused (search rules) z c.checked.ensures c.in_err-w.was)
 
-pub unary_of_reduced-rows-requires : goal.unary_of_reduced-rows-requires
-unary_of_reduced-rows-requires c =
-    let check = c.checked-check.ensures in let held = not-false _ c.if-not-check.false in
-    let divisor = check.decides.0 held in
-    (divisor.degree, divisor.reduced, check.cofactor held)
+pub unary_of_reduced-requires : goal.unary_of_reduced-requires
+unary_of_reduced-requires c =
+    let divisor = check_shows c.checked.ensures c.in_ok-w.was in
+    (divisor.degree, divisor.reduced, c.checked.ensures.cofactor _ c.in_ok-w.was)
 
 pub returns : goal.returns
 returns c =
-    let rows = c.unary_of_reduced-rows.type_inv.1.1.0.1.1 in unary_given c.well_formed.1.1.0.1.0.1 ((let it : Sized c.args.a = let rows = c.well_formed.1.1.1.0.1.1 in sized c.args.a rows.0.1.0.1 rows.1.0.1.0.1 in it)) c.checked-check.ensures.decides c.args.op (not-false _ c.if-not-check.false)
-    (sized c.unary_of_reduced-rows.result.pair rows.0.1.0.1 rows.1.0.1.0.1)
-    c.unary_of_reduced-rows.ensures
+    let z : Sized c.args.a = record { u_size = search rules; v_size = search rules } in
+    let r : Sized c.unary_of_reduced.result.pair = record { u_size = search rules; v_size = search rules } in
+    unary_given (search rules) z c.checked.ensures c.args.op c.in_ok-w.was r c.unary_of_reduced.ensures

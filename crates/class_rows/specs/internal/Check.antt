@@ -1,12 +1,12 @@
 -- The promises of the private functions of the check.
-use Rattle.std.specs.Prelude.{ℕ, ◌≤◌, ◌<◌}
+use Rattle.std.specs.Prelude.{ℕ, ◌≤◌, ◌<◌, Option, Some, is_some}
 use mathlib.Core.{Path.◌≡◌, Bool.Bool, Bool.true, List.List, Logic.◌↔◌}
 use Rattle.binary_field_theory.specs.Element.{Accepted}
 use Rattle.char2_algebra.specs.Lead.{Monic}
 use Rattle.class_group.specs.Curve as Theory
 use Rattle.row_theory.specs.{Field.𝔸, Field.poly, Row.InRange, Row.row_len}
 use Rattle.class_rows.specs.{Core.OnCurve, internal.Cofactor.CofactorRow}
-use Rattle.class_rows.specs.declared.{row.RowPair.RowPair, divisor.Check.Check}
+use Rattle.class_rows.specs.declared.row.RowPair.{RowPair}
 
 -- t is true exactly where P holds
 abbrev pub Decides : Bool → Type 0 → Type 0
@@ -26,7 +26,7 @@ pub record FormedRows (d : ℕ) (f : List ℕ) (a : RowPair) : Type 0 where
   pub curve : (C : Theory.Curve (𝔸 d)) × OnCurve d f C
   pub pair : FormedPair d a
 
--- `divisor` is true exactly where `asked` holds, and then w is the cofactor of the pair
-pub record CheckedRows (d : ℕ) (f : List ℕ) (asked : Type 0) (a : RowPair) (r : Check) : Type 0 where
-  pub decides : Decides r.divisor asked
-  pub cofactor : r.divisor ≡ true → CofactorRow d f a r.w
+-- a cofactor is given exactly where `asked` holds, and it is that of the pair
+pub record CheckedRows (d : ℕ) (f : List ℕ) (asked : Type 0) (a : RowPair) (r : Option (List ℕ)) : Type 0 where
+  pub decides : Decides (is_some r) asked
+  pub cofactor : (w : List ℕ) → r ≡ Some w → CofactorRow d f a w
