@@ -12,30 +12,31 @@ use Prim.Native.Nat.{ℕ, zero, suc, ◌-◌, ◌%◌, ◌^◌, ◌<◌}
 use native.Mathlib.Omega.{arith}
 use lib.{Dec.T, Dec.ltb, Dec.ltb→lt}
 use borrow.Author.Tests.{lt-ltb}
-use Rattle.binary_field.specs.{declared.Answer.Answer, declared.Answer.TheVariants.Element, declared.Answer.TheVariants.Refused, Field.element as at}
-use Rattle.binary_field.specs.declared.{Solution.Solution, Solution.TheVariants.Root, Solution.TheVariants.NoRoot}
-use Rattle.binary_field.specs.declared.Solution.TheVariants as solution
+use Rattle.std.specs.Prelude.{Result, Ok, Err, Some, None}
+use Rattle.std.specs.Prelude as std
+use Rattle.refusals.specs.{Refusals.number, declared.Refusal.Refusal}
+use Rattle.binary_field.specs.{Field.element as at}
 use Rattle.binary_field_theory.specs.{Carryless.◌⊕◌, Element.is_degree, Element.Accepted, Element.product, Element.square, Element.power, Element.root, Element.inverse, Quadratic.even_root, Quadratic.trace, Quadratic.half_trace}
 use Rattle.binary_field_theory.specs.Quadratic as equation
 use Rattle.binary_field_theory.proofs.{Linear.both, Elements.element_path, Theorems.one_root, Theorems.one_inverse, Theorems.even_root_found, Theorems.even_root_none, Theorems.even_root_by_trace, Theorems.none_by_trace}
 use Rattle.binary_field.specs.{Field.field, Answer.element, Answer.refusal, Answer.reply, Answer.below, Answer.degree_refusal, Answer.element_refusal, Answer.inverse_refusal, Answer.answered, Answer.sum_reply, Answer.product_reply, Answer.square_reply, Answer.root_reply, Answer.inverse_reply, Answer.InverseMeans, Answer.RootMeans, Answer.found, Answer.no_root, Answer.refused, Answer.solution_reply, Answer.solved, Answer.quadratic_reply, Answer.QuadraticMeans, Checks.unless, Checks.◌or_else◌}
 use Rattle.field_laws.specs.Division.{inverse_of}
 use Rattle.binary_field.proofs.Field.{add_number, mul_number, zero_number, root_number, inverse_number, element_small}
-use Rattle.binary_field.proofs.Checks.{then_zero}
+use Rattle.binary_field.proofs.{Checks.then_zero, Refusing.number_positive}
 
 refusal_of : (k v : ℕ) → (k ≡ 0 → ⊥) → refusal k ≡ answered k v
 unfolding answered
 refusal_of zero v h = absurd (h refl)
 refusal_of (suc k) v h = refl
 
--- a refusal other than 0 is answered
-pub refuses : {k n : ℕ} (v : ℕ) → k ≡ n → (k ≡ 0 → ⊥) → refusal k ≡ answered n v
-refuses {k} v e h = refusal_of k v h ∙ ap (λ (x : ℕ). answered x v) e
+-- a refusal is answered
+pub refuses : (r : Refusal) {n : ℕ} (v : ℕ) → number r ≡ n → refusal (number r) ≡ answered n v
+refuses r v e = refusal_of (number r) v (number_positive r) ∙ ap (λ (x : ℕ). answered x v) e
 
 -- where nothing is refused, the element is answered
-pub replies : {k n u v : ℕ} → k ≡ n → k ≡ 0 → u ≡ v → element u ≡ answered n v
+pub replies : {n u v : ℕ} → 0 ≡ n → u ≡ v → element u ≡ answered n v
 unfolding answered
-replies e h f = rw (← e, h) (ap element f)
+replies e f = rw (← e) (ap element f)
 
 both_pass : (x y : Bool) → ◌≡◌ {A = ℕ} 0 (unless x 106 or_else unless y 110) → T x × T y
 unfolding unless ◌or_else◌
@@ -44,10 +45,10 @@ both_pass true false e = absurd (omega arith)
 both_pass false y e = absurd (omega arith)
 
 -- where nothing is refused, the degree is accepted and the numbers are in range
-pub none_refused : (d a b : ℕ) {k : ℕ} → k ≡ element_refusal d (a ∷ b ∷ []) → k ≡ 0 → Accepted d × (a < 2 ^ d) × (b < 2 ^ d)
+pub none_refused : (d a b : ℕ) → 0 ≡ element_refusal d (a ∷ b ∷ []) → Accepted d × (a < 2 ^ d) × (b < 2 ^ d)
 unfolding element_refusal degree_refusal below
-none_refused d a b e h =
-    let z = both_pass (is_degree d) (ltb a (2 ^ d) && (ltb b (2 ^ d) && true)) (sym h ∙ e) in
+none_refused d a b e =
+    let z = both_pass (is_degree d) (ltb a (2 ^ d) && (ltb b (2 ^ d) && true)) e in
     let y = both (ltb a (2 ^ d)) (ltb b (2 ^ d) && true) z.1 in
     (z.0, ltb→lt _ _ y.0, ltb→lt _ _ (both (ltb b (2 ^ d)) true y.1).0)
 
@@ -100,7 +101,7 @@ unfolding root_reply answered
 root_means d a = by (element_refusal d (a ∷ [])) refl
   where
     by : (k : ℕ) → element_refusal d (a ∷ []) ≡ k → RootMeans d a (answered k (root d a))
-    by zero e = let p = none_refused d a a refl (refusal_twice d a ∙ e) in (e, one_root d p.0 a p.1)
+    by zero e = let p = none_refused d a a (sym (refusal_twice d a ∙ e)) in (e, one_root d p.0 a p.1)
     by (suc k) e = (sym e, λ z. omega arith)
 
 -- ---- the inverse
@@ -116,25 +117,25 @@ unfolding inverse_refusal unless
 zero_due d = nonzero_due (element_refusal d (0 ∷ []))
 
 -- where nothing is refused, the number is an element of an accepted degree, and not 0
-pub inverse_unrefused : (d a : ℕ) {k : ℕ} → k ≡ inverse_refusal d a → k ≡ 0 → Accepted d × (a < 2 ^ d) × ¬ (a ≡ 0)
+pub inverse_unrefused : (d a : ℕ) → 0 ≡ inverse_refusal d a → Accepted d × (a < 2 ^ d) × ¬ (a ≡ 0)
 unfolding inverse_refusal
-inverse_unrefused d a e h =
-    let z = then_zero (element_refusal d (a ∷ [])) _ (sym e ∙ h) in
-    let p = none_refused d a a refl (refusal_twice d a ∙ z.0) in
-    (p.0, p.1, λ is. zero_due d (ap (inverse_refusal d) (sym is) ∙ sym e ∙ h))
+inverse_unrefused d a e =
+    let z = then_zero (element_refusal d (a ∷ [])) _ (sym e) in
+    let p = none_refused d a a (sym (refusal_twice d a ∙ z.0)) in
+    (p.0, p.1, λ is. zero_due d (ap (inverse_refusal d) (sym is) ∙ sym e))
 
-pub inverse_refuses : (d a : ℕ) {k : ℕ} → k ≡ inverse_refusal d a → (k ≡ 0 → ⊥) → refusal k ≡ inverse_reply d a
+pub inverse_refuses : (d a : ℕ) (r : Refusal) → number r ≡ inverse_refusal d a → refusal (number r) ≡ inverse_reply d a
 unfolding inverse_reply
-inverse_refuses d zero e h = ap refusal e
-inverse_refuses d (suc n) e h = refuses _ e h
+inverse_refuses d zero r e = ap refusal e
+inverse_refuses d (suc n) r e = refuses r _ e
 
-pub inverse_answers : (d a : ℕ) {k b : ℕ} → k ≡ inverse_refusal d a → k ≡ 0 → b ≡ power d a (2 ^ d - 2) → element b ≡ inverse_reply d a
+pub inverse_answers : (d a : ℕ) {b : ℕ} → 0 ≡ inverse_refusal d a → b ≡ power d a (2 ^ d - 2) → element b ≡ inverse_reply d a
 unfolding inverse_reply
-inverse_answers d zero e h f = absurd (zero_due d (sym e ∙ h))
-inverse_answers d (suc n) e h f = replies e h f
+inverse_answers d zero e f = absurd (zero_due d (sym e))
+inverse_answers d (suc n) e f = replies e f
 
 inverse_replies : (d a : ℕ) → Accepted d → a < 2 ^ d → (ne : ¬ (a ≡ 0)) → inverse_reply d a ≡ element (inverse d a ne)
-inverse_replies d a hd ha ne = sym (inverse_answers d a (sym (none_inverse d a hd ha ne)) refl refl)
+inverse_replies d a hd ha ne = sym (inverse_answers d a (sym (none_inverse d a hd ha ne)) refl)
 
 -- each case of the answer says what is true
 pub inverse_means : (d a : ℕ) → InverseMeans d a (inverse_reply d a)
@@ -146,7 +147,7 @@ inverse_means d (suc n) = by (inverse_refusal d (suc n)) refl
     not_zero e = omega arith
 
     by : (k : ℕ) → inverse_refusal d (suc n) ≡ k → InverseMeans d (suc n) (answered k (inverse d (suc n) not_zero))
-    by zero e = let p = inverse_unrefused d (suc n) refl e in (e, one_inverse d p.0 (suc n) p.1 not_zero)
+    by zero e = let p = inverse_unrefused d (suc n) (sym e) in (e, one_inverse d p.0 (suc n) p.1 not_zero)
     by (suc k) e = (sym e, λ z. omega arith)
 
 -- the calls give the sums, products, squares, roots and inverses of the field
@@ -173,35 +174,35 @@ module _ (d : ℕ) (ok : Accepted d) (a : ℕ) (ha : a < 2 ^ d) where
       ∙ ap element (sym (inverse_number d ok (at d ok a) (λ e. not_zero (sym small ∙ e)) ∙ ap (λ n. power d n (2 ^ d - 2)) small))
 
 -- for a caller that matches on the answer: an element is the reply's element, and there is no refusal
-pub element_is : {x : Answer} {n v : ℕ} → x ≡ Element n → reply x ≡ element v → n ≡ v
+pub element_is : {x : Result ℕ Refusal} {n v : ℕ} → x ≡ Ok n → reply x ≡ element v → n ≡ v
 element_is {x} {n} {v} e f =
     let g : reply x ≡ element n = ap reply e in
     cc
 
-pub no_refusal : {x : Answer} {k v : ℕ} → x ≡ Refused k → reply x ≡ element v → ⊥
-no_refusal {x} {k} {v} e f =
-    let g : reply x ≡ refusal k = ap reply e in
+pub no_refusal : {x : Result ℕ Refusal} {r : Refusal} {v : ℕ} → x ≡ Err r → reply x ≡ element v → ⊥
+no_refusal {x} {r} {v} e f =
+    let g : reply x ≡ refusal (number r) = ap reply e in
     let z : ◌≡◌ {A = ℕ} 0 1 = cc in
     omega arith
 
 -- ---- the root of y² + y = a
 
 -- for a caller that matches on the answer: a root is the reply's root
-pub found_is : {t : Solution} {y z : ℕ} → t ≡ Root y → solution_reply t ≡ found z → y ≡ z
+pub found_is : {t : Result (std.Option ℕ) Refusal} {y z : ℕ} → t ≡ Ok (Some y) → solution_reply t ≡ found z → y ≡ z
 found_is {t} {y} {z} e f =
     let g : solution_reply t ≡ found y = ap solution_reply e in
     cc
 
-pub none_found : {t : Solution} {y : ℕ} → t ≡ Root y → solution_reply t ≡ no_root → ⊥
+pub none_found : {t : Result (std.Option ℕ) Refusal} {y : ℕ} → t ≡ Ok (Some y) → solution_reply t ≡ no_root → ⊥
 none_found {t} {y} e f =
     let g : solution_reply t ≡ found y = ap solution_reply e in
     let z : ◌≡◌ {A = ℕ} 0 1 = cc in
     omega arith
 
-pub found_root : (t : Solution) {z : ℕ} → solution_reply t ≡ found z → t ≡ Root z
-found_root (Root y) {z} e = let f : y ≡ z = cc in ap Root f
-found_root NoRoot e = let z : ◌≡◌ {A = ℕ} 0 1 = cc in absurd (omega arith)
-found_root (solution.Refused k) e = let z : ◌≡◌ {A = ℕ} 0 1 = cc in absurd (omega arith)
+pub found_root : (t : Result (std.Option ℕ) Refusal) {z : ℕ} → solution_reply t ≡ found z → t ≡ Ok (Some z)
+found_root (Ok (Some y)) {z} e = let f : y ≡ z = cc in ap (λ x. Ok (Some x)) f
+found_root (Ok None) e = let z : ◌≡◌ {A = ℕ} 0 1 = cc in absurd (omega arith)
+found_root (Err r) e = let z : ◌≡◌ {A = ℕ} 0 1 = cc in absurd (omega arith)
 
 -- a root is one in the field
 pub quadratic_in_field : (d : ℕ) (ok : Accepted d) {a y : ℕ} → a < 2 ^ d → equation.Root d a y
@@ -216,9 +217,10 @@ unfolding solved
 refused_of zero o h = absurd (h refl)
 refused_of (suc k) o h = refl
 
-pub quadratic_refused : (d a : ℕ) {k : ℕ} → k ≡ element_refusal d (a ∷ a ∷ []) → (k ≡ 0 → ⊥) → refused k ≡ quadratic_reply d a
+pub quadratic_refused : (d a : ℕ) (r : Refusal) → number r ≡ element_refusal d (a ∷ a ∷ []) → refused (number r) ≡ quadratic_reply d a
 unfolding quadratic_reply
-quadratic_refused d a {k} e h = refused_of k (even_root d a) h ∙ ap (λ (n : ℕ). solved n (even_root d a)) (e ∙ refusal_twice d a)
+quadratic_refused d a r e =
+    refused_of (number r) (even_root d a) (number_positive r) ∙ ap (λ (n : ℕ). solved n (even_root d a)) (e ∙ refusal_twice d a)
 
 -- for an element of an accepted degree the answer is what the search finds, by trace and half-trace
 module _ (d a : ℕ) (ok : Accepted d) (ha : a < 2 ^ d) where
@@ -247,7 +249,7 @@ unfolding quadratic_reply solved
 quadratic_means d a = by (element_refusal d (a ∷ [])) refl (even_root d a) refl
   where
     accepted : element_refusal d (a ∷ []) ≡ 0 → Accepted d
-    accepted e = (none_refused d a a refl (refusal_twice d a ∙ e)).0
+    accepted e = (none_refused d a a (sym (refusal_twice d a ∙ e))).0
 
     by : (k : ℕ) → element_refusal d (a ∷ []) ≡ k → (o : Option ℕ) → even_root d a ≡ o → QuadraticMeans d a (solved k o)
     by zero e (some y) f = (e, even_root_found d (accepted e) f)

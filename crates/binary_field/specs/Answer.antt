@@ -1,11 +1,10 @@
 -- The answers of the calls on elements (docs/SPECIFICATION.md, 1 and 6).
-use Rattle.std.specs.Prelude.{ℕ, zero, suc, ◌^◌, ltb}
+use Rattle.std.specs.Prelude.{ℕ, zero, suc, ◌^◌, ltb, Result, Ok, Err, Some, None}
+use Rattle.std.specs.Prelude as std
 use mathlib.Core.{Path.◌≡◌, Bool.Bool, Bool.true, Bool.cond, Bool.◌&&◌, List.List, List.[], List.◌∷◌, Logic.◌⊎◌, Option.Option, Option.none, Option.some}
 use Rattle.std.proofs.Common.{arith}
 use Rattle.binary_field.specs.Checks.{unless, ◌or_else◌, listed}
-use Rattle.binary_field.specs.declared.Answer.{Answer, TheVariants.Element, TheVariants.Refused}
-use Rattle.binary_field.specs.declared.Solution.{Solution, TheVariants.Root, TheVariants.NoRoot}
-use Rattle.binary_field.specs.declared.Solution.TheVariants as solution
+use Rattle.refusals.specs.{Refusals.number, declared.Refusal.Refusal}
 use Rattle.binary_field_theory.specs.Quadratic as equation
 use Rattle.binary_field_theory.specs.{Carryless.◌⊕◌, Element.is_degree, Element.product, Element.square, Element.root, Element.inverse, Element.OneRoot, Element.OneInverse, Quadratic.even_root}
 
@@ -15,9 +14,9 @@ pub data Reply : Type 0 where
   refusal : ℕ → Reply
 
 -- the code's answer as a reply
-abbrev pub reply : Answer → Reply
-reply (Element n) = element n
-reply (Refused k) = refusal k
+abbrev pub reply : Result ℕ Refusal → Reply
+reply (Ok n) = element n
+reply (Err r) = refusal (number r)
 
 -- every number of the list is below the bound
 unfoldable pub below : ℕ → List ℕ → Bool
@@ -93,10 +92,10 @@ pub data QuadraticReply : Type 0 where
   refused : ℕ → QuadraticReply
 
 -- the code's answer as such a reply
-abbrev pub solution_reply : Solution → QuadraticReply
-solution_reply (Root y) = found y
-solution_reply NoRoot = no_root
-solution_reply (solution.Refused k) = refused k
+abbrev pub solution_reply : Result (std.Option ℕ) Refusal → QuadraticReply
+solution_reply (Ok (Some y)) = found y
+solution_reply (Ok None) = no_root
+solution_reply (Err r) = refused (number r)
 
 -- the refusal where it is not 0, else the root, or that there is none
 unfoldable pub solved : ℕ → Option ℕ → QuadraticReply

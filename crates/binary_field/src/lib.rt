@@ -5,6 +5,7 @@
 
 ghost use Rattle.std.specs.Prelude.{◌≡◌, [], ◌∷◌};
 ghost use Rattle.binary_field.specs.Checks.{unless};
+ghost use Rattle.refusals.specs.Refusals.{refusal_of};
 ghost use Rattle.binary_field.specs.Answer.{reply, below, bound, degree_refusal, element_refusal, inverse_refusal, sum_reply, product_reply, square_reply, root_reply, inverse_reply, solution_reply, quadratic_reply};
 
 mod carryless;
@@ -15,148 +16,110 @@ mod rooting;
 mod spreading;
 mod squaring;
 
-// An element, or a refusal with its number.
-#[derive(Clone, Copy)]
-pub enum Answer {
-    Element(u64),
-    Refused(u32),
-}
-
-// The answer to an equation that may have no root.
-#[derive(Clone, Copy)]
-pub enum Solution {
-    Root(u64),
-    NoRoot,
-    Refused(u32),
-}
+use refusals::Refusal;
 
 // The number of elements of the field of degree d, 2^d; 0 for a refused degree.
 pub fn bound(d: u8) -> u64
     ensures { result ≡ bound d }
 {
-    if d == 5 {
-        return 0x20;
+    match d {
+        5 => 0x20,
+        61 => 0x2000_0000_0000_0000,
+        _ => 0,
     }
-    if d == 61 {
-        return 0x2000_0000_0000_0000;
-    }
-    0
 }
 
-// 106 for a degree other than 5 and 61, else 0.
-pub fn degree_refusal(d: u8) -> u32
-    ensures { result ≡ degree_refusal d }
+// Refuses a degree other than 5 and 61.
+pub fn check_degree(d: u8) -> Result<(), Refusal>
+    ensures { refusal_of result ≡ degree_refusal d }
 {
-    if bound(d) == 0 {
-        return 106;
+    match d {
+        5 | 61 => Ok(()),
+        _ => Err(Refusal::WrongDegree),
     }
-    0
 }
 
-// 110 where one of two numbers is m or more, else 0.
-fn range_refusal(m: u64, a: u64, b: u64) -> u32
-    ensures { result ≡ unless (below m (a ∷ b ∷ [])) 110 }
+// Refuses two numbers of which one is m or more.
+fn check_range(m: u64, a: u64, b: u64) -> Result<(), Refusal>
+    ensures { refusal_of result ≡ unless (below m (a ∷ b ∷ [])) 110 }
 {
-    if a < m {
-        if b < m {
-            return 0;
-        }
+    if a < m && b < m {
+        Ok(())
+    } else {
+        Err(Refusal::NotAnElement)
     }
-    110
 }
 
-// The refusal of a call on two numbers, or 0. The degree is tested first.
-fn refusal(d: u8, a: u64, b: u64) -> u32
-    ensures { result ≡ element_refusal d (a ∷ b ∷ []) }
+// The checks of a call on two numbers. The degree is tested first.
+fn check_elements(d: u8, a: u64, b: u64) -> Result<(), Refusal>
+    ensures { refusal_of result ≡ element_refusal d (a ∷ b ∷ []) }
 {
-    let n = degree_refusal(d);
-    if n != 0 {
-        return n;
-    }
-    range_refusal(bound(d), a, b)
+    check_degree(d)?;
+    check_range(bound(d), a, b)
 }
 
-// The refusal of an inverse, or 0: 117 for 0, after the other tests.
-fn inverse_refusal(d: u8, a: u64) -> u32
-    ensures { result ≡ inverse_refusal d a }
+// The checks of an inverse: 0 is refused after the other tests.
+fn check_inverse(d: u8, a: u64) -> Result<(), Refusal>
+    ensures { refusal_of result ≡ inverse_refusal d a }
 {
-    let n = refusal(d, a, a);
-    if n == 0 {
-        if a == 0 {
-            return 117;
-        }
+    check_elements(d, a, a)?;
+    if a == 0 {
+        Err(Refusal::ZeroHasNoInverse)
+    } else {
+        Ok(())
     }
-    n
 }
 
 // The sum of two elements.
-pub fn sum(d: u8, a: u64, b: u64) -> Answer
+pub fn sum(d: u8, a: u64, b: u64) -> Result<u64, Refusal>
     ensures { reply result ≡ sum_reply d a b }
 {
-    let n = refusal(d, a, b);
-    if n != 0 {
-        return Answer::Refused(n);
-    }
-    Answer::Element(a ^ b)
+    check_elements(d, a, b)?;
+    Ok(a ^ b)
 }
 
 // The product of two elements.
-pub fn product(d: u8, a: u64, b: u64) -> Answer
+pub fn product(d: u8, a: u64, b: u64) -> Result<u64, Refusal>
     ensures { reply result ≡ product_reply d a b }
 {
-    let n = refusal(d, a, b);
-    if n != 0 {
-        return Answer::Refused(n);
-    }
-    Answer::Element(carryless::product_of(d, a, b))
+    check_elements(d, a, b)?;
+    Ok(carryless::product_of(d, a, b))
 }
 
 // The square of an element.
-pub fn square(d: u8, a: u64) -> Answer
+pub fn square(d: u8, a: u64) -> Result<u64, Refusal>
     ensures { reply result ≡ square_reply d a }
 {
-    let n = refusal(d, a, a);
-    if n != 0 {
-        return Answer::Refused(n);
-    }
+    check_elements(d, a, a)?;
     let table = spreading::spreads();
-    Answer::Element(squaring::square_of(d, a, &table))
+    Ok(squaring::square_of(d, a, &table))
 }
 
 // The square root of an element.
-pub fn square_root(d: u8, a: u64) -> Answer
+pub fn square_root(d: u8, a: u64) -> Result<u64, Refusal>
     ensures { reply result ≡ root_reply d a }
 {
-    let n = refusal(d, a, a);
-    if n != 0 {
-        return Answer::Refused(n);
-    }
-    Answer::Element(rooting::root_of(d, a))
+    check_elements(d, a, a)?;
+    Ok(rooting::root_of(d, a))
 }
 
 // The inverse of an element. 0 has none and is refused.
-pub fn inverse(d: u8, a: u64) -> Answer
+pub fn inverse(d: u8, a: u64) -> Result<u64, Refusal>
     ensures { reply result ≡ inverse_reply d a }
 {
-    let n = inverse_refusal(d, a);
-    if n != 0 {
-        return Answer::Refused(n);
-    }
+    check_inverse(d, a)?;
     let table = spreading::spreads();
-    Answer::Element(inverting::inverse_of(d, a, &table))
+    Ok(inverting::inverse_of(d, a, &table))
 }
 
 // The root of y² + y = a with lowest bit 0: the half-trace of a with that bit cleared, if the trace of a is 0.
-pub fn quadratic_root(d: u8, a: u64) -> Solution
+pub fn quadratic_root(d: u8, a: u64) -> Result<Option<u64>, Refusal>
     ensures { solution_reply result ≡ quadratic_reply d a }
 {
-    let n = refusal(d, a, a);
-    if n != 0 {
-        return Solution::Refused(n);
-    }
+    check_elements(d, a, a)?;
     if quadratics::trace_of(d, a) != 0 {
-        return Solution::NoRoot;
+        return Ok(None);
     }
     let h = quadratics::half_trace_of(d, a);
-    Solution::Root(h ^ (h % 2))
+    Ok(Some(h ^ (h % 2)))
 }

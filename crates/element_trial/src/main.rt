@@ -7,27 +7,27 @@
 // `cut short`.
 #![tactic(auto)]
 
-use binary_field::{Answer, Solution};
+use refusals::Refusal;
 use std::io;
 use std::io::{Read, Write};
 use text::Line;
 
 // The text of an answer.
-fn answer_text(answer: Answer) -> Line {
+fn answer_text(answer: Result<u64, Refusal>) -> Line {
     let start = text::empty();
     match answer {
-        Answer::Element(element) => text::with_hexadecimal(start, element),
-        Answer::Refused(number) => text::with_refusal(start, number),
+        Ok(element) => text::with_hexadecimal(start, element),
+        Err(refusal) => text::with_refusal(start, refusal.number()),
     }
 }
 
 // The text of an answer to the quadratic equation.
-fn solution_text(solution: Solution) -> Line {
+fn solution_text(answer: Result<Option<u64>, Refusal>) -> Line {
     let start = text::empty();
-    match solution {
-        Solution::Root(element) => text::with_hexadecimal(start, element),
-        Solution::NoRoot => text::with_bytes(start, b"no root"),
-        Solution::Refused(number) => text::with_refusal(start, number),
+    match answer {
+        Ok(Some(root)) => text::with_hexadecimal(start, root),
+        Ok(None) => text::with_bytes(start, b"no root"),
+        Err(refusal) => text::with_refusal(start, refusal.number()),
     }
 }
 

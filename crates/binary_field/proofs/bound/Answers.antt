@@ -1,16 +1,21 @@
 -- `bound` meets its contract.
+use native.Mathlib.Omega.{arith}
 use borrow.Author.Tests.{ne_eqb}
+use mathlib.Core.Path.{◌≡◌}
 use Rattle.binary_field.specs.Answer.{bound}
 use Rattle.binary_field.proofs.bound.Goals as goal
 
-pub returns-then-d-eq5 : goal.returns-then-d-eq5
+pub returns-in-5 : goal.returns-in-5
 unfolding bound
-returns-then-d-eq5 c = rw c.if-d-eq5.true
+returns-in-5 c = rw c.in-5.is
 
-pub returns-then-d-eq61 : goal.returns-then-d-eq61
+pub returns-in-61 : goal.returns-in-61
 unfolding bound
-returns-then-d-eq61 c = rw c.if-d-eq61.true
+returns-in-61 c = rw c.in-61.is
 
-pub returns : goal.returns
+pub returns-in_default : goal.returns-in_default
 unfolding bound
-returns c = simp (ne_eqb _ _ c.if-d-eq5.false, ne_eqb _ _ c.if-d-eq61.false)
+returns-in_default c =
+    let five : ¬ (c.args.d ≡ 5) = grind arith in
+    let h : ¬ (c.args.d ≡ 61) = grind arith in
+    simp (ne_eqb _ _ five, ne_eqb _ _ h)

@@ -1,19 +1,21 @@
 -- `square` meets its contract.
 use mathlib.Core.Path.{◌∙◌}
+use Rattle.std.proofs.lemmas.Result.{err_from_is_err_and}
 use Rattle.binary_field.specs.Answer.{square_reply}
 use Rattle.binary_field.proofs.Replies.{refuses, replies, none_refused, refusal_twice}
 use Rattle.binary_field.proofs.square.Goals as goal
 
-pub returns-then-n-ne0 : goal.returns-then-n-ne0
+pub returns-in_err-check_elements : goal.returns-in_err-check_elements
 unfolding square_reply
-returns-then-n-ne0 c = refuses _ (c.refusal-n.ensures ∙ refusal_twice _ _) c.if-n-ne0.true
+returns-in_err-check_elements c =
+    let p = err_from_is_err_and c.from_residual.result c.from_residual.ensures.1 in
+    rw (p.1, p.2) (refuses _ _ (c.in_err-check_elements.ensures ∙ refusal_twice _ _))
 
 pub square_of-requires : goal.square_of-requires
 square_of-requires c =
-    let p = none_refused _ _ _ c.refusal-n.ensures c.if-n-ne0.false in
+    let p = none_refused _ _ _ c.in_ok-check_elements.ensures in
     (p.0, p.1, c.spreads-table.ensures)
 
 pub returns : goal.returns
 unfolding square_reply
-returns c =
-    replies (c.refusal-n.ensures ∙ refusal_twice _ _) c.if-n-ne0.false c.square_of.ensures
+returns c = replies (c.in_ok-check_elements.ensures ∙ refusal_twice _ _) c.square_of.ensures
