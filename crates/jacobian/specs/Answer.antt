@@ -1,12 +1,15 @@
 -- The answers of the calls on classes by value, refusals included (docs/SPECIFICATION.md, 2, 3, 4 and 6).
-use Rattle.std.specs.Prelude.{ℕ, zero, suc, ◌≡◌, [], ◌∷◌}
+use Rattle.std.specs.Prelude.{ℕ, zero, suc, ◌≡◌, [], ◌∷◌, Ok, Err}
+use Rattle.std.specs.Prelude as Prelude
+use Rattle.refusals.specs.Refusals.{number}
+use Rattle.refusals.specs.declared.Refusal.{Refusal}
 use Rattle.class_group.specs.{Reduction.Counted, Operations.double, Moves.double_and_add}
 use Rattle.row_theory.specs.Field.{Poly}
 use Rattle.class_rows.specs.{Operations.unary, Operations.binary, declared.Unary.Unary, declared.Binary.Binary}
 use Rattle.class_rows.specs.declared.Unary.TheVariants.{Opposite, Double, Half}
 use Rattle.class_rows.specs.declared.Binary.TheVariants.{Sum, DoubleAndAdd, SubtractAndHalve}
 use Rattle.jacobian.specs.{Checks.◌or_else◌, Curves.curve_refusal, Curves.curve, Classes.pair, Classes.class_of, Classes.class_refusal}
-use Rattle.jacobian.specs.declared.{Curve.Curve, Class.Class, Outcome.Outcome, Outcome.TheVariants.Accepted, Outcome.TheVariants.Refused, ClassAnswer.ClassAnswer}
+use Rattle.jacobian.specs.declared.{Curve.Curve, Class.Class, CountedClass.CountedClass}
 
 -- an outcome: acceptance, or a refusal with its number
 pub data Verdict : Type 0 where
@@ -14,14 +17,9 @@ pub data Verdict : Type 0 where
   refused : ℕ → Verdict
 
 -- the code's outcome as a verdict
-abbrev pub verdict : Outcome → Verdict
-verdict Accepted = accepted
-verdict (Refused n) = refused n
-
--- the number of a refusal; 0 for an acceptance
-abbrev pub outcome_refusal : Outcome → ℕ
-outcome_refusal Accepted = 0
-outcome_refusal (Refused n) = n
+abbrev pub verdict : Prelude.Result (Unit {0}) Refusal → Verdict
+verdict (Ok _) = accepted
+verdict (Err r) = refused (number r)
 
 -- the refusal of a call on one class, or 0: that of the curve, then that of the class
 unfoldable pub refusal : Curve → Class → ℕ
@@ -50,10 +48,6 @@ pub record Reply : Type 0 where
   pub class : Class
   pub steps : ℕ
 
--- the code's answer as a reply
-abbrev pub reply : ClassAnswer → Reply
-reply r = record { outcome = verdict r.outcome; class = r.class; steps = r.steps }
-
 -- the answer of a call that gives a class, without the steps
 pub record Result : Type 0 where
   pub outcome : Verdict
@@ -70,6 +64,11 @@ gives a = record { outcome = accepted; class = a }
 -- a refusal, with the neutral class and no step
 abbrev pub refusing : ℕ → Reply
 refusing n = record { outcome = refused n; class = neutral_class; steps = 0 }
+
+-- the code's answer as a reply
+abbrev pub reply : Prelude.Result CountedClass Refusal → Reply
+reply (Ok r) = record { outcome = accepted; class = r.class; steps = r.steps }
+reply (Err r) = refusing (number r)
 
 -- the class and its steps where the refusal is 0, else the refusal
 unfoldable pub answered : (d : ℕ) → ℕ → Counted (Poly d) → Reply

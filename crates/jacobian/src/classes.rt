@@ -1,6 +1,7 @@
 // A class by value: its checks, and its pair as rows.
 ghost use Rattle.std.specs.Prelude.{ℕ, ◌≤◌, ◌≡◌, [], ◌∷◌, ◌++◌, take};
 ghost use Rattle.binary_field_theory.specs.Element.{Accepted};
+ghost use Rattle.refusals.specs.Refusals.{refusal_of};
 ghost use Rattle.row_theory.specs.Row.{InRange, filled};
 ghost use Rattle.class_rows.specs.Pair.{rows_pair};
 ghost use Rattle.binary_field.specs.Answer.{below};
@@ -10,6 +11,7 @@ ghost use Rattle.jacobian.specs.{Classes.same_row, Classes.same_class, Classes.c
 use crate::{Class, Curve, curves};
 use class_rows::row::RowPair;
 use class_rows::{is_divisor, row};
+use refusals::Refusal;
 
 // Is every number from index n on 0?
 fn blank_from(n: u64, r: [u64; 3]) -> bool
@@ -142,62 +144,44 @@ pub(crate) fn from_rows(a: RowPair) -> Class
     }
 }
 
-// 104 for a degree above 3 or a number other than 0 from the degree on, else 0.
-fn shape_refusal(a: Class) -> u32
-    ensures { result ≡ shape_refusal a }
+// Refuses a class with a degree above 3 or a number other than 0 from the degree on.
+fn check_shape(a: Class) -> Result<(), Refusal>
+    ensures { refusal_of result ≡ shape_refusal a }
 {
-    let u = a.u;
-    let v = a.v;
-    if a.degree > 3 {
-        return 104;
+    if a.degree <= 3 && blank_from(a.degree, a.u) && blank_from(a.degree, a.v) {
+        return Ok(());
     }
-    if !blank_from(a.degree, u) {
-        return 104;
-    }
-    if !blank_from(a.degree, v) {
-        return 104;
-    }
-    0
+    Err(Refusal::WrongLength)
 }
 
-// 110 for a number of 2^d or more, else 0.
-fn range_refusal(d: u8, a: Class) -> u32
+// Refuses a class with a number of 2^d or more.
+fn check_range(d: u8, a: Class) -> Result<(), Refusal>
     requires { Accepted d }
-    ensures { result ≡ range_refusal d a }
+    ensures { refusal_of result ≡ range_refusal d a }
 {
-    let u = a.u;
-    let v = a.v;
     let m = binary_field::bound(d);
-    if !all_below(m, u) {
-        return 110;
+    if all_below(m, a.u) && all_below(m, a.v) {
+        return Ok(());
     }
-    if !all_below(m, v) {
-        return 110;
-    }
-    0
+    Err(Refusal::NotAnElement)
 }
 
-// The refusal of a class before the division: 104, then 110, else 0.
-pub(crate) fn form_refusal(d: u8, a: Class) -> u32
+// The checks of a class before the division: its shape, then its range.
+pub(crate) fn check_form(d: u8, a: Class) -> Result<(), Refusal>
     requires { Accepted d }
-    ensures { result ≡ form_refusal d a }
+    ensures { refusal_of result ≡ form_refusal d a }
 {
-    let shape = shape_refusal(a);
-    if shape != 0 {
-        return shape;
-    }
-    range_refusal(d, a)
+    check_shape(a)?;
+    check_range(d, a)
 }
 
-// The refusal of a class in form: 111 where u does not divide v² + v + f, else 0.
-pub(crate) fn divisor_refusal(c: Curve, a: Class) -> u32
+// The last check of a class in form: u divides v² + v + f.
+pub(crate) fn check_divisor(c: Curve, a: Class) -> Result<(), Refusal>
     requires { (curve_refusal c ≡ 0) × (form_refusal c.degree a ≡ 0) }
-    ensures { result ≡ class_refusal c a }
+    ensures { refusal_of result ≡ class_refusal c a }
 {
-    let f = curves::f_row(c);
-    let rows = to_rows(a);
-    if is_divisor(c.degree, f, rows) {
-        return 0;
+    if is_divisor(c.degree, curves::f_row(c), to_rows(a)) {
+        return Ok(());
     }
-    111
+    Err(Refusal::NotAClass)
 }

@@ -1,12 +1,14 @@
 // A curve by value: its coefficients, its checks, and its f as a row.
 // Only `coefficients`, `curve_with` and `f_row` name the struct's f3, f1 and f0.
 ghost use Rattle.std.specs.Prelude.{◌≡◌};
+ghost use Rattle.refusals.specs.Refusals.{refusal_of};
 ghost use Rattle.jacobian.specs.Checks.{unless};
 ghost use Rattle.binary_field.specs.Answer.{below};
 ghost use Rattle.jacobian.specs.Curves.{coefficients, curve_with, blank_curve, curve_refusal, f_row};
 ghost use Rattle.row_theory.specs.Row.{filled};
 
 use crate::Curve;
+use refusals::Refusal;
 
 // The number of coefficients of a curve.
 pub const COEFFICIENTS: usize = 3;
@@ -44,29 +46,25 @@ pub fn blank_curve() -> Curve
     curve_with(5, [0; COEFFICIENTS])
 }
 
-// 107 where a coefficient is m or more, else 0.
-fn coefficients_refusal(m: u64, c: Curve) -> u32
-    ensures { result ≡ unless (below m (coefficients c)) 107 }
+// Refuses a curve with a coefficient of m or more.
+fn check_coefficients(m: u64, c: Curve) -> Result<(), Refusal>
+    ensures { refusal_of result ≡ unless (below m (coefficients c)) 107 }
 {
     let cs = coefficients(c);
     let mut i = 0;
     while i < COEFFICIENTS {
         if cs[i] >= m {
-            return 107;
+            return Err(Refusal::CurveCoefficient);
         }
         i += 1;
     }
-    0
+    Ok(())
 }
 
-// The refusal of a curve, or 0.
-pub fn curve_refusal(c: Curve) -> u32
-    ensures { result ≡ curve_refusal c }
+// The checks of a curve.
+pub fn check_curve(c: Curve) -> Result<(), Refusal>
+    ensures { refusal_of result ≡ curve_refusal c }
 {
-    let d = c.degree;
-    let n = binary_field::degree_refusal(d);
-    if n != 0 {
-        return n;
-    }
-    coefficients_refusal(binary_field::bound(d), c)
+    binary_field::check_degree(c.degree)?;
+    check_coefficients(binary_field::bound(c.degree), c)
 }

@@ -1,10 +1,10 @@
--- `coefficients_refusal` meets its contract. The invariant: the numbers before index i are below m.
+-- `check_coefficients` meets its contract. The invariant: the numbers before index i are below m.
 use Prim.Native.Nat.{◌≤◌}
 use lib.ListN.{get_or}
 use native.Mathlib.Omega.{arith}
 use Rattle.jacobian.specs.{Checks.unless, Curves.coefficients}
 use Rattle.jacobian.proofs.ByValue.Below.{BelowTo, below_none, below_more, below_all, below_fails}
-use Rattle.jacobian.proofs.curves.coefficients_refusal.Goals as goal
+use Rattle.jacobian.proofs.curves.check_coefficients.Goals as goal
 
 pub returns-then-cs-i : goal.returns-then-cs-i
 unfolding unless coefficients

@@ -1,8 +1,8 @@
--- The invariant of `coefficients_refusal`: the numbers before index i are below m.
+-- The invariant of `check_coefficients`: the numbers before index i are below m.
 use Prim.Native.Nat.{◌-◌, ◌≤◌}
 use Rattle.jacobian.specs.{Curves.coefficient_count}
 use Rattle.jacobian.proofs.ByValue.Below.{BelowTo}
-use Rattle.jacobian.proofs.curves.coefficients_refusal.Given as goal
+use Rattle.jacobian.proofs.curves.check_coefficients.Given as goal
 
 abbrev pub invariant-loop-i : goal.invariant-loop-i
 invariant-loop-i l = (l.i ≤ coefficient_count) × BelowTo l.m l.cs l.i

@@ -1,0 +1,20 @@
+-- `check_curve` meets its contract: the coefficients are tested after the degree.
+use mathlib.Core.Path.{sym, ◌∙◌, ap}
+use Rattle.std.proofs.lemmas.Result.{err_from_is_err_and}
+use Rattle.binary_field.specs.Answer.{below}
+use Rattle.binary_field.proofs.{Refusing.stops_first, Refusing.goes_on, Degrees.accepted_degree, Degrees.bound_accepted}
+use Rattle.jacobian.specs.{Checks.unless, Curves.coefficients, Curves.coefficient_refusal, Curves.curve_refusal}
+use Rattle.jacobian.proofs.curves.check_curve.Goals as goal
+
+pub returns-in_err-check_degree : goal.returns-in_err-check_degree
+unfolding curve_refusal
+returns-in_err-check_degree c =
+    let p = err_from_is_err_and c.from_residual.result c.from_residual.ensures.1 in
+    rw (p.1, p.2) (stops_first _ _ c.in_err-check_degree.ensures)
+
+pub returns : goal.returns
+unfolding curve_refusal coefficient_refusal
+returns c =
+    let d = c.in_ok-check_degree.ensures in
+    let size = c.bound.ensures ∙ bound_accepted _ (accepted_degree _ (sym d)) in
+    goes_on d (c.check_coefficients.ensures ∙ ap (λ m. unless (below m (coefficients c.args.c)) 107) size)
