@@ -5,6 +5,7 @@ pub mod ComposeRows
 pub mod HalfRows
 pub mod OppositeRows
 pub mod MoveRows
+pub mod Elements
 pub mod CheckRows
 pub mod Tests
 pub mod Answers

@@ -78,7 +78,7 @@ fn is_pair(d: u8, a: RowPair) -> bool
 fn in_form(d: u8, f: Row, a: RowPair) -> bool
     ensures { Decides result (FormedRows d f a) }
 {
-    if binary_field::degree_refusal(d) != 0 {
+    if binary_field::check_degree(d).is_err() {
         return false;
     }
     if !is_curve(d, f) {

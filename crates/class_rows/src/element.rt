@@ -1,27 +1,14 @@
 // Elements, by the calls of binary_field: each function requires numbers in range, so that the call is not refused.
-ghost use Rattle.std.specs.Prelude.{ℕ, ◌<◌, ◌^◌, ◌≡◌};
+ghost use Rattle.std.specs.Prelude.{◌<◌, ◌^◌, ◌≡◌};
 ghost use Rattle.binary_field_theory.specs.Element.{Accepted};
-ghost use Rattle.binary_field.specs.Answer.{element, reply};
 ghost use Rattle.row_theory.specs.{Field.degree_of, Field.F, Field.el, internal.Elements.Is, internal.Elements.Inverts};
-
-use binary_field::Answer;
-
-// The number of an answer that is not a refusal.
-fn number(answer: Answer) -> u64
-    ensures { (n : ℕ) → reply answer ≡ element n → result ≡ n }
-{
-    match answer {
-        Answer::Element(n) => n,
-        Answer::Refused(_) => 0,
-    }
-}
 
 // The sum.
 pub(crate) fn sum_of(d: u8, a: u64, b: u64) -> u64
     requires { Accepted d × (a < 2 ^ degree_of d) × (b < 2 ^ degree_of d) }
     ensures { Is d result ((F d).ring.add (el d a) (el d b)) }
 {
-    number(binary_field::sum(d, a, b))
+    binary_field::sum(d, a, b).unwrap()
 }
 
 // The product. No call is made where a factor is 0 or 1.
@@ -41,7 +28,7 @@ pub(crate) fn product_of(d: u8, a: u64, b: u64) -> u64
     if b == 1 {
         return a;
     }
-    number(binary_field::product(d, a, b))
+    binary_field::product(d, a, b).unwrap()
 }
 
 // The square.
@@ -49,7 +36,7 @@ pub(crate) fn squared(d: u8, a: u64) -> u64
     requires { Accepted d × (a < 2 ^ degree_of d) }
     ensures { Is d result ((F d).ring.mul (el d a) (el d a)) }
 {
-    number(binary_field::square(d, a))
+    binary_field::square(d, a).unwrap()
 }
 
 // The square root.
@@ -57,7 +44,7 @@ pub(crate) fn root_of(d: u8, a: u64) -> u64
     requires { Accepted d × (a < 2 ^ degree_of d) }
     ensures { Is d result ((F d).root (el d a)) }
 {
-    number(binary_field::square_root(d, a))
+    binary_field::square_root(d, a).unwrap()
 }
 
 // The inverse of an element that is shown not to be 0; 1 is its own inverse. Every division goes through this function.
@@ -68,5 +55,5 @@ pub(crate) fn inverted(d: u8, a: u64) -> u64
     if a == 1 {
         return 1;
     }
-    number(binary_field::inverse(d, a))
+    binary_field::inverse(d, a).unwrap()
 }

@@ -1,8 +1,12 @@
 -- `element::squared` meets its contract: the call answers the square.
 use mathlib.Core.Path.{◌∙◌}
 use Rattle.row_theory.proofs.Rows.Answers.{square_answers, number_is}
+use Rattle.binary_field.proofs.Replies.{element_is}
+use Rattle.class_rows.proofs.Elements.{is_element}
 use Rattle.class_rows.proofs.element.squared.Goals as goal
 
 pub returns : goal.returns
-returns c =
-    let pre = c.requires in number_is _ _ (c.number.ensures _ (c.square.ensures ∙ square_answers _ pre.0 _ pre.1))
+returns c = let pre = c.requires in number_is _ _ (element_is c.unwrap.ensures (c.square.ensures ∙ square_answers _ pre.0 _ pre.1))
+
+pub unwrap-requires : goal.unwrap-requires
+unwrap-requires c = let pre = c.requires in is_element _ (c.square.ensures ∙ square_answers _ pre.0 _ pre.1)
