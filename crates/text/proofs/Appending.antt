@@ -1,8 +1,6 @@
 -- Laws of appending to a line.
--- `then`: appending one text after another appends both.
--- `then_none`: appending nothing leaves the line.
--- `then_next`: after the first i bytes of a row and the next one, the first i + 1 are appended.
--- `then_same`: equal texts are appended alike.
+-- `none`: appending nothing leaves the line.
+-- `both`: appending one text after another appends both.
 -- `laid`: a text appended to the empty line, where it has room, is the line of that text.
 use Prim.Native.Nat.{ℕ, suc, ◌+◌, ◌-◌, ◌≤◌, ◌<◌}
 use mathlib.Core.Path.{◌≡◌, refl, sym, ap, ◌∙◌}
@@ -13,25 +11,14 @@ use lib.Seq.{take-suc}
 use borrow.Author.Tests.{lt-ltb}
 use Rattle.text.specs.{Line.line_room, Line.in_line, Line.with_byte, Line.with_bytes, declared.Line.Line}
 
-both : (xs ys : List ℕ) (l : Line) → with_bytes (with_bytes l xs) ys ≡ with_bytes l (xs ++ ys)
+pub none : (l : Line) → with_bytes l [] ≡ l
+unfolding with_bytes
+none l = refl
+
+pub both : (xs ys : List ℕ) (l : Line) → with_bytes (with_bytes l xs) ys ≡ with_bytes l (xs ++ ys)
 unfolding with_bytes
 both [] ys l = refl
 both (x ∷ xs) ys l = both xs ys (with_byte l x)
-
-pub then : (l : Line) (xs ys : List ℕ) {m r : Line} → m ≡ with_bytes l xs → r ≡ with_bytes m ys → r ≡ with_bytes l (xs ++ ys)
-then l xs ys e f = f ∙ ap (λ (x : Line). with_bytes x ys) e ∙ both xs ys l
-
-pub then_none : (l : Line) → l ≡ with_bytes l []
-unfolding with_bytes
-then_none l = refl
-
-pub then_next : (l : Line) (s : List ℕ) (i : ℕ) → i < length s → {m r : Line} → m ≡ with_bytes l (take i s) → r ≡ with_bytes m (get_or s i 0 ∷ []) → r ≡ with_bytes l (take (i + 1) s)
-then_next l s i lt e f =
-    let next : i + 1 ≡ suc i = omega arith in
-    then l (take i s) (get_or s i 0 ∷ []) e f ∙ ap (with_bytes l) (sym (take-suc s i 0 lt) ∙ ap (λ (j : ℕ). take j s) (sym next))
-
-pub then_same : (l : Line) {xs ys : List ℕ} {r : Line} → xs ≡ ys → r ≡ with_bytes l xs → r ≡ with_bytes l ys
-then_same l p e = e ∙ ap (with_bytes l) p
 
 -- ---- an empty line
 

@@ -1,5 +1,5 @@
-// Lines of text by value: rows of bytes with their length. Bytes, numbers, classes and refusals are appended to a line,
-// and a line is written to any writer, as to standard output. A buffer of bytes is filled from any reader.
+// Lines of text. Bytes, numbers, classes and refusals are appended to a line, and a line is written to any writer, as to
+// standard output. A buffer of bytes is filled from any reader.
 #![tactic(auto)]
 
 ghost use Rattle.std.specs.Prelude.{◌≤◌, ◌<◌, min, ◌≡◌, [], ◌∷◌, ◌++◌, length, take, IfOk, IfErr, OnOk};
@@ -20,163 +20,149 @@ const HEXADECIMAL_DIGITS: usize = 16;
 // The number of bytes that a line has room for. That every line of the walk report fits is proved in report_theorems.
 pub const LINE: usize = 320;
 
-// A line: len bytes, and 0 after them.
+// A line: len bytes, and 0 after them. What a full line is given more is dropped.
 #[derive(Clone, Copy)]
 pub struct Line {
-    pub len: usize,
-    pub bytes: [u8; LINE],
+    len: usize,
+    bytes: [u8; LINE],
 }
 
-// The empty line.
-pub fn empty() -> Line
-    ensures { result ≡ in_line [] }
-{
-    Line {
-        len: 0,
-        bytes: [0u8; LINE],
+// A push says what it appends. `write!` may fail, and says nothing after an Err, so a line is no `fmt::Write`.
+impl Line {
+    // The empty line.
+    #[tactic(auto, unfolding(crate::specs::Line::in_line))]
+    pub fn new() -> Line
+        ensures { result ≡ in_line [] }
+    {
+        Line {
+            len: 0,
+            bytes: [0; LINE],
+        }
     }
-}
 
-// Puts a byte at an offset and answers the next offset; after the end of the buffer it puts nothing and answers the same.
-fn put(out: &mut [u8], at: usize, b: u8) -> usize
-    ensures { record { len = result; bytes = out.new } ≡ with_bytes (record { len = at; bytes = out.old }) (b ∷ []) }
-{
-    if at < out.len() {
-        out[at] = b;
-        return at + 1;
+    // The bytes of the line.
+    pub fn as_slice(&self) -> &[u8]
+        ensures { result.now ≡ take self.now.len self.now.bytes }
+    {
+        &self.bytes[..self.len.min(LINE)]
     }
-    at
-}
 
-// The line with a byte appended; where it has no room, the line as it was.
-pub fn with_byte(line: Line, b: u8) -> Line
-    ensures { result ≡ with_bytes line (b ∷ []) }
-{
-    let mut bytes = line.bytes;
-    let len = put(&mut bytes, line.len, b);
-    Line { len, bytes }
-}
-
-// The line with bytes appended.
-pub fn with_bytes(line: Line, s: &[u8]) -> Line
-    ensures { result ≡ with_bytes line s.now }
-{
-    let mut all = line;
-    let mut i = 0;
-    while i < s.len() {
-        let more = with_byte(all, s[i]);
-        all = more;
-        i += 1;
+    // Appends a byte; where the line has no room, it stays as it was.
+    #[tactic(auto, unfolding(crate::specs::Line::with_byte, crate::specs::Line::with_bytes))]
+    pub fn push(&mut self, b: u8)
+        ensures { self.new ≡ with_bytes self.old (b ∷ []) }
+    {
+        if self.len < self.bytes.len() {
+            self.bytes[self.len] = b;
+            self.len += 1;
+        }
     }
-    all
+
+    // Appends bytes.
+    #[tactic(auto, using(crate::proofs::Appending::none, crate::proofs::Appending::both, std::proofs::lemmas::List::take_more))]
+    pub fn push_bytes(&mut self, bytes: &[u8])
+        ensures { self.new ≡ with_bytes self.old bytes.now }
+    {
+        for b in bytes {
+            self.push(*b);
+        }
+    }
+
+    // Appends a number of at most `most` digits in a base, without leading zeros.
+    // The digits are the code's own: `{n:x}` needs `write!`, and std's `InlineText` may cut a text to end in dots.
+    fn push_digits(&mut self, base: u64, most: usize, n: u64)
+        requires { (2 ≤ base) × (base ≤ 16) }
+        ensures { self.new ≡ with_bytes self.old (digits base most n) }
+    {
+        if most == 0 {
+            return;
+        }
+        if base <= n {
+            self.push_digits(base, most - 1, n / base);
+        }
+        self.push(digit(n % base));
+    }
+
+    // Appends a number in decimal.
+    #[tactic(auto, unfolding(crate::specs::Text::decimal))]
+    pub fn push_decimal(&mut self, n: u64)
+        ensures { self.new ≡ with_bytes self.old (decimal n) }
+    {
+        self.push_digits(10, DECIMAL_DIGITS, n);
+    }
+
+    // Appends an element in hexadecimal.
+    #[tactic(auto, unfolding(crate::specs::Text::hexadecimal))]
+    pub fn push_hexadecimal(&mut self, n: u64)
+        ensures { self.new ≡ with_bytes self.old (hexadecimal n) }
+    {
+        self.push_digits(16, HEXADECIMAL_DIGITS, n);
+    }
+
+    // Appends the coefficients of a row below x^n, highest power first, commas between.
+    pub fn push_row(&mut self, n: u64, row: [u64; 3])
+        ensures { self.new ≡ with_bytes self.old (row_text n row) }
+    {
+        if n > 2 {
+            self.push_hexadecimal(row[2]);
+            self.push(b',');
+        }
+        if n > 1 {
+            self.push_hexadecimal(row[1]);
+            self.push(b',');
+        }
+        if n > 0 {
+            self.push_hexadecimal(row[0]);
+        }
+    }
+
+    // Appends a class: degree, u and v with colons between, of u and v the coefficients below x^n.
+    #[tactic(auto, using(crate::proofs::Appending::both), unfolding(crate::specs::Text::class_text))]
+    pub fn push_class(&mut self, degree: u64, u: [u64; 3], v: [u64; 3], n: u64)
+        ensures { self.new ≡ with_bytes self.old (class_text degree u v n) }
+    {
+        self.push_decimal(degree);
+        self.push(b':');
+        self.push_row(n, u);
+        self.push(b':');
+        self.push_row(n, v);
+    }
+
+    // Appends `refused` and the number.
+    #[tactic(auto, using(crate::proofs::Appending::both), unfolding(crate::specs::Text::refusal_text))]
+    pub fn push_refusal(&mut self, n: u32)
+        ensures { self.new ≡ with_bytes self.old (refusal_text n) }
+    {
+        self.push_bytes(b"refused ");
+        self.push_decimal(u64::from(n));
+    }
+
+    // Writes the line and answers how many bytes it has. Where a write fails, a front of the line was written.
+    pub fn write_to<W: Write>(&self, out: &mut W) -> io::Result<usize>
+        ensures count { IfOk result (λ n. n ≡ min self.now.len line_room) }
+        ensures written { OnOk result (Appends (W.contents out.old) (W.contents out.new) (take self.now.len self.now.bytes)) }
+        ensures failed { IfErr result (λ _. AppendsFront (W.contents out.old) (W.contents out.new) (take self.now.len self.now.bytes)) }
+    {
+        let bytes = self.as_slice();
+        write_whole(out, bytes)?;
+        Ok(bytes.len())
+    }
 }
 
 // A digit as a byte: 0 to 9, then a to f.
+#[tactic(auto, unfolding(crate::specs::Text::digit))]
 fn digit(n: u64) -> u8
     requires { n < 16 }
     ensures { result ≡ digit n }
 {
-    let d = n as u8;
-    if d < 10 {
-        return 0x30 + d;
+    match n as u8 {
+        d @ 0..=9 => b'0' + d,
+        d => b'a' + (d - 10),
     }
-    0x57 + d
-}
-
-// Puts a number of at most k digits, without leading zeros, at an offset, and answers the offset after it.
-fn put_digits(out: &mut [u8], at: usize, base: u64, k: usize, n: u64) -> usize
-    requires { (2 ≤ base) × (base ≤ 16) }
-    ensures { record { len = result; bytes = out.new } ≡ with_bytes (record { len = at; bytes = out.old }) (digits base k n) }
-{
-    if k == 0 {
-        return at;
-    }
-    if n < base {
-        let d = digit(n);
-        let one = put(out, at, d);
-        return one;
-    }
-    let high = put_digits(out, at, base, k - 1, n / base);
-    let d = digit(n % base);
-    let all = put(out, high, d);
-    all
-}
-
-// The line with a number in decimal appended.
-pub fn with_decimal(line: Line, n: u64) -> Line
-    ensures { result ≡ with_bytes line (decimal n) }
-{
-    let mut bytes = line.bytes;
-    let len = put_digits(&mut bytes, line.len, 10, DECIMAL_DIGITS, n);
-    Line { len, bytes }
-}
-
-// The line with an element in hexadecimal appended.
-pub fn with_hexadecimal(line: Line, n: u64) -> Line
-    ensures { result ≡ with_bytes line (hexadecimal n) }
-{
-    let mut bytes = line.bytes;
-    let len = put_digits(&mut bytes, line.len, 16, HEXADECIMAL_DIGITS, n);
-    Line { len, bytes }
-}
-
-// The line with two coefficients appended, a comma between.
-fn with_two(line: Line, a: u64, b: u64) -> Line
-    ensures { result ≡ with_bytes line (hexadecimal a ++ 0x2C ∷ hexadecimal b) }
-{
-    let first = with_hexadecimal(line, a);
-    let comma = with_byte(first, b',');
-    with_hexadecimal(comma, b)
-}
-
-// The line with the coefficients of a row below x^n appended, highest power first, commas between.
-pub fn with_row(line: Line, n: u64, row: [u64; 3]) -> Line
-    ensures { result ≡ with_bytes line (row_text n row) }
-{
-    if n == 0 {
-        return line;
-    }
-    if n == 1 {
-        return with_hexadecimal(line, row[0]);
-    }
-    if n == 2 {
-        return with_two(line, row[1], row[0]);
-    }
-    let first = with_hexadecimal(line, row[2]);
-    let comma = with_byte(first, b',');
-    with_two(comma, row[1], row[0])
-}
-
-// The line with a class appended: degree, u and v with colons between, of u and v the coefficients below x^n.
-pub fn with_class(line: Line, degree: u64, u: [u64; 3], v: [u64; 3], n: u64) -> Line
-    ensures { result ≡ with_bytes line (class_text degree u v n) }
-{
-    let first = with_decimal(line, degree);
-    let colon = with_byte(first, b':');
-    let left = with_row(colon, n, u);
-    let second = with_byte(left, b':');
-    with_row(second, n, v)
-}
-
-// The line with `refused` and the number appended.
-pub fn with_refusal(line: Line, n: u32) -> Line
-    ensures { result ≡ with_bytes line (refusal_text n) }
-{
-    let word = with_bytes(line, b"refused ");
-    with_decimal(word, n as u64)
-}
-
-// The length, but at most the room of a line.
-fn within(len: usize) -> usize
-    ensures { result ≡ min len line_room }
-{
-    if len < LINE {
-        return len;
-    }
-    LINE
 }
 
 // Writes all of some bytes. Where a write fails or takes nothing, a front of them was written.
+// The loop is the code's own, since std's `write_all` says little of what a failed write leaves.
 pub fn write_whole<W: Write>(out: &mut W, bytes: &[u8]) -> io::Result<()>
     ensures written { OnOk result (Appends (W.contents out.old) (W.contents out.new) bytes.now) }
     ensures failed { IfErr result (λ _. AppendsFront (W.contents out.old) (W.contents out.new) bytes.now) }
@@ -192,29 +178,9 @@ pub fn write_whole<W: Write>(out: &mut W, bytes: &[u8]) -> io::Result<()>
     Ok(())
 }
 
-// Writes the first len bytes of a buffer and answers how many these are, at most all.
-fn write_bytes<W: Write>(out: &mut W, len: usize, bytes: [u8; LINE]) -> io::Result<usize>
-    ensures count { IfOk result (λ n. n ≡ min len line_room) }
-    ensures written { OnOk result (Appends (W.contents out.old) (W.contents out.new) (take len bytes)) }
-    ensures failed { IfErr result (λ _. AppendsFront (W.contents out.old) (W.contents out.new) (take len bytes)) }
-{
-    let n = within(len);
-    write_whole(out, &bytes[..n])?;
-    Ok(n)
-}
-
-// Writes a line and answers how many bytes it has. Where a write fails, a front of the line was written.
-pub fn write_line<W: Write>(out: &mut W, line: Line) -> io::Result<usize>
-    ensures count { IfOk result (λ n. n ≡ min line.len line_room) }
-    ensures written { OnOk result (Appends (W.contents out.old) (W.contents out.new) (take line.len line.bytes)) }
-    ensures failed { IfErr result (λ _. AppendsFront (W.contents out.old) (W.contents out.new) (take line.len line.bytes)) }
-{
-    let bytes = line.bytes;
-    write_bytes(out, line.len, bytes)
-}
-
 // Reads until the buffer is full or the input ends, and answers how many bytes it put at the buffer's start. Where a
 // read fails, what was read before stands there.
+// The loop is the code's own, since std's `read_exact` says little of what a failed read leaves.
 pub fn read_full<R: Read>(input: &mut R, buf: &mut [u8]) -> io::Result<usize>
     ensures count { ReadsAtMost result buf.new }
     ensures taken { IfOk result (λ n. Consumes (R.remaining input.old) (R.remaining input.new) (take n buf.new)) }

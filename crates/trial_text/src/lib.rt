@@ -1,15 +1,43 @@
-// The cases that the trial programs read from standard input.
+// The cases that the trial programs read from standard input, and the loop that answers them.
 // A case is a byte for the call, a byte for the degree, and numbers of eight bytes each, high byte first.
 #![tactic(auto)]
 
-ghost use Rattle.std.specs.Prelude.{◌≤◌, ◌<◌, ◌≡◌, get_or, length, take, IfOk, IfErr};
+ghost use Rattle.std.specs.Prelude.{◌≤◌, ◌<◌, ◌≡◌, ◌+◌, ◌*◌, get_or, length, take, IfOk, IfErr};
 ghost use Rattle.std.specs.Io.{ReadsAtMost};
 ghost use Rattle.std.specs.Io.KnownBytes.{Appends, Consumes, IsAtEnd};
 ghost use Rattle.text.specs.Failures.{AppendsFront, ConsumesFront};
-ghost use Rattle.trial_text.specs.Cases.{four_bytes, eight_bytes, number_at, row_at, cut_short, cut_short_line};
+ghost use Rattle.trial_text.specs.Cases.{eight_bytes, number_at, numbers_from, row_at, class_at, cut_short, cut_short_line};
 
+use jacobian::Class;
 use std::io;
 use std::io::{Read, Write};
+use text::Line;
+
+// A program that answers cases.
+pub trait Trial {
+    // The line that answers a case; none where it has none.
+    fn answer(&mut self, case: &[u8]) -> Option<Line>;
+
+    // Reads case after case into a room of a case's size and writes their lines, until the input has none left.
+    // A proved loop has to end, and the input need not: the turns are counted, up to a number that no run uses up.
+    final fn run<R: Read, W: Write>(
+        &mut self,
+        room: &mut [u8],
+        input: &mut R,
+        out: &mut W,
+    ) -> io::Result<()> {
+        for _ in 0..u64::MAX {
+            if read_case(input, out, room)? < room.len() {
+                break;
+            }
+            if let Some(mut line) = self.answer(room) {
+                line.push(b'\n');
+                line.write_to(out)?;
+            }
+        }
+        Ok(())
+    }
+}
 
 // Reads a case and answers how many of its bytes the input had; writes `cut short` where it had some but not all.
 pub fn read_case<R: Read, W: Write>(
@@ -30,34 +58,11 @@ pub fn read_case<R: Read, W: Write>(
     Ok(n)
 }
 
-// The byte at an offset of the case; 0 after its end.
-fn byte(case: &[u8], at: usize) -> u8
+// The byte at an offset of a case; 0 after its end.
+pub fn byte(case: &[u8], at: usize) -> u8
     ensures { result ≡ get_or case.now at 0 }
 {
-    if at < case.len() {
-        return case[at];
-    }
-    0
-}
-
-// A byte as a number of 64 bits.
-fn wide(byte: u8) -> u64
-    ensures { (result ≡ byte) × (result < 256) }
-{
-    byte as u64
-}
-
-// The number in the four bytes from an offset on.
-fn four_bytes(case: &[u8], at: usize) -> u64
-    requires { at ≤ 4096 }
-    ensures value { result ≡ four_bytes case.now at }
-    ensures upper_bound { result < 0x1_0000_0000 }
-{
-    let a = wide(byte(case, at));
-    let b = wide(byte(case, at + 1));
-    let c = wide(byte(case, at + 2));
-    let d = wide(byte(case, at + 3));
-    ((a * 256 + b) * 256 + c) * 256 + d
+    case.get(at).copied().unwrap_or(0)
 }
 
 // The number in the eight bytes from an offset on.
@@ -65,24 +70,50 @@ fn eight_bytes(case: &[u8], at: usize) -> u64
     requires { at ≤ 4092 }
     ensures { result ≡ eight_bytes case.now at }
 {
-    four_bytes(case, at) * 0x1_0000_0000 + four_bytes(case, at + 4)
+    u64::from_be_bytes(std::array::from_fn(|i| byte(case, at + i)))
 }
 
-// The number at an index, counted from 0.
+// The three numbers from an offset on.
+fn three_numbers(case: &[u8], at: usize) -> [u64; 3]
+    requires { at ≤ 4076 }
+    ensures { result ≡ numbers_from case.now at }
+{
+    [
+        eight_bytes(case, at),
+        eight_bytes(case, at + 8),
+        eight_bytes(case, at + 16),
+    ]
+}
+
+// The offset of the number at an index, counted from 0.
+fn offset(place: u8) -> usize
+    ensures { result ≡ 2 + 8 * place }
+{
+    2 + 8 * usize::from(place)
+}
+
+// The number at an index.
 pub fn number(case: &[u8], place: u8) -> u64
     ensures { result ≡ number_at case.now place }
 {
-    eight_bytes(case, 2 + 8 * (place as usize))
+    eight_bytes(case, offset(place))
 }
 
 // The three numbers from an index on.
 pub fn row(case: &[u8], place: u8) -> [u64; 3]
     ensures { result ≡ row_at case.now place }
 {
-    let at = 2 + 8 * (place as usize);
-    [
-        eight_bytes(case, at),
-        eight_bytes(case, at + 8),
-        eight_bytes(case, at + 16),
-    ]
+    three_numbers(case, offset(place))
+}
+
+// The class whose seven numbers start at an index.
+pub fn class(case: &[u8], place: u8) -> Class
+    ensures { result ≡ class_at case.now place }
+{
+    let at = offset(place);
+    Class {
+        degree: eight_bytes(case, at),
+        u: three_numbers(case, at + 8),
+        v: three_numbers(case, at + 32),
+    }
 }
