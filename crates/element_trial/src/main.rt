@@ -9,65 +9,46 @@
 
 use refusals::Refusal;
 use std::io;
-use std::io::{Read, Write};
 use text::Line;
+use trial_text::{Case, Trial};
 
-// The text of an answer.
-fn answer_text(answer: Result<u64, Refusal>) -> Line {
-    let start = text::empty();
-    match answer {
-        Ok(element) => text::with_hexadecimal(start, element),
-        Err(refusal) => text::with_refusal(start, refusal.number()),
-    }
-}
+// The trial of the calls on elements.
+struct Elements;
 
-// The text of an answer to the quadratic equation.
-fn solution_text(answer: Result<Option<u64>, Refusal>) -> Line {
-    let start = text::empty();
-    match answer {
-        Ok(Some(root)) => text::with_hexadecimal(start, root),
-        Ok(None) => text::with_bytes(start, b"no root"),
-        Err(refusal) => text::with_refusal(start, refusal.number()),
-    }
-}
-
-// The text of a call.
-fn call_text(call: u8, d: u8, a: u64, b: u64) -> Line {
-    match call {
-        1 => answer_text(binary_field::sum(d, a, b)),
-        2 => answer_text(binary_field::product(d, a, b)),
-        3 => answer_text(binary_field::square(d, a)),
-        4 => answer_text(binary_field::square_root(d, a)),
-        5 => answer_text(binary_field::inverse(d, a)),
-        6 => solution_text(binary_field::quadratic_root(d, a)),
-        _ => text::with_bytes(text::empty(), b"no such call"),
-    }
-}
-
-// Reads one case, writes its line, and answers whether to go on.
-fn answer_case<R: Read, W: Write>(input: &mut R, out: &mut W) -> io::Result<bool> {
-    let mut case = [0u8; 18];
-    if trial_text::read_case(input, out, &mut case)? < 18 {
-        return Ok(false);
-    }
-    let told = call_text(
-        case[0],
-        case[1],
-        trial_text::number(&case, 0),
-        trial_text::number(&case, 1),
-    );
-    text::write_line(out, text::with_byte(told, b'\n'))?;
-    Ok(true)
-}
-
-// A proved loop has to end, and the input need not. So the turns are counted, up to a number that no run uses up.
-fn main(rt: HostRuntime) -> io::Result<()> {
-    let mut input = rt.stdin();
-    let mut out = rt.stdout();
-    for _ in 0..u64::MAX {
-        if !answer_case(&mut input, &mut out)? {
-            break;
+impl Trial for Elements {
+    fn answer(&mut self, case: Case) -> Option<Line> {
+        let (d, a, b) = (case.degree(), case.number(0), case.number(1));
+        let mut line = Line::new();
+        match case.call() {
+            1 => push_answer(&mut line, binary_field::sum(d, a, b)),
+            2 => push_answer(&mut line, binary_field::product(d, a, b)),
+            3 => push_answer(&mut line, binary_field::square(d, a)),
+            4 => push_answer(&mut line, binary_field::square_root(d, a)),
+            5 => push_answer(&mut line, binary_field::inverse(d, a)),
+            6 => push_root(&mut line, binary_field::quadratic_root(d, a)),
+            _ => line.push_bytes(b"no such call"),
         }
+        Some(line)
     }
-    Ok(())
+}
+
+// Appends an element, or its refusal.
+fn push_answer(line: &mut Line, answer: Result<u64, Refusal>) {
+    match answer {
+        Ok(element) => line.push_hexadecimal(element),
+        Err(refusal) => line.push_refusal(refusal.number()),
+    }
+}
+
+// Appends a root of the quadratic equation, that there is none, or its refusal.
+fn push_root(line: &mut Line, answer: Result<Option<u64>, Refusal>) {
+    match answer {
+        Ok(Some(root)) => line.push_hexadecimal(root),
+        Ok(None) => line.push_bytes(b"no root"),
+        Err(refusal) => line.push_refusal(refusal.number()),
+    }
+}
+
+fn main(rt: HostRuntime) -> io::Result<()> {
+    Elements.run(&mut [0; 18], &mut rt.stdin(), &mut rt.stdout())
 }

@@ -6,8 +6,7 @@ use Prim.Native.Nat.{ℕ, suc, ◌+◌, ◌-◌, ◌≤◌, ◌<◌}
 use mathlib.Core.Path.{◌≡◌, refl, sym, ap, ◌∙◌}
 use mathlib.Core.List.{List, [], ◌∷◌, ◌++◌, append_assoc, append-nil}
 use native.Mathlib.Omega.{arith}
-use lib.ListN.{length, set, get_or, take, replicate, length-append, length-replicate}
-use lib.Seq.{take-suc}
+use lib.ListN.{length, set, replicate, length-append, length-replicate}
 use borrow.Author.Tests.{lt-ltb}
 use Rattle.text.specs.{Line.line_room, Line.in_line, Line.with_byte, Line.with_bytes, declared.Line.Line}
 
@@ -42,5 +41,5 @@ behind_laid ys (b ∷ xs) h =
     ∙ behind_laid (ys ++ b ∷ []) xs (omega (arith, length-append ys (b ∷ [])))
     ∙ ap in_line (append_assoc ys (b ∷ []) xs)
 
-pub laid : (xs : List ℕ) {l r : Line} → length xs ≤ line_room → l ≡ in_line [] → r ≡ with_bytes l xs → r ≡ in_line xs
-laid xs h e f = f ∙ ap (λ (l : Line). with_bytes l xs) e ∙ behind_laid [] xs (omega arith)
+pub laid : (xs : List ℕ) → length xs ≤ line_room → with_bytes (in_line []) xs ≡ in_line xs
+laid xs h = behind_laid [] xs (omega arith)

@@ -6,17 +6,107 @@ ghost use Rattle.std.specs.Prelude.{◌≤◌, ◌<◌, ◌≡◌, ◌+◌, ◌*
 ghost use Rattle.std.specs.Io.{ReadsAtMost};
 ghost use Rattle.std.specs.Io.KnownBytes.{Appends, Consumes, IsAtEnd};
 ghost use Rattle.text.specs.Failures.{AppendsFront, ConsumesFront};
+ghost use Rattle.jacobian.specs.Curves.{curve_with};
 ghost use Rattle.trial_text.specs.Cases.{eight_bytes, number_at, numbers_from, row_at, class_at, cut_short, cut_short_line};
 
-use jacobian::Class;
+use jacobian::{Class, Curve};
 use std::io;
 use std::io::{Read, Write};
 use text::Line;
 
+// A case. A byte that it does not have counts as 0.
+#[derive(Clone, Copy)]
+pub struct Case<'a> {
+    pub bytes: &'a [u8],
+}
+
+impl Case<'_> {
+    // The byte for the call.
+    pub fn call(&self) -> u8
+        ensures { result ≡ get_or self.now.bytes.now 0 0 }
+    {
+        self.byte(0)
+    }
+
+    // The byte for the degree.
+    pub fn degree(&self) -> u8
+        ensures { result ≡ get_or self.now.bytes.now 1 0 }
+    {
+        self.byte(1)
+    }
+
+    // The number at an index, counted from 0.
+    pub fn number(&self, place: u8) -> u64
+        ensures { result ≡ number_at self.now.bytes.now place }
+    {
+        self.eight_bytes(offset(place))
+    }
+
+    // The three numbers from an index on.
+    pub fn row(&self, place: u8) -> [u64; 3]
+        ensures { result ≡ row_at self.now.bytes.now place }
+    {
+        self.three_numbers(offset(place))
+    }
+
+    // The class whose seven numbers start at an index.
+    pub fn class(&self, place: u8) -> Class
+        ensures { result ≡ class_at self.now.bytes.now place }
+    {
+        let start = offset(place);
+        Class {
+            degree: self.eight_bytes(start),
+            u: self.three_numbers(start + 8),
+            v: self.three_numbers(start + 32),
+        }
+    }
+
+    // The curve, of the degree and the first three numbers.
+    pub fn curve(&self) -> Curve
+        ensures { result ≡ curve_with (get_or self.now.bytes.now 1 0) (row_at self.now.bytes.now 0) }
+    {
+        jacobian::curves::curve_with(self.degree(), self.row(0))
+    }
+
+    // The byte at an offset.
+    fn byte(&self, at: usize) -> u8
+        ensures { result ≡ get_or self.now.bytes.now at 0 }
+    {
+        self.bytes.get(at).copied().unwrap_or(0)
+    }
+
+    // The number in the eight bytes from an offset on.
+    fn eight_bytes(&self, at: usize) -> u64
+        requires { at ≤ 4092 }
+        ensures { result ≡ eight_bytes self.now.bytes.now at }
+    {
+        u64::from_be_bytes(std::array::from_fn(|i| self.byte(at + i)))
+    }
+
+    // The three numbers from an offset on.
+    fn three_numbers(&self, at: usize) -> [u64; 3]
+        requires { at ≤ 4076 }
+        ensures { result ≡ numbers_from self.now.bytes.now at }
+    {
+        [
+            self.eight_bytes(at),
+            self.eight_bytes(at + 8),
+            self.eight_bytes(at + 16),
+        ]
+    }
+}
+
+// The offset of the number at an index.
+fn offset(place: u8) -> usize
+    ensures { result ≡ 2 + 8 * place }
+{
+    2 + 8 * usize::from(place)
+}
+
 // A program that answers cases.
 pub trait Trial {
     // The line that answers a case; none where it has none.
-    fn answer(&mut self, case: &[u8]) -> Option<Line>;
+    fn answer(&mut self, case: Case) -> Option<Line>;
 
     // Reads case after case into a room of a case's size and writes their lines, until the input has none left.
     // A proved loop has to end, and the input need not: the turns are counted, up to a number that no run uses up.
@@ -30,7 +120,7 @@ pub trait Trial {
             if read_case(input, out, room)? < room.len() {
                 break;
             }
-            if let Some(mut line) = self.answer(room) {
+            if let Some(mut line) = self.answer(Case { bytes: room }) {
                 line.push(b'\n');
                 line.write_to(out)?;
             }
@@ -58,62 +148,3 @@ pub fn read_case<R: Read, W: Write>(
     Ok(n)
 }
 
-// The byte at an offset of a case; 0 after its end.
-pub fn byte(case: &[u8], at: usize) -> u8
-    ensures { result ≡ get_or case.now at 0 }
-{
-    case.get(at).copied().unwrap_or(0)
-}
-
-// The number in the eight bytes from an offset on.
-fn eight_bytes(case: &[u8], at: usize) -> u64
-    requires { at ≤ 4092 }
-    ensures { result ≡ eight_bytes case.now at }
-{
-    u64::from_be_bytes(std::array::from_fn(|i| byte(case, at + i)))
-}
-
-// The three numbers from an offset on.
-fn three_numbers(case: &[u8], at: usize) -> [u64; 3]
-    requires { at ≤ 4076 }
-    ensures { result ≡ numbers_from case.now at }
-{
-    [
-        eight_bytes(case, at),
-        eight_bytes(case, at + 8),
-        eight_bytes(case, at + 16),
-    ]
-}
-
-// The offset of the number at an index, counted from 0.
-fn offset(place: u8) -> usize
-    ensures { result ≡ 2 + 8 * place }
-{
-    2 + 8 * usize::from(place)
-}
-
-// The number at an index.
-pub fn number(case: &[u8], place: u8) -> u64
-    ensures { result ≡ number_at case.now place }
-{
-    eight_bytes(case, offset(place))
-}
-
-// The three numbers from an index on.
-pub fn row(case: &[u8], place: u8) -> [u64; 3]
-    ensures { result ≡ row_at case.now place }
-{
-    three_numbers(case, offset(place))
-}
-
-// The class whose seven numbers start at an index.
-pub fn class(case: &[u8], place: u8) -> Class
-    ensures { result ≡ class_at case.now place }
-{
-    let at = offset(place);
-    Class {
-        degree: eight_bytes(case, at),
-        u: three_numbers(case, at + 8),
-        v: three_numbers(case, at + 32),
-    }
-}

@@ -11,12 +11,12 @@ use Rattle.text.specs.{Line.line_room, Text.decimal, Text.class_text, Text.refus
 use Rattle.text.proofs.Lengths.{decimal_short, class_short, refusal_short}
 use Rattle.walk_report.specs.Lines.{line, part_text, first_line, refusal_line}
 
-pub part_none : (xs : List ℕ) → length xs ≡ 0 → [] ≡ part_text xs
+pub part_none : (xs : List ℕ) → length xs ≡ 0 → part_text xs ≡ []
 unfolding part_text
 part_none [] e = refl
 part_none (x ∷ xs) e = absurd (omega (arith, e))
 
-pub part_some : (xs : List ℕ) → (length xs ≡ 0 → ⊥) → 0x20 ∷ xs ≡ part_text xs
+pub part_some : (xs : List ℕ) → (length xs ≡ 0 → ⊥) → part_text xs ≡ 0x20 ∷ xs
 unfolding part_text
 part_some [] h = absurd (h refl)
 part_some (x ∷ xs) h = refl

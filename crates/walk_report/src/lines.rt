@@ -8,28 +8,29 @@ use jacobian::Class;
 use text::Line;
 
 // The line of a seal.
+#[tactic(auto, using(text::proofs::Appending::both, text::proofs::Appending::laid, crate::proofs::LineParts::seal_short), unfolding(crate::specs::Lines::line))]
 pub(crate) fn seal_line(undone: u64, letter: u8, seal: Class) -> Line
     ensures { result ≡ in_line (line undone letter seal) }
 {
-    let n = seal.degree;
-    let u = seal.u;
-    let v = seal.v;
-    let start = text::empty();
-    let count = text::with_decimal(start, undone);
-    let blank = text::with_byte(count, b' ');
-    let marked = text::with_byte(blank, letter);
-    let second = text::with_byte(marked, b' ');
-    let class = text::with_class(second, n, u, v, n);
-    text::with_byte(class, b'\n')
+    let mut line = Line::new();
+    line.push_decimal(undone);
+    line.push(b' ');
+    line.push(letter);
+    line.push(b' ');
+    line.push_class(seal.degree, seal.u, seal.v, seal.degree);
+    line.push(b'\n');
+    line
 }
 
 // The line of a refusal.
+#[tactic(auto, using(text::proofs::Appending::both, text::proofs::Appending::laid, crate::proofs::LineParts::refusal_line_short), unfolding(crate::specs::Lines::refusal_line))]
 pub(crate) fn refusal_line(n: u32) -> Line
     ensures { result ≡ in_line (refusal_line n) }
 {
-    let start = text::empty();
-    let told = text::with_refusal(start, n);
-    text::with_byte(told, b'\n')
+    let mut line = Line::new();
+    line.push_refusal(n);
+    line.push(b'\n');
+    line
 }
 
 // The first line: walk, the count and the drawing number.
@@ -37,13 +38,13 @@ pub(crate) fn first_line(count: u64, drawing: &[u8]) -> Line
     requires { length drawing.now ≤ drawing_limit }
     ensures { result ≡ in_line (first_line count drawing.now) }
 {
-    let start = text::empty();
-    let word = text::with_bytes(start, b"walk ");
-    let number = text::with_decimal(word, count);
-    if drawing.len() == 0 {
-        return text::with_byte(number, b'\n');
+    let mut line = Line::new();
+    line.push_bytes(b"walk ");
+    line.push_decimal(count);
+    if !drawing.is_empty() {
+        line.push(b' ');
+        line.push_bytes(drawing);
     }
-    let blank = text::with_byte(number, b' ');
-    let name = text::with_bytes(blank, drawing);
-    text::with_byte(name, b'\n')
+    line.push(b'\n');
+    line
 }
