@@ -13,6 +13,7 @@ use text::Line;
 use trial_text::{Case, Trial};
 
 // The trial of the calls on elements.
+#[derive(Drop)]
 struct Elements;
 
 impl Trial for Elements {

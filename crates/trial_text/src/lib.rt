@@ -147,4 +147,3 @@ pub fn read_case<R: Read, W: Write>(
     }
     Ok(n)
 }
-
