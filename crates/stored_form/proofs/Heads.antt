@@ -2,6 +2,7 @@
 -- `head_102` to `head_105`: the head is refused with this number.
 -- `head_whole`: the head is found.
 -- `head_found`: what holds of a head that was found (`Whole`).
+-- `length_inside`, `length_outside`: the length that the head gives where it is whole, and where it is cut.
 -- `head_by_length`: the head is that of the rule of lengths at the length that was read.
 use Prim.Native.Nat.{ℕ, ◌+◌, ◌≤◌, ◌<◌}
 use mathlib.Core.Path.{◌≡◌, refl, sym, ap}
@@ -37,19 +38,28 @@ module _ (tag : ℕ) (allows : ℕ → Bool) (s : List ℕ) (at : ℕ) where
     unfolding read_head_by
     head_whole a b = rw (le-ltb (length s) (at + 3) fits, eq-eqb (get_or s at 0) tag due, ← read, a, le-ltb (length s) (at + 3 + n) b)
 
+pub length_inside : (s : List ℕ) (at : ℕ) → at + 3 ≤ length s → length_at s at ≡ body_length s at
+unfolding length_at
+length_inside s at h = rw (le-ltb (length s) (at + 3) h)
+
+pub length_outside : (s : List ℕ) (at : ℕ) → length s < at + 3 → length_at s at ≡ 0
+unfolding length_at
+length_outside s at h = rw (lt-ltb (length s) (at + 3) h)
+
 -- whether the length that the head gives is allowed need be known only if the head is whole
-pub head_by_length : (tag : ℕ) (allows : ℕ → Bool) (s : List ℕ) (at : ℕ) {n : ℕ} → n ≡ length_at s at → read_head_by tag (λ k. allows n) s at ≡ read_head_by tag allows s at
+pub head_by_length : (tag : ℕ) (allows : ℕ → Bool) (s : List ℕ) (at : ℕ) {allowed : Bool} → allowed ≡ allows (length_at s at) →
+    read_head_by tag (λ n. allowed) s at ≡ read_head_by tag allows s at
 unfolding read_head_by length_at
-head_by_length tag allows s at {n} e = go (ltb (length s) (at + 3)) e
+head_by_length tag allows s at {allowed} e = go (ltb (length s) (at + 3)) e
   where
     rest : Bool → Reading ℕ
-    rest allowed =
+    rest b =
         let k = body_length s at in
-        refuse 103 (not (eqb (get_or s at 0) tag)) (refuse 104 (not allowed) (refuse 105 (ltb (length s) (at + 3 + k)) (found k (at + 3 + k))))
+        refuse 103 (not (eqb (get_or s at 0) tag)) (refuse 104 (not b) (refuse 105 (ltb (length s) (at + 3 + k)) (found k (at + 3 + k))))
 
-    go : (b : Bool) → n ≡ cond b 0 (body_length s at) → refuse 102 b (rest (allows n)) ≡ refuse 102 b (rest (allows (body_length s at)))
+    go : (b : Bool) → allowed ≡ allows (cond b 0 (body_length s at)) → refuse 102 b (rest allowed) ≡ refuse 102 b (rest (allows (body_length s at)))
     go true e = refl
-    go false e = ap (λ (k : ℕ). rest (allows k)) e
+    go false e = ap rest e
 
 -- what holds of a head that was found
 pub record Whole (tag : ℕ) (allowed : ℕ → Bool) (s : List ℕ) (at n next : ℕ) : Type 0 where

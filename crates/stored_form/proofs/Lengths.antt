@@ -81,14 +81,6 @@ module _ (h : Record) where
       by_case P t 0x40 p₀ (λ a₀. by_case P t 0x41 p₁ (λ a₁. by_case P t 0x46 p₆ (λ a₆. by_case P t 0x42 p₂ (λ a₂. by_case P t 0x45 p₅ (λ a₅. by_case P t 0x43 p₃ (λ a₃. by_case P t 0x44 p₄
       (λ a₄. absurd (false≢true (sym (allows_none h t n a₀ a₁ a₆ a₂ a₅ a₃ a₄) ∙ e)))))))))
 
-  -- a tag that allows a length and is none of the other five is that of a class
-  pub class_left : (t n : ℕ) → (t ≡ 0x40 → ⊥) → (t ≡ 0x41 → ⊥) → (t ≡ 0x46 → ⊥) → (t ≡ 0x42 → ⊥) → (t ≡ 0x45 → ⊥) → (rules t).allows h n ≡ true → class_length n ≡ true
-  class_left t n h₀ h₁ h₆ h₂ h₅ a =
-      by_tag (λ k. (k ≡ 0x40 → ⊥) → (k ≡ 0x41 → ⊥) → (k ≡ 0x46 → ⊥) → (k ≡ 0x42 → ⊥) → (k ≡ 0x45 → ⊥) → (rules k).allows h n ≡ true → class_length n ≡ true)
-      (λ o _ _ _ _ _. absurd (o refl)) (λ _ o _ _ _ _. absurd (o refl)) (λ _ _ o _ _ _. absurd (o refl)) (λ _ _ _ o _ _. absurd (o refl)) (λ _ _ _ _ o _. absurd (o refl))
-      (λ _ _ _ _ _ e. sym (class_lengths h n) ∙ e) (λ _ _ _ _ _ e. sym (operation_lengths h n) ∙ e)
-      t n a h₀ h₁ h₆ h₂ h₅ a
-
   pub allows_short : (t n : ℕ) → (rules t).allows h n ≡ true → n ≤ longest_body
   allows_short t n a =
       by_tag (λ t. (rules t).allows h n ≡ true → n ≤ longest_body)

@@ -1,97 +1,49 @@
 -- The pairs of an archive, as the code reads them.
--- `allowed_0`, `allowed_above`, `allowed_by_4`: whether a length is that of pairs, test by test.
--- `within_0`, `within_above`, `within_last`: whether a pair is within n, test by test.
--- `pair_refused`, `pair_passed`, `pairs_none`: a turn of the loop that checks the pairs, and its end.
--- `no_pairs`, `other_byte`, `field_due`: what follows the operations is nothing, another byte, the field.
--- `field_cut`, `field_checked`: the field is refused at its head, or by its pairs; else it is found.
--- `offset_found`, `offset_refused`: the reading that the code's offset stands for.
+-- `pair_stops`, `pair_goes_on`, `pairs_over`: a turn of the loop that checks the pairs, and its end.
+-- `no_pairs`, `other_byte`, `field_due`: what follows the operations is nothing, another byte, the field;
+-- `none_left`, `rest_refused`, `field_follows`: the same, as the code answers it.
+-- `field_cut`, `cut_stops`, `pairs_inside`, `check_stops_pairs`, `pairs_pass`: the field as the code reads it.
 -- `pair_beyond`, `pair_there`: a pair at which the input ends, and one that is there.
-use Prim.Native.Nat.{ℕ, suc, ◌+◌, ◌*◌, ◌-◌, ◌/◌, ◌%◌, ◌≤◌, ◌<◌}
-use mathlib.Core.Path.{◌≡◌, ap, ◌∙◌}
+use Prim.Native.Nat.{ℕ, suc, ◌+◌, ◌*◌, ◌-◌, ◌/◌, ◌≤◌, ◌<◌}
+use mathlib.Core.Path.{◌≡◌, refl, sym, ap, ◌∙◌}
 use mathlib.Core.Bool.{true, false, ◌&&◌}
-use mathlib.Core.List.{List, [], ◌∷◌}
+use mathlib.Core.List.{List, [], ◌∷◌, ◌++◌}
 use native.Mathlib.Omega.{arith}
-use lib.Dec.{eqb, leb, ltb}
-use lib.ListN.{length, get_or, drop}
-use lib.Seq.{drop-drop}
-use borrow.Author.Tests.{lt-ltb, le-ltb, lt-leb, le-leb, eq-eqb, ne_eqb}
+use lib.Dec.{ltb}
+use lib.ListN.{length, get_or, take, drop, length-append}
+use lib.Seq.{take_at, drop_at}
+use borrow.Author.Tests.{lt-leb, le-leb, eq-eqb, ne_eqb}
+use Rattle.refusals.specs.{Refusals.number, declared.Refusal.Refusal}
 use Rattle.stored_form.specs.Number.{decode_number, decode_numbers, part}
-use Rattle.stored_form.specs.{Reading.Reading, Reading.found, Reading.refused, Reading.checked, Head.pairs_limit, Reader.read_head_by}
-use Rattle.stored_form.specs.Pairs.{later, earlier, pairs_length, pair_within, pairs_after, pairs_refusal, decode_pairs, read_pairs_field, read_pairs, offset_of, pair_at}
-use Rattle.stored_form.specs.declared.{Cursor.Cursor, Offset.TheVariants.Next, Offset.TheVariants.Refused}
-use Rattle.stored_form.proofs.{Readings.then_found, Readings.then_refused, Heads.head_found, Parts.length_part, NumberLists.decode_numbers_take}
-
--- ---- lengths
-
-module _ (n : ℕ) where
-  pub allowed_0 : n ≡ 0 → false ≡ pairs_length n
-  unfolding pairs_length
-  allowed_0 e = rw e
-
-  module _ (some : ¬ (n ≡ 0)) where
-    pub allowed_above : pairs_limit < n → false ≡ pairs_length n
-    unfolding pairs_length
-    allowed_above h = rw (lt-ltb 0 n (omega (arith, some)), lt-leb n pairs_limit h)
-
-    pub allowed_by_4 : n ≤ pairs_limit → eqb (n % 4) 0 ≡ pairs_length n
-    unfolding pairs_length
-    allowed_by_4 h = rw (lt-ltb 0 n (omega (arith, some)), le-leb n pairs_limit h)
-
--- ---- one pair
-
-module _ (n p : ℕ) where
-  pub within_0 : earlier p < 1 → false ≡ pair_within n p
-  unfolding pair_within
-  within_0 h = rw (lt-leb 1 (earlier p) h)
-
-  module _ (some : 1 ≤ earlier p) where
-    pub within_above : later p ≤ earlier p → false ≡ pair_within n p
-    unfolding pair_within
-    within_above h = rw (le-leb 1 (earlier p) some, le-ltb (earlier p) (later p) h)
-
-    pub within_last : earlier p < later p → leb (later p) n ≡ pair_within n p
-    unfolding pair_within
-    within_last h = rw (le-leb 1 (earlier p) some, lt-ltb (earlier p) (later p) h)
+use Rattle.stored_form.specs.{Reading.found, Reading.refused, Reading.checked, Reader.read_head_by}
+use Rattle.stored_form.specs.Pairs.{pair_length, pairs_length, pair_within, pairs_after, pairs_refusal, decode_pairs, read_pairs_field, read_pairs, offset_of, pair_at}
+use Rattle.stored_form.proofs.{Readings.check_stops, Readings.check_passes, Readings.then_found, Readings.then_refused, Heads.head_found}
 
 -- ---- all pairs
 
-module _ (n : ℕ) (s : List ℕ) (at pairs i last : ℕ) where
-  -- the pairs from the i-th on
-  abbrev pub from : List ℕ
-  from = decode_numbers 4 (pairs - i) (drop (at + 4 * i) s)
+-- the pairs of what is left, by its first four bytes
+module _ (n last : ℕ) (rest bytes after : List ℕ) (cut : rest ≡ bytes ++ after) (long : length bytes ≡ pair_length) where
+  first_pair : decode_pairs rest ≡ decode_number bytes ∷ decode_pairs after
+  unfolding decode_pairs decode_numbers
+  first_pair =
+      let all : length rest ≡ pair_length + length after = ap length cut ∙ length-append bytes after ∙ ap (λ (k : ℕ). k + length after) long in
+      let more : length rest / 4 ≡ suc (length after / 4) = omega (arith, all) in
+      rw (more, cut, take_at bytes after 4 long, drop_at bytes after 4 long)
 
-  module _ (lt : i < pairs) {p : ℕ} (read : p ≡ decode_number (part s (at + 4 * i) 4)) where
-    from_cons : from ≡ p ∷ decode_numbers 4 (pairs - (i + 1)) (drop (at + 4 * (i + 1)) s)
-    unfolding decode_numbers
-    from_cons =
-        let e : pairs - i ≡ suc (pairs - (i + 1)) = omega arith in
-        let f : at + 4 * i + 4 ≡ at + 4 * (i + 1) = omega arith in
-        rw (e, read, drop-drop 4 (at + 4 * i) s, f)
-
-    pub pair_refused : (ltb last p && pair_within n p) ≡ false → pairs_after n last from ≡ false
+  module _ {p : ℕ} (read : p ≡ decode_number bytes) where
+    pub pair_stops : (ltb last p && pair_within n p) ≡ false → pairs_after n last (decode_pairs rest) ≡ false
     unfolding pairs_after
-    pair_refused e = ap (pairs_after n last) from_cons ∙ rw e
+    pair_stops e = ap (pairs_after n last) first_pair ∙ rw (← read, e)
 
-    pub pair_passed : (ltb last p && pair_within n p) ≡ true → pairs_after n last from ≡ pairs_after n p (decode_numbers 4 (pairs - (i + 1)) (drop (at + 4 * (i + 1)) s))
+    pub pair_goes_on : (ltb last p && pair_within n p) ≡ true → pairs_after n last (decode_pairs rest) ≡ pairs_after n p (decode_pairs after)
     unfolding pairs_after
-    pair_passed e = ap (pairs_after n last) from_cons ∙ rw e
+    pair_goes_on e = ap (pairs_after n last) first_pair ∙ rw (← read, e)
 
-  pub pairs_none : pairs ≤ i → pairs_after n last from ≡ true
-  unfolding pairs_after decode_numbers
-  pairs_none h = let e : pairs - i ≡ 0 = omega arith in rw e
+pub pairs_over : (n last : ℕ) (rest : List ℕ) → length rest < pair_length → pairs_after n last (decode_pairs rest) ≡ true
+unfolding pairs_after decode_pairs decode_numbers
+pairs_over n last rest h = let e : length rest / 4 ≡ 0 = omega arith in rw e
 
 -- ---- the field
-
-module _ (s : List ℕ) (at : ℕ) {len next : ℕ} (e : read_head_by 0x48 pairs_length s at ≡ found len next) where
-  -- the body as the code reads it
-  decoded : decode_pairs (part s (at + 3) len) ≡ decode_numbers 4 (len / 4) (drop (at + 3) s)
-  unfolding decode_pairs
-  decoded =
-      let w = head_found 0x48 pairs_length s at e in
-      rw (length_part s (at + 3) len (omega (arith, w.ends, w.fits))) (decode_numbers_take 4 (len / 4) len (drop (at + 3) s) (omega arith))
-
-  pub field_asks : at + 3 + 4 * (len / 4) ≤ length s
-  field_asks = let w = head_found 0x48 pairs_length s at e in omega (arith, w.ends, w.fits)
 
 module _ (n : ℕ) (s : List ℕ) (at : ℕ) where
   pub no_pairs : length s ≤ at → read_pairs n s at ≡ found [] at
@@ -107,27 +59,44 @@ module _ (n : ℕ) (s : List ℕ) (at : ℕ) where
     unfolding read_pairs
     field_due h = rw (lt-leb (length s) at left, eq-eqb (get_or s at 0) 0x48 h)
 
+  -- the same, as the code answers it
+  pub none_left : length s ≤ at → found tt at ≡ offset_of (read_pairs n s at)
+  none_left h = ap offset_of (sym (no_pairs h))
+
+  pub rest_refused : at < length s → ¬ (get_or s at 0 ≡ 0x48) → refused 112 ≡ offset_of (read_pairs n s at)
+  rest_refused left h = ap offset_of (sym (other_byte left h))
+
+  pub field_follows : at < length s → get_or s at 0 ≡ 0x48 → offset_of (read_pairs_field n s at) ≡ offset_of (read_pairs n s at)
+  field_follows left h = ap offset_of (sym (field_due left h))
+
   pub field_cut : {m : ℕ} → read_head_by 0x48 pairs_length s at ≡ refused m → read_pairs_field n s at ≡ refused m
   unfolding read_pairs_field
   field_cut e = then_refused _ e
 
-  pub field_checked : {len next m : ℕ} → read_head_by 0x48 pairs_length s at ≡ found len next →
-      m ≡ pairs_refusal n (decode_numbers 4 (len / 4) (drop (at + 3) s)) →
-      read_pairs_field n s at ≡ checked m (found (decode_numbers 4 (len / 4) (drop (at + 3) s)) next)
-  unfolding read_pairs_field
-  field_checked e f = then_found _ e ∙ rw (f, decoded s at e)
+  pub cut_stops : {k : ℕ} → refused k ≡ read_head_by 0x48 pairs_length s at → refused k ≡ offset_of (read_pairs_field n s at)
+  cut_stops e = ap offset_of (sym (field_cut (sym e)))
 
--- ---- the reading that the code's offset stands for
+  -- the body as the code takes it: the last bytes before the offset after it
+  module _ {len next : ℕ} (e : found len next ≡ read_head_by 0x48 pairs_length s at) where
+    abbrev pub taken : List ℕ
+    taken = take (next - (next - len)) (drop (next - len) s)
 
-pub offset_found : {A : Type 0} (x : Reading A) {next : Cursor} → offset_of x ≡ Next next → (a : A) × (x ≡ found a next.at)
-unfolding offset_of
-offset_found (found a n) e = (a, ap (found a) cc)
-offset_found (refused k) e = let z : ◌≡◌ {A = ℕ} 0 1 = cc in absurd (omega arith)
+    pub pairs_inside : (len ≤ next) × (next ≤ length s)
+    pairs_inside = let w = head_found 0x48 pairs_length s at (sym e) in omega (arith, w.ends, w.fits)
 
-pub offset_refused : {A : Type 0} (x : Reading A) {n : ℕ} → offset_of x ≡ Refused n → x ≡ refused n
-unfolding offset_of
-offset_refused (found a n) e = let z : ◌≡◌ {A = ℕ} 0 1 = cc in absurd (omega arith)
-offset_refused (refused k) e = ap refused cc
+    field_read : read_pairs_field n s at ≡ checked (pairs_refusal n (decode_pairs taken)) (found (decode_pairs taken) next)
+    unfolding read_pairs_field
+    field_read =
+        let w = head_found 0x48 pairs_length s at (sym e) in
+        let first : next - len ≡ at + 3 = omega (arith, w.ends) in
+        let long : next - (at + 3) ≡ len = omega (arith, w.ends) in
+        then_found _ (sym e) ∙ rw (first, long)
+
+    pub check_stops_pairs : (r : Refusal) → number r ≡ pairs_refusal n (decode_pairs taken) → refused (number r) ≡ offset_of (read_pairs_field n s at)
+    check_stops_pairs r g = ap offset_of (check_stops r _ g ∙ sym field_read)
+
+    pub pairs_pass : 0 ≡ pairs_refusal n (decode_pairs taken) → found tt next ≡ offset_of (read_pairs_field n s at)
+    pairs_pass g = ap offset_of (check_passes g refl ∙ sym field_read)
 
 -- ---- a pair by its place
 

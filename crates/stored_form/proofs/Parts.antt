@@ -1,11 +1,10 @@
--- Parts of a list: their tails, their length, and a part with one element more.
-use Prim.Native.Nat.{ℕ, zero, suc, ◌+◌, ◌-◌, ◌≤◌, ◌<◌}
+-- Parts of a list: their tails and their length.
+use Prim.Native.Nat.{ℕ, zero, suc, ◌+◌, ◌-◌, ◌≤◌}
 use mathlib.Core.Path.{◌≡◌, sym}
-use mathlib.Core.List.{List, [], ◌∷◌, ◌++◌}
-use native.Mathlib.Numerals.{add-one}
+use mathlib.Core.List.{List, [], ◌∷◌}
 use native.Mathlib.Omega.{arith}
-use lib.ListN.{length, get_or, take, drop, length-take, length-drop}
-use lib.Seq.{take-nil, take-suc, get_or-drop}
+use lib.ListN.{length, take, drop, length-take, length-drop}
+use lib.Seq.{take-nil}
 use Rattle.stored_form.specs.Number.{part}
 
 pub drop_take : (i k : ℕ) (l : List ℕ) → drop i (take k l) ≡ take (k - i) (drop i l)
@@ -16,6 +15,3 @@ drop_take (suc i) (suc k) (x ∷ l) = let e : suc k - suc i ≡ k - i = omega ar
 
 pub length_part : (s : List ℕ) (at k : ℕ) → at + k ≤ length s → length (part s at k) ≡ k
 length_part s at k h = rw (length-take, length-drop) (omega arith)
-
-pub part_more : (s : List ℕ) (at i : ℕ) → at + i < length s → part s at (i + 1) ≡ part s at i ++ get_or s (at + i) 0 ∷ []
-part_more s at i h = rw (add-one, take-suc (drop at s) i 0 (rw length-drop (omega arith)), get_or-drop)

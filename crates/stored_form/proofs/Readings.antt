@@ -1,5 +1,7 @@
 -- Readings that follow each other: what a check that passed and a value that was found imply.
 -- `checked_found`, `refuse_found`, `test_passed`: a check that passed.
+-- `check_stops`, `check_passes`: the reading after a check of the code, where it refuses and where it does not.
+-- `stops`, `reads_on`: the reading of the code where the first of two refuses, and where it finds a value.
 -- `then_found`, `then_refused`, `both_found`: the first of two readings, and both if both found a value.
 -- `then_same`, `then_where`: readings that agree after the first one, for all values or for what it finds.
 -- `then_assoc`: readings group either way.
@@ -8,6 +10,8 @@ use Prim.Native.Nat.{ℕ, zero, suc, ◌<◌}
 use mathlib.Core.Path.{◌≡◌, refl, sym, ap, ◌∙◌}
 use mathlib.Core.Bool.{Bool, true, false}
 use native.Mathlib.Omega.{arith}
+use Rattle.refusals.specs.{Refusals.number, declared.Refusal.Refusal}
+use Rattle.binary_field.proofs.Refusing.{number_positive}
 use Rattle.jacobian.specs.Checks.{unless}
 use Rattle.stored_form.specs.Reading.{Reading, found, refused, refuse, checked, ◌then◌, reading_refusal}
 
@@ -28,6 +32,13 @@ module _ {A : Type 0} where
   pub checked_none : (n : ℕ) (r : Reading A) → n ≡ 0 → checked n r ≡ r
   unfolding checked
   checked_none n r e = rw e
+
+  -- the number of a refusal is not 0
+  pub check_stops : (r : Refusal) {n : ℕ} (x : Reading A) → number r ≡ n → refused (number r) ≡ checked n x
+  check_stops r x e = ap refused e ∙ sym (checked_some _ x (λ z. number_positive r (e ∙ z)))
+
+  pub check_passes : {n : ℕ} {x y : Reading A} → 0 ≡ n → y ≡ x → y ≡ checked n x
+  check_passes e f = f ∙ sym (checked_none _ _ (sym e))
 
   pub checked_found : (n : ℕ) (r : Reading A) {a : A} {next : ℕ} → checked n r ≡ found a next → (n ≡ 0) × (r ≡ found a next)
   unfolding checked
@@ -59,6 +70,13 @@ module _ {A B : Type 0} (f : A → ℕ → Reading B) where
   unfolding ◌then◌
   then_same (found a n) e = e a n
   then_same (refused k) e = refl
+
+  -- for a code that stops where the first reading is refused, and reads on from what it finds
+  pub stops : {x : Reading A} {k : ℕ} → refused k ≡ x → refused k ≡ (x then f)
+  stops e = sym (then_refused (sym e))
+
+  pub reads_on : {x : Reading A} {y : Reading B} {a : A} {next : ℕ} → found a next ≡ x → y ≡ f a next → y ≡ (x then f)
+  reads_on e g = g ∙ sym (then_found (sym e))
 
 -- the same after a reading for what it finds alone
 pub then_where : {A B : Type 0} (f : A → ℕ → Reading B) (x : Reading A) {g : A → ℕ → Reading B} → ((a : A) (n : ℕ) → x ≡ found a n → f a n ≡ g a n) → (x then f) ≡ (x then g)

@@ -1,12 +1,12 @@
 -- Bytes stored in a buffer one after the other.
-use Prim.Native.Nat.{ℕ, zero, suc, ◌+◌, ◌-◌, ◌≤◌, ◌<◌}
+use Prim.Native.Nat.{ℕ, zero, suc, ◌+◌, ◌-◌, ◌<◌}
 use mathlib.Core.Path.{◌≡◌, sym, ap, ap₂, ◌∙◌}
 use mathlib.Core.List.{List, [], ◌∷◌, ◌++◌}
-use native.Mathlib.Nat.{zero-add, add-zero}
+use native.Mathlib.Nat.{add-zero}
 use native.Mathlib.Numerals.{add-one}
 use native.Mathlib.Omega.{arith}
-use lib.ListN.{length, get_or, take, drop, set, replicate, length-replicate}
-use lib.Seq.{sets, sets-eq, take-suc, length-take-le}
+use lib.ListN.{length, get_or, take, drop, set, replicate}
+use lib.Seq.{sets, take-suc, length-take-le}
 
 pub sets_append : (d : List ℕ) (at : ℕ) (xs ys : List ℕ) → sets (sets d at xs) (at + length xs) ys ≡ sets d at (xs ++ ys)
 sets_append d at [] ys = rw add-zero
@@ -29,16 +29,3 @@ pub drop_replicate : (k n : ℕ) → drop {A = ℕ} k (replicate n 0) ≡ replic
 drop_replicate zero n = let e : n - 0 ≡ n = omega arith in rw e
 drop_replicate (suc k) zero = let e : 0 - suc k ≡ 0 = omega arith in rw e
 drop_replicate (suc k) (suc n) = let e : suc n - suc k ≡ n - k = omega arith in rw e (drop_replicate k n)
-
--- one more byte after those stored from the start of the buffer
-pub store_next : (d xs : List ℕ) (i y : ℕ) {r : List ℕ} → length xs ≡ i → r ≡ sets d 0 xs → set r i y ≡ sets d 0 (xs ++ y ∷ [])
-store_next d xs i y len e =
-    ap₂ (λ (l : List ℕ) (k : ℕ). set l k y) e (sym (zero-add (length xs) ∙ len)) ∙ sets_append d 0 xs (y ∷ [])
-
--- bytes stored at the start of a buffer of n that was 0 throughout
-pub filled : (xs : List ℕ) (n : ℕ) → length xs ≤ n → sets (replicate n 0) 0 xs ≡ xs ++ replicate (n - length xs) 0
-filled xs n le =
-    let long : length (replicate {A = ℕ} n 0) ≡ n = length-replicate n 0 in
-    sets-eq xs (replicate n 0) 0 (omega arith)
-    ∙ ap (λ (k : ℕ). xs ++ drop k (replicate n 0)) (zero-add (length xs))
-    ∙ ap (λ (l : List ℕ). xs ++ l) (drop_replicate (length xs) n)

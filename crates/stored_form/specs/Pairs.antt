@@ -1,11 +1,12 @@
 -- The pairs of an archive, 0x48: which operation holds which (docs/SPECIFICATION.md, 5, 6 and 9).
 -- A pair is one number of four bytes: the number of its later operation times 65,536, plus that of its earlier one.
-use Rattle.std.specs.Prelude.{ℕ, ◌+◌, ◌*◌, ◌/◌, ◌%◌, Bool, true, cond, not, ◌&&◌, List, [], ◌∷◌, eqb, leb, ltb, length, get_or}
+use Rattle.std.specs.Prelude.{ℕ, ◌+◌, ◌*◌, ◌/◌, ◌%◌, Result, Ok, Err, Bool, true, cond, not, ◌&&◌, List, [], ◌∷◌, eqb, leb, ltb, length, get_or}
 use Rattle.jacobian.specs.Checks.{unless}
 use Rattle.stored_form.specs.Number.{decode_number, decode_numbers, encode_numbers, part}
 use Rattle.stored_form.specs.{Reading.Reading, Reading.found, Reading.refused, Reading.refuse, Reading.checked, Reading.◌then◌}
 use Rattle.stored_form.specs.{Head.encode_field, Head.pairs_limit, Reader.read_head_by}
-use Rattle.stored_form.specs.declared.Offset.{Offset, TheVariants.Next, TheVariants.Refused}
+use Rattle.stored_form.specs.declared.Cursor.{Cursor}
+use Rattle.refusals.specs.{Refusals.number, declared.Refusal.Refusal}
 
 -- the number of bytes of a pair
 abbrev pub pair_length : ℕ
@@ -64,10 +65,15 @@ read_pairs n s at =
 
 -- ---- the answers of the code
 
--- the offset after what was read, or the refusal
-unfoldable pub offset_of : {A : Type 0} → Reading A → Offset
-offset_of (found a next) = Next (record { at = next })
-offset_of (refused n) = Refused n
+-- the offset that the code answers, as a reading of no value
+abbrev pub offset_reading : Result Cursor Refusal → Reading (Unit {0})
+offset_reading (Ok next) = found tt next.at
+offset_reading (Err r) = refused (number r)
+
+-- a reading without its value
+abbrev pub offset_of : {A : Type 0} → Reading A → Reading (Unit {0})
+offset_of (found a next) = found tt next
+offset_of (refused n) = refused n
 
 -- pair i of those that begin at an offset, and 0 if the input ends before it does
 unfoldable pub pair_at : List ℕ → ℕ → ℕ → ℕ

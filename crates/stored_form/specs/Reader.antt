@@ -1,11 +1,10 @@
 -- Layouts of records, which list the tags that are expected, and how records are read (docs/SPECIFICATION.md, 5 and 6).
-use Rattle.std.specs.Prelude.{ℕ, zero, suc, ◌+◌, Bool, not, List, [], ◌∷◌, ◌++◌, eqb, ltb, length, get_or}
+use Rattle.std.specs.Prelude.{ℕ, zero, suc, ◌+◌, Result, Ok, Err, Bool, not, List, [], ◌∷◌, ◌++◌, eqb, ltb, length, get_or}
 use Rattle.jacobian.specs.declared.Class.{Class}
 use Rattle.stored_form.specs.{Number.part, Reading.Reading, Reading.found, Reading.refused, Reading.refuse, Reading.checked, Reading.◌then◌}
 use Rattle.stored_form.specs.{Head.body_length, Fields.ended, Record.empty_record, Tags.rules}
-use Rattle.stored_form.specs.declared.{Record.Record, Read.Read, Offset.Offset, head.Head.Head}
-use Rattle.stored_form.specs.declared.Offset.TheVariants.{Next, Refused}
-use Rattle.stored_form.specs.declared.head.Head.TheVariants as head
+use Rattle.stored_form.specs.declared.{Record.Record, Read.Read, head.Body.Body}
+use Rattle.refusals.specs.{Refusals.number, declared.Refusal.Refusal}
 
 -- ---- one field
 
@@ -80,19 +79,14 @@ read_operations (suc n) h s at =
     read_operations n more s next then λ older end.
     found (more.operation ∷ older) end
 
--- ---- the answers of the code
+-- ---- the answers of the code, as readings
 
--- the head that the code answers, as a reading
-abbrev pub head_reading : Head → Reading ℕ
-head_reading (head.Body n next) = found n next.at
-head_reading (head.Refused n) = refused n
+-- the head that the code answers
+abbrev pub head_reading : Result Body Refusal → Reading ℕ
+head_reading (Ok b) = found b.len b.next.at
+head_reading (Err r) = refused (number r)
 
--- the code's answer for a reading: the record and the next offset, or the refusal with the empty record
-unfoldable pub read_of : Reading Record → Read
-read_of (found h next) = record { offset = Next (record { at = next }); values = h }
-read_of (refused n) = record { offset = Refused n; values = empty_record }
-
--- the number of a refusal, and 0 if there is none
-abbrev pub offset_refusal : Offset → ℕ
-offset_refusal (Next next) = 0
-offset_refusal (Refused n) = n
+-- the record that the code answers, with the offset of the next field
+abbrev pub reading_of : Result Read Refusal → Reading Record
+reading_of (Ok r) = found r.values r.next.at
+reading_of (Err r) = refused (number r)

@@ -1,53 +1,46 @@
 // The drawing number's bytes.
-ghost use Rattle.std.specs.Prelude.{◌≡◌, ◌+◌, ◌≤◌, length, take};
-ghost use Rattle.stored_form.specs.Number.{part};
+ghost use Rattle.std.specs.Prelude.{◌≡◌, ◌≤◌, length};
+ghost use Rattle.refusals.specs.Refusals.{refusal_of};
 ghost use Rattle.stored_form.specs.Head.{drawing_limit};
 ghost use Rattle.stored_form.specs.Fields.{printable, drawing_refusal};
 ghost use Rattle.stored_form.specs.Record.{decode_drawing, drawing_name};
 
 use crate::{DRAWING_LIMIT, Drawing};
+use refusals::Refusal;
 
-// The drawing number decoded from len bytes at an offset.
-pub(crate) fn decode_drawing(s: &[u8], at: usize, len: usize) -> Drawing
-    requires { (len ≤ drawing_limit) × (at + len ≤ length s.now) }
-    ensures { result ≡ decode_drawing (part s.now at len) }
-{
-    let mut bytes = [0u8; DRAWING_LIMIT];
-    let mut i = 0;
-    while i < len {
-        bytes[i] = s[at + i];
-        i += 1;
-    }
-    Drawing { len, bytes }
-}
-
-// Whether each of the first k bytes lies in 0x20 to 0x7E.
-fn all_printable(bytes: [u8; DRAWING_LIMIT], k: usize) -> bool
-    requires { k ≤ drawing_limit }
-    ensures { result ≡ printable (take k bytes) }
-{
-    let mut i = 0;
-    while i < k {
-        let b = bytes[i];
-        if b < 0x20 {
-            return false;
+impl Drawing {
+    // The drawing number that a body decodes to.
+    pub(crate) fn decode(body: &[u8]) -> Drawing
+        requires { length body.now ≤ drawing_limit }
+        ensures { result ≡ decode_drawing body.now }
+    {
+        let mut bytes = [0; DRAWING_LIMIT];
+        bytes[..body.len()].copy_from_slice(body);
+        Drawing {
+            len: body.len(),
+            bytes,
         }
-        if 0x7E < b {
-            return false;
-        }
-        i += 1;
     }
-    true
-}
 
-// 108 if a byte of the drawing number is not printable, else 0.
-pub(crate) fn drawing_refusal(d: Drawing) -> u32
-    requires { d.len ≤ drawing_limit }
-    ensures { result ≡ drawing_refusal (drawing_name d) }
-{
-    let bytes = d.bytes;
-    if all_printable(bytes, d.len) {
-        return 0;
+    // Whether every byte lies in 0x20 to 0x7E.
+    fn is_printable(&self) -> bool
+        ensures { result ≡ printable (drawing_name self.now) }
+    {
+        self.bytes
+            .iter()
+            .take(self.len)
+            .all(|b| (0x20..=0x7E).contains(b))
     }
-    108
+
+    // Refuses a drawing number with a byte that is not printable.
+    #[tactic(auto, unfolding(crate::specs::Fields::drawing_refusal, jacobian::specs::Checks::unless))]
+    pub(crate) fn check(&self) -> Result<(), Refusal>
+        ensures { refusal_of result ≡ drawing_refusal (drawing_name self.now) }
+    {
+        if self.is_printable() {
+            Ok(())
+        } else {
+            Err(Refusal::DrawingNumber)
+        }
+    }
 }

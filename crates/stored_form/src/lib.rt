@@ -1,12 +1,12 @@
 // Reading the stored form. A field is a one-byte tag, a two-byte length and a body, high byte first.
 // A record is a list of fields; its layout lists the tags that are expected, in order.
-// A reader answers the record with the offset of the next field, or the number of a refusal with the empty record.
+// A reader answers the record with the offset of the next field, or the refusal.
 #![tactic(auto)]
 
 ghost use Rattle.std.specs.Prelude.{◌≡◌};
-ghost use Rattle.stored_form.specs.Reading.{found, refused, checked};
+ghost use Rattle.refusals.specs.Refusals.{refusal_of};
 ghost use Rattle.stored_form.specs.{Fields.end_refusal, Record.empty_record};
-ghost use Rattle.stored_form.specs.Reader.{read_field, read_fields, read_record, read_of, offset_refusal};
+ghost use Rattle.stored_form.specs.Reader.{read_field, read_fields, read_record, reading_of};
 
 pub mod classes;
 mod drawings;
@@ -15,9 +15,10 @@ pub mod head;
 mod numbers;
 pub mod pairs;
 
-use head::Head;
+use head::Body;
 use jacobian::curves::COEFFICIENTS;
 use jacobian::{Class, Curve};
+use refusals::Refusal;
 
 // The tags.
 pub const DEGREE: u8 = 0x40;
@@ -81,13 +82,6 @@ pub struct Cursor {
     pub at: usize,
 }
 
-// The offset of the next field, or the number of the refusal.
-#[derive(Clone, Copy)]
-pub enum Offset {
-    Next(Cursor),
-    Refused(u32),
-}
-
 // A drawing number: len bytes, and 0 after them.
 #[derive(Clone, Copy)]
 pub struct Drawing {
@@ -107,43 +101,36 @@ pub struct Record {
     pub operation: Class,
 }
 
-// A record with the offset of the next field; the empty record on a refusal.
+// A record with the offset of the next field.
 #[derive(Clone, Copy)]
 pub struct Read {
-    pub offset: Offset,
     pub values: Record,
+    pub next: Cursor,
 }
 
-// The number of a refusal, and 0 if there is none.
-pub fn offset_refusal(p: Offset) -> u32
-    ensures { result ≡ offset_refusal p }
-{
-    match p {
-        Offset::Next(_) => 0,
-        Offset::Refused(n) => n,
-    }
-}
-
-// 112 if bytes remain from an offset on, else 0.
-pub fn end_refusal(s: &[u8], at: Cursor) -> u32
-    ensures { result ≡ end_refusal s.now at.at }
+// Refuses an input with bytes from an offset on.
+#[tactic(auto, unfolding(crate::specs::Fields::end_refusal))]
+pub fn check_end(s: &[u8], at: Cursor) -> Result<(), Refusal>
+    ensures { refusal_of result ≡ end_refusal s.now at.at }
 {
     if at.at < s.len() {
-        return 112;
+        return Err(Refusal::BytesRemain);
     }
-    0
+    Ok(())
 }
 
-// The record before the first field, which is also the one of a refused reading.
+// The record before the first field.
+#[tactic(auto, unfolding(crate::specs::Record::empty_record, crate::specs::Record::decode_drawing))]
 pub fn empty_record() -> Record
     ensures { result ≡ empty_record }
 {
-    let curve = jacobian::curves::blank_curve();
     let neutral = jacobian::neutral();
-    let bytes = [0u8; DRAWING_LIMIT];
     Record {
-        curve,
-        drawing: Drawing { len: 0, bytes },
+        curve: jacobian::curves::blank_curve(),
+        drawing: Drawing {
+            len: 0,
+            bytes: [0; DRAWING_LIMIT],
+        },
         count: 0,
         released: 0,
         previous: neutral,
@@ -152,76 +139,40 @@ pub fn empty_record() -> Record
     }
 }
 
-// The answer of a refused reading: refusal n with the empty record.
-pub fn refused(n: u32) -> Read
-    ensures { result ≡ read_of (refused n) }
-{
-    let values = empty_record();
-    Read {
-        offset: Offset::Refused(n),
-        values,
-    }
-}
-
-// The record and the next offset if n is 0, else refusal n.
-pub fn checked(n: u32, values: Record, next: Cursor) -> Read
-    ensures { result ≡ read_of (checked n (found values next.at)) }
-{
-    if n != 0 {
-        return refused(n);
-    }
-    Read {
-        offset: Offset::Next(next),
-        values,
-    }
-}
-
 // Reads the field at an offset, where this tag is expected, into the record h.
-pub fn read_field(tag: u8, h: Record, s: &[u8], at: Cursor) -> Read
-    ensures { result ≡ read_of (read_field tag h s.now at.at) }
+pub fn read_field(tag: u8, h: Record, s: &[u8], at: Cursor) -> Result<Read, Refusal>
+    ensures { reading_of result ≡ read_field tag h s.now at.at }
 {
-    let i = at.at;
-    let f = head::read_head(tag, h, s, at);
-    let Head::Body { len, next } = f else {
-        return refused(head::head_refusal(f));
+    let head = head::read_head(tag, s, at);
+    let Ok(Body { len, next }) = head else {
+        return Err(head.unwrap_err());
     };
-    let more = fields::with_field(tag, h, s, i + 3, len);
-    checked(fields::field_refusal(tag, len, more), more, next)
+    let values = h.with_field(tag, &s[next.at - len..next.at]);
+    values.check_field(tag)?;
+    Ok(Read { values, next })
 }
 
 // Reads the fields with these tags, one after the other from an offset on, into the record h.
-pub fn read_fields(tags: &[u8], h: Record, s: &[u8], start: Cursor) -> Read
-    ensures { result ≡ read_of (read_fields tags.now h s.now start.at) }
+#[tactic(auto, using(crate::proofs::Readers::fields_stop, crate::proofs::Readers::fields_go_on, crate::proofs::Readers::fields_ended))]
+pub fn read_fields(tags: &[u8], h: Record, s: &[u8], start: Cursor) -> Result<Read, Refusal>
+    ensures { reading_of result ≡ read_fields tags.now h s.now start.at }
 {
-    let mut values = h;
-    let mut at = start.at;
-    let mut i = 0;
-    while i < tags.len() {
-        let r = read_field(tags[i], values, s, Cursor { at });
-        let offset = r.offset;
-        let Offset::Next(next) = offset else {
-            return r;
-        };
-        let more = r.values;
-        values = more;
-        at = next.at;
-        i += 1;
+    let mut read = Read {
+        values: h,
+        next: start,
+    };
+    for tag in tags {
+        read = read_field(*tag, read.values, s, read.next)?;
     }
-    Read {
-        offset: Offset::Next(Cursor { at }),
-        values,
-    }
+    Ok(read)
 }
 
 // Reads a record: the fields with these tags, after which the input ends.
-pub fn read_record(tags: &[u8], s: &[u8]) -> Read
-    ensures { result ≡ read_of (read_record tags.now s.now) }
+#[tactic(auto, using(crate::proofs::Readers::record_stops, crate::proofs::Readers::end_stops, crate::proofs::Readers::record_ends))]
+pub fn read_record(tags: &[u8], s: &[u8]) -> Result<Read, Refusal>
+    ensures { reading_of result ≡ read_record tags.now s.now }
 {
-    let r = read_fields(tags, empty_record(), s, Cursor { at: 0 });
-    let offset = r.offset;
-    let Offset::Next(end) = offset else {
-        return r;
-    };
-    let values = r.values;
-    checked(end_refusal(s, end), values, end)
+    let read = read_fields(tags, empty_record(), s, Cursor { at: 0 })?;
+    check_end(s, read.next)?;
+    Ok(read)
 }

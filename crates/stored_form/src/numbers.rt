@@ -1,24 +1,16 @@
 // Numbers as bytes, high byte first.
-ghost use Rattle.std.specs.Prelude.{◌≡◌, ◌+◌, ◌≤◌, length};
-ghost use Rattle.stored_form.specs.Number.{decode_number, encode_number, part};
+ghost use Rattle.std.specs.Prelude.{◌≡◌, ◌≤◌, length};
+ghost use Rattle.stored_form.specs.Number.{decode_number};
 
-// The number decoded from k bytes at an offset.
-pub(crate) fn decode_number(s: &[u8], at: usize, k: usize) -> u64
-    requires { (k ≤ 8) × (at + k ≤ length s.now) }
-    ensures { result ≡ decode_number (part s.now at k) }
+// The number that up to eight bytes decode to.
+#[tactic(auto, using(crate::proofs::Digits::turn, crate::proofs::Digits::shift_fits, crate::proofs::Digits::turn_fits), unfolding(crate::specs::Number::decode_number))]
+pub(crate) fn decode_number(bytes: &[u8]) -> u64
+    requires { length bytes.now ≤ 8 }
+    ensures { result ≡ decode_number bytes.now }
 {
     let mut n: u64 = 0;
-    let mut i = 0;
-    while i < k {
-        n = n * 256 + wide(s[at + i]);
-        i += 1;
+    for b in bytes {
+        n = n * 256 + u64::from(*b);
     }
     n
-}
-
-// A byte as a u64.
-fn wide(b: u8) -> u64
-    ensures { result ≡ b }
-{
-    b as u64
 }

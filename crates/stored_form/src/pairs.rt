@@ -1,107 +1,95 @@
 // The pairs of an archive, 0x48. They are read where they stand, and no value holds them.
-ghost use Rattle.std.specs.Prelude.{◌≡◌, ◌&&◌, ◌+◌, ◌*◌, ◌≤◌, ltb, length, drop};
-ghost use Rattle.stored_form.specs.Number.{decode_numbers};
-ghost use Rattle.stored_form.specs.Pairs.{pair_length, pairs_length, pair_within, pairs_refusal, read_pairs_field, read_pairs, offset_of, pair_at};
+ghost use Rattle.std.specs.Prelude.{◌≡◌, ◌&&◌, ltb};
+ghost use Rattle.refusals.specs.Refusals.{refusal_of};
+ghost use Rattle.stored_form.specs.Reader.{read_head_by, head_reading};
+ghost use Rattle.stored_form.specs.Pairs.{pairs_length, pair_within, pairs_refusal, decode_pairs, read_pairs_field, read_pairs, offset_reading, offset_of, pair_at};
 
-use crate::head::Head;
-use crate::{Cursor, Offset, PAIR_LENGTH, PAIRS, PAIRS_LIMIT, head, numbers};
+use crate::head::Body;
+use crate::{Cursor, PAIR_LENGTH, PAIRS, PAIRS_LIMIT, head, numbers};
+use refusals::Refusal;
 
 // Whether this is the length of 1 to 2,048 pairs.
+#[tactic(auto, unfolding(crate::specs::Pairs::pairs_length))]
 fn pairs_allow(len: usize) -> bool
     ensures { result ≡ pairs_length len }
 {
-    if len == 0 {
-        return false;
-    }
-    if PAIRS_LIMIT < len {
-        return false;
-    }
-    len % PAIR_LENGTH == 0
+    0 < len && len <= PAIRS_LIMIT && len % PAIR_LENGTH == 0
 }
 
 // Whether a pair names two of n operations: the earlier at least 1 and below the later, the later at most n.
+#[tactic(auto, unfolding(crate::specs::Pairs::pair_within))]
 fn pair_within(n: u64, p: u64) -> bool
     ensures { result ≡ pair_within n p }
 {
     let later = p / 65536;
     let earlier = p % 65536;
-    if earlier < 1 {
-        return false;
-    }
-    if later <= earlier {
-        return false;
-    }
-    later <= n
+    1 <= earlier && earlier < later && later <= n
 }
 
 // Whether a pair comes after the pair `last` and is within n.
 fn pair_follows(n: u64, last: u64, p: u64) -> bool
     ensures { result ≡ (ltb last p && pair_within n p) }
 {
-    if p <= last {
-        return false;
-    }
-    pair_within(n, p)
+    last < p && pair_within(n, p)
 }
 
-// 122 if one of the pairs from an offset on breaks a rule, else 0.
-fn pairs_refusal(n: u64, s: &[u8], at: usize, pairs: usize) -> u32
-    requires { at + pair_length * pairs ≤ length s.now }
-    ensures { result ≡ pairs_refusal n (decode_numbers pair_length pairs (drop at s.now)) }
+// Refuses the pairs of a body if one of them breaks a rule.
+#[tactic(auto, using(crate::proofs::PairBytes::pair_stops, crate::proofs::PairBytes::pair_goes_on, crate::proofs::PairBytes::pairs_over), unfolding(crate::specs::Pairs::pairs_refusal, jacobian::specs::Checks::unless))]
+fn check_pairs(n: u64, body: &[u8]) -> Result<(), Refusal>
+    ensures { refusal_of result ≡ pairs_refusal n (decode_pairs body.now) }
 {
     let mut last = 0;
-    let mut i = 0;
-    while i < pairs {
-        let p = numbers::decode_number(s, at + PAIR_LENGTH * i, PAIR_LENGTH);
+    for bytes in body.chunks_exact(PAIR_LENGTH) {
+        let p = numbers::decode_number(bytes);
         if !pair_follows(n, last, p) {
-            return 122;
+            return Err(Refusal::WrongPair);
         }
         last = p;
-        i += 1;
     }
-    0
+    Ok(())
 }
 
-// Reads the field 0x48 of an archive with n operations: the offset after it, or the refusal.
-fn read_pairs_field(n: u64, s: &[u8], at: Cursor) -> Offset
-    ensures { result ≡ offset_of (read_pairs_field n s.now at.at) }
+// The head of the field 0x48 at an offset.
+fn read_pairs_head(s: &[u8], at: Cursor) -> Result<Body, Refusal>
+    ensures { head_reading result ≡ read_head_by 0x48 pairs_length s.now at.at }
 {
-    let i = at.at;
-    let f = head::read_head_by(PAIRS, pairs_allow(head::length_at(s, i)), s, at);
-    let Head::Body { len, next } = f else {
-        return Offset::Refused(head::head_refusal(f));
+    head::read_head_by(PAIRS, pairs_allow(head::length_at(s, at.at)), s, at)
+}
+
+// Reads the field 0x48 of an archive with n operations: the offset after it.
+#[tactic(auto, using(crate::proofs::PairBytes::cut_stops, crate::proofs::PairBytes::pairs_inside, crate::proofs::PairBytes::check_stops_pairs, crate::proofs::PairBytes::pairs_pass))]
+fn read_pairs_field(n: u64, s: &[u8], at: Cursor) -> Result<Cursor, Refusal>
+    ensures { offset_reading result ≡ offset_of (read_pairs_field n s.now at.at) }
+{
+    let head = read_pairs_head(s, at);
+    let Ok(Body { len, next }) = head else {
+        return Err(head.unwrap_err());
     };
-    let m = pairs_refusal(n, s, i + 3, len / PAIR_LENGTH);
-    if m != 0 {
-        return Offset::Refused(m);
-    }
-    Offset::Next(next)
+    check_pairs(n, &s[next.at - len..next.at])?;
+    Ok(next)
 }
 
-// Reads the pairs of an archive with n operations, which follow these: the offset after the pairs, or the refusal.
-// There are none if no byte is left; a byte other than 0x48 is 112.
-pub fn read_pairs(n: u64, s: &[u8], at: Cursor) -> Offset
-    ensures { result ≡ offset_of (read_pairs n s.now at.at) }
+// Reads the pairs of an archive with n operations, which follow these: the offset after the pairs.
+// There are none if no byte is left; a byte other than 0x48 is refused.
+#[tactic(auto, using(crate::proofs::PairBytes::none_left, crate::proofs::PairBytes::rest_refused, crate::proofs::PairBytes::field_follows))]
+pub fn read_pairs(n: u64, s: &[u8], at: Cursor) -> Result<Cursor, Refusal>
+    ensures { offset_reading result ≡ offset_of (read_pairs n s.now at.at) }
 {
-    let i = at.at;
-    if s.len() <= i {
-        return Offset::Next(at);
+    match s.get(at.at) {
+        None => Ok(at),
+        Some(&PAIRS) => read_pairs_field(n, s, at),
+        Some(_) => Err(Refusal::BytesRemain),
     }
-    if s[i] != PAIRS {
-        return Offset::Refused(112);
-    }
-    read_pairs_field(n, s, at)
 }
 
 // Pair i of those that begin at an offset, and 0 if the input ends before it does.
+#[tactic(auto, using(crate::proofs::PairBytes::pair_beyond, crate::proofs::PairBytes::pair_there))]
 pub fn pair_at(s: &[u8], at: usize, i: usize) -> u64
     ensures { result ≡ pair_at s.now at i }
 {
-    if s.len() < at {
+    if s.len().saturating_sub(at) / PAIR_LENGTH <= i {
         return 0;
     }
-    if (s.len() - at) / PAIR_LENGTH <= i {
-        return 0;
-    }
-    numbers::decode_number(s, at + PAIR_LENGTH * i, PAIR_LENGTH)
+    let first = at + PAIR_LENGTH * i;
+    numbers::decode_number(&s[first..first + PAIR_LENGTH])
 }

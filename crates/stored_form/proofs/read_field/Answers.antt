@@ -1,24 +1,28 @@
 -- `read_field` meets its contract.
 use mathlib.Core.Path.{sym, ap, ◌∙◌}
 use native.Mathlib.Omega.{arith}
-use Rattle.stored_form.specs.{Reading.reading_refusal, Reader.head_reading, Reader.read_of}
-use Rattle.stored_form.proofs.{Readings.refused_number, Readers.field_refused, Readers.field_asks, Readers.field_read, Readers.drawing_within}
+use Rattle.std.proofs.lemmas.Result.{err_from_is_err_and}
+use Rattle.stored_form.specs.Reader.{head_reading}
+use Rattle.stored_form.proofs.Readers.{field_stops, body_inside, body_allowed, check_stops_field, field_passes}
 use Rattle.stored_form.proofs.read_field.Goals as goal
 
 pub returns-in_default : goal.returns-in_default
 returns-in_default c =
-    let head = c.read_head-f.ensures in c.refused.ensures
-    ∙ sym (ap read_of (field_refused _ _ _ _ (refused_number (sym head ∙ ap head_reading c.in_default.is) (c.head_refusal.ensures ∙ ap reading_refusal head))))
+    field_stops _ c.args.h _ _ (sym (ap head_reading c.unwrap_err.ensures) ∙ c.read_head-head.ensures c.args.h)
 
-pub overflow_add-i : goal.overflow_add-i
-overflow_add-i c = omega (arith, (field_asks _ c.args.h _ _ ((sym c.read_head-f.ensures ∙ ap head_reading c.in-Body.is))).1)
+pub overflow_sub-next : goal.overflow_sub-next
+overflow_sub-next c = omega (arith, body_inside _ _ _ _ (c.in-Ok.ensures c.args.h))
 
-pub with_field-more-requires : goal.with_field-more-requires
-with_field-more-requires c = field_asks _ c.args.h _ _ ((sym c.read_head-f.ensures ∙ ap head_reading c.in-Body.is))
+pub slice_bounds-with_field-end : goal.slice_bounds-with_field-end
+slice_bounds-with_field-end c = omega (arith, body_inside _ _ _ _ (c.in-Ok.ensures c.args.h))
 
-pub field_refusal-requires : goal.field_refusal-requires
-field_refusal-requires c = drawing_within _ _ _ _ ((sym c.read_head-f.ensures ∙ ap head_reading c.in-Body.is)) c.with_field-more.ensures
+pub with_field-values-requires : goal.with_field-values-requires
+with_field-values-requires c = body_allowed _ c.args.h _ _ (c.in-Ok.ensures c.args.h)
+
+pub returns-in_err-check_field : goal.returns-in_err-check_field
+returns-in_err-check_field c =
+    let p = err_from_is_err_and c.from_residual.result c.from_residual.ensures.1 in
+    rw (p.1, p.2) (check_stops_field _ _ _ _ (c.in-Ok.ensures c.args.h) c.with_field-values.ensures _ (c.in_err-check_field.ensures _))
 
 pub returns : goal.returns
-returns c =
-    c.checked.ensures ∙ ap read_of (field_read _ _ _ _ ((sym c.read_head-f.ensures ∙ ap head_reading c.in-Body.is)) c.with_field-more.ensures c.field_refusal.ensures)
+returns c = field_passes _ _ _ _ (c.in-Ok.ensures c.args.h) c.with_field-values.ensures (c.in_ok-check_field.ensures _)

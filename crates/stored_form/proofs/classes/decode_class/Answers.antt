@@ -1,15 +1,13 @@
 -- `classes::decode_class` meets its contract.
-use Rattle.stored_form.proofs.Items.{row_asks, row_asks_2, class_is}
+use native.Mathlib.Omega.{arith}
+use Rattle.stored_form.proofs.Items.{halves, class_is}
 use Rattle.stored_form.proofs.classes.decode_class.Goals as goal
 
-pub decode_row-u-requires : goal.decode_row-u-requires
-decode_row-u-requires c = row_asks c.args.s.now c.args.at c.args.len c.requires.0 c.requires.1
+pub decode_row-requires : goal.decode_row-requires
+decode_row-requires c = let h = halves c.args.body.now c.requires in (h.0, omega (arith, c.split_at.ensures.front_len))
 
-pub decode_row-v-requires : goal.decode_row-v-requires
-decode_row-v-requires c =
-    row_asks_2 c.args.s.now c.args.at c.args.len c.requires.0 c.requires.1
+pub decode_row-requires-2 : goal.decode_row-requires-2
+decode_row-requires-2 c = let h = halves c.args.body.now c.requires in (h.0, omega (arith, c.split_at.ensures.back_len))
 
 pub returns : goal.returns
-returns c =
-    class_is c.args.s.now c.args.at c.args.len c.requires.0 c.requires.1
-    c.decode_row-u.ensures c.decode_row-v.ensures
+returns c = class_is c.args.body.now c.requires (cc (c.split_at.ensures.front)) (cc (c.split_at.ensures.back))

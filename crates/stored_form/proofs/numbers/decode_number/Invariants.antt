@@ -1,11 +1,8 @@
--- The invariant of `numbers::decode_number`: after i turns n is the number of the first i bytes.
-use Prim.Native.Nat.{◌≤◌, ◌-◌}
+-- The invariant of `numbers::decode_number`: n is the number of the bytes so far.
 use mathlib.Core.Path.{◌≡◌}
-use Rattle.stored_form.specs.Number.{decode_number, part}
+use lib.ListN.{take}
+use Rattle.stored_form.specs.Number.{decode_number}
 use Rattle.stored_form.proofs.numbers.decode_number.Given as goal
 
-abbrev pub invariant-loop-i : goal.invariant-loop-i
-invariant-loop-i l = (l.i ≤ l.k) × (l.n ≡ decode_number (part l.s l.at l.i))
-
-abbrev pub decreases-loop-i : goal.decreases-loop-i
-decreases-loop-i l = l.k - l.i
+abbrev pub invariant-loop-b : goal.invariant-loop-b
+invariant-loop-b l = l.n ≡ decode_number (take l.b-index l.bytes)
