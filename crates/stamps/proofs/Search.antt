@@ -2,6 +2,7 @@
 -- `candidate_lt`: the candidates of a stamp below 2^(d-3) are elements.
 -- `found_means`, `none_means`: what the root of a candidate's equation means.
 -- `class_found`, `class_missed`: a candidate has a class exactly where its equation has a root.
+-- `root_answered`: the search for a root of a candidate's equation is never refused.
 -- `found_at`, `found_none`: the search finds the first candidate with a class, or none.
 -- `refused_first`, `answered_last`: the answer is the refusal before the search, or what the search finds.
 use Prim.Native.Nat.{ℕ, zero, suc, ◌+◌, ◌-◌, ◌*◌, ◌^◌, ◌≤◌, ◌<◌}
@@ -10,12 +11,16 @@ use native.Mathlib.{Numerals.add-one, Omega.arith}
 use borrow.Author.Tests.{lt-ltb, le-ltb, ltb-true}
 use Rattle.binary_field_theory.specs.{Element.Accepted, Search.first, Quadratic.Root, Quadratic.EvenRoot, Quadratic.even_root}
 use Rattle.binary_field_theory.proofs.Search.{first_zero, none_yet, found_first}
-use Rattle.binary_field.specs.{Answer.solution_reply, Answer.quadratic_reply, Answer.QuadraticMeans, declared.Solution.Solution}
-use Rattle.binary_field.specs.declared.Solution.TheVariants as solution
-use Rattle.binary_field.proofs.Replies.{quadratic_means, quadratic_none, quadratic_some, found_is, none_found, found_root}
+use Rattle.std.specs.Prelude.{Result, Ok, Err, Some, None}
+use Rattle.std.specs.Prelude as std
+use Rattle.refusals.specs.{Refusals.number, declared.Refusal.Refusal}
+use Rattle.binary_field.specs.{Answer.found, Answer.no_root, Answer.solution_reply, Answer.quadratic_reply, Answer.QuadraticMeans}
+use Rattle.binary_field.specs.Answer as quadratic
+use Rattle.binary_field.proofs.Refusing.{number_positive, goes_on}
+use Rattle.binary_field.proofs.Replies.{quadratic_means, quadratic_none, quadratic_some, found_is, none_found}
 use Rattle.row_theory.specs.Row.{filled}
 use Rattle.jacobian.specs.{Checks.unless, Curves.f_row, Curves.curve_refusal, Answer.Reply, Answer.refusing, declared.Curve.Curve, declared.Class.Class}
-use Rattle.jacobian.proofs.ByValue.{Degrees.by_degree, Checks.next_due, Checks.then_zero, Checks.unless_zero}
+use Rattle.jacobian.proofs.ByValue.{Degrees.by_degree, Checks.then_zero, Checks.unless_zero}
 use Rattle.stamps.specs.Stamps.{value_at, point_class, class_at, first_class, stamp_refusal, stamped, stamp_answer}
 use Rattle.stamps.proofs.Values.{value_lt, value_filled}
 
@@ -44,6 +49,26 @@ module _ (d v : ℕ) (ok : Accepted d) (lt : v < 2 ^ d) where
       by h none e = e
       by h (some y) e = absurd (h y (found_means e).root)
 
+-- no root is not a root
+rootless_found : {t : Result (std.Option ℕ) Refusal} {y : ℕ} → t ≡ Ok None → solution_reply t ≡ found y → ⊥
+rootless_found {t} {y} e g =
+    let h : solution_reply t ≡ no_root = ap solution_reply e in
+    let z : ◌≡◌ {A = ℕ} 0 1 = cc in
+    omega arith
+
+-- a refusal is neither a root nor that there is none
+found_unrefused : {t : Result (std.Option ℕ) Refusal} {r : Refusal} {y : ℕ} → t ≡ Err r → solution_reply t ≡ found y → ⊥
+found_unrefused {t} {r} {y} e g =
+    let h : solution_reply t ≡ quadratic.refused (number r) = ap solution_reply e in
+    let z : ◌≡◌ {A = ℕ} 0 1 = cc in
+    omega arith
+
+none_unrefused : {t : Result (std.Option ℕ) Refusal} {r : Refusal} → t ≡ Err r → solution_reply t ≡ no_root → ⊥
+none_unrefused {t} {r} e g =
+    let h : solution_reply t ≡ quadratic.refused (number r) = ap solution_reply e in
+    let z : ◌≡◌ {A = ℕ} 0 1 = cc in
+    omega arith
+
 module _ (d : ℕ) (f : List ℕ) (x : ℕ) where
   class_some : {y : ℕ} → even_root d (value_at d f x) ≡ some y → class_at d f x ≡ some (point_class x y)
   unfolding class_at
@@ -58,19 +83,26 @@ module _ (d : ℕ) (f : List ℕ) (x : ℕ) where
     v_lt : v < 2 ^ d
     v_lt = rw is (value_lt d ok f x)
 
-    pub class_found : {t : Solution} {y : ℕ} → t ≡ solution.Root y → solution_reply t ≡ quadratic_reply d v → class_at d f x ≡ some (point_class x y)
+    pub class_found : {t : Result (std.Option ℕ) Refusal} {y : ℕ} → t ≡ Ok (Some y) → solution_reply t ≡ quadratic_reply d v → class_at d f x ≡ some (point_class x y)
     class_found {t} {y} e g = by (even_root d v) refl
       where
         by : (o : Option ℕ) → even_root d v ≡ o → class_at d f x ≡ some (point_class x y)
         by none h = absurd (none_found e (g ∙ quadratic_none d v ok v_lt h))
         by (some z) h = class_some (ap (even_root d) (sym is) ∙ h ∙ ap some (sym (found_is e (g ∙ quadratic_some d v ok v_lt h))))
 
-    pub class_missed : (t : Solution) → ((y : ℕ) → t ≡ solution.Root y → ⊥) → solution_reply t ≡ quadratic_reply d v → class_at d f x ≡ none
-    class_missed t e g = by (even_root d v) refl
+    pub class_missed : {t : Result (std.Option ℕ) Refusal} → t ≡ Ok None → solution_reply t ≡ quadratic_reply d v → class_at d f x ≡ none
+    class_missed {t} e g = by (even_root d v) refl
       where
         by : (o : Option ℕ) → even_root d v ≡ o → class_at d f x ≡ none
         by none h = class_none (ap (even_root d) (sym is) ∙ h)
-        by (some z) h = absurd (e z (found_root t (g ∙ quadratic_some d v ok v_lt h)))
+        by (some z) h = absurd (rootless_found e (g ∙ quadratic_some d v ok v_lt h))
+
+    pub root_answered : {t : Result (std.Option ℕ) Refusal} {r : Refusal} → t ≡ Err r → solution_reply t ≡ quadratic_reply d v → ⊥
+    root_answered {t} {r} e g = by (even_root d v) refl
+      where
+        by : (o : Option ℕ) → even_root d v ≡ o → ⊥
+        by none h = none_unrefused e (g ∙ quadratic_none d v ok v_lt h)
+        by (some z) h = found_unrefused e (g ∙ quadratic_some d v ok v_lt h)
 
 -- ---- the search
 
@@ -95,13 +127,13 @@ module _ (d : ℕ) (f : List ℕ) (s : ℕ) where
 
 -- ---- the answer
 
-pub too_large : (c : Curve) (s : ℕ) {n m : ℕ} → n ≡ curve_refusal c → n ≡ 0 → m ≡ 2 ^ (c.degree - 3) → m ≤ s → 115 ≡ stamp_refusal c s
+pub too_large : (c : Curve) (s : ℕ) {m : ℕ} → 0 ≡ curve_refusal c → m ≡ 2 ^ (c.degree - 3) → m ≤ s → 115 ≡ stamp_refusal c s
 unfolding stamp_refusal unless
-too_large c s e z l h = next_due e z (rw (le-ltb s _ (rw l at h)))
+too_large c s z l h = goes_on z (rw (le-ltb s _ (rw l at h)))
 
-pub none_due : (c : Curve) (s : ℕ) {n m : ℕ} → n ≡ curve_refusal c → n ≡ 0 → m ≡ 2 ^ (c.degree - 3) → s < m → 0 ≡ stamp_refusal c s
+pub none_due : (c : Curve) (s : ℕ) {m : ℕ} → 0 ≡ curve_refusal c → m ≡ 2 ^ (c.degree - 3) → s < m → 0 ≡ stamp_refusal c s
 unfolding stamp_refusal unless
-none_due c s e z l h = next_due e z (rw (lt-ltb s _ (rw l at h)))
+none_due c s z l h = goes_on z (rw (lt-ltb s _ (rw l at h)))
 
 pub none_stamped : refusing 116 ≡ stamped 0 none
 unfolding stamped
@@ -112,22 +144,22 @@ unfolding stamped
 refusing_stamped zero o h = absurd (h refl)
 refusing_stamped (suc n) o h = refl
 
-pub refused_first : (c : Curve) (s : ℕ) {n : ℕ} {r : Reply} → n ≡ stamp_refusal c s → ¬ (n ≡ 0) → r ≡ refusing n → r ≡ stamp_answer c s
+pub refused_first : (c : Curve) (s : ℕ) (r : Refusal) → number r ≡ stamp_refusal c s → refusing (number r) ≡ stamp_answer c s
 unfolding stamp_answer
-refused_first c s {n} e h g = g ∙ refusing_stamped n _ h ∙ ap (λ m. stamped m (first_class c.degree (f_row c) s)) e
+refused_first c s r e = refusing_stamped (number r) _ (number_positive r) ∙ ap (λ m. stamped m (first_class c.degree (f_row c) s)) e
 
-pub answered_last : (c : Curve) (s : ℕ) {n : ℕ} {f : List ℕ} {r : Reply} → n ≡ stamp_refusal c s → n ≡ 0 → f ≡ filled (f_row c)
+pub answered_last : (c : Curve) (s : ℕ) {f : List ℕ} {r : Reply} → 0 ≡ stamp_refusal c s → f ≡ filled (f_row c)
     → r ≡ stamped 0 (first_class c.degree f s) → r ≡ stamp_answer c s
 unfolding stamp_answer first_class class_at
-answered_last c s {n} {f} e z g h =
+answered_last c s {f} e g h =
     let d = c.degree in
     h ∙ ap (λ (v : ℕ → ℕ). stamped 0 (first (λ i. map (point_class (8 * s + i)) (even_root d (v (8 * s + i)))) 8))
     (fun_ext (λ x. ap (λ k. value_at d k x) g ∙ value_filled d (f_row c) x))
-    ∙ ap (λ m. stamped m (first (λ i. map (point_class (8 * s + i)) (even_root d (value_at d (f_row c) (8 * s + i)))) 8)) (sym z ∙ e)
+    ∙ ap (λ m. stamped m (first (λ i. map (point_class (8 * s + i)) (even_root d (value_at d (f_row c) (8 * s + i)))) 8)) e
 
 -- a stamp that is not refused before the search: the curve is accepted, and the stamp is below the bound
-pub passed : (c : Curve) (s : ℕ) {n : ℕ} → n ≡ stamp_refusal c s → n ≡ 0 → (curve_refusal c ≡ 0) × (s < 2 ^ (c.degree - 3))
+pub passed : (c : Curve) (s : ℕ) → 0 ≡ stamp_refusal c s → (curve_refusal c ≡ 0) × (s < 2 ^ (c.degree - 3))
 unfolding stamp_refusal
-passed c s e z =
-    let p = then_zero _ _ (sym e ∙ z) in
+passed c s e =
+    let p = then_zero _ _ (sym e) in
     (p.0, ltb-true _ _ (unless_zero _ 115 (omega arith) p.1))

@@ -82,7 +82,7 @@ module _ (c : Curve) (s : ℕ) where
   unfolding stamp_answer first_class class_at
   stamp_gives e =
       let p = stamped_accepted (stamp_refusal c s) (first_class d (f_row c) s) e in
-      let ok = (curve_passes c (passed c s refl p.0).0).accepted in
+      let ok = (curve_passes c (passed c s (sym p.0)).0).accepted in
       let f = first_found (λ i. class_at d (f_row c) (8 * s + i)) 8 p.1 in
       let m = (map-eq-some_iff (point_class (8 * s + f.0)) (even_root d (value_at d (f_row c) (8 * s + f.0)))).0 f.2 in (
         f.0,
@@ -99,7 +99,7 @@ module _ (c : Curve) (s : ℕ) where
   unfolding stamp_answer
   stamp_accepts e =
       let none_due = (stamped_accepted (stamp_refusal c s) (first_class d (f_row c) s) e).0 in
-      let p = passed c s refl none_due in
+      let p = passed c s (sym none_due) in
       let g = stamp_gives e in
       let h = g.1 in
       let x_lt = candidate_lt d s g.0 (curve_passes c p.0).accepted p.1 h.place in

@@ -1,16 +1,19 @@
 -- `stamp` meets its contract.
+use Rattle.std.proofs.lemmas.Result.{err_from_is_err_and}
 use Rattle.jacobian.proofs.ByValue.{Checks.curve_passes, Passing.on_curve}
 use Rattle.stamps.proofs.Search.{refused_first, answered_last, passed}
 use Rattle.stamps.proofs.stamp.Goals as goal
 
+pub returns-in_err-check_stamp : goal.returns-in_err-check_stamp
+returns-in_err-check_stamp c =
+    let p = err_from_is_err_and c.from_residual.result c.from_residual.ensures.1 in
+    rw (p.1, p.2) (refused_first _ _ _ c.in_err-check_stamp.ensures)
+
 pub first_class-requires : goal.first_class-requires
 first_class-requires c =
-    let z = passed _ _ c.stamp_refusal-n.ensures c.if-n-ne0.false in
+    let z = passed _ _ c.in_ok-check_stamp.ensures in
     let p = curve_passes _ z.0 in
-    (p.accepted, (on_curve _ p c.f_row-f.ensures).in_range, z.1)
-
-pub returns-then-n-ne0 : goal.returns-then-n-ne0
-returns-then-n-ne0 c = refused_first _ _ c.stamp_refusal-n.ensures c.if-n-ne0.true c.refused.ensures
+    (p.accepted, (on_curve _ p c.f_row.ensures).in_range, z.1)
 
 pub returns : goal.returns
-returns c = answered_last _ _ c.stamp_refusal-n.ensures c.if-n-ne0.false c.f_row-f.ensures c.first_class.ensures
+returns c = answered_last _ _ c.in_ok-check_stamp.ensures c.f_row.ensures c.first_class.ensures
