@@ -1,5 +1,6 @@
 -- Curves and classes by value.
 pub mod Threes
+pub mod Equality
 pub mod Degrees
 pub mod Checks
 pub mod Below

@@ -6,7 +6,7 @@ ghost use Rattle.row_theory.specs.Row.{InRange, filled};
 ghost use Rattle.class_rows.specs.Pair.{rows_pair};
 ghost use Rattle.binary_field.specs.Answer.{below};
 ghost use Rattle.jacobian.specs.{Curves.curve_refusal, internal.Refusals.form_refusal};
-ghost use Rattle.jacobian.specs.{Classes.same_row, Classes.same_class, Classes.class_of, Classes.padded, Classes.shape_refusal, Classes.range_refusal, Classes.class_refusal, internal.ClassRows.RowsOf, internal.ClassRows.first};
+ghost use Rattle.jacobian.specs.{Classes.class_of, Classes.padded, Classes.shape_refusal, Classes.range_refusal, Classes.class_refusal, internal.ClassRows.RowsOf, internal.ClassRows.first};
 
 use crate::{Class, Curve, curves};
 use class_rows::row::RowPair;
@@ -38,36 +38,6 @@ fn all_below(m: u64, r: [u64; 3]) -> bool
         return false;
     }
     r[2] < m
-}
-
-// Are two rows of three numbers equal?
-pub fn same_row(r: [u64; 3], s: [u64; 3]) -> bool
-    ensures { result ≡ same_row r s }
-{
-    if r[0] != s[0] {
-        return false;
-    }
-    if r[1] != s[1] {
-        return false;
-    }
-    r[2] == s[2]
-}
-
-// Are two classes equal?
-pub fn same_class(a: Class, b: Class) -> bool
-    ensures { result ≡ same_class a b }
-{
-    if a.degree != b.degree {
-        return false;
-    }
-    let u = a.u;
-    let w = b.u;
-    if !same_row(u, w) {
-        return false;
-    }
-    let v = a.v;
-    let z = b.v;
-    same_row(v, z)
 }
 
 // The first n numbers, then 1, in a row of twelve.

@@ -19,7 +19,7 @@ use refusals::Refusal;
 
 // A curve. Curves and classes have C's layout, since a register in C's layout contains them.
 #[repr(C)]
-#[derive(Clone, Copy)]
+#[derive(Clone, Copy, PartialEq, Eq)]
 pub struct Curve {
     pub degree: u8,
     pub f3: u64,
@@ -29,7 +29,7 @@ pub struct Curve {
 
 // A class: the degree of u, the coefficients of u below its leading 1, and those of v, the lowest power first.
 #[repr(C)]
-#[derive(Clone, Copy)]
+#[derive(Clone, Copy, PartialEq, Eq)]
 pub struct Class {
     pub degree: u64,
     pub u: [u64; 3],
