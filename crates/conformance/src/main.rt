@@ -20,143 +20,83 @@
 // `cut short`.
 #![tactic(auto)]
 
-ghost use Rattle.std.specs.Prelude.{◌≤◌};
-
-use jacobian::{Class, ClassAnswer, Curve, Outcome};
+use jacobian::{Class, CountedClass, Curve};
+use refusals::Refusal;
 use seal_licence::multiples;
-use seal_licence::multiples::ClassResult;
 use std::io;
-use std::io::{Read, Write};
 use text::Line;
+use trial_text::{Case, Trial};
 
-// The class whose seven numbers start at an index of the case.
-fn class(case: &[u8; 138], place: u8) -> Class
-    requires { place ≤ 10 }
-{
-    Class {
-        degree: trial_text::number(case, place),
-        u: trial_text::row(case, place + 1),
-        v: trial_text::row(case, place + 4),
+// The trial of the calls on classes.
+#[derive(Drop)]
+struct Classes;
+
+impl Trial for Classes {
+    fn answer(&mut self, case: Case) -> Option<Line> {
+        let (curve, a, b) = (case.curve(), case.class(3), case.class(10));
+        let mut line = Line::new();
+        match case.call() {
+            1 => push_accepted(&mut line, jacobian::membership(curve, a)),
+            2 => push_answer(&mut line, jacobian::opposite(curve, a)),
+            3 => push_answer(&mut line, jacobian::double(curve, a)),
+            4 => push_answer(&mut line, jacobian::half(curve, a)),
+            5 => push_answer(&mut line, jacobian::sum(curve, a, b)),
+            6 => push_answer(&mut line, half_of_double(curve, a)),
+            7 => push_answer(&mut line, double_of_half(curve, a)),
+            8 => push_counted(&mut line, jacobian::double(curve, a)),
+            9 => push_counted(&mut line, jacobian::sum(curve, a, b)),
+            10 => push_answer(&mut line, jacobian::double_and_add(curve, a, b)),
+            11 => push_answer(&mut line, jacobian::subtract_and_halve(curve, a, b)),
+            12 => push_accepted(&mut line, jacobian::accepts_curve(curve)),
+            13 => push_answer(&mut line, stamps::stamp(curve, a.degree)),
+            14 => push_class(&mut line, multiples::multiple(curve, a, b.degree)),
+            15 => push_class(&mut line, multiples::halvings(curve, a, b.degree)),
+            _ => line.push_bytes(b"no such call"),
+        }
+        Some(line)
     }
 }
 
-// The curve of the case.
-fn curve(case: &[u8; 138]) -> Curve {
-    jacobian::curves::curve_with(case[1], trial_text::row(case, 0))
-}
-
-// The line with a class appended.
-fn with_class(line: Line, class: Class) -> Line {
-    let u = class.u;
-    let v = class.v;
-    text::with_class(line, class.degree, u, v, class.degree)
-}
-
-// The text of a call that answers no class.
-fn outcome_text(outcome: Outcome) -> Line {
-    let start = text::empty();
-    match outcome {
-        Outcome::Accepted => text::with_bytes(start, b"accepted"),
-        Outcome::Refused(number) => text::with_refusal(start, number),
+// Appends that a call accepted, or its refusal.
+fn push_accepted(line: &mut Line, answer: Result<(), Refusal>) {
+    match answer {
+        Ok(()) => line.push_bytes(b"accepted"),
+        Err(refusal) => line.push_refusal(refusal.number()),
     }
 }
 
-// The text of a class, or of the refusal.
-fn class_text(outcome: Outcome, class: Class) -> Line {
-    let start = text::empty();
-    match outcome {
-        Outcome::Accepted => with_class(start, class),
-        Outcome::Refused(number) => text::with_refusal(start, number),
+// Appends a class, or its refusal.
+fn push_class(line: &mut Line, answer: Result<Class, Refusal>) {
+    match answer {
+        Ok(class) => line.push_class(class.degree, class.u, class.v, class.degree),
+        Err(refusal) => line.push_refusal(refusal.number()),
     }
 }
 
-// The text of a call that answers a class.
-fn answer_text(answer: ClassAnswer) -> Line {
-    let outcome = answer.outcome;
-    let class = answer.class;
-    class_text(outcome, class)
+// Appends a class without its number of reduction steps, or its refusal.
+fn push_answer(line: &mut Line, answer: Result<CountedClass, Refusal>) {
+    push_class(line, answer.map(|counted| counted.class));
 }
 
-// The text of a call that answers no number of reduction steps.
-fn result_text(answer: ClassResult) -> Line {
-    let outcome = answer.outcome;
-    let class = answer.class;
-    class_text(outcome, class)
-}
-
-// The text of a call with its number of reduction steps.
-fn counted_text(answer: ClassAnswer) -> Line {
-    let told = answer_text(answer);
-    let outcome = answer.outcome;
-    match outcome {
-        Outcome::Accepted => text::with_decimal(text::with_byte(told, b' '), answer.steps as u64),
-        Outcome::Refused(_) => told,
+// Appends a class with its number of reduction steps, or its refusal.
+fn push_counted(line: &mut Line, answer: Result<CountedClass, Refusal>) {
+    push_answer(line, answer);
+    if let Ok(counted) = answer {
+        line.push(b' ');
+        line.push_decimal(u64::from(counted.steps));
     }
 }
 
 // The half of the double, or the refusal of the double.
-fn half_of_double(curve: Curve, class: Class) -> ClassAnswer {
-    let double = jacobian::double(curve, class);
-    let outcome = double.outcome;
-    let doubled = double.class;
-    match outcome {
-        Outcome::Accepted => jacobian::half(curve, doubled),
-        Outcome::Refused(_) => double,
-    }
+fn half_of_double(curve: Curve, class: Class) -> Result<CountedClass, Refusal> {
+    jacobian::half(curve, jacobian::double(curve, class)?.class)
 }
 
 // The double of the half, or the refusal of the half.
-fn double_of_half(curve: Curve, class: Class) -> ClassAnswer {
-    let half = jacobian::half(curve, class);
-    let outcome = half.outcome;
-    let halved = half.class;
-    match outcome {
-        Outcome::Accepted => jacobian::double(curve, halved),
-        Outcome::Refused(_) => half,
-    }
+fn double_of_half(curve: Curve, class: Class) -> Result<CountedClass, Refusal> {
+    jacobian::double(curve, jacobian::half(curve, class)?.class)
 }
 
-// The text of a call.
-fn call_text(call: u8, curve: Curve, a: Class, b: Class) -> Line {
-    match call {
-        1 => outcome_text(jacobian::membership(curve, a)),
-        2 => answer_text(jacobian::opposite(curve, a)),
-        3 => answer_text(jacobian::double(curve, a)),
-        4 => answer_text(jacobian::half(curve, a)),
-        5 => answer_text(jacobian::sum(curve, a, b)),
-        6 => answer_text(half_of_double(curve, a)),
-        7 => answer_text(double_of_half(curve, a)),
-        8 => counted_text(jacobian::double(curve, a)),
-        9 => counted_text(jacobian::sum(curve, a, b)),
-        10 => answer_text(jacobian::double_and_add(curve, a, b)),
-        11 => answer_text(jacobian::subtract_and_halve(curve, a, b)),
-        12 => outcome_text(jacobian::accepts_curve(curve)),
-        13 => answer_text(stamps::stamp(curve, a.degree)),
-        14 => result_text(multiples::multiple(curve, a, b.degree)),
-        15 => result_text(multiples::halvings(curve, a, b.degree)),
-        _ => text::with_bytes(text::empty(), b"no such call"),
-    }
-}
-
-// Reads one case, writes its line, and answers whether to go on.
-fn answer_case<R: Read, W: Write>(input: &mut R, out: &mut W) -> io::Result<bool> {
-    let mut case = [0u8; 138];
-    if trial_text::read_case(input, out, &mut case)? < 138 {
-        return Ok(false);
-    }
-    let told = call_text(case[0], curve(&case), class(&case, 3), class(&case, 10));
-    text::write_line(out, text::with_byte(told, b'\n'))?;
-    Ok(true)
-}
-
-// A proved loop has to end, and the input need not. So the turns are counted, up to a number that no run uses up.
 fn main(rt: HostRuntime) -> io::Result<()> {
-    let mut input = rt.stdin();
-    let mut out = rt.stdout();
-    for _ in 0..u64::MAX {
-        if !answer_case(&mut input, &mut out)? {
-            break;
-        }
-    }
-    Ok(())
+    Classes.run(&mut [0; 138], &mut rt.stdin(), &mut rt.stdout())
 }

@@ -1,2 +1,3 @@
 -- The cases that the trial programs read.
 pub mod Cases
+pub mod Runs

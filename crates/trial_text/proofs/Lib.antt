@@ -1,0 +1,2 @@
+-- Laws of a trial's run.
+pub mod Runs
