@@ -1,7 +1,8 @@
 -- Links the reader's steps to `read_archive`, and to the code.
 -- `begun`, `one_step`, `nothing_left`: reading what is left, step by step, has the refusal of the whole archive.
 -- `less_left`: after a step less is left to read.
--- `advance_found`, `advance_refused`, `advance_refusal`: the reading that the code's answer stands for.
+-- `header_stops`, `header_goes_on` and their like: a step as the code makes it.
+-- `step_stops`, `step_goes_on`, `step_shortens`, `all_read`: a turn of the loop that takes steps, and its end.
 use Prim.Native.Nat.{ℕ, zero, suc, ◌+◌, ◌*◌, ◌-◌, ◌≤◌, ◌<◌}
 use mathlib.Core.Path.{◌≡◌, refl, sym, ap, ◌∙◌}
 use mathlib.Core.Bool.{Bool, true, false, cond, true≢false, false≢true}
@@ -11,17 +12,16 @@ use lib.Dec.{ltb}
 use lib.ListN.{length, get_or, drop, drop_of_length-le}
 use lib.Seq.{drop-cons}
 use borrow.Author.Tests.{lt-ltb, le-ltb, ltb-true, ltb-false}
-use Rattle.stored_form.specs.{Reading.Reading, Reading.found, Reading.refused, Reading.checked, Reading.◌then◌, Reading.reading_refusal, Fields.end_refusal, Fields.ended, Record.empty_record, Pairs.read_pairs}
-use Rattle.stored_form.specs.Reader.{read_field, read_fields, read_operations, header_layout, offset_refusal}
-use Rattle.stored_form.specs.declared.{Record.Record, Cursor.Cursor}
-use Rattle.stored_form.specs.declared.Offset.TheVariants.{Next, Refused}
-use Rattle.stored_form.proofs.Readings.{then_found, then_refused, both_found, checked_found, same_found, then_same, then_where, then_assoc, found_refusal, same_refusal}
-use Rattle.stored_form.proofs.Readers.{placed, answer_found, answer_refused, answer_refusal, field_within, with_field_operation}
+use Rattle.stored_form.specs.{Reading.Reading, Reading.found, Reading.refused, Reading.checked, Reading.◌then◌, Reading.reading_refusal, Fields.end_refusal, Fields.ended, Record.empty_record, Pairs.read_pairs, Pairs.offset_of}
+use Rattle.stored_form.specs.Reader.{read_field, read_fields, read_operations, header_layout}
+use Rattle.stored_form.specs.declared.{Record.Record}
+use Rattle.stored_form.proofs.Readings.{stops, reads_on, found_not_refused, then_found, then_refused, both_found, checked_found, same_found, then_same, then_where, then_assoc, found_refusal, same_refusal}
+use Rattle.stored_form.proofs.Readers.{field_within, with_field_operation}
 use Rattle.archive.specs.Archive.{read_tail, archive_of, read_archive, archive_refusal}
-use Rattle.archive.specs.declared.{Expected.Expected, Reader.Reader, Advance.Advance}
+use Rattle.archive.specs.declared.{Expected.Expected, Reader.Reader}
 use Rattle.archive.specs.declared.Expected.TheVariants.{Header, Operations, Pairs, End, Nothing}
 use Rattle.archive.proofs.Tail.{pairs_onward}
-use Rattle.archive.specs.Reader.{reader, start, operations_expected, after_header, read_header_field, read_operation, read_pairs_expected, read_end, read_expected, pending, advance_of}
+use Rattle.archive.specs.Reader.{reader, start, operations_expected, after_header, read_header_field, read_operation, read_pairs_expected, read_end, read_expected, read_next, pending, read_header}
 
 -- ---- what is left to read, and one step of it
 
@@ -127,16 +127,50 @@ module _ (i count : ℕ) where
   unfolding after_header
   header_over le e = rw (le-ltb (suc i) (length header_layout) le) e
 
-module _ (tag : ℕ) (expected : Record → Expected) (h : Record) (s : List ℕ) (at : ℕ) where
-  -- a field, and what is expected after it
-  abbrev field_step : Reading Reader
-  field_step = read_field tag h s at then λ more next. found (reader (expected more) more) next
+module _ (h : Record) (s : List ℕ) (at : ℕ) where
+  pub header_stops : (i : ℕ) {k : ℕ} → refused k ≡ read_field (get_or header_layout i 0) h s at → refused k ≡ read_header_field i h s at
+  unfolding read_header_field
+  header_stops i e = stops _ e
 
-  pub step_refused : {n : ℕ} → read_field tag h s at ≡ refused n → refused n ≡ field_step
-  step_refused e = sym (then_refused _ e)
+  pub header_goes_on : (i : ℕ) {d : Expected} {more : Record} {next : ℕ} → found more next ≡ read_field (get_or header_layout i 0) h s at →
+      d ≡ after_header i more.count → found (reader d more) next ≡ read_header_field i h s at
+  unfolding read_header_field
+  header_goes_on i {d} {more} {next} e f = reads_on _ e (ap (λ (d : Expected). found (reader d more) next) f)
 
-  pub step_found : {more : Record} {next : ℕ} {d : Expected} → read_field tag h s at ≡ found more next → d ≡ expected more → found (reader d more) next ≡ field_step
-  step_found {more} {next} e f = ap (λ (d : Expected). found (reader d more) next) f ∙ sym (then_found _ e)
+  pub operation_stops : (n : ℕ) {k : ℕ} → refused k ≡ read_field 0x44 h s at → refused k ≡ read_operation n h s at
+  unfolding read_operation
+  operation_stops n e = stops _ e
+
+  pub operation_goes_on : (n : ℕ) {d : Expected} {more : Record} {next : ℕ} → found more next ≡ read_field 0x44 h s at →
+      d ≡ operations_expected (n - 1) → found (reader d more) next ≡ read_operation n h s at
+  unfolding read_operation
+  operation_goes_on n {d} {more} {next} e f = reads_on _ e (ap (λ (d : Expected). found (reader d more) next) f)
+
+  pub pairs_stop : {k : ℕ} → refused k ≡ offset_of (read_pairs h.count s at) → refused k ≡ read_pairs_expected h s at
+  unfolding read_pairs_expected ◌then◌
+  pairs_stop {k} e = go (read_pairs h.count s at) e
+    where
+      go : (x : Reading (List ℕ)) → refused k ≡ offset_of x → refused k ≡ (x then λ pairs next. found (reader End h) next)
+      go (found a next) e = absurd (found_not_refused e)
+      go (refused n) e = ap refused cc
+
+  pub pairs_go_on : {next : ℕ} → found tt next ≡ offset_of (read_pairs h.count s at) → found (reader End h) next ≡ read_pairs_expected h s at
+  unfolding read_pairs_expected ◌then◌
+  pairs_go_on {next} e = go (read_pairs h.count s at) e
+    where
+      go : (x : Reading (List ℕ)) → found tt next ≡ offset_of x → found (reader End h) next ≡ (x then λ pairs next. found (reader End h) next)
+      go (found a n) e = ap (found (reader End h)) (same_found e).1
+      go (refused n) e = absurd (found_not_refused (sym e))
+
+module _ (s : List ℕ) where
+  pub whole_header_stops : {k : ℕ} → refused k ≡ read_fields header_layout empty_record s 0 → refused k ≡ read_header s
+  unfolding read_header
+  whole_header_stops e = stops _ e
+
+  pub whole_header_goes_on : {d : Expected} {h : Record} {next : ℕ} → found h next ≡ read_fields header_layout empty_record s 0 →
+      d ≡ operations_expected h.count → found (reader d h) next ≡ read_header s
+  unfolding read_header
+  whole_header_goes_on {d} {h} {next} e f = reads_on _ e (ap (λ (d : Expected). found (reader d h) next) f)
 
 -- ---- a step leaves less to read
 
@@ -183,19 +217,21 @@ module _ (s : List ℕ) (h : Record) (at : ℕ) {r : Reader} {next : ℕ} where
       omega (arith, none, c.1)
   less_left Nothing p e = absurd (false≢true p)
 
--- ---- the reading that a code's answer stands for
+-- ---- the loop that takes steps
 
-advance_back : (x : Reading Reader) → placed (advance_of x).offset (advance_of x).reader ≡ x
-unfolding advance_of placed
-advance_back (found r n) = refl
-advance_back (refused n) = refl
+module _ (s : List ℕ) (r : Reader) (at : ℕ) where
+  pub step_stops : {k : ℕ} → refused k ≡ read_next r s at → k ≡ reading_refusal (left s r.expected r.values at)
+  unfolding read_next
+  step_stops e = sym (ap reading_refusal (one_step s r.expected r.values at ∙ then_refused _ (sym e)))
 
-module _ (t : Advance) {x : Reading Reader} (e : t ≡ advance_of x) where
-  pub advance_found : {next : Cursor} → t.offset ≡ Next next → x ≡ found t.reader next.at
-  advance_found = answer_found (λ q. q.offset) (λ q. q.reader) advance_of advance_back t x e
+  module _ {t : Reader} {next : ℕ} (e : found t next ≡ read_next r s at) where
+    pub step_goes_on : reading_refusal (left s r.expected r.values at) ≡ reading_refusal (left s t.expected t.values next)
+    unfolding read_next
+    step_goes_on = ap reading_refusal (one_step s r.expected r.values at ∙ then_found _ (sym e))
 
-  pub advance_refused : {n : ℕ} → t.offset ≡ Refused n → x ≡ refused n
-  advance_refused = answer_refused (λ q. q.offset) (λ q. q.reader) advance_of advance_back t x e
+    pub step_shortens : pending r.expected ≡ true → rank s t.expected next < rank s r.expected at
+    unfolding read_next
+    step_shortens p = less_left s r.values at r.expected p (sym e)
 
-pub advance_refusal : (t : Advance) (x : Reading Reader) → t ≡ advance_of x → offset_refusal t.offset ≡ reading_refusal x
-advance_refusal = answer_refusal (λ q. q.offset) (λ q. q.reader) advance_of advance_back
+  pub all_read : pending r.expected ≡ false → 0 ≡ reading_refusal (left s r.expected r.values at)
+  all_read p = sym (ap reading_refusal (nothing_left s r.expected r.values at p))

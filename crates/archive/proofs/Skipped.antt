@@ -1,36 +1,39 @@
 -- Fields that are passed over.
--- `length_inside`: the length that a whole head gives.
--- `next_end`, `next_within`: the offset after a field that the bytes end before, and of one that they hold.
--- `skip_more`: one field more is passed over.
+-- `next_within`: the offset after a field that the bytes hold. `next_capped`: that offset as the code computes it.
+-- `skip_all`: fields passed over one after the other.
 -- `fields_more`: the offset after fields that follow others.
 -- `skip_inside`: within the bytes the offset is that of `fields_end`.
-use Prim.Native.Nat.{ℕ, zero, suc, ◌+◌, ◌≤◌}
+use Prim.Native.Nat.{ℕ, zero, suc, ◌+◌, ◌≤◌, min}
 use mathlib.Core.Path.{◌≡◌, refl, sym, ap, ◌∙◌}
 use mathlib.Core.List.{List}
 use native.Mathlib.Nat.{zero-add, suc-add}
 use native.Mathlib.Omega.{arith}
 use lib.ListN.{length}
-use borrow.Author.Tests.{le-ltb}
+use native.Mathlib.Decide.{dec_le}
+use Rattle.std.specs.List.{fold, range_with_len}
 use Rattle.stored_form.specs.{Head.body_length, Head.length_at, Cuts.fields_end}
+use Rattle.stored_form.proofs.Heads.{length_inside}
 use Rattle.archive.specs.Skipping.{next_field, skip_fields}
 
 module _ (s : List ℕ) where
-  pub length_inside : (at : ℕ) → at + 3 ≤ length s → length_at s at ≡ body_length s at
-  unfolding length_at
-  length_inside at h = rw (le-ltb (length s) (at + 3) h)
-
-  pub next_end : (at : ℕ) → length s ≤ at + 3 + body_length s at → length s ≡ next_field s at
-  unfolding next_field
-  next_end at h = omega arith
-
   pub next_within : (at : ℕ) {n : ℕ} → n ≡ body_length s at → at + 3 + n ≤ length s → at + 3 + n ≡ next_field s at
   unfolding next_field
   next_within at e h = omega arith
 
-  pub skip_more : (k at : ℕ) → skip_fields (suc k) s at ≡ next_field s (skip_fields k s at)
+  -- the offset as the code computes it, where no sum is above a limit
+  pub next_capped : (at limit : ℕ) {end : ℕ} → end ≡ min (length s) (min (min (at + 3) limit + length_at s at) limit) → length s ≤ limit → end ≡ next_field s at
+  unfolding next_field
+  next_capped at limit e h = e ∙ go (dec_le (at + 3) (length s))
+    where
+      go : Dec (at + 3 ≤ length s) → min (length s) (min (min (at + 3) limit + length_at s at) limit) ≡ min (length s) (at + 3 + body_length s at)
+      go (yes le) = omega (arith, length_inside s at le)
+      go (no gt) = omega (arith, gt)
+
+  -- fields passed over one after the other
+  pub skip_all : (a k at : ℕ) → fold (λ (next i : ℕ). next_field s next) at (range_with_len a k) ≡ skip_fields k s at
   unfolding skip_fields
-  skip_more zero at = refl
-  skip_more (suc k) at = skip_more k (next_field s at)
+  skip_all a zero at = refl
+  skip_all a (suc k) at = skip_all (a + 1) k (next_field s at)
 
   -- fields end after they begin
   pub fields_onward : (k at : ℕ) → at ≤ fields_end k s at

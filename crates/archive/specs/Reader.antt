@@ -1,8 +1,8 @@
 -- The reader of an archive: a state, and one step for each field (docs/SPECIFICATION.md, 6 and 9).
-use Rattle.std.specs.Prelude.{ℕ, zero, suc, ◌-◌, Bool, true, false, cond, List, ltb, length, get_or}
+use Rattle.std.specs.Prelude.{ℕ, zero, suc, ◌-◌, Result, Ok, Err, Bool, true, false, cond, List, ltb, length, get_or}
 use Rattle.stored_form.specs.{Reading.Reading, Reading.found, Reading.refused, Reading.◌then◌, Record.empty_record}
 use Rattle.stored_form.specs.{Fields.ended, Reader.read_field, Reader.read_fields, Reader.header_layout, Pairs.read_pairs, declared.Record.Record}
-use Rattle.stored_form.specs.declared.Offset.TheVariants.{Next, Refused}
+use Rattle.refusals.specs.{Refusals.number, declared.Refusal.Refusal}
 use Rattle.archive.specs.{declared.Expected.Expected, declared.Reader.Reader, declared.Advance.Advance}
 use Rattle.archive.specs.declared.Expected.TheVariants.{Header, Operations, Pairs, End, Nothing}
 
@@ -67,9 +67,9 @@ pending Nothing = false
 unfoldable pub read_header : List ℕ → Reading Reader
 read_header s = read_fields header_layout empty_record s 0 then λ h next. found (reader (operations_expected h.count) h) next
 
--- ---- the answer of the code
+-- ---- the answer of the code, as a reading
 
--- the state with the offset of the next field, or the refusal with the first state
-unfoldable pub advance_of : Reading Reader → Advance
-advance_of (found r next) = record { offset = Next (record { at = next }); reader = r }
-advance_of (refused n) = record { offset = Refused n; reader = start }
+-- the state that the code answers, with the offset of the next field
+abbrev pub advance_reading : Result Advance Refusal → Reading Reader
+advance_reading (Ok a) = found a.reader a.next.at
+advance_reading (Err r) = refused (number r)

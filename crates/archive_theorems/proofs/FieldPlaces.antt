@@ -20,11 +20,10 @@ use Rattle.jacobian.specs.{Answer.neutral_class, Curves.coefficients, declared.C
 use Rattle.stored_form.specs.{Number.decode_number, Number.encode_number, Number.encode_numbers, Number.part, Head.body_length, Head.length_at, Head.encode_field, Head.BytesAt, Head.degree_length, Head.count_length, Elements.encode_elements}
 use Rattle.stored_form.specs.{Fields.degree_field, Fields.drawing_field, Fields.count_field, Fields.count_limit, Cuts.fields_end, Passing.ClassPasses, Pairs.pairs_field, Pairs.pair_at}
 use Rattle.stored_form.specs.Classes.{curve_field, curve_fields_bytes, encode_class, class_field, operation_fields}
-use Rattle.stored_form.proofs.{Digits.length_bytes, Lengths.length_stored, NumberLists.length_encode_numbers, NumberLists.decode_numbers_at}
+use Rattle.stored_form.proofs.{Digits.length_bytes, Heads.length_inside, Lengths.length_stored, NumberLists.length_encode_numbers, NumberLists.decode_numbers_at}
 use Rattle.stored_form_theorems.specs.Fields.{Field}
 use Rattle.stored_form_theorems.proofs.{Places.apart, Places.whole, Cuts.FieldsAt, Cuts.none, Cuts.field, Cuts.fields_at_end, Bodies.stored_length, Bodies.head_read, Pairs.some_field, Pairs.pairs_small, Elements.numbers_bytes, Places.part_part, ClassRoundTrips.class_short, ClassRoundTrips.length_encoded}
 use Rattle.archive.specs.Archive.{Archive, neutral}
-use Rattle.archive.proofs.Skipped.{length_inside}
 use Rattle.archive_theorems.specs.Written.{archive_bytes, Storable}
 
 -- the bytes before the seal
