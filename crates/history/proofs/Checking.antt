@@ -15,9 +15,10 @@ use mathlib.Core.{Path.◌≡◌, Path.refl, Path.sym, Path.◌∙◌, Path.ap, 
 use native.Mathlib.Omega.{arith}
 use lib.Dec.{eqb}
 use borrow.Author.Tests.{eq-eqb, eqb-true}
-use Rattle.jacobian.specs.{Checks.check, Checks.◌or_else◌, Checks.RefusalOf, Refusals.listed, Curves.curve_refusal, Classes.class_refusal, Checking.curve_checks, Checking.class_checks, Answer.outcome_refusal, declared.Class.Class}
+use Rattle.jacobian.specs.{Checks.check, Checks.◌or_else◌, Checks.RefusalOf, Refusals.listed, Curves.curve_refusal, Classes.class_refusal, Checking.curve_checks, Checking.class_checks, declared.Class.Class}
+use Rattle.refusals.specs.Refusals.{refusal_of}
 use Rattle.jacobian.specs.Checks as checks
-use Rattle.jacobian.proofs.{ByValue.Checks.then_zero, ByValue.Checks.both, ByValue.Answers.outcome_refusal_is, Checking.curve_checked, Checking.class_checked, Checking.refusal_or_else, Checking.refusal_held, Checking.among, Checking.refusal_listed}
+use Rattle.jacobian.proofs.{ByValue.Checks.then_zero, ByValue.Checks.both, ByValue.Answers.refusal_of_is, Checking.curve_checked, Checking.class_checked, Checking.refusal_or_else, Checking.refusal_held, Checking.among, Checking.refusal_listed}
 use Rattle.count_limit.specs.{Limit.count_limit, Limit.count_refusal, Limit.released_refusal, Checking.count_check, Checking.released_check}
 use Rattle.count_limit.proofs.Checking.{count_checked, released_checked}
 use Rattle.history.specs.Register.{RegisterReply, register_reply, register_refusal, edge_refusal, step_refusal, follows, step_answer, release_answer}
@@ -78,11 +79,11 @@ unfolding call_refusal
 call_checked r (step k a) = step_checked k r a
 call_checked r release = register_checked r
 
-pub answer_checked : (r : Register) (c : Call) (x : RegisterAnswer) → register_reply x ≡ answer r c → CheckedAnswer (call_checks r c) (outcome_refusal x.outcome) r x.register
+pub answer_checked : (r : Register) (c : Call) (x : RegisterAnswer) → register_reply x ≡ answer r c → CheckedAnswer (call_checks r c) (refusal_of x.outcome) r x.register
 answer_checked r c x e =
     let n = call_refusal r c in
     let f = e ∙ answer_follows r c in
-    let is : outcome_refusal x.outcome ≡ n = outcome_refusal_is x.outcome n (ap (λ (y : RegisterReply). y.outcome) f ∙ follows_outcome n r (next_register r c)) in
+    let is : refusal_of x.outcome ≡ n = refusal_of_is x.outcome n (ap (λ (y : RegisterReply). y.outcome) f ∙ follows_outcome n r (next_register r c)) in
     record {
       refusal = subst (RefusalOf (call_checks r c)) (sym is) (call_checked r c);
       kept = λ h. ap (λ (y : RegisterReply). y.register) (f ∙ follows_refused n r (next_register r c) (λ z. h (is ∙ z)));

@@ -1,24 +1,30 @@
--- The refusal of a step on a register, by the register's count.
+-- The refusals of a register and of a step on it by the checks that the code makes, and what the code then answers.
 -- `then_positive`: checks one after the other refuse where the second does.
 -- `then_none`: a check that passes, made last, changes nothing.
 -- `second_refused`: where the first of two classes is not refused, the refusal of both is that of the second.
 -- `register_counts`: the refusal of a register, with those of its count and its released step as one.
--- `counts_refused`: where the count or the released step is refused, so is the register.
 -- `step_failing`: where the register is refused, so is a step, with the same number.
 -- `step_within`: where count and released step pass, it is the refusal of curve, seal and class, else the edge's.
 -- `step_off`: at a count off the step's edges it is the refusal of curve, seal and class.
 -- `step_follows`: there the step answers the next register, or that refusal.
-use Prim.Native.Nat.{ℕ, zero, suc}
+-- `counts_low`: where count and released step pass, the count is at most the limit.
+-- `register_stops`, `register_goes_on`: the refusal of a register, where the code's checks refuse, and where they go on.
+-- `release_refuses`, `release_follows`: what a release answers where the register is refused, and where it is not.
+-- `curve_refuses`, `counts_refuse`, `seal_refuses`, `class_refuses`, `edge_refuses`: what a step answers where this check
+-- is the first that refuses.
+use Rattle.std.specs.Prelude.{ℕ, zero, suc, ◌≤◌, Ok, Err}
 use mathlib.Core.Path.{◌≡◌, refl, sym, ◌∙◌, ap, ap₂}
 use native.Mathlib.Omega.{arith}
-use Rattle.jacobian.specs.{Checks.◌or_else◌, Curves.curve_refusal, Classes.class_refusal, Answer.refusal, Answer.refusal_of_two}
+use Rattle.jacobian.specs.{Checks.◌or_else◌, Curves.curve_refusal, Classes.class_refusal, Answer.refusal, Answer.refusal_of_two, Answer.refused}
 use Rattle.jacobian.specs.declared.{Curve.Curve, Class.Class}
+use Rattle.refusals.specs.{Refusals.number, declared.Refusal.Refusal}
+use Rattle.binary_field.proofs.Refusing.{number_positive, stops_first, goes_on}
 use Rattle.jacobian.proofs.ByValue.Checks.{then_zero, first_due}
-use Rattle.count_limit.specs.Limit.{count_refusal, released_refusal}
-use Rattle.count_limit.proofs.Limit.{within_limit, released_within}
-use Rattle.history.specs.Register.{register_refusal, edge_refusal, step_refusal, stepped, RegisterReply, follows, step_answer}
-use Rattle.history.specs.declared.{Register.Register, Step.Step}
-use Rattle.history.proofs.Registers.{register_passes}
+use Rattle.count_limit.specs.Limit.{count_limit, count_refusal, released_refusal}
+use Rattle.count_limit.proofs.Limit.{limit_keeps}
+use Rattle.history.specs.Register.{register_refusal, edge_refusal, step_refusal, stepped, with_released, RegisterReply, follows, step_answer, release_answer}
+use Rattle.history.specs.{internal.Next.next_reply, declared.Register.Register, declared.Step.Step}
+use Rattle.history.proofs.Registers.{follows_zero, follows_refused}
 
 -- ---- checks one after the other
 pub then_positive : (m n : ℕ) → ¬ (n ≡ 0) → ¬ (m or_else n ≡ 0)
@@ -58,10 +64,6 @@ module _ (r : Register) where
   unfolding register_refusal
   register_counts = three _ _ _ _
 
-  pub counts_refused : ¬ (count_refusal r.count or_else released_refusal r.count r.released ≡ 0) → ¬ (register_refusal r ≡ 0)
-  unfolding ◌or_else◌
-  counts_refused h z = let p = register_passes r z in h (rw (within_limit r.count p.count_passes) (released_within r.count r.released p.released_passes))
-
 module _ (k : Step) (r : Register) (a : Class) where
   pub step_failing : ¬ (register_refusal r ≡ 0) → step_refusal k r a ≡ register_refusal r
   unfolding step_refusal
@@ -81,3 +83,55 @@ module _ (k : Step) (r : Register) (a : Class) where
         → x ≡ follows (refusal_of_two r.curve r.seal a) r next → x ≡ step_answer k r a
     unfolding step_answer
     step_follows h e f = f ∙ ap₂ (λ n t. follows n r t) (sym (step_off h)) e
+
+-- ---- the code's checks of a register
+module _ (r : Register) where
+  pub counts_low : 0 ≡ count_refusal r.count or_else released_refusal r.count r.released → r.count ≤ 1024
+  unfolding count_limit
+  counts_low e = limit_keeps _ (then_zero _ _ (sym e)).0
+
+  pub register_stops : (f : Refusal) → 0 ≡ curve_refusal r.curve → number f ≡ count_refusal r.count or_else released_refusal r.count r.released → number f ≡ register_refusal r
+  register_stops f ok e = goes_on ok (stops_first f _ e) ∙ sym (register_counts r)
+
+  pub register_goes_on : {n : ℕ} → 0 ≡ curve_refusal r.curve → 0 ≡ count_refusal r.count or_else released_refusal r.count r.released → n ≡ refusal r.curve r.seal → n ≡ register_refusal r
+  unfolding refusal ◌or_else◌
+  register_goes_on ok counts e = goes_on ok (goes_on counts (e ∙ ap (λ m. m or_else class_refusal r.curve r.seal) (sym ok))) ∙ sym (register_counts r)
+
+-- ---- what the code answers
+refused_follows : (r next : Register) (f : Refusal) {n : ℕ} → number f ≡ n → next_reply r (Err f) ≡ follows n r next
+refused_follows r next f {n} e = ap (λ m. record { outcome = refused m; register = r }) e ∙ sym (follows_refused n r next (λ z. number_positive f (e ∙ z)))
+
+module _ (r : Register) where
+  pub release_refuses : (f : Refusal) → number f ≡ register_refusal r → next_reply r (Err f) ≡ release_answer r
+  unfolding release_answer
+  release_refuses f e = refused_follows r (with_released r.count r) f e
+
+  pub release_follows : 0 ≡ register_refusal r → next_reply r (Ok (with_released r.count r)) ≡ release_answer r
+  unfolding release_answer
+  release_follows e = sym (follows_zero _ r (with_released r.count r) (sym e))
+
+-- a step that a check refuses
+module _ (k : Step) (r : Register) (a : Class) (f : Refusal) where
+  refused_answer : number f ≡ step_refusal k r a → next_reply r (Err f) ≡ step_answer k r a
+  unfolding step_answer
+  refused_answer e = refused_follows r (stepped k r a) f e
+
+  pub curve_refuses : number f ≡ curve_refusal r.curve → next_reply r (Err f) ≡ step_answer k r a
+  unfolding step_refusal register_refusal
+  curve_refuses e = refused_answer (stops_first f _ (stops_first f _ e))
+
+  pub counts_refuse : 0 ≡ curve_refusal r.curve → number f ≡ count_refusal r.count or_else released_refusal r.count r.released → next_reply r (Err f) ≡ step_answer k r a
+  unfolding step_refusal
+  counts_refuse ok e = refused_answer (stops_first f _ (register_stops r f ok e))
+
+  module _ (counts : 0 ≡ count_refusal r.count or_else released_refusal r.count r.released) where
+    pub seal_refuses : number f ≡ refusal r.curve r.seal → next_reply r (Err f) ≡ step_answer k r a
+    unfolding refusal_of_two
+    seal_refuses e = refused_answer (stops_first f _ (stops_first f _ e) ∙ sym (step_within k r a (sym counts)))
+
+    module _ (seal : 0 ≡ refusal r.curve r.seal) where
+      pub class_refuses : number f ≡ refusal r.curve a → next_reply r (Err f) ≡ step_answer k r a
+      class_refuses e = refused_answer (stops_first f _ (e ∙ second_refused r.curve r.seal a (sym seal)) ∙ sym (step_within k r a (sym counts)))
+
+      pub edge_refuses : 0 ≡ refusal r.curve a → number f ≡ edge_refusal k r.count r.released → next_reply r (Err f) ≡ step_answer k r a
+      edge_refuses class e = refused_answer (goes_on (class ∙ second_refused r.curve r.seal a (sym seal)) e ∙ sym (step_within k r a (sym counts)))

@@ -8,9 +8,8 @@
 -- `follows_number`: the number of a refused answer is the refusal, which is not 0.
 -- `follows_stays`: a refused call answers the register given.
 -- `follows_either`: what holds of the register given and of the next one holds of the answered one.
--- `at_number`, `at_none`: the same answer for an equal refusal, and for refusal 0.
 use Prim.Native.Nat.{ℕ, zero, suc, ◌≤◌}
-use mathlib.Core.Path.{◌≡◌, refl, sym, ◌∙◌, ap}
+use mathlib.Core.Path.{◌≡◌, refl}
 use mathlib.Core.Bool.{Bool, true, false, cond}
 use native.Mathlib.Omega.{arith}
 use borrow.Author.Tests.{ne_eqb, eqb-false}
@@ -19,7 +18,7 @@ use Rattle.jacobian.specs.declared.Class.{Class}
 use Rattle.jacobian.proofs.ByValue.Checks.{then_zero}
 use Rattle.count_limit.specs.Limit.{count_limit}
 use Rattle.count_limit.proofs.Limit.{within_limit, limit_keeps, released_within, released_keeps}
-use Rattle.history.specs.Register.{register_refusal, edge_refusal, step_refusal, RegisterReply, follows}
+use Rattle.history.specs.Register.{register_refusal, edge_refusal, step_refusal, follows}
 use Rattle.history.specs.declared.{Register.Register, Step.Step, Step.TheVariants.Commit, Step.TheVariants.Undo}
 
 -- ---- a register that passes its own checks
@@ -134,9 +133,3 @@ module _ (n : ℕ) (given next : Register) where
       go : (k : ℕ) → P (follows k given next).register
       go zero = h
       go (suc k) = g
-
-pub at_number : (given next : Register) {n m : ℕ} → n ≡ m → {x : RegisterReply} → x ≡ follows n given next → x ≡ follows m given next
-at_number given next e h = h ∙ ap (λ k. follows k given next) e
-
-pub at_none : (given next : Register) {n : ℕ} {t : Register} → n ≡ 0 → t ≡ next → ◌≡◌ {A = RegisterReply} (record { outcome = accepted; register = t }) (follows n given next)
-at_none given next {n} z e = ap (λ s. record { outcome = accepted; register = s }) e ∙ sym (follows_zero n given next z)

@@ -3,3 +3,4 @@ pub mod Machine
 pub mod Register
 pub mod Calls
 pub mod Checking
+pub mod internal

@@ -5,19 +5,22 @@
 #![tactic(auto)]
 
 ghost use Rattle.std.specs.Prelude.{ℕ, ◌≡◌};
-ghost use Rattle.jacobian.specs.{Checks.◌or_else◌, Curves.curve_refusal, Answer.refusal_of_two, Answer.reply, Answer.result as class_result};
+ghost use Rattle.refusals.specs.Refusals.{refusal_of};
+ghost use Rattle.jacobian.specs.{Checks.◌or_else◌, Curves.curve_refusal, Answer.reply, Answer.result as class_result};
 ghost use Rattle.jacobian.specs.declared.Class.{Class as Seal};
 ghost use Rattle.count_limit.specs.Limit.{count_refusal, released_refusal};
-ghost use Rattle.history.specs.declared.Register.{Register as Value};
-ghost use Rattle.history.specs.Register.{register_refusal, edge_refusal, with_count_and_seal, sealed, register_reply, follows, commit_answer, release_answer, StepAnswers, UndoAnswers};
+ghost use Rattle.history.specs.Register.{register_refusal, edge_refusal, with_count_and_seal, sealed, register_reply, follows, step_answer, commit_answer, release_answer, StepAnswers, UndoAnswers};
+ghost use Rattle.history.specs.internal.Next.{next_reply};
 
-use jacobian::{Class, ClassAnswer, Curve, Outcome};
+use count_limit::COUNT_LIMIT;
+use jacobian::{Class, CountedClass, Curve};
+use refusals::Refusal;
 
 // The degree and the curve, the count of operations, the seal and the count at the last release; the operations are not
 // kept. In C's layout, since a host keeps a register and lends it; `released` is last, so that an initialiser by
 // position that was written before it came keeps its meaning.
 #[repr(C)]
-#[derive(Clone, Copy)]
+#[derive(Clone, Copy, PartialEq, Eq)]
 pub struct Register {
     pub curve: Curve,
     pub count: u64,
@@ -25,157 +28,135 @@ pub struct Register {
     pub released: u64,
 }
 
-// What a call on a register answers. On a refusal the register is the one given.
-#[derive(Clone, Copy)]
+// What a call on a register answers: each call hands back a register beside its outcome, on a refusal the one given.
+#[derive(Clone, Copy, PartialEq, Eq)]
 pub struct RegisterAnswer {
-    pub outcome: Outcome,
+    pub outcome: Result<(), Refusal>,
     pub register: Register,
 }
 
 // The two steps of a register: a commit takes an operation in, an undo takes the last one out.
-#[derive(Clone, Copy)]
+#[derive(Clone, Copy, PartialEq, Eq)]
 pub enum Step {
     Commit,
     Undo,
 }
 
-// The curve's refusal, else the count's; 0 where neither is refused.
-pub fn count_refusal(curve: Curve, count: u64) -> u32
-    ensures { result ≡ curve_refusal curve or_else count_refusal count }
+// The checks of a curve and then of a count.
+#[tactic(auto, using(binary_field::proofs::Refusing::stops_first, binary_field::proofs::Refusing::goes_on))]
+pub fn check_curve_and_count(curve: Curve, count: u64) -> Result<(), Refusal>
+    ensures { refusal_of result ≡ curve_refusal curve or_else count_refusal count }
 {
-    let n = jacobian::curves::curve_refusal(curve);
-    if n != 0 {
-        return n;
-    }
-    count_limit::count_refusal(count)
-}
-
-// The count's refusal, else that of the released step; 0 where neither is refused.
-fn count_and_released_refusal(count: u64, released: u64) -> u32
-    ensures { result ≡ count_refusal count or_else released_refusal count released }
-{
-    let n = count_limit::count_refusal(count);
-    if n != 0 {
-        return n;
-    }
-    count_limit::released_refusal(count, released)
-}
-
-// The refusal of a register, and 0 if no check refuses it.
-fn register_refusal(given: Register) -> u32
-    ensures { result ≡ register_refusal given }
-{
-    let curve = given.curve;
-    let seal = given.seal;
-    let n = jacobian::curves::curve_refusal(curve);
-    if n != 0 {
-        return n;
-    }
-    let m = count_and_released_refusal(given.count, given.released);
-    if m != 0 {
-        return m;
-    }
-    jacobian::class_refusal(curve, seal)
-}
-
-// The refusal of a step at this count, with this released step; 0 where the step can be taken.
-fn edge_refusal(step: Step, count: u64, released: u64) -> u32
-    ensures { result ≡ edge_refusal step count released }
-{
-    match step {
-        Step::Commit => {
-            if count == count_limit::COUNT_LIMIT {
-                return 114;
-            }
-            0
-        }
-        Step::Undo => {
-            if count == 0 {
-                return 113;
-            }
-            if count == released {
-                return 121;
-            }
-            0
-        }
-    }
-}
-
-// The refusal of the curve, the seal or the class, else the last one.
-fn classes_refusal(curve: Curve, seal: Class, class: Class, last: u32) -> u32
-    ensures { result ≡ refusal_of_two curve seal class or_else last }
-{
-    let n = jacobian::class_refusal(curve, seal);
-    if n != 0 {
-        return n;
-    }
-    let m = jacobian::class_refusal(curve, class);
-    if m != 0 {
-        return m;
-    }
-    last
-}
-
-// Refusal n with the register as it was given.
-fn kept(register: Register, n: u32) -> RegisterAnswer
-    requires { ¬ (n ≡ 0) }
-    ensures { (next : Value) → register_reply result ≡ follows n register next }
-{
-    RegisterAnswer {
-        outcome: Outcome::Refused(n),
-        register,
-    }
-}
-
-// The register with this count and the answered seal, or the answered refusal with the register as it was given.
-fn followed(register: Register, count: u64, answer: ClassAnswer) -> RegisterAnswer
-    ensures { (n : ℕ) (seal : Seal) → class_result (reply answer) ≡ sealed n seal → register_reply result ≡ follows n register (with_count_and_seal count seal register) }
-{
-    let outcome = answer.outcome;
-    let n = jacobian::outcome_refusal(outcome);
-    if n != 0 {
-        return kept(register, n);
-    }
-    let curve = register.curve;
-    let seal = answer.class;
-    RegisterAnswer {
-        outcome: Outcome::Accepted,
-        register: Register {
-            curve,
-            count,
-            seal,
-            released: register.released,
-        },
-    }
+    jacobian::curves::check_curve(curve)?;
+    count_limit::check_count(count)
 }
 
 impl Register {
-    // One step with a class. If accepted, the checks of the classes run once, inside the class operation.
+    // The checks of the count and then of the released step.
+    #[tactic(auto, using(binary_field::proofs::Refusing::stops_first, binary_field::proofs::Refusing::goes_on))]
+    fn check_counts(self) -> Result<(), Refusal>
+        ensures { refusal_of result ≡ count_refusal self.count or_else released_refusal self.count self.released }
+    {
+        count_limit::check_count(self.count)?;
+        count_limit::check_released(self.count, self.released)
+    }
+
+    // The checks of the register: of the curve, the count, the released step and the seal.
+    #[tactic(auto, using(binary_field::proofs::Refusing::stops_first, crate::proofs::Numbers::register_stops, crate::proofs::Numbers::register_goes_on), unfolding(crate::specs::Register::register_refusal))]
+    fn check(self) -> Result<(), Refusal>
+        ensures { refusal_of result ≡ register_refusal self }
+    {
+        jacobian::curves::check_curve(self.curve)?;
+        self.check_counts()?;
+        jacobian::check_class(self.curve, self.seal)
+    }
+
+    // The last checks of a step: there is room for one more operation, or there is one to take out.
+    #[tactic(auto, unfolding(crate::specs::Register::edge_refusal, count_limit::specs::Limit::count_limit))]
+    fn check_edge(self, step: Step) -> Result<(), Refusal>
+        ensures { refusal_of result ≡ edge_refusal step self.count self.released }
+    {
+        match step {
+            Step::Commit if self.count == COUNT_LIMIT => Err(Refusal::CommitAtLimit),
+            Step::Undo if self.count == 0 => Err(Refusal::UndoAtZero),
+            Step::Undo if self.count == self.released => Err(Refusal::UndoAtReleased),
+            _ => Ok(()),
+        }
+    }
+
+    // The register moved to this count, with the answered class as its seal.
+    #[tactic(auto, using(crate::proofs::Answers::sealed_next, crate::proofs::Answers::refused_next), unfolding(crate::specs::Register::with_count_and_seal))]
+    fn moved(self, count: u64, answer: Result<CountedClass, Refusal>) -> Result<Register, Refusal>
+        ensures { (n : ℕ) (seal : Seal) → class_result (reply answer) ≡ sealed n seal → next_reply self result ≡ follows n self (with_count_and_seal count seal self) }
+    {
+        let seal = answer?.class;
+        Ok(Register {
+            count,
+            seal,
+            ..self
+        })
+    }
+
+    // The register after a step. If accepted, the checks of the classes run once, inside the class operation.
+    #[tactic(auto, using(crate::proofs::Numbers::curve_refuses, crate::proofs::Numbers::counts_refuse, crate::proofs::Numbers::seal_refuses, crate::proofs::Numbers::class_refuses, crate::proofs::Numbers::edge_refuses))]
+    fn after_step(self, step: Step, class: Class) -> Result<Register, Refusal>
+        ensures { next_reply self result ≡ step_answer step self class }
+    {
+        if let Err(refusal) = self.check_counts() {
+            jacobian::curves::check_curve(self.curve)?;
+            return Err(refusal);
+        }
+        if let Err(refusal) = self.check_edge(step) {
+            jacobian::check_class(self.curve, self.seal)?;
+            jacobian::check_class(self.curve, class)?;
+            return Err(refusal);
+        }
+        match step {
+            Step::Commit => self.moved(
+                self.count + 1,
+                jacobian::double_and_add(self.curve, self.seal, class),
+            ),
+            Step::Undo => self.moved(
+                self.count - 1,
+                jacobian::subtract_and_halve(self.curve, self.seal, class),
+            ),
+        }
+    }
+
+    // The register after a release.
+    #[tactic(auto, using(crate::proofs::Numbers::release_refuses, crate::proofs::Numbers::release_follows), unfolding(crate::specs::Register::with_released))]
+    fn after_release(self) -> Result<Register, Refusal>
+        ensures { next_reply self result ≡ release_answer self }
+    {
+        self.check()?;
+        Ok(Register {
+            released: self.count,
+            ..self
+        })
+    }
+
+    // The next register, or the refusal with this one.
+    fn answered(self, next: Result<Register, Refusal>) -> RegisterAnswer
+        ensures { register_reply result ≡ next_reply self next }
+    {
+        match next {
+            Ok(register) => RegisterAnswer {
+                outcome: Ok(()),
+                register,
+            },
+            Err(refusal) => RegisterAnswer {
+                outcome: Err(refusal),
+                register: self,
+            },
+        }
+    }
+
+    // One step with a class.
+    #[tactic(auto, using(crate::proofs::Promises::step_promised))]
     pub fn step(self, step: Step, class: Class) -> RegisterAnswer
         ensures { StepAnswers step self class (register_reply result) }
     {
-        let curve = self.curve;
-        let count = self.count;
-        let seal = self.seal;
-        if count_and_released_refusal(count, self.released) != 0 {
-            return kept(self, register_refusal(self));
-        }
-        let edge = edge_refusal(step, count, self.released);
-        if edge != 0 {
-            return kept(self, classes_refusal(curve, seal, class, edge));
-        }
-        match step {
-            Step::Commit => followed(
-                self,
-                count + 1,
-                jacobian::double_and_add(curve, seal, class),
-            ),
-            Step::Undo => followed(
-                self,
-                count - 1,
-                jacobian::subtract_and_halve(curve, seal, class),
-            ),
-        }
+        self.answered(self.after_step(step, class))
     }
 
     // The new seal is twice the old seal plus the operation's class, and the count grows by 1.
@@ -196,22 +177,6 @@ impl Register {
     pub fn release(self) -> RegisterAnswer
         ensures { register_reply result ≡ release_answer self }
     {
-        let curve = self.curve;
-        let count = self.count;
-        let seal = self.seal;
-        let released = Register {
-            curve,
-            count,
-            seal,
-            released: count,
-        };
-        let n = register_refusal(self);
-        if n != 0 {
-            return kept(self, n);
-        }
-        RegisterAnswer {
-            outcome: Outcome::Accepted,
-            register: released,
-        }
+        self.answered(self.after_release())
     }
 }

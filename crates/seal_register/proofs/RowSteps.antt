@@ -1,25 +1,29 @@
 -- The steps of a walk over a lent row.
 -- `refused_is`, `accepted_is`: a refusal with the neutral class, and an acceptance with a seal, as `sealed` has them.
 -- `start_empty`, `start_above`, `start_within`: the refusal before the first step, by the number of classes.
--- `turns_none`, `turns_all`, `turns_few`: no step after a refusal, else one for each class; never more than classes.
--- `foldl_next`: one step more goes over the next element.
--- `refused_stays`: a step leaves a refused walk as it is.
--- `stepped`: the number and the class of the code's step are what one step answers.
--- `row_walked`: the steps after the first checks answer the walk over the whole row.
-use Prim.Native.Nat.{ℕ, zero, suc, ◌+◌, ◌≤◌, ◌<◌}
-use mathlib.Core.{Path.◌≡◌, Path.refl, Path.sym, Path.◌∙◌, Path.ap, Path.ap₂, Bool.Bool, Bool.true, Bool.false, List.List, List.[], List.◌∷◌, List.◌++◌}
+-- `row_walked`: where the first checks pass, the steps answer the walk over the whole row.
+-- `row_refused`: where they refuse, so does that walk.
+-- `goes_on`: an accepted step leaves it to the rest of the row what the walk answers.
+-- `stops`: a refused step's refusal is what the walk answers.
+-- `ends`: after the last step the seal is.
+use Rattle.std.specs.Prelude.{ℕ, zero, suc, ◌+◌, ◌<◌, ◌≤◌, Ok, Err}
+use Rattle.refusals.specs.{Refusals.number, declared.Refusal.Refusal}
+use Rattle.binary_field.proofs.Refusing.{number_positive}
+use Rattle.jacobian.proofs.ByValue.Answers.{refused_verdict}
+use mathlib.Core.{Path.◌≡◌, Path.refl, Path.sym, Path.◌∙◌, Path.ap, Bool.Bool, Bool.true, Bool.false, List.List, List.[], List.◌∷◌}
 use native.Mathlib.Numerals.{add-one}
 use native.Mathlib.Omega.{arith}
-use lib.{Dec.eqb, ListN.length, ListN.take, ListN.get_or, Seq.take-nil, Seq.take-length, Seq.take-suc}
+use lib.{Dec.eqb, ListN.length, ListN.drop, ListN.get_or, Seq.drop-cons}
+use Rattle.std.proofs.lemmas.List.{drop_all}
 use borrow.Author.Tests.{eqb-true, eqb-false, eq-eqb, ne_eqb}
 use Rattle.lists.specs.Walk.{foldl}
-use Rattle.jacobian.specs.{Checks.unless, Checks.◌or_else◌, Curves.curve_refusal, Classes.class_refusal, Answer.Verdict, Answer.accepted, Answer.refused, Answer.verdict_of, Answer.outcome_refusal, Answer.neutral_class, Answer.Accepts, Answer.refusal, Answer.refusal_of_two, Answer.Result, Answer.reply, Answer.result, Answer.subtract_and_halve_answer, declared.Curve.Curve, declared.Class.Class, declared.ClassAnswer.ClassAnswer}
+use Rattle.jacobian.specs.{Checks.unless, Checks.◌or_else◌, Curves.curve_refusal, Classes.class_refusal, Answer.accepted, Answer.refused, Answer.verdict_of, Answer.neutral_class, Answer.Accepts, Answer.refusal, Answer.refusal_of_two, Answer.Result, Answer.gives, Answer.Reply, Answer.reply, Answer.result, Answer.subtract_and_halve_answer, declared.Curve.Curve, declared.Class.Class, declared.CountedClass.CountedClass}
 use Rattle.jacobian.proofs.{ByValue.Checks.then_zero, Representation.accepts_class, Representation.accepts_both}
 use Rattle.count_limit.specs.Limit.{count_refusal}
 use Rattle.count_limit.proofs.Limit.{within_limit}
 use Rattle.history.specs.{Register.undo_seal, Register.sealed, Calls.walk_back}
-use Rattle.history.proofs.{Seals.undo_sound, Answers.sealed_outcome, Answers.answer_refusal, Answers.subtract_and_halve_sealed, Numbers.then_positive, Numbers.then_none}
-use Rattle.seal_register.specs.{RowWalk.classes_refusal, RowWalk.row_refusal, RowWalk.row_walk_answer, internal.RowSteps.start_refusal, internal.RowSteps.remaining_steps, internal.RowSteps.onward}
+use Rattle.history.proofs.{Seals.undo_sound, Answers.subtract_and_halve_sealed, Numbers.then_positive, Numbers.then_none}
+use Rattle.seal_register.specs.{RowWalk.classes_refusal, RowWalk.row_refusal, RowWalk.row_walk_answer, internal.RowSteps.start_refusal, internal.RowSteps.onward, internal.RowSteps.class_result}
 
 -- ---- what is answered
 -- a refusal is the same whatever the seal
@@ -33,14 +37,14 @@ unfolding sealed verdict_of
 refused_is zero s h = absurd (h refl)
 refused_is (suc n) s h = refl
 
+-- the code's refusal before the first step
+refused_seal : (f : Refusal) (s : Class) {n : ℕ} → number f ≡ n → class_result (Err f) ≡ sealed n s
+refused_seal f s e =
+    ap (λ v. record { outcome = v; class = neutral_class }) (refused_verdict (number f) (number_positive f)) ∙ refused_is (number f) s (number_positive f) ∙ ap (λ k. sealed k s) e
+
 pub accepted_is : (n : ℕ) (s : Class) → n ≡ 0 → record { outcome = accepted; class = s } ≡ sealed n s
 unfolding sealed
 accepted_is n s e = rw e
-
--- an answer of the code, by the number of its outcome
-number_says : (x : ClassAnswer) (n : ℕ) (s : Class) → result (reply x) ≡ sealed n s → record { outcome = verdict_of (outcome_refusal x.outcome); class = x.class } ≡ sealed n s
-number_says x n s e =
-    ap (λ v. record { outcome = v; class = x.class }) (ap verdict_of (answer_refusal x n s e) ∙ sym (ap (λ (y : Result). y.outcome) e ∙ sealed_outcome n s)) ∙ e
 
 -- ---- before the first step
 module _ (c : Curve) (s : Class) where
@@ -58,21 +62,6 @@ module _ (c : Curve) (s : Class) where
   start_within zero h k = absurd (h refl)
   start_within (suc n) h k = rw (eq-eqb (count_refusal (suc n)) 0 k)
 
--- ---- how many steps
-pub turns_none : (n m : ℕ) → ¬ (n ≡ 0) → 0 ≡ remaining_steps (verdict_of n) m
-unfolding remaining_steps verdict_of
-turns_none zero m h = absurd (h refl)
-turns_none (suc n) m h = refl
-
-pub turns_all : (n m : ℕ) → n ≡ 0 → m ≡ remaining_steps (verdict_of n) m
-unfolding remaining_steps verdict_of
-turns_all n m e = rw e
-
-pub turns_few : (v : Verdict) (m : ℕ) → remaining_steps v m ≤ m
-unfolding remaining_steps
-turns_few accepted m = omega arith
-turns_few (refused k) m = omega arith
-
 -- ---- checks one after the other
 then_within : (a s b : ℕ) → (a or_else s) or_else b ≡ a or_else 0 or_else s or_else b
 unfolding ◌or_else◌
@@ -85,30 +74,8 @@ then_above zero zero s h = absurd (h refl)
 then_above zero (suc n) s h = refl
 then_above (suc a) n s h = refl
 
--- ---- rows
-module _ {X Y : Type 0} (rule : X → Y → X) where
-  foldl_last : (x : X) (l : List Y) (a : Y) → foldl rule x (l ++ a ∷ []) ≡ rule (foldl rule x l) a
-  unfolding foldl
-  foldl_last x [] a = refl
-  foldl_last x (b ∷ l) a = foldl_last (rule x b) l a
-
-  pub foldl_next : (x : X) (l : List Y) (i : ℕ) (d : Y) → i < length l → foldl rule x (take (i + 1) l) ≡ rule (foldl rule x (take i l)) (get_or l i d)
-  foldl_next x l i d h = ap (λ k. foldl rule x (take k l)) (add-one i) ∙ ap (foldl rule x) (take-suc l i d h) ∙ foldl_last x (take i l) (get_or l i d)
-
 -- ---- one step
 module _ (c : Curve) where
-  pub refused_stays : (n : ℕ) (s a : Class) → ¬ (n ≡ 0) → record { outcome = verdict_of n; class = s } ≡ onward c (record { outcome = verdict_of n; class = s }) a
-  unfolding onward verdict_of
-  refused_stays zero s a h = absurd (h refl)
-  refused_stays (suc n) s a h = refl
-
-  pub stepped : (n : ℕ) (s a : Class) (x : ClassAnswer) → n ≡ 0 → reply x ≡ subtract_and_halve_answer c s a
-      → record { outcome = verdict_of (outcome_refusal x.outcome); class = x.class } ≡ onward c (record { outcome = verdict_of n; class = s }) a
-  unfolding onward verdict_of
-  stepped n s a x z e =
-      let answers = subtract_and_halve_sealed c s a in
-      number_says x (refusal_of_two c s a) (undo_seal c s a) (ap result e ∙ answers) ∙ sym answers ∙ rw z
-
   step_sealed : (s a : Class) → onward c (sealed 0 s) a ≡ sealed (refusal_of_two c s a) (undo_seal c s a)
   unfolding onward sealed
   step_sealed s a = subtract_and_halve_sealed c s a
@@ -118,6 +85,11 @@ module _ (c : Curve) where
   unfolding foldl onward sealed
   refused_stands n s [] = refl
   refused_stands n s (a ∷ ops) = refused_stands n s ops
+
+  refusal_stays : (n : ℕ) (ops : List Class) → foldl (onward c) (record { outcome = refused n; class = neutral_class }) ops ≡ record { outcome = refused n; class = neutral_class }
+  unfolding foldl onward
+  refusal_stays n [] = refl
+  refusal_stays n (a ∷ ops) = refusal_stays n ops
 
   -- from an accepted seal, the steps answer the end of the walk, or the refusal of the first refused class
   module _ (ok : curve_refusal c ≡ 0) where
@@ -165,29 +137,40 @@ module _ (c : Curve) where
       ∙ ap (λ n. sealed n (walk_back c s ops)) (then_above (curve_refusal c) (count_refusal (length ops)) (class_refusal c s or_else classes_refusal c ops) h)
 
   module _ (s : Class) where
-    by_length : (a : Class) (ops : List Class) (x : Result) (n : ℕ) (b : Bool) → eqb (count_refusal (length (a ∷ ops))) 0 ≡ b
-        → x ≡ sealed (start_refusal c s (length (a ∷ ops))) s → n ≡ remaining_steps x.outcome (length (a ∷ ops))
-        → foldl (onward c) x (take n (a ∷ ops)) ≡ row_walk_answer c s (a ∷ ops)
-    unfolding remaining_steps sealed foldl
-    by_length a ops x n true l e m =
-        let within = eqb-true _ 0 l in
-        let start : x ≡ sealed 0 s = e ∙ ap (λ k. sealed k s) (sym (start_within c s (length (a ∷ ops)) (λ z. omega arith) within)) in
-        let all : n ≡ length (a ∷ ops) = m ∙ ap (λ (y : Result). remaining_steps y.outcome (length (a ∷ ops))) start in
-        ap₂ (foldl (onward c)) start (ap (λ k. take k (a ∷ ops)) all ∙ take-length (a ∷ ops))
-        ∙ opens_sound (refusal c s) s a ops refl
-        ∙ row_within s (a ∷ ops) within
-    by_length a ops x n false l e m =
-        let above = eqb-false _ 0 l in
-        let k = curve_refusal c or_else count_refusal (length (a ∷ ops)) in
-        let start : x ≡ sealed k s = e ∙ ap (λ k. sealed k s) (sym (start_above c s (length (a ∷ ops)) above)) in
-        let still : n ≡ 0 =
-        m ∙ ap (λ (y : Result). remaining_steps y.outcome (length (a ∷ ops))) start
-        ∙ ap (λ v. remaining_steps v (length (a ∷ ops))) (sealed_outcome k s)
-        ∙ sym (turns_none k (length (a ∷ ops)) (then_positive (curve_refusal c) (count_refusal (length (a ∷ ops))) above)) in
-        ap₂ (λ (y : Result) (j : ℕ). foldl (onward c) y (take j (a ∷ ops))) start still ∙ row_above s (a ∷ ops) above
+    -- where the checks before the first step pass, the steps answer the walk over the whole row
+    pub row_walked : (ops : List Class) → 0 ≡ start_refusal c s (length ops) → foldl (onward c) (gives s) ops ≡ row_walk_answer c s ops
+    unfolding foldl start_refusal classes_refusal walk_back unless sealed
+    row_walked [] e = ap (λ k. sealed k s) (e ∙ sym (then_none (refusal c s))) ∙ row_within s [] (within_limit 0 (omega arith))
+    row_walked (a ∷ ops) e = go (eqb (count_refusal (length (a ∷ ops))) 0) refl
+      where
+        go : (b : Bool) → eqb (count_refusal (length (a ∷ ops))) 0 ≡ b → foldl (onward c) (gives s) (a ∷ ops) ≡ row_walk_answer c s (a ∷ ops)
+        go true l = opens_sound (refusal c s) s a ops refl ∙ row_within s (a ∷ ops) (eqb-true _ 0 l)
+        go false l =
+            let above = eqb-false _ 0 l in
+            absurd (then_positive (curve_refusal c) (count_refusal (length (a ∷ ops))) above (start_above c s (length (a ∷ ops)) above ∙ sym e))
 
-    pub row_walked : (ops : List Class) (x : Result) (n : ℕ) → x ≡ sealed (start_refusal c s (length ops)) s → n ≡ remaining_steps x.outcome (length ops)
-        → foldl (onward c) x (take n ops) ≡ row_walk_answer c s ops
+    -- where they refuse, the walk does
+    pub row_refused : (f : Refusal) (ops : List Class) → number f ≡ start_refusal c s (length ops) → class_result (Err f) ≡ row_walk_answer c s ops
     unfolding foldl start_refusal classes_refusal walk_back
-    row_walked [] x n e m = ap (foldl (onward c) x) (take-nil n) ∙ e ∙ ap (λ k. sealed k s) (sym (then_none (refusal c s))) ∙ row_within s [] (within_limit 0 (omega arith))
-    row_walked (a ∷ ops) x n e m = by_length a ops x n (eqb (count_refusal (length (a ∷ ops))) 0) refl e m
+    row_refused f [] e = refused_seal f s (e ∙ sym (then_none (refusal c s))) ∙ row_within s [] (within_limit 0 (omega arith))
+    row_refused f (a ∷ ops) e = go (eqb (count_refusal (length (a ∷ ops))) 0) refl
+      where
+        go : (b : Bool) → eqb (count_refusal (length (a ∷ ops))) 0 ≡ b → class_result (Err f) ≡ row_walk_answer c s (a ∷ ops)
+        go true l = absurd (number_positive f (e ∙ sym (start_within c s (length (a ∷ ops)) (λ z. omega arith) (eqb-true _ 0 l))))
+        go false l = let above = eqb-false _ 0 l in refused_seal f s (e ∙ sym (start_above c s (length (a ∷ ops)) above)) ∙ row_above s (a ∷ ops) above
+
+-- ---- the steps from an index of the row on
+module _ (c : Curve) (s : Class) (row : List Class) (i : ℕ) (y : Result) (h : i < length row) (from : foldl (onward c) (gives s) (drop i row) ≡ y) where
+  stepped : (d : Class) → foldl (onward c) (result (subtract_and_halve_answer c s (get_or row i d))) (drop (i + 1) row) ≡ y
+  unfolding foldl onward
+  stepped d = rw add-one (sym (ap (foldl (onward c) (gives s)) (drop-cons row i d h)) ∙ from)
+
+  pub goes_on : (d : Class) (x : CountedClass) → reply (Ok x) ≡ subtract_and_halve_answer c s (get_or row i d) → foldl (onward c) (gives x.class) (drop (i + 1) row) ≡ y
+  goes_on d x e = ap (λ (a : Reply). foldl (onward c) (result a) (drop (i + 1) row)) e ∙ stepped d
+
+  pub stops : (d : Class) (f : Refusal) → reply (Err f) ≡ subtract_and_halve_answer c s (get_or row i d) → class_result (Err f) ≡ y
+  stops d f e = sym (refusal_stays c (number f) (drop (i + 1) row)) ∙ ap (λ (a : Reply). foldl (onward c) (result a) (drop (i + 1) row)) e ∙ stepped d
+
+pub ends : (c : Curve) (s : Class) (row : List Class) (i : ℕ) (y : Result) → length row ≤ i → foldl (onward c) (gives s) (drop i row) ≡ y → gives s ≡ y
+unfolding foldl
+ends c s row i y h from = sym (ap (foldl (onward c) (gives s)) (drop_all i row h)) ∙ from

@@ -2,100 +2,60 @@
 // earliest. The checks, in the stored order: 106 and 107 of the curve, 109 for more classes than the limit, then 104,
 // 110 and 111 of the last seal and of each class.
 ghost use Rattle.std.specs.Prelude.{◌≡◌};
-ghost use Rattle.jacobian.specs.Answer.{verdict_of};
-ghost use Rattle.history.specs.Register.{sealed};
-ghost use Rattle.seal_register.specs.RowWalk.{reached, RowWalkAnswers};
-ghost use Rattle.seal_register.specs.internal.RowSteps.{start_refusal, remaining_steps, onward};
+ghost use Rattle.refusals.specs.Refusals.{refusal_of};
+ghost use Rattle.seal_register.specs.RowWalk.{reached, row_walk_answer, RowWalkAnswers};
+ghost use Rattle.seal_register.specs.internal.RowSteps.{start_refusal, class_result};
 
 use jacobian::{Class, Curve};
+use refusals::Refusal;
 
-// The state of a walk: a seal with 0, or the number of a refusal with the neutral class.
+// The end of a walk for C, which has no Result: the earliest seal with 0, or a refusal's number with the neutral class.
 #[repr(C)]
-#[derive(Clone, Copy)]
+#[derive(Clone, Copy, PartialEq, Eq)]
 pub struct RowWalk {
     pub refusal: u32,
     pub seal: Class,
 }
 
-// The refusal before the first step over n classes; where n is not 0, that step checks the curve and the last seal.
-fn start_refusal(curve: Curve, last: Class, classes: usize) -> u32
-    ensures { result ≡ start_refusal curve last classes }
+// The checks before the first step over n classes; where n is not 0, that step checks the curve and the last seal.
+#[tactic(auto, using(crate::proofs::RowSteps::start_empty, crate::proofs::RowSteps::start_above, crate::proofs::RowSteps::start_within, binary_field::proofs::Refusing::number_positive))]
+fn check_start(curve: Curve, last: Class, classes: usize) -> Result<(), Refusal>
+    ensures { refusal_of result ≡ start_refusal curve last classes }
 {
     if classes == 0 {
-        return jacobian::class_refusal(curve, last);
+        return jacobian::check_class(curve, last);
     }
-    let n = classes as u64;
-    if count_limit::count_refusal(n) != 0 {
-        return history::count_refusal(curve, n);
-    }
-    0
-}
-
-// The seal if n is 0, else refusal n with the neutral class.
-fn standing(n: u32, seal: Class) -> RowWalk
-    ensures { reached result ≡ sealed n seal }
-{
-    if n != 0 {
-        let none = jacobian::neutral();
-        return RowWalk {
-            refusal: n,
-            seal: none,
-        };
-    }
-    RowWalk {
-        refusal: 0,
-        seal: seal,
+    let count = classes as u64;
+    match count_limit::check_count(count) {
+        Ok(()) => Ok(()),
+        Err(_) => history::check_curve_and_count(curve, count),
     }
 }
 
-// A walk over this many classes, before its first step.
-fn started(curve: Curve, last: Class, classes: usize) -> RowWalk
-    ensures { reached result ≡ sealed (start_refusal curve last classes) last }
+// The earliest seal, or the first refusal.
+#[tactic(auto, using(crate::proofs::RowSteps::row_walked, crate::proofs::RowSteps::row_refused, crate::proofs::RowSteps::goes_on, crate::proofs::RowSteps::stops, crate::proofs::RowSteps::ends))]
+fn earliest_seal(curve: Curve, last: Class, row: &[Class]) -> Result<Class, Refusal>
+    ensures { class_result result ≡ row_walk_answer curve last row.now }
 {
-    let due = start_refusal(curve, last, classes);
-    standing(due, last)
-}
-
-// Number of steps; 0 after a refusal.
-fn steps_left(w: RowWalk, classes: usize) -> usize
-    ensures { result ≡ remaining_steps (verdict_of w.refusal) classes }
-{
-    if w.refusal == 0 {
-        return classes;
+    check_start(curve, last, row.len())?;
+    let mut seal = last;
+    for class in row {
+        seal = jacobian::subtract_and_halve(curve, seal, *class)?.class;
     }
-    0
-}
-
-// One step back; a refused walk stays as it is.
-fn walked_on(curve: Curve, w: RowWalk, a: Class) -> RowWalk
-    ensures { reached result ≡ onward curve (reached w) a }
-{
-    if w.refusal != 0 {
-        return w;
-    }
-    let seal = w.seal;
-    let step = jacobian::subtract_and_halve(curve, seal, a);
-    let o = step.outcome;
-    let n = jacobian::outcome_refusal(o);
-    let before = step.class;
-    RowWalk {
-        refusal: n,
-        seal: before,
-    }
+    Ok(seal)
 }
 
 // The earliest seal, from which commits of the row's classes, oldest first, lead to the last one; or the refusal of the
 // first check that fails.
+#[tactic(auto, using(crate::proofs::Promises::row_promised, jacobian::proofs::ByValue::Answers::refused_verdict, binary_field::proofs::Refusing::number_positive), unfolding(jacobian::specs::Answer::verdict_of))]
 pub fn seal_walk_row(curve: Curve, last: Class, row: &[Class]) -> RowWalk
     ensures { RowWalkAnswers curve last row.now (reached result) }
 {
-    let mut w = started(curve, last, row.len());
-    let n = steps_left(w, row.len());
-    let mut i: usize = 0;
-    while i < n {
-        let t = walked_on(curve, w, row[i]);
-        w = t;
-        i += 1;
+    match earliest_seal(curve, last, row) {
+        Ok(seal) => RowWalk { refusal: 0, seal },
+        Err(refusal) => RowWalk {
+            refusal: refusal.number(),
+            seal: jacobian::neutral(),
+        },
     }
-    w
 }

@@ -1,7 +1,8 @@
--- `seal_register_undo` meets its contract: after a refusal the lent register is as it was.
-use Rattle.history.specs.declared.Step.TheVariants.{Undo}
-use Rattle.seal_register.proofs.Answer.{step_unchanged}
+-- `seal_register_undo` meets its contract.
+use Rattle.history.specs.Calls.{undo, answer}
+use Rattle.history.proofs.Promises.{undo_promised}
 use Rattle.seal_register.proofs.register.seal_register_undo.Goals as goal
 
-pub returns-else-a-eq0 : goal.returns-else-a-eq0
-returns-else-a-eq0 c = step_unchanged Undo c.args.register.now c.args.class c.undone-a.result.refusal c.undone-a.result.left c.undone-a.ensures c.if-a-eq0.false
+pub returns : goal.returns
+unfolding answer
+returns c = undo_promised _ _ (c.keep.ensures (undo c.args.class) c.undo.ensures.answer)

@@ -1,0 +1,2 @@
+-- Definitions that only private functions' contracts name.
+pub mod Next
