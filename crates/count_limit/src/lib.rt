@@ -16,10 +16,11 @@ pub const COUNT_LIMIT: u64 = 1024;
 pub fn check_count(n: u64) -> Result<(), Refusal>
     ensures { refusal_of result ≡ count_refusal n }
 {
-    if COUNT_LIMIT < n {
-        return Err(Refusal::CountTooHigh);
+    if n <= COUNT_LIMIT {
+        Ok(())
+    } else {
+        Err(Refusal::CountTooHigh)
     }
-    Ok(())
 }
 
 // Refuses a released step above this count.
@@ -27,8 +28,9 @@ pub fn check_count(n: u64) -> Result<(), Refusal>
 pub fn check_released(n: u64, released: u64) -> Result<(), Refusal>
     ensures { refusal_of result ≡ released_refusal n released }
 {
-    if n < released {
-        return Err(Refusal::ReleasedTooHigh);
+    if released <= n {
+        Ok(())
+    } else {
+        Err(Refusal::ReleasedTooHigh)
     }
-    Ok(())
 }

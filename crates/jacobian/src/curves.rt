@@ -2,7 +2,6 @@
 // Only `coefficients`, `curve_with` and `f_row` name the struct's f3, f1 and f0.
 ghost use Rattle.std.specs.Prelude.{◌≡◌};
 ghost use Rattle.refusals.specs.Refusals.{refusal_of};
-ghost use Rattle.jacobian.specs.Checks.{unless};
 ghost use Rattle.binary_field.specs.Answer.{below};
 ghost use Rattle.jacobian.specs.Curves.{coefficients, curve_with, blank_curve, curve_refusal, f_row};
 ghost use Rattle.row_theory.specs.Row.{filled};
@@ -46,19 +45,11 @@ pub fn blank_curve() -> Curve
     curve_with(5, [0; COEFFICIENTS])
 }
 
-// Refuses a curve with a coefficient of m or more.
-fn check_coefficients(m: u64, c: Curve) -> Result<(), Refusal>
-    ensures { refusal_of result ≡ unless (below m (coefficients c)) 107 }
+// Is every number below m?
+pub(crate) fn all_below(m: u64, numbers: &[u64]) -> bool
+    ensures { result ≡ below m numbers.now }
 {
-    let cs = coefficients(c);
-    let mut i = 0;
-    while i < COEFFICIENTS {
-        if cs[i] >= m {
-            return Err(Refusal::CurveCoefficient);
-        }
-        i += 1;
-    }
-    Ok(())
+    numbers.iter().all(|&x| x < m)
 }
 
 // The checks of a curve.
@@ -66,5 +57,9 @@ pub fn check_curve(c: Curve) -> Result<(), Refusal>
     ensures { refusal_of result ≡ curve_refusal c }
 {
     binary_field::check_degree(c.degree)?;
-    check_coefficients(binary_field::bound(c.degree), c)
+    if all_below(binary_field::bound(c.degree), &coefficients(c)) {
+        Ok(())
+    } else {
+        Err(Refusal::CurveCoefficient)
+    }
 }

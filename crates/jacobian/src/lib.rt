@@ -87,13 +87,11 @@ fn check_forms(c: Curve, a: Class, b: Class) -> Result<(), Refusal>
 fn answered(rows: Option<CountedRows>) -> Result<CountedClass, Refusal>
     ensures { (d : ℕ) (D : Counted (Poly d)) → ((r : TheRows) → rows ≡ Some r → StandsCounted d r D) → reply result ≡ answered d (unless (is_some rows) 111) D }
 {
-    match rows {
-        None => Err(Refusal::NotAClass),
-        Some(CountedRows { pair, steps }) => Ok(CountedClass {
-            class: classes::from_rows(pair),
-            steps,
-        }),
-    }
+    let CountedRows { pair, steps } = rows.ok_or(Refusal::NotAClass)?;
+    Ok(CountedClass {
+        class: pair.into(),
+        steps,
+    })
 }
 
 // The body of the calls on one class.
@@ -102,17 +100,17 @@ fn on_one(op: Unary, curve: Curve, a: Class) -> Result<CountedClass, Refusal>
 {
     check_curve_and_form(curve, a)?;
     let f = curves::f_row(curve);
-    answered(unary_rows(op, curve.degree, f, classes::to_rows(a)))
+    answered(unary_rows(op, curve.degree, f, a.rows()))
 }
 
-// The body of the calls on two classes.
+// The body of the calls on two classes. It is not the body of the calls on one: the checks of two come in another order.
 fn on_two(op: Binary, curve: Curve, a: Class, b: Class) -> Result<CountedClass, Refusal>
     ensures { reply result ≡ binary_answer op curve a b }
 {
     check_forms(curve, a, b)?;
     let f = curves::f_row(curve);
-    let left = classes::to_rows(a);
-    let right = classes::to_rows(b);
+    let left = a.rows();
+    let right = b.rows();
     answered(binary_rows(op, curve.degree, f, left, right))
 }
 

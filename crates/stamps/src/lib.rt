@@ -82,10 +82,11 @@ fn check_stamp(curve: Curve, s: u64) -> Result<(), Refusal>
     ensures { refusal_of result ≡ stamp_refusal curve s }
 {
     jacobian::curves::check_curve(curve)?;
-    if s >= limit(curve.degree) {
-        return Err(Refusal::StampTooLarge);
+    if s < limit(curve.degree) {
+        Ok(())
+    } else {
+        Err(Refusal::StampTooLarge)
     }
-    Ok(())
 }
 
 // The class of a stamp on a curve.

@@ -15,7 +15,7 @@ use Rattle.binary_field.proofs.Degrees.{accepted_degree}
 use Rattle.jacobian.proofs.ByValue.Degrees.{by_degree}
 
 -- ---- rows
-blank_at : (r : List ℕ) → blank r ≡ true → (i : ℕ) → get_or r i 0 ≡ 0
+pub blank_at : (r : List ℕ) → blank r ≡ true → (i : ℕ) → get_or r i 0 ≡ 0
 unfolding blank
 blank_at [] e i = refl
 blank_at (n ∷ r) e zero = eqb-true n 0 (both (eqb n 0) (blank r) e).0

@@ -1,30 +1,19 @@
 -- The numbers of a row below an index, and the class by value of a pair of rows.
-use Prim.Native.Nat.{ℕ, ◌-◌, ◌≤◌}
+use Prim.Native.Nat.{ℕ, ◌-◌}
 use mathlib.Core.Path.{◌≡◌, ◌∙◌, ap, ap₂}
-use mathlib.Core.List.{List, [], ◌∷◌}
-use native.Mathlib.Omega.{arith}
+use mathlib.Core.List.{List}
 use lib.ListN.{get_or}
-use borrow.Author.Tests.{lt-ltb}
 use Rattle.class_group.specs.Mumford.{Pair}
 use Rattle.row_theory.specs.{Field.Poly, Field.𝔸, Field.poly, Row.InRange, Row.row_len}
 use Rattle.class_rows.specs.{Pair.StandsPair, Pair.rows_pair, declared.row.RowPair.RowPair}
 use Rattle.row_theory.proofs.{Rows.Elements.el_number, Rows.Coefficients.coeff_poly}
 use Rattle.jacobian.specs.{Classes.numbers, Classes.class_of, internal.ClassRows.first, declared.Class.Class}
 
-pub first_one : {n : ℕ} (r : List ℕ) → n ≡ 1 → get_or r 0 0 ∷ 0 ∷ 0 ∷ [] ≡ first n r
-first_one r e = rw e
-
-pub first_two : {n : ℕ} (r : List ℕ) → n ≡ 2 → get_or r 0 0 ∷ get_or r 1 0 ∷ 0 ∷ [] ≡ first n r
-first_two r e = rw e
-
-pub first_three : (n : ℕ) (r : List ℕ) → 3 ≤ n → first n r ≡ get_or r 0 0 ∷ get_or r 1 0 ∷ get_or r 2 0 ∷ []
-first_three n r h = simp (lt-ltb 0 n (omega arith), lt-ltb 1 n (omega arith), lt-ltb 2 n (omega arith))
-
 module _ (d : ℕ) where
   number_at : (r : List ℕ) → InRange d r → (i : ℕ) → ((𝔸 d).coeff (poly d r) i).0 ≡ get_or r i 0
   number_at r h i = ap (λ a. a.0) (coeff_poly d r i) ∙ el_number d (get_or r i 0) (h i)
 
-  pub numbers_of : (n : ℕ) (r : List ℕ) → InRange d r → numbers d n (poly d r) ≡ first n r
+  numbers_of : (n : ℕ) (r : List ℕ) → InRange d r → numbers d n (poly d r) ≡ first n r
   unfolding numbers
   numbers_of n r h = simp (number_at r h)
 

@@ -1,5 +1,5 @@
 -- What holds of every list of three numbers.
-use Prim.Native.Nat.{ℕ, ◌≤◌}
+use Prim.Native.Nat.{ℕ}
 use mathlib.Core.Path.{◌≡◌}
 use mathlib.Core.List.{List, [], ◌∷◌}
 use native.Mathlib.Omega.{arith}
@@ -12,7 +12,3 @@ by_three P h (x ∷ []) e = absurd (omega arith)
 by_three P h (x ∷ y ∷ []) e = absurd (omega arith)
 by_three P h (x ∷ y ∷ z ∷ []) e = h x y z
 by_three P h (x ∷ y ∷ z ∷ w ∷ r) e = absurd (omega arith)
-
--- a number up to 3 that is not 0, 1 or 2 is 3
-pub is_three : {n : ℕ} → n ≤ 3 → ¬ (n ≡ 0) → ¬ (n ≡ 1) → ¬ (n ≡ 2) → n ≡ 3
-is_three h a b d = omega arith

@@ -1,19 +1,27 @@
 -- `answered` meets its contract.
 use Prim.Native.Nat.{ℕ}
-use mathlib.Core.Path.{sym, ap, ap₂}
-use Rattle.std.specs.Prelude.{is_some}
+use mathlib.Core.Path.{◌≡◌, sym, ap, ap₂, ◌∙◌}
+use native.Mathlib.Omega.{arith}
+use Rattle.std.specs.Prelude.{Some, None, is_some}
+use Rattle.std.proofs.lemmas.Result.{err_from_is_err_and}
+use Rattle.refusals.specs.Refusals.{number}
 use Rattle.refusals.specs.declared.Refusal.TheVariants.{NotAClass}
 use Rattle.jacobian.specs.{Checks.unless, declared.Class.Class, Answer.accepted, Answer.answered}
 use Rattle.jacobian.proofs.{ByValue.Answers.at_refusal, ByValue.Answers.refuses, ByValue.Pairs.stands_class}
 use Rattle.jacobian.proofs.answered.Goals as goal
 
-pub returns-in-None : goal.returns-in-None
+pub returns-in_err-pair : goal.returns-in_err-pair
 unfolding unless
-returns-in-None c d D h = refuses d D NotAClass (sym (ap (λ r. unless (is_some r) 111) c.in-None.is))
+returns-in_err-pair c d D h =
+    let p = err_from_is_err_and c.from_residual.result c.from_residual.ensures.1 in
+    let none : c.args.rows ≡ None = grind arith in
+    let is : c.in_err-pair.field-0.0 ≡ NotAClass = grind arith in
+    rw (p.1, p.2) (refuses d D _ (ap number is ∙ sym (ap (λ r. unless (is_some r) 111) none)))
 
-pub returns-in-Some : goal.returns-in-Some
+pub returns : goal.returns
 unfolding unless answered
-returns-in-Some c d D h =
-    let s = h _ c.in-Some.is in
-    at_refusal d D (sym (ap (λ r. unless (is_some r) 111) c.in-Some.is))
-    (ap₂ (λ (k : Class) (n : ℕ). record { outcome = accepted; class = k; steps = n }) (stands_class d s.pair_stands (c.from_rows.ensures d)) s.steps_is)
+returns c d D h =
+    let given : c.args.rows ≡ Some c.in_ok-pair.field-0 = grind arith in
+    let s = h _ given in
+    at_refusal d D (sym (ap (λ r. unless (is_some r) 111) given))
+    (ap₂ (λ (k : Class) (n : ℕ). record { outcome = accepted; class = k; steps = n }) (stands_class d s.pair_stands (c.into.ensures d)) s.steps_is)

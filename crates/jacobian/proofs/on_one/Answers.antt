@@ -13,8 +13,8 @@ returns-in_err-check_curve_and_form c =
     let p = err_from_is_err_and c.from_residual.result c.from_residual.ensures.1 in
     rw (p.1, p.2) (refuses _ _ _ (form_first _ _ c.in_err-check_curve_and_form.ensures (number_positive _)))
 
-pub to_rows-requires : goal.to_rows-requires
-to_rows-requires c =
+pub rows-requires : goal.rows-requires
+rows-requires c =
     (form_shape c.args.curve c.args.a (then_zero _ _ (sym c.in_ok-check_curve_and_form.ensures)).1).low
 
 pub returns : goal.returns
@@ -22,7 +22,7 @@ returns c =
     let d = c.args.curve.degree in
     let z = then_zero _ _ (sym c.in_ok-check_curve_and_form.ensures) in
     let f = c.f_row-f.ensures in
-    let rows = c.to_rows.ensures in
+    let rows = c.rows.ensures in
     let given = c.unary_rows.ensures in
     at_refusal d (unary c.args.op (curve c.args.curve) (pair d c.args.a)) (one_due c.args.curve c.args.a z.1 z.0 f rows (unary_divisor given))
     (c.answered.ensures d _ (λ r is. rw (rows_pair_is d rows, row_curve_is c.args.curve f) at (unary_stands given is)))

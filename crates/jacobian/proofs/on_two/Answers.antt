@@ -13,19 +13,19 @@ returns-in_err-check_forms c =
     let p = err_from_is_err_and c.from_residual.result c.from_residual.ensures.1 in
     rw (p.1, p.2) (refuses _ _ _ (c.in_err-check_forms.ensures.refused (number_positive _)))
 
-pub to_rows-left-requires : goal.to_rows-left-requires
-to_rows-left-requires c = (form_shape c.args.curve c.args.a (c.in_ok-check_forms.ensures.none refl).1).low
+pub rows-left-requires : goal.rows-left-requires
+rows-left-requires c = (form_shape c.args.curve c.args.a (c.in_ok-check_forms.ensures.none refl).1).low
 
-pub to_rows-right-requires : goal.to_rows-right-requires
-to_rows-right-requires c = (form_shape c.args.curve c.args.b (c.in_ok-check_forms.ensures.none refl).2).low
+pub rows-right-requires : goal.rows-right-requires
+rows-right-requires c = (form_shape c.args.curve c.args.b (c.in_ok-check_forms.ensures.none refl).2).low
 
 pub returns : goal.returns
 returns c =
     let d = c.args.curve.degree in
     let z = c.in_ok-check_forms.ensures.none refl in
     let f = c.f_row-f.ensures in
-    let first = c.to_rows-left.ensures in
-    let second = c.to_rows-right.ensures in
+    let first = c.rows-left.ensures in
+    let second = c.rows-right.ensures in
     let given = c.binary_rows.ensures in
     at_refusal d (binary c.args.op (curve c.args.curve) (pair d c.args.a) (pair d c.args.b))
     (two_due c.args.curve c.args.a c.args.b z.0 z.1 z.2 f first second (binary_divisor given))

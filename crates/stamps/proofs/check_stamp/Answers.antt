@@ -17,8 +17,8 @@ returns-in_err-check_curve c =
 pub limit-requires : goal.limit-requires
 limit-requires c = (curve_passes _ (sym c.in_ok-check_curve.ensures)).accepted
 
-pub returns-then-s-limit : goal.returns-then-s-limit
-returns-then-s-limit c = too_large _ _ c.in_ok-check_curve.ensures c.limit.ensures (omega arith)
+pub returns-else-s-limit : goal.returns-else-s-limit
+returns-else-s-limit c = too_large _ _ c.in_ok-check_curve.ensures c.limit.ensures (omega arith)
 
-pub returns : goal.returns
-returns c = none_due _ _ c.in_ok-check_curve.ensures c.limit.ensures (omega arith)
+pub returns-then-s-limit : goal.returns-then-s-limit
+returns-then-s-limit c = none_due _ _ c.in_ok-check_curve.ensures c.limit.ensures (omega arith)

@@ -14,9 +14,9 @@ returns-then-blank_from-2 c =
       sym c.blank_from-then-blank_from.ensures ∙ c.if-blank_from-2.true,
     )
 
-pub returns : goal.returns
+pub returns-else-a-le3 : goal.returns-else-a-le3
 unfolding shape_refusal unless
-returns c = elim c.else-a-le3.branch [
+returns-else-a-le3 c = elim c.else-a-le3.branch [
   | else-a-le3-via-then-a-le3+then-blank_from+else-blank_from-2 w ↦ simp (
     le-leb _ _ w.if-a-le3.true,
     sym w.blank_from.ensures ∙ w.if-blank_from.true,
