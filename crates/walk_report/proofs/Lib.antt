@@ -1,5 +1,4 @@
--- Laws of the report's lines, letters and steps.
-pub mod Marks
+-- Laws of the report's lines and steps.
 pub mod LineParts
 pub mod Advances
 pub mod LinesLeft

@@ -2,27 +2,27 @@
 // `refused` and the refusal's number.
 #![tactic(auto)]
 
+ghost use Rattle.std.specs.Prelude.{OnOk};
+ghost use Rattle.std.specs.Io.KnownBytes.{Appends};
+ghost use Rattle.walk_report.specs.Report.{report};
+
 use std::io;
 use std::io::Write;
-use stored_form::Cursor;
+use walk_report::{LineAnswer, Progress};
 
 // The number of bytes of an archive that are read at most.
 const ARCHIVE: usize = 65536;
 
 // Writes the walk report of an archive, one line for each turn, until no line is left.
-fn write_report<W: Write>(out: &mut W, archive: &[u8]) -> io::Result<()> {
-    let first = walk_report::begin(archive);
-    let mut report = first.report;
-    let next = first.next;
-    let mut at = next.at;
-    while walk_report::pending(report) {
-        let made = walk_report::next_line(report, archive, Cursor { at });
-        let line = made.line;
-        text::write_line(out, line)?;
-        let more = made.report;
-        let offset = made.next;
-        report = more;
-        at = offset.at;
+fn write_report<W: Write>(out: &mut W, archive: &[u8]) -> io::Result<()>
+    ensures { OnOk result (Appends (W.contents out.old) (W.contents out.new) (report archive.now)) }
+{
+    let mut state = walk_report::begin(archive);
+    while walk_report::pending(state.report) {
+        let LineAnswer { line, report, next } =
+            walk_report::next_line(state.report, archive, state.next);
+        line.write_to(out)?;
+        state = Progress { report, next };
     }
     Ok(())
 }

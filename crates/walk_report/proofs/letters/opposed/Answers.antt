@@ -1,9 +1,13 @@
 -- `letters::opposed` meets its contract.
-use mathlib.Core.Path.{ap, ◌∙◌}
+use Rattle.std.proofs.Common.{rules, ap, ◌∙◌}
 use Rattle.jacobian.specs.{Classes.same_class, Answer.Reply}
+use Rattle.jacobian.proofs.ByValue.Equality.{class_equal}
 use Rattle.walk_report.specs.Walk.{opposed}
 use Rattle.walk_report.proofs.letters.opposed.Goals as goal
 
 pub returns : goal.returns
 unfolding opposed
-returns c = c.same_class.ensures ∙ ap (λ (r : Reply). same_class c.args.a r.class) c.opposite-o.ensures
+returns c =
+    c.eq.ensures
+    ∙ class_equal _ _ (search rules) (search rules) (search rules) (search rules)
+    ∙ ap (same_class c.args.a) (c.class_of.ensures ∙ ap (λ (r : Reply). r.class) c.opposite.ensures)

@@ -1,5 +1,5 @@
 -- The drawing number is a part that may be empty.
-use Rattle.std.proofs.Common.{rules, arith}
+use Rattle.std.proofs.Common.{arith}
 use Rattle.std.proofs.lemmas.Grind.{common_steps}
 use Rattle.text.proofs.Appending.{both, laid}
 use Rattle.walk_report.specs.Lines.{first_line}
@@ -12,6 +12,6 @@ unfolding first_line
 returns c =
     let fits = first_short c.args.count c.args.drawing.now c.requires in
     elim c.if-not-is_empty.branch [
-        then-not-is_empty w ↦ grind (arith, common_steps, both, laid, part_some)
+      | then-not-is_empty w ↦ grind (arith, common_steps, both, laid, part_some)
       | else-not-is_empty w ↦ grind (arith, common_steps, both, laid, part_none)
     ]
