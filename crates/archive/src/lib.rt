@@ -3,7 +3,7 @@
 
 ghost use Rattle.std.specs.Prelude.{◌≡◌, get_or};
 ghost use Rattle.refusals.specs.Refusals.{refusal_of};
-ghost use Rattle.stored_form.specs.Reader.{header_layout};
+ghost use Rattle.stored_form.specs.Reader.{header_layout, read_field, reading_of};
 ghost use Rattle.archive.specs.Archive.{archive_refusal};
 ghost use Rattle.archive.specs.Reader.{reader, start, after_header, operations_expected, read_header_field, read_operation, read_pairs_expected, read_end, read_next, pending, read_header, advance_reading};
 
@@ -34,7 +34,7 @@ pub struct Reader {
     pub values: Record,
 }
 
-// The state after a field, with the offset of the next one.
+// The state of the reading, with the offset of the next field.
 #[derive(Clone, Copy)]
 pub struct Advance {
     pub reader: Reader,
@@ -92,65 +92,82 @@ fn advance_to(expected: Expected, values: Record, next: Cursor) -> Advance
     }
 }
 
-// Reads field i of the header.
-#[tactic(auto, using(crate::proofs::ReaderSteps::header_stops, crate::proofs::ReaderSteps::header_goes_on))]
-fn read_header_field(i: usize, h: Record, s: &[u8], at: Cursor) -> Result<Advance, Refusal>
-    ensures { advance_reading result ≡ read_header_field i h s.now at.at }
-{
-    let Read { values, next } = stored_form::read_field(header_tag(i), h, s, at)?;
-    Ok(advance_to(after_header(i, values.count), values, next))
-}
+impl Advance {
+    // Reads the field with this tag.
+    fn read_field(self, tag: u8, s: &[u8]) -> Result<Read, Refusal>
+        ensures { reading_of result ≡ read_field tag self.reader.values s.now self.next.at }
+    {
+        stored_form::read_field(tag, self.reader.values, s, self.next)
+    }
 
-// Reads an operation; this many are left, with this one.
-#[tactic(auto, using(crate::proofs::ReaderSteps::operation_stops, crate::proofs::ReaderSteps::operation_goes_on))]
-fn read_operation(left: u64, h: Record, s: &[u8], at: Cursor) -> Result<Advance, Refusal>
-    ensures { advance_reading result ≡ read_operation left h s.now at.at }
-{
-    let Read { values, next } = stored_form::read_field(OPERATION, h, s, at)?;
-    Ok(advance_to(operations_expected(left.saturating_sub(1)), values, next))
-}
+    // Reads field i of the header.
+    #[tactic(auto, using(crate::proofs::ReaderSteps::header_stops, crate::proofs::ReaderSteps::header_goes_on))]
+    fn read_header_field(self, i: usize, s: &[u8]) -> Result<Advance, Refusal>
+        ensures { advance_reading result ≡ read_header_field i self.reader.values s.now self.next.at }
+    {
+        let Read { values, next } = self.read_field(header_tag(i), s)?;
+        Ok(advance_to(after_header(i, values.count), values, next))
+    }
 
-// Reads the pairs of the operations.
-#[tactic(auto, using(crate::proofs::ReaderSteps::pairs_stop, crate::proofs::ReaderSteps::pairs_go_on))]
-fn read_pairs(h: Record, s: &[u8], at: Cursor) -> Result<Advance, Refusal>
-    ensures { advance_reading result ≡ read_pairs_expected h s.now at.at }
-{
-    let next = pairs::read_pairs(h.count, s, at)?;
-    Ok(advance_to(Expected::End, h, next))
-}
+    // Reads an operation; this many are left, with this one.
+    #[tactic(auto, using(crate::proofs::ReaderSteps::operation_stops, crate::proofs::ReaderSteps::operation_goes_on))]
+    fn read_operation(self, left: u64, s: &[u8]) -> Result<Advance, Refusal>
+        ensures { advance_reading result ≡ read_operation left self.reader.values s.now self.next.at }
+    {
+        let Read { values, next } = self.read_field(OPERATION, s)?;
+        Ok(advance_to(operations_expected(left.saturating_sub(1)), values, next))
+    }
 
-// Reads the end of the input.
-#[tactic(auto, using(stored_form::proofs::Readings::check_stops, stored_form::proofs::Readings::check_passes), unfolding(crate::specs::Reader::read_end, stored_form::specs::Fields::ended))]
-fn read_end(h: Record, s: &[u8], at: Cursor) -> Result<Advance, Refusal>
-    ensures { advance_reading result ≡ read_end h s.now at.at }
-{
-    stored_form::check_end(s, at)?;
-    Ok(advance_to(Expected::Nothing, h, at))
-}
+    // Reads the pairs of the operations.
+    #[tactic(auto, using(crate::proofs::ReaderSteps::pairs_stop, crate::proofs::ReaderSteps::pairs_go_on))]
+    fn read_pairs(self, s: &[u8]) -> Result<Advance, Refusal>
+        ensures { advance_reading result ≡ read_pairs_expected self.reader.values s.now self.next.at }
+    {
+        let next = pairs::read_pairs(self.reader.values.count, s, self.next)?;
+        Ok(advance_to(Expected::End, self.reader.values, next))
+    }
 
-// One step: reads what is expected at an offset.
-#[tactic(auto, unfolding(crate::specs::Reader::read_next))]
-pub fn read_next(r: Reader, s: &[u8], at: Cursor) -> Result<Advance, Refusal>
-    ensures { advance_reading result ≡ read_next r s.now at.at }
-{
-    match r.expected {
-        Expected::Header(i) => read_header_field(i, r.values, s, at),
-        Expected::Operations(left) => read_operation(left, r.values, s, at),
-        Expected::Pairs => read_pairs(r.values, s, at),
-        Expected::End => read_end(r.values, s, at),
-        Expected::Nothing => Ok(Advance {
-            reader: r,
-            next: at,
-        }),
+    // Reads the end of the input.
+    #[tactic(auto, using(stored_form::proofs::Readings::check_stops, stored_form::proofs::Readings::check_passes), unfolding(crate::specs::Reader::read_end, stored_form::specs::Fields::ended))]
+    fn read_end(self, s: &[u8]) -> Result<Advance, Refusal>
+        ensures { advance_reading result ≡ read_end self.reader.values s.now self.next.at }
+    {
+        stored_form::check_end(s, self.next)?;
+        Ok(advance_to(Expected::Nothing, self.reader.values, self.next))
+    }
+
+    // One step: reads what is expected.
+    #[tactic(auto, unfolding(crate::specs::Reader::read_next))]
+    fn read_next(self, s: &[u8]) -> Result<Advance, Refusal>
+        ensures { advance_reading result ≡ read_next self.reader s.now self.next.at }
+    {
+        match self.reader.expected {
+            Expected::Header(i) => self.read_header_field(i, s),
+            Expected::Operations(left) => self.read_operation(left, s),
+            Expected::Pairs => self.read_pairs(s),
+            Expected::End => self.read_end(s),
+            Expected::Nothing => Ok(self),
+        }
+    }
+
+    // Whether a field, the pairs or the end are expected.
+    #[tactic(auto, unfolding(crate::specs::Reader::pending))]
+    fn is_pending(self) -> bool
+        ensures { result ≡ pending self.reader.expected }
+    {
+        !matches!(self.reader.expected, Expected::Nothing)
     }
 }
 
-// Whether a field, the pairs or the end are expected.
-#[tactic(auto, unfolding(crate::specs::Reader::pending))]
-fn pending(r: Reader) -> bool
-    ensures { result ≡ pending r.expected }
+// One step: reads what is expected at an offset.
+pub fn read_next(r: Reader, s: &[u8], at: Cursor) -> Result<Advance, Refusal>
+    ensures { advance_reading result ≡ read_next r s.now at.at }
 {
-    !matches!(r.expected, Expected::Nothing)
+    let state = Advance {
+        reader: r,
+        next: at,
+    };
+    state.read_next(s)
 }
 
 // Reads the header; the operations are expected then.
@@ -176,8 +193,8 @@ pub fn check_archive(s: &[u8]) -> Result<(), Refusal>
         reader: start(),
         next: Cursor { at: 0 },
     };
-    while pending(state.reader) {
-        state = read_next(state.reader, s, state.next)?;
+    while state.is_pending() {
+        state = state.read_next(s)?;
     }
     Ok(())
 }

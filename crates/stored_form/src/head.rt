@@ -50,37 +50,38 @@ pub fn length_at(s: &[u8], at: usize) -> usize
     numbers::decode_number(&s[at + 1..at + 3]) as usize
 }
 
-// The head of the field at an offset, where this tag is expected; whether its length is allowed is known.
-#[tactic(auto, using(crate::proofs::Heads::length_inside, crate::proofs::Heads::head_102, crate::proofs::Heads::head_103, crate::proofs::Heads::head_104, crate::proofs::Heads::head_105, crate::proofs::Heads::head_whole))]
-pub(crate) fn read_head_by(tag: u8, allowed: bool, s: &[u8], at: Cursor) -> Result<Body, Refusal>
-    ensures { head_reading result ≡ read_head_by tag (λ n. allowed) s.now at.at }
-{
-    let left = s.len().saturating_sub(at.at);
-    if left < 3 {
-        return Err(Refusal::HeadCut);
+impl Cursor {
+    // The head of the field at this offset, where this tag is expected; whether its length is allowed is known.
+    #[tactic(auto, using(crate::proofs::Heads::length_inside, crate::proofs::Heads::head_102, crate::proofs::Heads::head_103, crate::proofs::Heads::head_104, crate::proofs::Heads::head_105, crate::proofs::Heads::head_whole))]
+    pub(crate) fn read_head_by(self, tag: u8, allowed: bool, s: &[u8]) -> Result<Body, Refusal>
+        ensures { head_reading result ≡ read_head_by tag (λ n. allowed) s.now self.at }
+    {
+        let left = s.len().saturating_sub(self.at);
+        if left < 3 {
+            return Err(Refusal::HeadCut);
+        }
+        if s[self.at] != tag {
+            return Err(Refusal::WrongTag);
+        }
+        if !allowed {
+            return Err(Refusal::WrongLength);
+        }
+        let len = length_at(s, self.at);
+        if left - 3 < len {
+            return Err(Refusal::BodyCut);
+        }
+        Ok(Body {
+            len,
+            next: Cursor {
+                at: self.at + 3 + len,
+            },
+        })
     }
-    if s[at.at] != tag {
-        return Err(Refusal::WrongTag);
-    }
-    if !allowed {
-        return Err(Refusal::WrongLength);
-    }
-    let len = length_at(s, at.at);
-    if left - 3 < len {
-        return Err(Refusal::BodyCut);
-    }
-    Ok(Body {
-        len,
-        next: Cursor {
-            at: at.at + 3 + len,
-        },
-    })
-}
 
-// The head of the field at an offset, where this tag is expected.
-#[tactic(auto, using(crate::proofs::Heads::head_by_length))]
-pub(crate) fn read_head(tag: u8, s: &[u8], at: Cursor) -> Result<Body, Refusal>
-    ensures { (h : Record) → head_reading result ≡ read_head tag h s.now at.at }
-{
-    read_head_by(tag, allows(tag, length_at(s, at.at)), s, at)
+    // The head of the field at this offset, where this tag is expected.
+    pub(crate) fn read_head(self, tag: u8, s: &[u8]) -> Result<Body, Refusal>
+        ensures { (h : Record) → head_reading result ≡ read_head tag h s.now self.at }
+    {
+        self.read_head_by(tag, allows(tag, length_at(s, self.at)), s)
+    }
 }

@@ -20,7 +20,7 @@ use jacobian::curves::COEFFICIENTS;
 use jacobian::{Class, Curve};
 use refusals::Refusal;
 
-// The tags.
+// The tags. They are bytes and no enum: a caller may expect any byte, and the layouts are public rows of bytes.
 pub const DEGREE: u8 = 0x40;
 
 pub const CURVE: u8 = 0x41;
@@ -76,13 +76,13 @@ pub const PAIR_LENGTH: usize = 4;
 
 pub const PAIRS_LIMIT: usize = 8192;
 
-// An offset in the input.
+// An offset in the input. It is kept without the bytes, since the answers of the public readers hold only the offset.
 #[derive(Clone, Copy)]
 pub struct Cursor {
     pub at: usize,
 }
 
-// A drawing number: len bytes, and 0 after them.
+// A drawing number: len bytes, and 0 after them. Memory is fixed, so that the bytes stand in the value.
 #[derive(Clone, Copy)]
 pub struct Drawing {
     pub len: usize,
@@ -143,7 +143,8 @@ pub fn empty_record() -> Record
 pub fn read_field(tag: u8, h: Record, s: &[u8], at: Cursor) -> Result<Read, Refusal>
     ensures { reading_of result ≡ read_field tag h s.now at.at }
 {
-    let head = head::read_head(tag, s, at);
+    // A head is taken apart by `let .. else`, a rule of the project; `?` would do.
+    let head = at.read_head(tag, s);
     let Ok(Body { len, next }) = head else {
         return Err(head.unwrap_err());
     };

@@ -1,4 +1,5 @@
 // The pairs of an archive, 0x48. They are read where they stand, and no value holds them.
+// A pair stays one number of four bytes, as the order of pairs and the public `pair_at` have it.
 ghost use Rattle.std.specs.Prelude.{◌≡◌, ◌&&◌, ltb};
 ghost use Rattle.refusals.specs.Refusals.{refusal_of};
 ghost use Rattle.stored_form.specs.Reader.{read_head_by, head_reading};
@@ -49,24 +50,27 @@ fn check_pairs(n: u64, body: &[u8]) -> Result<(), Refusal>
     Ok(())
 }
 
-// The head of the field 0x48 at an offset.
-fn read_pairs_head(s: &[u8], at: Cursor) -> Result<Body, Refusal>
-    ensures { head_reading result ≡ read_head_by 0x48 pairs_length s.now at.at }
-{
-    head::read_head_by(PAIRS, pairs_allow(head::length_at(s, at.at)), s, at)
-}
+impl Cursor {
+    // The head of the field 0x48 at this offset.
+    fn read_pairs_head(self, s: &[u8]) -> Result<Body, Refusal>
+        ensures { head_reading result ≡ read_head_by 0x48 pairs_length s.now self.at }
+    {
+        self.read_head_by(PAIRS, pairs_allow(head::length_at(s, self.at)), s)
+    }
 
-// Reads the field 0x48 of an archive with n operations: the offset after it.
-#[tactic(auto, using(crate::proofs::PairBytes::cut_stops, crate::proofs::PairBytes::pairs_inside, crate::proofs::PairBytes::check_stops_pairs, crate::proofs::PairBytes::pairs_pass))]
-fn read_pairs_field(n: u64, s: &[u8], at: Cursor) -> Result<Cursor, Refusal>
-    ensures { offset_reading result ≡ offset_of (read_pairs_field n s.now at.at) }
-{
-    let head = read_pairs_head(s, at);
-    let Ok(Body { len, next }) = head else {
-        return Err(head.unwrap_err());
-    };
-    check_pairs(n, &s[next.at - len..next.at])?;
-    Ok(next)
+    // Reads the field 0x48 of an archive with n operations: the offset after it.
+    #[tactic(auto, using(crate::proofs::PairBytes::cut_stops, crate::proofs::PairBytes::pairs_inside, crate::proofs::PairBytes::check_stops_pairs, crate::proofs::PairBytes::pairs_pass))]
+    fn read_pairs_field(self, n: u64, s: &[u8]) -> Result<Cursor, Refusal>
+        ensures { offset_reading result ≡ offset_of (read_pairs_field n s.now self.at) }
+    {
+        // A head is taken apart by `let .. else`, a rule of the project; `?` would do.
+        let head = self.read_pairs_head(s);
+        let Ok(Body { len, next }) = head else {
+            return Err(head.unwrap_err());
+        };
+        check_pairs(n, &s[next.at - len..next.at])?;
+        Ok(next)
+    }
 }
 
 // Reads the pairs of an archive with n operations, which follow these: the offset after the pairs.
@@ -77,7 +81,7 @@ pub fn read_pairs(n: u64, s: &[u8], at: Cursor) -> Result<Cursor, Refusal>
 {
     match s.get(at.at) {
         None => Ok(at),
-        Some(&PAIRS) => read_pairs_field(n, s, at),
+        Some(&PAIRS) => at.read_pairs_field(n, s),
         Some(_) => Err(Refusal::BytesRemain),
     }
 }
