@@ -1,10 +1,20 @@
 -- Degrees: 106 for those that are not accepted, and the bound 2^d for the others.
 use Prim.Native.Nat.{ℕ, ◌^◌}
-use mathlib.Core.{Path.◌≡◌, Path.refl, Bool.Bool, Bool.true, Bool.false, Bool.cond}
+use mathlib.Core.{Path.◌≡◌, Path.refl, Path.sym, Path.subst, Bool.Bool, Bool.true, Bool.false, Bool.cond}
 use native.Mathlib.Omega.{arith}
-use lib.{Dec.T, Pow.pow_pos}
+use lib.Dec.{T}
+use Rattle.refusals.specs.{Refusals.number, declared.Refusal.Refusal}
 use Rattle.binary_field_theory.specs.Element.{is_degree, Accepted}
+use Rattle.binary_field.specs.Degree.{degree_number}
+use Rattle.binary_field.specs.declared.degree.Degree.{Degree}
+use Rattle.binary_field.specs.declared.degree.Degree.TheVariants.{Five, SixtyOne}
 use Rattle.binary_field.specs.{Checks.unless, Answer.bound, Answer.degree_refusal}
+use Rattle.binary_field.proofs.Refusing.{number_positive}
+
+-- a degree of a field is accepted
+pub accepted : (g : Degree) → Accepted (degree_number g)
+accepted Five = tt
+accepted SixtyOne = tt
 
 pub accepted_degree : (d : ℕ) → degree_refusal d ≡ 0 → Accepted d
 unfolding degree_refusal unless
@@ -30,19 +40,13 @@ bound_accepted d = go (is_degree d)
     go true t = refl
     go false t = absurd t
 
--- a degree whose bound is 0 is refused
-pub bound_zero : (d : ℕ) → bound d ≡ 0 → 106 ≡ degree_refusal d
-unfolding bound degree_refusal unless
-bound_zero d = go (is_degree d)
-  where
-    go : (b : Bool) → cond b (2 ^ d) 0 ≡ 0 → ◌≡◌ {A = ℕ} 106 (cond b 0 106)
-    go true e = absurd (omega (arith, pow_pos d, e))
-    go false e = refl
+pub bound_of : (g : Degree) (d : ℕ) → degree_number g ≡ d → 2 ^ degree_number g ≡ bound d
+bound_of g d e = rw e (sym (bound_accepted d (subst Accepted e (accepted g))))
 
-pub bound_nonzero : (d : ℕ) → ¬ (bound d ≡ 0) → 0 ≡ degree_refusal d
+pub bound_refused : (r : Refusal) (d : ℕ) → number r ≡ degree_refusal d → 0 ≡ bound d
 unfolding bound degree_refusal unless
-bound_nonzero d = go (is_degree d)
+bound_refused r d = go (is_degree d)
   where
-    go : (b : Bool) → ¬ (cond b (2 ^ d) 0 ≡ 0) → ◌≡◌ {A = ℕ} 0 (cond b 0 106)
-    go true h = refl
-    go false h = absurd (h refl)
+    go : (b : Bool) → number r ≡ cond b 0 106 → ◌≡◌ {A = ℕ} 0 (cond b (2 ^ d) 0)
+    go true e = absurd (number_positive r e)
+    go false e = refl

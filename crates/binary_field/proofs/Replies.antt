@@ -7,10 +7,10 @@
 -- `quadratic_means`: the answer is the root of y² + y = a with lowest bit 0, that there is no root, or the refusal.
 -- `quadratic_in_field`: a root of y² + y = a is one in the field.
 -- `found_is`, `none_found`, `found_root`: what a caller that matches on the answer knows.
-use mathlib.Core.{Path.◌≡◌, Path.refl, Path.ap, Path.sym, Path.◌∙◌, Bool.Bool, Bool.true, Bool.false, Bool.◌&&◌, List.[], List.◌∷◌, Option.Option, Option.none, Option.some}
+use mathlib.Core.{Path.◌≡◌, Path.refl, Path.ap, Path.sym, Path.◌∙◌, Bool.Bool, Bool.true, Bool.false, List.List, List.[], List.◌∷◌, Option.Option, Option.none, Option.some}
 use Prim.Native.Nat.{ℕ, zero, suc, ◌-◌, ◌%◌, ◌^◌, ◌<◌}
 use native.Mathlib.Omega.{arith}
-use lib.{Dec.T, Dec.ltb, Dec.ltb→lt}
+use lib.{Dec.T, Dec.ltb}
 use borrow.Author.Tests.{lt-ltb}
 use Rattle.std.specs.Prelude.{Result, Ok, Err, Some, None}
 use Rattle.std.specs.Prelude as std
@@ -18,11 +18,13 @@ use Rattle.refusals.specs.{Refusals.number, declared.Refusal.Refusal}
 use Rattle.binary_field.specs.{Field.element as at}
 use Rattle.binary_field_theory.specs.{Carryless.◌⊕◌, Element.is_degree, Element.Accepted, Element.product, Element.square, Element.power, Element.root, Element.inverse, Quadratic.even_root, Quadratic.trace, Quadratic.half_trace}
 use Rattle.binary_field_theory.specs.Quadratic as equation
-use Rattle.binary_field_theory.proofs.{Linear.both, Elements.element_path, Theorems.one_root, Theorems.one_inverse, Theorems.even_root_found, Theorems.even_root_none, Theorems.even_root_by_trace, Theorems.none_by_trace}
+use Rattle.binary_field_theory.proofs.{Elements.element_path, Theorems.one_root, Theorems.one_inverse, Theorems.even_root_found, Theorems.even_root_none, Theorems.even_root_by_trace, Theorems.none_by_trace}
 use Rattle.binary_field.specs.{Field.field, Answer.element, Answer.refusal, Answer.reply, Answer.below, Answer.degree_refusal, Answer.element_refusal, Answer.inverse_refusal, Answer.answered, Answer.sum_reply, Answer.product_reply, Answer.square_reply, Answer.root_reply, Answer.inverse_reply, Answer.InverseMeans, Answer.RootMeans, Answer.found, Answer.no_root, Answer.refused, Answer.solution_reply, Answer.solved, Answer.quadratic_reply, Answer.QuadraticMeans, Checks.unless, Checks.◌or_else◌}
 use Rattle.field_laws.specs.Division.{inverse_of}
 use Rattle.binary_field.proofs.Field.{add_number, mul_number, zero_number, root_number, inverse_number, element_small}
-use Rattle.binary_field.proofs.{Checks.then_zero, Refusing.number_positive}
+use Rattle.lists.specs.Lists.{more}
+use Rattle.binary_field.specs.{Checking.Below, Degree.degree_number, declared.degree.Degree.Degree}
+use Rattle.binary_field.proofs.{Checks.then_zero, Checks.unless_zero, Checking.below_decides, Degrees.accepted_degree, Refusing.number_positive, Refusing.stops_first, Refusing.goes_on}
 
 refusal_of : (k v : ℕ) → (k ≡ 0 → ⊥) → refusal k ≡ answered k v
 unfolding answered
@@ -38,28 +40,38 @@ pub replies : {n u v : ℕ} → 0 ≡ n → u ≡ v → element u ≡ answered n
 unfolding answered
 replies e f = rw (← e) (ap element f)
 
-both_pass : (x y : Bool) → ◌≡◌ {A = ℕ} 0 (unless x 106 or_else unless y 110) → T x × T y
-unfolding unless ◌or_else◌
-both_pass true true e = (tt, tt)
-both_pass true false e = absurd (omega arith)
-both_pass false y e = absurd (omega arith)
+-- ---- the checks
 
--- where nothing is refused, the degree is accepted and the numbers are in range
-pub none_refused : (d a b : ℕ) → 0 ≡ element_refusal d (a ∷ b ∷ []) → Accepted d × (a < 2 ^ d) × (b < 2 ^ d)
-unfolding element_refusal degree_refusal below
-none_refused d a b e =
-    let z = both_pass (is_degree d) (ltb a (2 ^ d) && (ltb b (2 ^ d) && true)) e in
-    let y = both (ltb a (2 ^ d)) (ltb b (2 ^ d) && true) z.1 in
-    (z.0, ltb→lt _ _ y.0, ltb→lt _ _ (both (ltb b (2 ^ d)) true y.1).0)
+-- a refused degree is the refusal of the call
+pub wrong_degree : (r : Refusal) (d : ℕ) (ns : List ℕ) → number r ≡ degree_refusal d → number r ≡ element_refusal d ns
+unfolding element_refusal
+wrong_degree r d ns e = stops_first r (unless (below (2 ^ d) ns) 110) e
 
--- a call on one number tests it twice, with the refusal of one test
-pub refusal_twice : (d a : ℕ) → element_refusal d (a ∷ a ∷ []) ≡ element_refusal d (a ∷ [])
-unfolding element_refusal below
-refusal_twice d a = ap (λ (x : Bool). degree_refusal d or_else unless x 110) (twice (ltb a (2 ^ d)))
-  where
-    twice : (x : Bool) → (x && (x && true)) ≡ (x && true)
-    twice true = refl
-    twice false = refl
+-- where the degree is not refused, the range of the numbers decides
+pub then_range : (g : Degree) (d : ℕ) (ns : List ℕ) {n : ℕ} → (0 ≡ degree_refusal d) × (degree_number g ≡ d) → n ≡ unless (below (2 ^ degree_number g) ns) 110
+    → n ≡ element_refusal d ns
+unfolding element_refusal
+then_range g d ns e f = goes_on e.0 (rw e.1 at f)
+
+-- where the range is not refused, the numbers are below the bound
+pub in_range : (m : ℕ) {ns : List ℕ} → 0 ≡ unless (below m ns) 110 → Below m ns
+in_range m {ns} e = (below_decides m ns).0 (unless_zero (below m ns) 110 (omega arith) (sym e))
+
+pub one_below : {m a : ℕ} → 0 ≡ unless (below m (a ∷ [])) 110 → a < m
+one_below {m} {a} e = elim (in_range m e) [ more h hs ↦ h ]
+
+pub two_below : {m a b : ℕ} → 0 ≡ unless (below m (a ∷ b ∷ [])) 110 → (a < m) × (b < m)
+two_below {m} {a} {b} e = elim (in_range m e) [ more h hs ↦ (h, elim hs [ more k ks ↦ k ]) ]
+
+-- what the proofs of the calls use
+pub ruleset answering = (refuses, replies, wrong_degree, then_range, one_below, two_below)
+
+-- where a call on one number is not refused, the degree is accepted and the number in range
+none_refused : (d a : ℕ) → 0 ≡ element_refusal d (a ∷ []) → Accepted d × (a < 2 ^ d)
+unfolding element_refusal
+none_refused d a e =
+    let z = then_zero (degree_refusal d) (unless (below (2 ^ d) (a ∷ [])) 110) (sym e) in
+    (accepted_degree d z.0, one_below (sym z.1))
 
 of_T : (x : Bool) → T x → x ≡ true
 of_T true t = refl
@@ -101,7 +113,7 @@ unfolding root_reply answered
 root_means d a = by (element_refusal d (a ∷ [])) refl
   where
     by : (k : ℕ) → element_refusal d (a ∷ []) ≡ k → RootMeans d a (answered k (root d a))
-    by zero e = let p = none_refused d a a (sym (refusal_twice d a ∙ e)) in (e, one_root d p.0 a p.1)
+    by zero e = let p = none_refused d a (sym e) in (e, one_root d p.0 a p.1)
     by (suc k) e = (sym e, λ z. omega arith)
 
 -- ---- the inverse
@@ -117,12 +129,20 @@ unfolding inverse_refusal unless
 zero_due d = nonzero_due (element_refusal d (0 ∷ []))
 
 -- where nothing is refused, the number is an element of an accepted degree, and not 0
-pub inverse_unrefused : (d a : ℕ) → 0 ≡ inverse_refusal d a → Accepted d × (a < 2 ^ d) × ¬ (a ≡ 0)
+inverse_unrefused : (d a : ℕ) → 0 ≡ inverse_refusal d a → Accepted d × (a < 2 ^ d) × ¬ (a ≡ 0)
 unfolding inverse_refusal
 inverse_unrefused d a e =
     let z = then_zero (element_refusal d (a ∷ [])) _ (sym e) in
-    let p = none_refused d a a (sym (refusal_twice d a ∙ z.0)) in
+    let p = none_refused d a (sym z.0) in
     (p.0, p.1, λ is. zero_due d (ap (inverse_refusal d) (sym is) ∙ sym e))
+
+pub inverse_refused : (d a : ℕ) (r : Refusal) → number r ≡ element_refusal d (a ∷ []) → number r ≡ inverse_refusal d a
+unfolding inverse_refusal
+inverse_refused d a r e = stops_first r (unless (ltb 0 a) 117) e
+
+pub then_invertible : (d a : ℕ) {n : ℕ} → 0 ≡ element_refusal d (a ∷ []) → n ≡ unless (ltb 0 a) 117 → n ≡ inverse_refusal d a
+unfolding inverse_refusal
+then_invertible d a e f = goes_on e f
 
 pub inverse_refuses : (d a : ℕ) (r : Refusal) → number r ≡ inverse_refusal d a → refusal (number r) ≡ inverse_reply d a
 unfolding inverse_reply
@@ -217,10 +237,9 @@ unfolding solved
 refused_of zero o h = absurd (h refl)
 refused_of (suc k) o h = refl
 
-pub quadratic_refused : (d a : ℕ) (r : Refusal) → number r ≡ element_refusal d (a ∷ a ∷ []) → refused (number r) ≡ quadratic_reply d a
+pub quadratic_refused : (d a : ℕ) (r : Refusal) → number r ≡ element_refusal d (a ∷ []) → refused (number r) ≡ quadratic_reply d a
 unfolding quadratic_reply
-quadratic_refused d a r e =
-    refused_of (number r) (even_root d a) (number_positive r) ∙ ap (λ (n : ℕ). solved n (even_root d a)) (e ∙ refusal_twice d a)
+quadratic_refused d a r e = refused_of (number r) (even_root d a) (number_positive r) ∙ ap (λ (n : ℕ). solved n (even_root d a)) e
 
 -- for an element of an accepted degree the answer is what the search finds, by trace and half-trace
 module _ (d a : ℕ) (ok : Accepted d) (ha : a < 2 ^ d) where
@@ -249,7 +268,7 @@ unfolding quadratic_reply solved
 quadratic_means d a = by (element_refusal d (a ∷ [])) refl (even_root d a) refl
   where
     accepted : element_refusal d (a ∷ []) ≡ 0 → Accepted d
-    accepted e = (none_refused d a a (sym (refusal_twice d a ∙ e))).0
+    accepted e = (none_refused d a (sym e)).0
 
     by : (k : ℕ) → element_refusal d (a ∷ []) ≡ k → (o : Option ℕ) → even_root d a ≡ o → QuadraticMeans d a (solved k o)
     by zero e (some y) f = (e, even_root_found d (accepted e) f)

@@ -3,3 +3,4 @@ pub mod Field
 pub mod Checks
 pub mod Answer
 pub mod Checking
+pub mod Degree

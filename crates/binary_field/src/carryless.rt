@@ -1,9 +1,13 @@
 // The product of two elements without a table or a branch, by carry-less products made of integer products.
 // The remainder multiplies the modulus by each high bit, 0 or 1. The leading term of the multiple cancels the bit, so
 // that only its other terms are added.
-ghost use Rattle.std.specs.Prelude.{◌≡◌, ◌+◌, ◌*◌, ◌^◌, ◌<◌};
+ghost use Rattle.std.specs.Prelude.{◌≡◌, ℕ, ◌+◌, ◌*◌, ◌^◌, ◌<◌};
 ghost use Rattle.binary_field_theory.specs.Carryless.{clmul, remainder};
-ghost use Rattle.binary_field_theory.specs.Element.{Accepted, low, product};
+ghost use Rattle.binary_field_theory.specs.Element.{low, product};
+ghost use Rattle.binary_field.specs.Degree.{degree_number};
+
+use crate::degree::Degree;
+use std::marker::Model;
 
 // The carry-less product of two 32-bit numbers. Each is cut into four parts by bit position modulo 4.
 // In the integer product of two parts at most eight ones meet at a position, so that their count fits the four bits up
@@ -28,17 +32,25 @@ pub(crate) fn clmul32(a: u64, b: u64) -> u64
         ^ ((z2 & 0x4444_4444_4444_4444) ^ (z3 & 0x8888_8888_8888_8888))
 }
 
-// A number of up to 125 bits, hi * 2^61 + lo, with lo below 2^61.
+// A number of up to 122 bits in two words.
 #[derive(Drop)]
 pub(crate) struct Words {
     pub(crate) lo: u64,
     pub(crate) hi: u64,
 }
 
+impl Model for Words {
+    ghost Value = { ℕ };
+
+    ghost view = { λ w. w.hi * 2 ^ 61 + w.lo };
+
+    ghost invariant = { λ w. (w.lo < 2 ^ 61) × (w.hi < 2 ^ 61) };
+}
+
 // The carry-less product of two 61-bit numbers by Karatsuba's rule: three products of halves of 31 and 30 bits.
 pub(crate) fn wide_product(a: u64, b: u64) -> Words
     requires { (a < 2 ^ 61) × (b < 2 ^ 61) }
-    ensures { (result.lo < 2 ^ 61) × (result.hi * 2 ^ 61 + result.lo ≡ clmul a b) }
+    ensures { result ≡ clmul a b }
 {
     let a0 = a & 0x7fff_ffff;
     let b0 = b & 0x7fff_ffff;
@@ -83,23 +95,21 @@ pub(crate) fn fold_5(n: u64) -> u64
 // The remainder modulo t^61 + t^5 + t^2 + t + 1. The bits from t^117 on, whose multiples reach above t^60, are folded
 // first, each by a product of its own. Then the bits below are folded, with those of the first multiples above t^60.
 pub(crate) fn fold_61(w: Words) -> u64
-    requires { (w.lo < 2 ^ 61) × (w.hi * 2 ^ 61 + w.lo < 2 ^ 122) }
-    ensures { result ≡ remainder 61 (low 61) (w.hi * 2 ^ 61 + w.lo) }
+    ensures { result ≡ remainder 61 (low 61) w }
 {
-    let lo = w.lo;
-    let hi = w.hi;
+    let Words { lo, hi } = w;
     let first = multiples(hi >> 56, 0b10_0111);
     let second = multiples((hi & 0xff_ffff_ffff_ffff) ^ (first >> 5), 0b10_0111);
     (lo ^ ((first & 0x1f) << 56)) ^ second
 }
 
 // The product of two elements. Only the degree is tested: no branch, no loop end and no index depends on an element.
-pub(crate) fn product_of(d: u8, a: u64, b: u64) -> u64
-    requires { Accepted d × (a < 2 ^ d) × (b < 2 ^ d) }
-    ensures { result ≡ product d a b }
+pub(crate) fn product_of(degree: Degree, a: u64, b: u64) -> u64
+    requires { (a < 2 ^ degree_number degree) × (b < 2 ^ degree_number degree) }
+    ensures { result ≡ product (degree_number degree) a b }
 {
-    if d == 5 {
-        return fold_5(clmul32(a, b));
+    match degree {
+        Degree::Five => fold_5(clmul32(a, b)),
+        Degree::SixtyOne => fold_61(wide_product(a, b)),
     }
-    fold_61(wide_product(a, b))
 }

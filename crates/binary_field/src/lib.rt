@@ -3,12 +3,14 @@
 // The inverse then refuses 0 with 117.
 #![tactic(auto)]
 
-ghost use Rattle.std.specs.Prelude.{◌≡◌, [], ◌∷◌};
+ghost use Rattle.std.specs.Prelude.{◌≡◌, ◌^◌, ltb, [], ◌∷◌};
 ghost use Rattle.binary_field.specs.Checks.{unless};
+ghost use Rattle.binary_field.specs.Degree.{degree_number};
 ghost use Rattle.refusals.specs.Refusals.{refusal_of};
-ghost use Rattle.binary_field.specs.Answer.{reply, below, bound, degree_refusal, element_refusal, inverse_refusal, sum_reply, product_reply, square_reply, root_reply, inverse_reply, solution_reply, quadratic_reply};
+ghost use Rattle.binary_field.specs.Answer.{reply, below, bound, degree_refusal, sum_reply, product_reply, square_reply, root_reply, inverse_reply, solution_reply, quadratic_reply};
 
 mod carryless;
+mod degree;
 mod inverting;
 mod multisquaring;
 mod quadratics;
@@ -16,16 +18,17 @@ mod rooting;
 mod spreading;
 mod squaring;
 
+use crate::degree::Degree;
+use crate::spreading::SpreadTable;
 use refusals::Refusal;
 
 // The number of elements of the field of degree d, 2^d; 0 for a refused degree.
 pub fn bound(d: u8) -> u64
     ensures { result ≡ bound d }
 {
-    match d {
-        5 => 0x20,
-        61 => 0x2000_0000_0000_0000,
-        _ => 0,
+    match Degree::try_from(d) {
+        Ok(degree) => degree.bound(),
+        Err(_) => 0,
     }
 }
 
@@ -33,93 +36,104 @@ pub fn bound(d: u8) -> u64
 pub fn check_degree(d: u8) -> Result<(), Refusal>
     ensures { refusal_of result ≡ degree_refusal d }
 {
-    match d {
-        5 | 61 => Ok(()),
-        _ => Err(Refusal::WrongDegree),
-    }
+    Degree::try_from(d)?;
+    Ok(())
 }
 
-// Refuses two numbers of which one is m or more.
-fn check_range(m: u64, a: u64, b: u64) -> Result<(), Refusal>
-    ensures { refusal_of result ≡ unless (below m (a ∷ b ∷ [])) 110 }
+// Refuses a number that is no element of the field.
+fn check_element(degree: Degree, a: u64) -> Result<(), Refusal>
+    ensures { refusal_of result ≡ unless (below (2 ^ degree_number degree) (a ∷ [])) 110 }
 {
-    if a < m && b < m {
+    if a < degree.bound() {
         Ok(())
     } else {
         Err(Refusal::NotAnElement)
     }
 }
 
-// The checks of a call on two numbers. The degree is tested first.
-fn check_elements(d: u8, a: u64, b: u64) -> Result<(), Refusal>
-    ensures { refusal_of result ≡ element_refusal d (a ∷ b ∷ []) }
+// Refuses two numbers of which one is no element of the field.
+fn check_elements(degree: Degree, a: u64, b: u64) -> Result<(), Refusal>
+    ensures { refusal_of result ≡ unless (below (2 ^ degree_number degree) (a ∷ b ∷ [])) 110 }
 {
-    check_degree(d)?;
-    check_range(bound(d), a, b)
+    let bound = degree.bound();
+    if a < bound && b < bound {
+        Ok(())
+    } else {
+        Err(Refusal::NotAnElement)
+    }
 }
 
-// The checks of an inverse: 0 is refused after the other tests.
-fn check_inverse(d: u8, a: u64) -> Result<(), Refusal>
-    ensures { refusal_of result ≡ inverse_refusal d a }
+// Refuses 0, which has no inverse.
+fn check_invertible(a: u64) -> Result<(), Refusal>
+    ensures { refusal_of result ≡ unless (ltb 0 a) 117 }
 {
-    check_elements(d, a, a)?;
-    if a == 0 {
-        Err(Refusal::ZeroHasNoInverse)
-    } else {
-        Ok(())
+    match a {
+        0 => Err(Refusal::ZeroHasNoInverse),
+        _ => Ok(()),
     }
 }
 
 // The sum of two elements.
+#[tactic(auto, using(crate::proofs::Replies::answering), unfolding(crate::specs::Answer::sum_reply))]
 pub fn sum(d: u8, a: u64, b: u64) -> Result<u64, Refusal>
     ensures { reply result ≡ sum_reply d a b }
 {
-    check_elements(d, a, b)?;
+    let degree = Degree::try_from(d)?;
+    check_elements(degree, a, b)?;
     Ok(a ^ b)
 }
 
 // The product of two elements.
+#[tactic(auto, using(crate::proofs::Replies::answering), unfolding(crate::specs::Answer::product_reply))]
 pub fn product(d: u8, a: u64, b: u64) -> Result<u64, Refusal>
     ensures { reply result ≡ product_reply d a b }
 {
-    check_elements(d, a, b)?;
-    Ok(carryless::product_of(d, a, b))
+    let degree = Degree::try_from(d)?;
+    check_elements(degree, a, b)?;
+    Ok(carryless::product_of(degree, a, b))
 }
 
 // The square of an element.
+#[tactic(auto, using(crate::proofs::Replies::answering), unfolding(crate::specs::Answer::square_reply))]
 pub fn square(d: u8, a: u64) -> Result<u64, Refusal>
     ensures { reply result ≡ square_reply d a }
 {
-    check_elements(d, a, a)?;
-    let table = spreading::spreads();
-    Ok(squaring::square_of(d, a, &table))
+    let degree = Degree::try_from(d)?;
+    check_element(degree, a)?;
+    Ok(SpreadTable::new(degree).square(a))
 }
 
 // The square root of an element.
+#[tactic(auto, using(crate::proofs::Replies::answering), unfolding(crate::specs::Answer::root_reply))]
 pub fn square_root(d: u8, a: u64) -> Result<u64, Refusal>
     ensures { reply result ≡ root_reply d a }
 {
-    check_elements(d, a, a)?;
-    Ok(rooting::root_of(d, a))
+    let degree = Degree::try_from(d)?;
+    check_element(degree, a)?;
+    Ok(rooting::root_of(degree, a))
 }
 
 // The inverse of an element. 0 has none and is refused.
+#[tactic(auto, using(crate::proofs::Replies::answering, crate::proofs::Replies::inverse_refuses, crate::proofs::Replies::inverse_answers, crate::proofs::Replies::inverse_refused, crate::proofs::Replies::then_invertible))]
 pub fn inverse(d: u8, a: u64) -> Result<u64, Refusal>
     ensures { reply result ≡ inverse_reply d a }
 {
-    check_inverse(d, a)?;
-    let table = spreading::spreads();
-    Ok(inverting::inverse_of(d, a, &table))
+    let degree = Degree::try_from(d)?;
+    check_element(degree, a)?;
+    check_invertible(a)?;
+    Ok(inverting::inverse_of(degree, a))
 }
 
 // The root of y² + y = a with lowest bit 0: the half-trace of a with that bit cleared, if the trace of a is 0.
+#[tactic(auto, using(crate::proofs::Replies::answering, crate::proofs::Replies::quadratic_refused))]
 pub fn quadratic_root(d: u8, a: u64) -> Result<Option<u64>, Refusal>
     ensures { solution_reply result ≡ quadratic_reply d a }
 {
-    check_elements(d, a, a)?;
-    if quadratics::trace_of(d, a) != 0 {
+    let degree = Degree::try_from(d)?;
+    check_element(degree, a)?;
+    if quadratics::trace_of(degree, a) != 0 {
         return Ok(None);
     }
-    let h = quadratics::half_trace_of(d, a);
+    let h = quadratics::half_trace_of(degree, a);
     Ok(Some(h ^ (h % 2)))
 }

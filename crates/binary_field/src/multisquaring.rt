@@ -1,8 +1,10 @@
 // Six squarings of an element of GF(2^61) at once. Squaring is additive, so the result is the sum of what each
 // hexadecimal digit of the element gives at its position. A table of 256 entries holds these.
-ghost use Rattle.std.specs.Prelude.{◌≡◌, ◌*◌, ◌<◌, ◌^◌};
-ghost use Rattle.binary_field_theory.specs.Element.{squarings};
 ghost use Rattle.binary_field_theory.specs.Multisquaring.{Multisquares};
+ghost use Rattle.binary_field.specs.declared.degree.Degree.TheVariants.{SixtyOne};
+
+use crate::degree::Degree;
+use crate::squaring::Squaring;
 
 // Entry 16 i + j is j t^(4i), squared six times.
 const MULTISQUARES: [u64; 256] = [
@@ -264,39 +266,38 @@ const MULTISQUARES: [u64; 256] = [
     0x1a5d_bd1a_8acd_5c2e,
 ];
 
-// The table. Bind it once and lend it: each use of the constant copies it.
-pub(crate) fn multisquares() -> [u64; 256]
-    ensures { Multisquares result }
-{
-    MULTISQUARES
+// The table.
+#[derive(Drop)]
+pub(crate) struct MultisquareTable {
+    entries: [u64; 256],
+    ghost multisquares: { Multisquares entries },
 }
 
-// An element squared six times: the sum of the table's entries for its sixteen hexadecimal digits.
-pub(crate) fn multisquare(a: u64, table: &[u64; 256]) -> u64
-    requires { Multisquares table.now }
-    ensures { result ≡ squarings 61 6 a }
-{
-    let mut r = 0u64;
-    let mut i = 0u64;
-    while i < 16 {
-        let digit = (a >> (4 * i)) & 0xf;
-        let place = (16 * i + digit) as usize;
-        r ^= table[place];
-        i += 1;
+impl MultisquareTable {
+    // Make it once and lend it: each use of the constant copies the table.
+    pub(crate) fn new() -> MultisquareTable {
+        MultisquareTable {
+            entries: MULTISQUARES,
+        }
     }
-    r
 }
 
-// An element squared 6 n times, by n steps of six squarings.
-pub(crate) fn multisquare_times(a: u64, n: u8, table: &[u64; 256]) -> u64
-    requires { (a < 2 ^ 61) × Multisquares table.now }
-    ensures { (result ≡ squarings 61 (n * 6) a) × (result < 2 ^ 61) }
-{
-    let mut r = a;
-    let mut i = 0u8;
-    while i < n {
-        r = multisquare(r, table);
-        i += 1;
+impl Squaring for MultisquareTable {
+    ghost field_degree = { λ _. SixtyOne };
+
+    ghost times = { 6 };
+
+    fn degree(&self) -> Degree {
+        Degree::SixtyOne
     }
-    r
+
+    // The sum of the table's entries for the sixteen hexadecimal digits.
+    fn step(&self, a: u64) -> u64 {
+        let mut sum = 0;
+        for i in 0..16 {
+            let digit = (a >> (4 * i)) & 0xf;
+            sum ^= self.entries[(16 * i + digit) as usize];
+        }
+        sum
+    }
 }

@@ -1,71 +1,68 @@
 // Trace and half-trace of an element a: they say whether y² + y = a has a root, and give one.
 ghost use Rattle.std.specs.Prelude.{◌≡◌, ◌*◌, ◌<◌, ◌^◌};
 ghost use Rattle.binary_field_theory.specs.Carryless.{◌⊕◌};
-ghost use Rattle.binary_field_theory.specs.Element.{Accepted, squarings};
+ghost use Rattle.binary_field_theory.specs.Element.{squarings};
 ghost use Rattle.binary_field_theory.specs.Quadratic.{trace, half_trace};
-ghost use Rattle.binary_field_theory.specs.Spreading.{Spreads};
-ghost use Rattle.binary_field_theory.specs.Multisquaring.{Multisquares};
+ghost use Rattle.binary_field.specs.Degree.{degree_number};
 
-use crate::{multisquaring, spreading, squaring};
+use crate::degree::Degree;
+use crate::multisquaring::MultisquareTable;
+use crate::spreading::SpreadTable;
+use crate::squaring;
+use crate::squaring::Squaring;
 
 // The trace: the sum of bits 0 and d - 2.
-pub(crate) fn trace_of(d: u8, a: u64) -> u64
-    requires { Accepted d × (a < 2 ^ d) }
-    ensures { result ≡ trace d a }
+pub(crate) fn trace_of(degree: Degree, a: u64) -> u64
+    requires { a < 2 ^ degree_number degree }
+    ensures { result ≡ trace (degree_number degree) a }
 {
+    let d = u8::from(degree);
     (a ^ (a >> (d - 2))) % 2
 }
 
-// The fourth power of x, plus a.
-fn fourth_power_plus(d: u8, x: u64, a: u64, table: &[u16; 256]) -> u64
-    requires { Accepted d × (x < 2 ^ d) × (a < 2 ^ d) × Spreads table.now }
-    ensures { (result ≡ squarings d 2 x ⊕ a) × (result < 2 ^ d) }
+// x, squared by n steps of a table, plus y.
+fn terms_joined<S: Squaring>(table: &S, x: u64, n: u8, y: u64) -> u64
+    requires { let d = degree_number (S.field_degree table.now) in (x < 2 ^ d) × (y < 2 ^ d) }
+    ensures { let d = degree_number (S.field_degree table.now) in
+        (result ≡ squarings d (n * S.times) x ⊕ y) × (result < 2 ^ d) }
 {
-    let square = squaring::square_of(d, x, table);
-    squaring::square_of(d, square, table) ^ a
-}
-
-// x squared 6 n times, plus y.
-fn multisquare_plus(x: u64, n: u8, y: u64, sixfold: &[u64; 256]) -> u64
-    requires { (x < 2 ^ 61) × (y < 2 ^ 61) × Multisquares sixfold.now }
-    ensures { (result ≡ squarings 61 (n * 6) x ⊕ y) × (result < 2 ^ 61) }
-{
-    multisquaring::multisquare_times(x, n, sixfold) ^ y
+    squaring::stepped(table, x, n) ^ y
 }
 
 // The half-trace in GF(2^5): the three terms a + a^4 + a^16.
-fn half_trace_5(a: u64, table: &[u16; 256]) -> u64
-    requires { (a < 2 ^ 5) × Spreads table.now }
+fn half_trace_5(a: u64) -> u64
+    requires { a < 2 ^ 5 }
     ensures { result ≡ half_trace 5 a }
 {
-    let h2 = fourth_power_plus(5, a, a, table);
-    fourth_power_plus(5, h2, a, table)
+    let single = SpreadTable::new(Degree::Five);
+    let h2 = terms_joined(&single, a, 2, a);
+    terms_joined(&single, h2, 2, a)
 }
 
 // The half-trace in GF(2^61): the 31 terms a + a^4 + .. + a^(2^60), by the chain 1, 2, 3, 6, 12, 24, 30, 31.
 // From j terms and k terms, 2 j squarings of the k terms and a sum make j + k terms.
-fn half_trace_61(a: u64, table: &[u16; 256], sixfold: &[u64; 256]) -> u64
-    requires { (a < 2 ^ 61) × Spreads table.now × Multisquares sixfold.now }
+fn half_trace_61(a: u64) -> u64
+    requires { a < 2 ^ 61 }
     ensures { result ≡ half_trace 61 a }
 {
-    let h2 = fourth_power_plus(61, a, a, table);
-    let h3 = fourth_power_plus(61, h2, a, table);
-    let h6 = multisquare_plus(h3, 1, h3, sixfold);
-    let h12 = multisquare_plus(h6, 2, h6, sixfold);
-    let h24 = multisquare_plus(h12, 4, h12, sixfold);
-    let h30 = multisquare_plus(h24, 2, h6, sixfold);
-    fourth_power_plus(61, h30, a, table)
+    let single = SpreadTable::new(Degree::SixtyOne);
+    let sixfold = MultisquareTable::new();
+    let h2 = terms_joined(&single, a, 2, a);
+    let h3 = terms_joined(&single, h2, 2, a);
+    let h6 = terms_joined(&sixfold, h3, 1, h3);
+    let h12 = terms_joined(&sixfold, h6, 2, h6);
+    let h24 = terms_joined(&sixfold, h12, 4, h12);
+    let h30 = terms_joined(&sixfold, h24, 2, h6);
+    terms_joined(&single, h30, 2, a)
 }
 
 // The half-trace, by the chain of the degree.
-pub(crate) fn half_trace_of(d: u8, a: u64) -> u64
-    requires { Accepted d × (a < 2 ^ d) }
-    ensures { result ≡ half_trace d a }
+pub(crate) fn half_trace_of(degree: Degree, a: u64) -> u64
+    requires { a < 2 ^ degree_number degree }
+    ensures { result ≡ half_trace (degree_number degree) a }
 {
-    let table = spreading::spreads();
-    if d == 5 {
-        return half_trace_5(a, &table);
+    match degree {
+        Degree::Five => half_trace_5(a),
+        Degree::SixtyOne => half_trace_61(a),
     }
-    let sixfold = multisquaring::multisquares();
-    half_trace_61(a, &table, &sixfold)
 }

@@ -1,12 +1,14 @@
 // The square root of an element a = e^2 + t o^2: e plus o times the root of t.
 // e has the bits of a at even positions, o those at odd positions.
-ghost use Rattle.std.specs.Prelude.{◌≡◌, ◌+◌, ◌*◌, ◌<◌, ◌^◌};
+ghost use Rattle.std.specs.Prelude.{◌≡◌, ◌<◌, ◌^◌};
 ghost use Rattle.binary_field_theory.specs.Carryless.{clmul};
-ghost use Rattle.binary_field_theory.specs.Element.{Accepted, product, square, root};
+ghost use Rattle.binary_field_theory.specs.Element.{product, square, root};
 ghost use Rattle.binary_field_theory.specs.Spreading.{evens};
+ghost use Rattle.binary_field.specs.Degree.{degree_number};
 
 use crate::carryless;
 use crate::carryless::Words;
+use crate::degree::Degree;
 
 // The bits at even positions, gathered in runs of doubling length.
 fn evens_of(n: u64) -> u64
@@ -25,7 +27,7 @@ fn evens_of(n: u64) -> u64
 // The run of 32 powers of t is the product of t^31, 1 + t, 1 + t^2, 1 + t^4, 1 + t^8 and 1 + t^16.
 fn wide_times_root(n: u64) -> Words
     requires { n < 2 ^ 30 }
-    ensures { (result.lo < 2 ^ 61) × (result.hi * 2 ^ 61 + result.lo ≡ clmul n 0x7fff_ffff_8000_0072) }
+    ensures { result ≡ clmul n 0x7fff_ffff_8000_0072 }
 {
     let twos = n ^ (n << 1);
     let fours = twos ^ (twos << 2);
@@ -40,22 +42,22 @@ fn wide_times_root(n: u64) -> Words
 }
 
 // n times the square root of t: its square is t times the square of n.
-fn times_root_of_t(d: u8, n: u64) -> u64
-    requires { Accepted d × (n < 2 ^ d) × (n < 2 ^ 30) }
-    ensures { (square d result ≡ product d 2 (square d n)) × (result < 2 ^ d) }
+fn times_root_of_t(degree: Degree, n: u64) -> u64
+    requires { (n < 2 ^ degree_number degree) × (n < 2 ^ 30) }
+    ensures { let d = degree_number degree in (square d result ≡ product d 2 (square d n)) × (result < 2 ^ d) }
 {
-    if d == 5 {
-        return carryless::product_of(5, n, 0x1b);
+    match degree {
+        Degree::Five => carryless::product_of(Degree::Five, n, 0x1b),
+        Degree::SixtyOne => carryless::fold_61(wide_times_root(n)),
     }
-    carryless::fold_61(wide_times_root(n))
 }
 
 // The square root of an element, from its bits at even and at odd positions.
-pub(crate) fn root_of(d: u8, a: u64) -> u64
-    requires { Accepted d × (a < 2 ^ d) }
-    ensures { result ≡ root d a }
+pub(crate) fn root_of(degree: Degree, a: u64) -> u64
+    requires { a < 2 ^ degree_number degree }
+    ensures { result ≡ root (degree_number degree) a }
 {
     let e = evens_of(a);
     let o = evens_of(a >> 1);
-    e ^ times_root_of_t(d, o)
+    e ^ times_root_of_t(degree, o)
 }

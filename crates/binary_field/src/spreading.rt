@@ -1,7 +1,15 @@
-// Spreading the bits of a number, bit i to bit 2 i, by a table of 256 entries that spreads a byte to sixteen bits.
+// Squaring an element: its bits are spread, bit i to bit 2 i, and the result is folded by the modulus.
+// A table of 256 entries spreads a byte to sixteen bits.
 ghost use Rattle.std.specs.Prelude.{◌≡◌, ◌<◌, ◌^◌};
 ghost use Rattle.binary_field_theory.specs.Carryless.{spread};
+ghost use Rattle.binary_field_theory.specs.Element.{square};
 ghost use Rattle.binary_field_theory.specs.Spreading.{Spreads};
+ghost use Rattle.binary_field.specs.Degree.{degree_number};
+
+use crate::carryless;
+use crate::carryless::Words;
+use crate::degree::Degree;
+use crate::squaring::Squaring;
 
 // Entry w is the byte w with its bit i moved to bit 2 i.
 const SPREAD: [u16; 256] = [
@@ -25,34 +33,71 @@ const SPREAD: [u16; 256] = [
     21829, 21840, 21841, 21844, 21845,
 ];
 
-// The table. Bind it once and lend it: each use of the constant copies it.
-pub(crate) fn spreads() -> [u16; 256]
-    ensures { Spreads result }
-{
-    SPREAD
+// The table, with the degree of the field whose elements it squares.
+#[derive(Drop)]
+pub(crate) struct SpreadTable {
+    degree: Degree,
+    entries: [u16; 256],
+    ghost spreads: { Spreads entries },
 }
 
-// A byte spread, by its entry of the table.
-fn spread_8(w: u64, table: &[u16; 256]) -> u64
-    requires { Spreads table.now × (w < 2 ^ 8) }
-    ensures { result ≡ spread w }
-{
-    let i = w as usize;
-    table[i] as u64
+impl SpreadTable {
+    // Make it once and lend it: each use of the constant copies the table.
+    pub(crate) fn new(degree: Degree) -> SpreadTable
+        ensures { result.degree ≡ degree }
+    {
+        SpreadTable {
+            degree,
+            entries: SPREAD,
+        }
+    }
+
+    // A byte spread, by its entry.
+    fn byte(&self, w: u8) -> u64
+        ensures { result ≡ spread w }
+    {
+        self.entries[w as usize] as u64
+    }
+
+    // Thirty-two bits spread, byte by byte.
+    fn word(&self, w: u32) -> u64
+        ensures { result ≡ spread w }
+    {
+        let [b0, b1, b2, b3] = w.to_le_bytes();
+        let low = (self.byte(b1) << 16) ^ self.byte(b0);
+        let high = (self.byte(b3) << 16) ^ self.byte(b2);
+        (high << 32) ^ low
+    }
+
+    // The square of an element. The low 32 bits of a spread to the bits below 64, the others to those above.
+    pub(crate) fn square(&self, a: u64) -> u64
+        requires { a < 2 ^ degree_number self.now.degree }
+        ensures { result ≡ square (degree_number self.now.degree) a }
+    {
+        match self.degree {
+            Degree::Five => carryless::fold_5(self.word(a as u32)),
+            Degree::SixtyOne => {
+                let high = self.word((a >> 32) as u32);
+                let low = self.word((a & 0xffff_ffff) as u32);
+                carryless::fold_61(Words {
+                    lo: low & 0x1fff_ffff_ffff_ffff,
+                    hi: (high << 3) ^ (low >> 61),
+                })
+            }
+        }
+    }
 }
 
-// Sixteen bits spread, byte by byte.
-fn spread_16(w: u64, table: &[u16; 256]) -> u64
-    requires { Spreads table.now × (w < 2 ^ 16) }
-    ensures { result ≡ spread w }
-{
-    (spread_8(w >> 8, table) << 16) ^ spread_8(w & 0xff, table)
-}
+impl Squaring for SpreadTable {
+    ghost field_degree = { λ table. table.degree };
 
-// Thirty-two bits spread, half by half.
-pub(crate) fn spread_32(w: u64, table: &[u16; 256]) -> u64
-    requires { Spreads table.now × (w < 2 ^ 32) }
-    ensures { result ≡ spread w }
-{
-    (spread_16(w >> 16, table) << 32) ^ spread_16(w & 0xffff, table)
+    ghost times = { 1 };
+
+    fn degree(&self) -> Degree {
+        self.degree
+    }
+
+    fn step(&self, a: u64) -> u64 {
+        self.square(a)
+    }
 }

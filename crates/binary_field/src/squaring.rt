@@ -1,23 +1,35 @@
-// The square of an element: its bits are spread, and the result is folded by the modulus.
-ghost use Rattle.std.specs.Prelude.{◌≡◌, ◌<◌, ◌^◌};
-ghost use Rattle.binary_field_theory.specs.Element.{Accepted, square};
-ghost use Rattle.binary_field_theory.specs.Spreading.{Spreads};
+// Squaring an element again and again, by a table that squares it a fixed number of times at once.
+ghost use Rattle.std.specs.Prelude.{◌≡◌, ℕ, ◌*◌, ◌<◌, ◌^◌};
+ghost use Rattle.binary_field_theory.specs.Element.{squarings};
+ghost use Rattle.binary_field.specs.declared.degree.Degree.{Degree};
+ghost use Rattle.binary_field.specs.Degree.{degree_number};
 
-use crate::carryless::Words;
-use crate::{carryless, spreading};
+use crate::degree::Degree;
 
-// The square of an element. The low 32 bits of a spread to the bits below 64, the others to those above.
-pub(crate) fn square_of(d: u8, a: u64, table: &[u16; 256]) -> u64
-    requires { Accepted d × (a < 2 ^ d) × Spreads table.now }
-    ensures { result ≡ square d a }
+// A table by which elements of a field are squared a fixed number of times in one step.
+pub(crate) trait Squaring {
+    ghost field_degree: { Self → Degree };
+
+    ghost times: { ℕ };
+
+    fn degree(&self) -> Degree
+        ensures { result ≡ field_degree self.now };
+
+    // An element squared that many times.
+    fn step(&self, a: u64) -> u64
+        requires { a < 2 ^ degree_number (field_degree self.now) }
+        ensures { result ≡ squarings (degree_number (field_degree self.now)) times a };
+}
+
+// An element squared by n steps of a table.
+pub(crate) fn stepped<S: Squaring>(table: &S, a: u64, n: u8) -> u64
+    requires { a < 2 ^ degree_number (S.field_degree table.now) }
+    ensures { let d = degree_number (S.field_degree table.now) in
+        (result ≡ squarings d (n * S.times) a) × (result < 2 ^ d) }
 {
-    if d == 5 {
-        return carryless::fold_5(spreading::spread_32(a, table));
+    let mut power = a;
+    for i in 0..n {
+        power = table.step(power);
     }
-    let high = spreading::spread_32(a >> 32, table);
-    let low = spreading::spread_32(a & 0xffff_ffff, table);
-    carryless::fold_61(Words {
-        lo: low & 0x1fff_ffff_ffff_ffff,
-        hi: (high << 3) ^ (low >> 61),
-    })
+    power
 }

@@ -1,20 +1,21 @@
--- `check_elements` meets its contract: the range is tested after the degree.
-use mathlib.Core.{Path.sym, Path.◌∙◌, Path.ap, List.[], List.◌∷◌}
-use Rattle.std.proofs.lemmas.Result.{err_from_is_err_and}
-use Rattle.binary_field.specs.{Checks.unless, Answer.below, Answer.element_refusal}
-use Rattle.binary_field.proofs.{Refusing.stops_first, Refusing.goes_on, Degrees.accepted_degree, Degrees.bound_accepted}
+-- `check_elements` meets its contract.
+use borrow.Author.Tests.{lt-ltb, le-ltb}
+use Rattle.binary_field.specs.{Checks.unless, Answer.below}
+use Rattle.binary_field.proofs.check_elements.Goals.{else-a-bound-via-then-a-bound+else-b-bound, else-a-bound-via-else-a-bound}
 use Rattle.binary_field.proofs.check_elements.Goals as goal
 
-pub returns-in_err-check_degree : goal.returns-in_err-check_degree
-unfolding element_refusal
-returns-in_err-check_degree c =
-    let p = err_from_is_err_and c.from_residual.result c.from_residual.ensures.1 in
-    rw (p.1, p.2) (stops_first _ _ c.in_err-check_degree.ensures)
+pub returns-then-b-bound : goal.returns-then-b-bound
+unfolding below unless
+returns-then-b-bound c =
+    let e = c.bound-bound.ensures in
+    simp (lt-ltb _ _ (rw e at c.if-a-bound.true), lt-ltb _ _ (rw e at c.if-b-bound.true))
 
-pub returns : goal.returns
-unfolding element_refusal
-returns c =
-    let s = c.args in
-    let d = c.in_ok-check_degree.ensures in
-    let size = c.bound.ensures ∙ bound_accepted _ (accepted_degree _ (sym d)) in
-    goes_on d (c.check_range.ensures ∙ ap (λ m. unless (below m (s.a ∷ s.b ∷ [])) 110) size)
+pub returns-else-a-bound : goal.returns-else-a-bound
+unfolding below unless
+returns-else-a-bound c =
+    let e = c.bound-bound.ensures in
+    elim c.else-a-bound.branch [
+      | else-a-bound-via-then-a-bound+else-b-bound w ↦
+          simp (lt-ltb _ _ (rw e at w.if-a-bound.true), le-ltb _ _ (rw e at w.if-b-bound.false))
+      | else-a-bound-via-else-a-bound w ↦ simp (le-ltb _ _ (rw e at w.if-a-bound.false))
+    ]

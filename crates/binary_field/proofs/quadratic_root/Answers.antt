@@ -1,27 +1,20 @@
--- `quadratic_root` meets its contract.
-use Rattle.std.proofs.lemmas.Result.{err_from_is_err_and}
+-- `quadratic_root` meets its contract: the goals at the refusals are found.
+use Prim.Native.Nat.{◌%◌}
+use mathlib.Core.Path.{◌≡◌, subst}
 use Rattle.binary_field_theory.specs.Carryless.{◌⊕◌}
-use Rattle.binary_field.proofs.Replies.{none_refused, quadratic_refused, no_root_by_trace, root_by_trace}
+use Rattle.binary_field.specs.Answer.{no_root, found, quadratic_reply}
+use Rattle.binary_field.proofs.Replies.{one_below, no_root_by_trace, root_by_trace}
+use Rattle.binary_field.proofs.Degrees.{accepted}
 use Rattle.binary_field.proofs.quadratic_root.Goals as goal
-
-pub returns-in_err-check_elements : goal.returns-in_err-check_elements
-returns-in_err-check_elements c =
-    let p = err_from_is_err_and c.from_residual.result c.from_residual.ensures.1 in
-    rw (p.1, p.2) (quadratic_refused _ _ _ c.in_err-check_elements.ensures)
-
-pub trace_of-requires : goal.trace_of-requires
-trace_of-requires c = let p = none_refused _ _ _ c.in_ok-check_elements.ensures in (p.0, p.1)
 
 pub returns-then-trace_of-ne0 : goal.returns-then-trace_of-ne0
 returns-then-trace_of-ne0 c =
-    let p = none_refused _ _ _ c.in_ok-check_elements.ensures in
-    no_root_by_trace _ _ p.0 p.1 c.trace_of.ensures c.if-trace_of-ne0.true
-
-pub half_trace_of-h-requires : goal.half_trace_of-h-requires
-half_trace_of-h-requires c = let p = none_refused _ _ _ c.in_ok-check_elements.ensures in (p.0, p.1)
+    subst (λ d. no_root ≡ quadratic_reply d c.args.a) c.in_ok-degree.ensures.1
+    (no_root_by_trace _ _ (accepted c.in_ok-degree.degree) (one_below c.in_ok-check_element.ensures) c.trace_of.ensures c.if-trace_of-ne0.true)
 
 pub returns : goal.returns
 unfolding ◌⊕◌
 returns c =
-    let p = none_refused _ _ _ c.in_ok-check_elements.ensures in
-    root_by_trace _ _ p.0 p.1 c.trace_of.ensures c.if-trace_of-ne0.false c.half_trace_of-h.ensures
+    let h = c.half_trace_of-h.result in
+    subst (λ d. found (h ⊕ h % 2) ≡ quadratic_reply d c.args.a) c.in_ok-degree.ensures.1
+    (root_by_trace _ _ (accepted c.in_ok-degree.degree) (one_below c.in_ok-check_element.ensures) c.trace_of.ensures c.if-trace_of-ne0.false c.half_trace_of-h.ensures)
