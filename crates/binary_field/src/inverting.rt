@@ -5,18 +5,16 @@ ghost use Rattle.binary_field_theory.specs.Element.{product, squarings, power};
 ghost use Rattle.binary_field.specs.Degree.{degree_number};
 
 use crate::degree::Degree;
-use crate::multisquaring::MultisquareTable;
-use crate::spreading::SpreadTable;
-use crate::squaring::Squaring;
-use crate::{carryless, squaring};
+use crate::squaring::{Sixfold, Squaring};
+use crate::{carryless, spreading, squaring};
 
-// x, squared by n steps of a table, times y.
-fn joined<S: Squaring>(table: &S, x: u64, n: u8, y: u64) -> u64
-    requires { let d = degree_number (S.field_degree table.now) in (x < 2 ^ d) × (y < 2 ^ d) }
-    ensures { let d = degree_number (S.field_degree table.now) in
+// x, squared by n steps, times y.
+fn joined<S: Squaring>(by: S, x: u64, n: u8, y: u64) -> u64
+    requires { let d = degree_number (S.field_degree by) in (x < 2 ^ d) × (y < 2 ^ d) }
+    ensures { let d = degree_number (S.field_degree by) in
         (result ≡ product d (squarings d (n * S.times) x) y) × (result < 2 ^ d) }
 {
-    carryless::product_of(table.degree(), squaring::stepped(table, x, n), y)
+    carryless::product_of(by.degree(), squaring::stepped(by, x, n), y)
 }
 
 // The inverse in GF(2^5), by the chain 1, 2, 4.
@@ -24,10 +22,9 @@ fn inverse_5(a: u64) -> u64
     requires { a < 2 ^ 5 }
     ensures { result ≡ power 5 a (2 ^ 5 - 2) }
 {
-    let single = SpreadTable::new(Degree::Five);
-    let a2 = joined(&single, a, 1, a);
-    let a4 = joined(&single, a2, 2, a2);
-    single.square(a4)
+    let a2 = joined(Degree::Five, a, 1, a);
+    let a4 = joined(Degree::Five, a2, 2, a2);
+    spreading::square_of(Degree::Five, a4)
 }
 
 // The inverse in GF(2^61), by the chain 1, 2, 3, 6, 12, 24, 48, 60. From 6 on, six squarings are made at once.
@@ -35,16 +32,14 @@ fn inverse_61(a: u64) -> u64
     requires { a < 2 ^ 61 }
     ensures { result ≡ power 61 a (2 ^ 61 - 2) }
 {
-    let single = SpreadTable::new(Degree::SixtyOne);
-    let sixfold = MultisquareTable::new();
-    let a2 = joined(&single, a, 1, a);
-    let a3 = joined(&single, a2, 1, a);
-    let a6 = joined(&single, a3, 3, a3);
-    let a12 = joined(&sixfold, a6, 1, a6);
-    let a24 = joined(&sixfold, a12, 2, a12);
-    let a48 = joined(&sixfold, a24, 4, a24);
-    let a60 = joined(&sixfold, a48, 2, a12);
-    single.square(a60)
+    let a2 = joined(Degree::SixtyOne, a, 1, a);
+    let a3 = joined(Degree::SixtyOne, a2, 1, a);
+    let a6 = joined(Degree::SixtyOne, a3, 3, a3);
+    let a12 = joined(Sixfold, a6, 1, a6);
+    let a24 = joined(Sixfold, a12, 2, a12);
+    let a48 = joined(Sixfold, a24, 4, a24);
+    let a60 = joined(Sixfold, a48, 2, a12);
+    spreading::square_of(Degree::SixtyOne, a60)
 }
 
 // The inverse of an element other than 0, by the chain of the degree.

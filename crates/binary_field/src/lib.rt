@@ -19,7 +19,6 @@ mod spreading;
 mod squaring;
 
 use crate::degree::Degree;
-use crate::spreading::SpreadTable;
 use refusals::Refusal;
 
 // The number of elements of the field of degree d, 2^d; 0 for a refused degree.
@@ -100,7 +99,7 @@ pub fn square(d: u8, a: u64) -> Result<u64, Refusal>
 {
     let degree = Degree::try_from(d)?;
     check_element(degree, a)?;
-    Ok(SpreadTable::new(degree).square(a))
+    Ok(spreading::square_of(degree, a))
 }
 
 // The square root of an element.
@@ -118,6 +117,7 @@ pub fn square_root(d: u8, a: u64) -> Result<u64, Refusal>
 pub fn inverse(d: u8, a: u64) -> Result<u64, Refusal>
     ensures { reply result ≡ inverse_reply d a }
 {
+    // 0 is tested last, after the degree and the range.
     let degree = Degree::try_from(d)?;
     check_element(degree, a)?;
     check_invertible(a)?;

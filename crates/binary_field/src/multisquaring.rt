@@ -1,13 +1,10 @@
 // Six squarings of an element of GF(2^61) at once. Squaring is additive, so the result is the sum of what each
 // hexadecimal digit of the element gives at its position. A table of 256 entries holds these.
-ghost use Rattle.binary_field_theory.specs.Multisquaring.{Multisquares};
-ghost use Rattle.binary_field.specs.declared.degree.Degree.TheVariants.{SixtyOne};
-
-use crate::degree::Degree;
-use crate::squaring::Squaring;
+ghost use Rattle.std.specs.Prelude.{◌≡◌};
+ghost use Rattle.binary_field_theory.specs.Element.{squarings};
 
 // Entry 16 i + j is j t^(4i), squared six times.
-const MULTISQUARES: [u64; 256] = [
+static MULTISQUARES: [u64; 256] = [
     0x0000_0000_0000_0000,
     0x0000_0000_0000_0001,
     0x0000_0000_0000_0138,
@@ -266,38 +263,14 @@ const MULTISQUARES: [u64; 256] = [
     0x1a5d_bd1a_8acd_5c2e,
 ];
 
-// The table.
-#[derive(Drop)]
-pub(crate) struct MultisquareTable {
-    entries: [u64; 256],
-    ghost multisquares: { Multisquares entries },
-}
-
-impl MultisquareTable {
-    // Make it once and lend it: each use of the constant copies the table.
-    pub(crate) fn new() -> MultisquareTable {
-        MultisquareTable {
-            entries: MULTISQUARES,
-        }
+// An element squared six times: the sum of the table's entries for its sixteen hexadecimal digits.
+pub(crate) fn multisquare(a: u64) -> u64
+    ensures { result ≡ squarings 61 6 a }
+{
+    let mut sum = 0;
+    for i in 0..16 {
+        let digit = (a >> (4 * i)) & 0xf;
+        sum ^= MULTISQUARES[(16 * i + digit) as usize];
     }
-}
-
-impl Squaring for MultisquareTable {
-    ghost field_degree = { λ _. SixtyOne };
-
-    ghost times = { 6 };
-
-    fn degree(&self) -> Degree {
-        Degree::SixtyOne
-    }
-
-    // The sum of the table's entries for the sixteen hexadecimal digits.
-    fn step(&self, a: u64) -> u64 {
-        let mut sum = 0;
-        for i in 0..16 {
-            let digit = (a >> (4 * i)) & 0xf;
-            sum ^= self.entries[(16 * i + digit) as usize];
-        }
-        sum
-    }
+    sum
 }

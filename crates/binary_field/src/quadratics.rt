@@ -6,10 +6,8 @@ ghost use Rattle.binary_field_theory.specs.Quadratic.{trace, half_trace};
 ghost use Rattle.binary_field.specs.Degree.{degree_number};
 
 use crate::degree::Degree;
-use crate::multisquaring::MultisquareTable;
-use crate::spreading::SpreadTable;
 use crate::squaring;
-use crate::squaring::Squaring;
+use crate::squaring::{Sixfold, Squaring};
 
 // The trace: the sum of bits 0 and d - 2.
 pub(crate) fn trace_of(degree: Degree, a: u64) -> u64
@@ -20,13 +18,13 @@ pub(crate) fn trace_of(degree: Degree, a: u64) -> u64
     (a ^ (a >> (d - 2))) % 2
 }
 
-// x, squared by n steps of a table, plus y.
-fn terms_joined<S: Squaring>(table: &S, x: u64, n: u8, y: u64) -> u64
-    requires { let d = degree_number (S.field_degree table.now) in (x < 2 ^ d) × (y < 2 ^ d) }
-    ensures { let d = degree_number (S.field_degree table.now) in
+// x, squared by n steps, plus y.
+fn terms_joined<S: Squaring>(by: S, x: u64, n: u8, y: u64) -> u64
+    requires { let d = degree_number (S.field_degree by) in (x < 2 ^ d) × (y < 2 ^ d) }
+    ensures { let d = degree_number (S.field_degree by) in
         (result ≡ squarings d (n * S.times) x ⊕ y) × (result < 2 ^ d) }
 {
-    squaring::stepped(table, x, n) ^ y
+    squaring::stepped(by, x, n) ^ y
 }
 
 // The half-trace in GF(2^5): the three terms a + a^4 + a^16.
@@ -34,9 +32,8 @@ fn half_trace_5(a: u64) -> u64
     requires { a < 2 ^ 5 }
     ensures { result ≡ half_trace 5 a }
 {
-    let single = SpreadTable::new(Degree::Five);
-    let h2 = terms_joined(&single, a, 2, a);
-    terms_joined(&single, h2, 2, a)
+    let h2 = terms_joined(Degree::Five, a, 2, a);
+    terms_joined(Degree::Five, h2, 2, a)
 }
 
 // The half-trace in GF(2^61): the 31 terms a + a^4 + .. + a^(2^60), by the chain 1, 2, 3, 6, 12, 24, 30, 31.
@@ -45,15 +42,13 @@ fn half_trace_61(a: u64) -> u64
     requires { a < 2 ^ 61 }
     ensures { result ≡ half_trace 61 a }
 {
-    let single = SpreadTable::new(Degree::SixtyOne);
-    let sixfold = MultisquareTable::new();
-    let h2 = terms_joined(&single, a, 2, a);
-    let h3 = terms_joined(&single, h2, 2, a);
-    let h6 = terms_joined(&sixfold, h3, 1, h3);
-    let h12 = terms_joined(&sixfold, h6, 2, h6);
-    let h24 = terms_joined(&sixfold, h12, 4, h12);
-    let h30 = terms_joined(&sixfold, h24, 2, h6);
-    terms_joined(&single, h30, 2, a)
+    let h2 = terms_joined(Degree::SixtyOne, a, 2, a);
+    let h3 = terms_joined(Degree::SixtyOne, h2, 2, a);
+    let h6 = terms_joined(Sixfold, h3, 1, h3);
+    let h12 = terms_joined(Sixfold, h6, 2, h6);
+    let h24 = terms_joined(Sixfold, h12, 4, h12);
+    let h30 = terms_joined(Sixfold, h24, 2, h6);
+    terms_joined(Degree::SixtyOne, h30, 2, a)
 }
 
 // The half-trace, by the chain of the degree.

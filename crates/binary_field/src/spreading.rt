@@ -3,16 +3,14 @@
 ghost use Rattle.std.specs.Prelude.{◌≡◌, ◌<◌, ◌^◌};
 ghost use Rattle.binary_field_theory.specs.Carryless.{spread};
 ghost use Rattle.binary_field_theory.specs.Element.{square};
-ghost use Rattle.binary_field_theory.specs.Spreading.{Spreads};
 ghost use Rattle.binary_field.specs.Degree.{degree_number};
 
 use crate::carryless;
 use crate::carryless::Words;
 use crate::degree::Degree;
-use crate::squaring::Squaring;
 
 // Entry w is the byte w with its bit i moved to bit 2 i.
-const SPREAD: [u16; 256] = [
+static SPREAD: [u16; 256] = [
     0, 1, 4, 5, 16, 17, 20, 21, 64, 65, 68, 69, 80, 81, 84, 85, 256, 257, 260, 261, 272, 273, 276,
     277, 320, 321, 324, 325, 336, 337, 340, 341, 1024, 1025, 1028, 1029, 1040, 1041, 1044, 1045,
     1088, 1089, 1092, 1093, 1104, 1105, 1108, 1109, 1280, 1281, 1284, 1285, 1296, 1297, 1300, 1301,
@@ -33,71 +31,37 @@ const SPREAD: [u16; 256] = [
     21829, 21840, 21841, 21844, 21845,
 ];
 
-// The table, with the degree of the field whose elements it squares.
-#[derive(Drop)]
-pub(crate) struct SpreadTable {
-    degree: Degree,
-    entries: [u16; 256],
-    ghost spreads: { Spreads entries },
+// A byte spread, by its entry of the table.
+fn spread_byte(w: u8) -> u64
+    ensures { result ≡ spread w }
+{
+    SPREAD[w as usize] as u64
 }
 
-impl SpreadTable {
-    // Make it once and lend it: each use of the constant copies the table.
-    pub(crate) fn new(degree: Degree) -> SpreadTable
-        ensures { result.degree ≡ degree }
-    {
-        SpreadTable {
-            degree,
-            entries: SPREAD,
-        }
-    }
-
-    // A byte spread, by its entry.
-    fn byte(&self, w: u8) -> u64
-        ensures { result ≡ spread w }
-    {
-        self.entries[w as usize] as u64
-    }
-
-    // Thirty-two bits spread, byte by byte.
-    fn word(&self, w: u32) -> u64
-        ensures { result ≡ spread w }
-    {
-        let [b0, b1, b2, b3] = w.to_le_bytes();
-        let low = (self.byte(b1) << 16) ^ self.byte(b0);
-        let high = (self.byte(b3) << 16) ^ self.byte(b2);
-        (high << 32) ^ low
-    }
-
-    // The square of an element. The low 32 bits of a spread to the bits below 64, the others to those above.
-    pub(crate) fn square(&self, a: u64) -> u64
-        requires { a < 2 ^ degree_number self.now.degree }
-        ensures { result ≡ square (degree_number self.now.degree) a }
-    {
-        match self.degree {
-            Degree::Five => carryless::fold_5(self.word(a as u32)),
-            Degree::SixtyOne => {
-                let high = self.word((a >> 32) as u32);
-                let low = self.word((a & 0xffff_ffff) as u32);
-                carryless::fold_61(Words {
-                    lo: low & 0x1fff_ffff_ffff_ffff,
-                    hi: (high << 3) ^ (low >> 61),
-                })
-            }
-        }
-    }
+// Thirty-two bits spread, byte by byte.
+fn spread_word(w: u32) -> u64
+    ensures { result ≡ spread w }
+{
+    let [b0, b1, b2, b3] = w.to_le_bytes();
+    let low = (spread_byte(b1) << 16) ^ spread_byte(b0);
+    let high = (spread_byte(b3) << 16) ^ spread_byte(b2);
+    (high << 32) ^ low
 }
 
-impl Squaring for SpreadTable {
-    ghost field_degree = { λ table. table.degree };
-
-    ghost times = { 1 };
-
-    fn degree(&self) -> Degree {
-        self.degree
-    }
-
-    fn step(&self, a: u64) -> u64 {
-        self.square(a)
+// The square of an element. The low 32 bits of a spread to the bits below 64, the others to those above.
+pub(crate) fn square_of(degree: Degree, a: u64) -> u64
+    requires { a < 2 ^ degree_number degree }
+    ensures { result ≡ square (degree_number degree) a }
+{
+    match degree {
+        Degree::Five => carryless::fold_5(spread_word(a as u32)),
+        Degree::SixtyOne => {
+            let high = spread_word((a >> 32) as u32);
+            let low = spread_word((a & 0xffff_ffff) as u32);
+            carryless::fold_61(Words {
+                lo: low & 0x1fff_ffff_ffff_ffff,
+                hi: (high << 3) ^ (low >> 61),
+            })
+        }
     }
 }

@@ -5,8 +5,7 @@ use Rattle.binary_field.proofs.inverting.inverse_5.Goals as goal
 pub returns : goal.returns
 returns c =
     let a = c.args.a in
-    let d = c.new-single.ensures in
     let e₁ = first 5 a tt c.requires in
-    let e₂ = joins 5 a 1 1 tt e₁ e₁ (rw d at c.joined-a2.ensures).0 in
-    let e₄ = joins 5 a 2 2 tt e₂ e₂ (rw d at c.joined-a4.ensures).0 in
-    last 5 a tt e₄ (rw d at c.square.ensures)
+    let e₂ = joins 5 a 1 1 tt e₁ e₁ c.joined-a2.ensures.0 in
+    let e₄ = joins 5 a 2 2 tt e₂ e₂ c.joined-a4.ensures.0 in
+    last 5 a tt e₄ c.square_of.ensures

@@ -5,4 +5,4 @@ use Rattle.binary_field.proofs.inverting.joined.Goals as goal
 
 pub returns : goal.returns
 returns g c =
-    multiplied _ _ c.args.y (accepted (g.S.Squaring.field_degree c.args.table.now)) c.stepped.ensures.0 (rw c.degree.ensures at c.product_of.ensures)
+    multiplied _ _ c.args.y (accepted (g.S.Squaring.field_degree c.args.by)) c.stepped.ensures.0 (rw c.degree.ensures at c.product_of.ensures)

@@ -7,7 +7,6 @@ pub returns : goal.returns
 unfolding half_trace
 returns c =
     let a = c.args.a in
-    let d = c.new-single.ensures in
     let e₁ = one_term 5 a in
-    let e₂ = terms_added 5 a 1 1 tt e₁ e₁ (rw d at c.terms_joined-h2.ensures).0 in
-    terms_added 5 a 1 2 tt e₂ e₁ (rw d at c.terms_joined.ensures).0
+    let e₂ = terms_added 5 a 1 1 tt e₁ e₁ c.terms_joined-h2.ensures.0 in
+    terms_added 5 a 1 2 tt e₂ e₁ c.terms_joined.ensures.0
