@@ -2,17 +2,18 @@
 -- `verdict_number`: equal outcomes have equal numbers.
 -- `call_unchanged`: a number other than 0 that a call in place answers stands with the lent register as it was.
 -- `step_unchanged`: the same of what a step promises.
--- `accepted_kept`, `refused_kept`: so the register of an acceptance, and after a refusal the lent one, are what it leaves.
+-- `kept_accepted`, `kept_refused`: what the code keeps of an acceptance, and of a refusal.
+-- `kept_step`, `kept_release`: of a call's answer this is that answer.
 use Rattle.std.specs.Prelude.{ℕ, zero, suc, Ok, Err}
 use Rattle.refusals.specs.{Refusals.number, declared.Refusal.Refusal}
 use Rattle.binary_field.proofs.Refusing.{number_positive}
 use mathlib.Core.{Path.◌≡◌, Path.refl, Path.sym, Path.◌∙◌, Path.ap}
-use Rattle.jacobian.specs.{Answer.Verdict, Answer.accepted, Answer.refused, Answer.verdict, Answer.verdict_of, declared.Class.Class}
+use Rattle.jacobian.specs.{Answer.Verdict, Answer.accepted, Answer.refused, Answer.verdict_of, declared.Class.Class}
 use Rattle.jacobian.proofs.ByValue.Answers.{refused_verdict}
-use Rattle.history.specs.{Register.register_reply, Register.StepAnswers, Calls.Call, Calls.step, Calls.answer}
+use Rattle.history.specs.{Register.register_reply, Register.follows, Register.step_answer, Register.release_answer, Register.StepAnswers, Calls.Call, Calls.step, Calls.answer}
 use Rattle.history.specs.declared.{Register.Register, RegisterAnswer.RegisterAnswer, Step.Step}
 use Rattle.history.proofs.Promises.{step_promised, step_answered}
-use Rattle.seal_register.specs.InPlace.{in_place}
+use Rattle.seal_register.specs.{InPlace.in_place, internal.Kept.kept}
 use Rattle.seal_register.proofs.InPlace.{refusal_leaves}
 
 -- the number of an outcome
@@ -33,20 +34,30 @@ module _ (r : Register) (c : Call) where
   call_unchanged zero told e h = absurd (h refl)
   call_unchanged (suc n) told e h = ap (in_place (suc n)) (sym (refusal_leaves r c n told e)) ∙ e
 
-  -- the answer kept: of an acceptance its register, of a refusal the register that was lent
-  module _ (x : RegisterAnswer) where
-    pub accepted_kept : x.outcome ≡ Ok tt → register_reply x ≡ answer r c → in_place 0 x.register ≡ answer r c
-    unfolding in_place verdict_of
-    accepted_kept is e = ap (λ v. record { outcome = verdict v; register = x.register }) (sym is) ∙ e
-
-    pub refused_kept : (f : Refusal) (n : ℕ) → x.outcome ≡ Err f → n ≡ number f → register_reply x ≡ answer r c → in_place n r ≡ answer r c
-    unfolding in_place
-    refused_kept f n is same e =
-        let positive = number_positive f in
-        let told = ap (λ (v : Verdict). record { outcome = v; register = x.register }) (sym (refused_verdict (number f) positive)) ∙ ap (λ v. record { outcome = verdict v; register = x.register }) (sym is) ∙ e in
-        ap (λ m. in_place m r) same ∙ call_unchanged (number f) x.register told positive
-
 module _ (k : Step) (r : Register) (a : Class) where
   pub step_unchanged : (n : ℕ) (told : Register) → StepAnswers k r a (in_place n told) → ¬ (n ≡ 0) → StepAnswers k r a (in_place n r)
   unfolding answer
   step_unchanged n told e h = step_promised r a k (call_unchanged r (step k a) n told (step_answered r a k e) h)
+
+-- ---- what the code keeps
+module _ (lent : Register) (x : RegisterAnswer) where
+  pub kept_accepted : x.outcome ≡ Ok tt → in_place 0 x.register ≡ kept lent (register_reply x)
+  unfolding in_place kept verdict_of
+  kept_accepted is = rw is
+
+  pub kept_refused : (f : Refusal) (n : ℕ) → x.outcome ≡ Err f → n ≡ number f → in_place n lent ≡ kept lent (register_reply x)
+  unfolding in_place kept
+  kept_refused f n is same = rw (is, same, refused_verdict (number f) (number_positive f))
+
+kept_follows : (n : ℕ) (r next : Register) → kept r (follows n r next) ≡ follows n r next
+unfolding kept follows
+kept_follows zero r next = refl
+kept_follows (suc n) r next = refl
+
+pub kept_step : (k : Step) (r : Register) (a : Class) → kept r (step_answer k r a) ≡ step_answer k r a
+unfolding step_answer
+kept_step k r a = kept_follows _ r _
+
+pub kept_release : (r : Register) → kept r (release_answer r) ≡ release_answer r
+unfolding release_answer
+kept_release r = kept_follows _ r _
