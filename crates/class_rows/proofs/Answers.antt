@@ -5,9 +5,8 @@
 -- `unary_divisor`, `binary_divisor`: an answer is given exactly where the rows given are divisors.
 -- `unary_stands`, `binary_stands`: the rows that are given stand for the theory's result.
 use Prim.Native.Nat.{ℕ}
-use mathlib.Core.{Path.◌≡◌, Path.refl, Path.sym, Path.◌∙◌, Path.ap, Path.subst, Bool.Bool, Bool.true, Bool.false, Bool.◌&&◌, List.List}
+use mathlib.Core.{Path.◌≡◌, Path.refl, Path.sym, Path.◌∙◌, Path.ap, Path.ap₂, Path.subst, Bool.Bool, Bool.true, Bool.false, Bool.◌&&◌, List.List}
 use native.Mathlib.Omega.{arith}
-use lib.ListN.{length}
 use Rattle.std.specs.Prelude.{Option, Some, None, is_some}
 use Rattle.std.proofs.lemmas.Option.{same_Some, none-some}
 use Rattle.class_group.specs.Curve as Theory
@@ -17,9 +16,9 @@ use Rattle.class_group.proofs.Moves.{double_and_add_reduced, subtract_and_halve_
 use Rattle.row_theory.specs.{Field.𝔸, Field.Poly}
 use Rattle.row_theory.proofs.Rows.{RowOf.row_of_length, RowOf.row_of_stands, RowOf.row_determined, Coefficients.self_stands}
 use Rattle.class_rows.specs.{Pair.StandsPair, Pair.rows_pair, Pair.rows_of, Core.OnCurve, Core.StandsCounted, Checked.row_curve, Checked.is_divisor, Operations.unary, Operations.binary}
-use Rattle.class_rows.specs.{internal.Check.CheckedRows, Core.Divisor, Answer.Gives, Answer.IsHalf, Answer.Precedes, Answer.answered, Answer.unary_answer, Answer.binary_answer, Answer.Only, Answer.UnaryAnswers, Answer.BinaryAnswers}
+use Rattle.class_rows.specs.{Answer.Gives, Answer.IsHalf, Answer.Precedes, Answer.answered, Answer.unary_answer, Answer.binary_answer, Answer.Only, Answer.UnaryAnswers, Answer.BinaryAnswers}
 use Rattle.class_rows.specs.declared.{row.RowPair.RowPair, reduction.CountedRows.CountedRows, Unary.Unary, Unary.TheVariants.Opposite, Unary.TheVariants.Double, Unary.TheVariants.Half, Binary.Binary, Binary.TheVariants.Sum, Binary.TheVariants.DoubleAndAdd, Binary.TheVariants.SubtractAndHalve}
-use Rattle.class_rows.proofs.{ReductionRows.pair_eq, ReductionRows.stands_pair_eq, ReductionRows.reduced_on, ReductionRows.reduced_rows, CheckRows.same_answer, CheckRows.both_decide, Tests.both, Tests.Sized, Tests.Shown, Tests.shown, Tests.test, Tests.test_decides}
+use Rattle.class_rows.proofs.{ReductionRows.pair_eq, ReductionRows.stands_pair_eq, ReductionRows.reduced_on, ReductionRows.reduced_rows, Tests.both, Tests.Sized, Tests.Shown, Tests.shown, Tests.test}
 
 -- ---- rows and pairs
 module _ (d : ℕ) where
@@ -117,20 +116,16 @@ none_gives : {h : RowPair} → ¬ Gives None h
 none_gives g = none-some _ g.is_given
 
 -- ---- one pair
-module _ {d : ℕ} {f : List ℕ} {a : RowPair} (size : length f ≡ 12) (sized : Sized a) {r : Option (List ℕ)} (checked : CheckedRows d f (Divisor d f a) a r) where
-  unary_tested : is_some r ≡ is_divisor d f a
-  unary_tested = same_answer _ _ checked.decides (test_decides size sized)
-
-  pub unary_refused : {op : Unary} → r ≡ None → UnaryAnswers op d f a None
+module _ {d : ℕ} {f : List ℕ} {a : RowPair} where
+  pub unary_refused : {op : Unary} → is_divisor d f a ≡ false → UnaryAnswers op d f a None
   unfolding unary_answer
-  unary_refused e = record { answer = refused_is d _ (sym unary_tested ∙ ap is_some e); is_half = λ _ h g. absurd (none_gives g) }
+  unary_refused e = record { answer = refused_is d _ e; is_half = λ _ h g. absurd (none_gives g) }
 
-  pub unary_given : (op : Unary) {w : List ℕ} {b : CountedRows} → r ≡ Some w → Sized b.pair
+  pub unary_given : (op : Unary) {b : CountedRows} → is_divisor d f a ≡ true → Sized b.pair
       → ((C : Theory.Curve (𝔸 d)) → OnCurve d f C → StandsCounted d b (unary op C (rows_pair d a)))
       → UnaryAnswers op d f a (Some b)
   unfolding unary_answer
-  unary_given op {b = b} e z stands =
-      let held = sym unary_tested ∙ ap is_some e in
+  unary_given op {b} held z stands =
       let h = shown held in
       let C = row_curve d f in
       let s = stands C h.on in
@@ -143,28 +138,23 @@ module _ {d : ℕ} {f : List ℕ} {a : RowPair} (size : length f ≡ 12) (sized 
       }
 
 -- ---- two pairs
-module _ {d : ℕ} {f : List ℕ} {a b : RowPair} (size : length f ≡ 12) (first : Sized a) (second : Sized b) {r : Option (List ℕ)} (checked : CheckedRows d f (Divisor d f a × Divisor d f b) a r) where
-  binary_tested : is_some r ≡ (is_divisor d f a && is_divisor d f b)
-  binary_tested = same_answer _ _ checked.decides (both_decide _ _ (test_decides size first) (test_decides size second))
-
-  pub binary_refused : {op : Binary} → r ≡ None → BinaryAnswers op d f a b None
+module _ {d : ℕ} {f : List ℕ} {a b : RowPair} where
+  pub binary_refused : {op : Binary} → (is_divisor d f a && is_divisor d f b) ≡ false → BinaryAnswers op d f a b None
   unfolding binary_answer
-  binary_refused e = record { answer = refused_is d _ (sym binary_tested ∙ ap is_some e); taken_back = λ _ h g. absurd (none_gives g) }
+  binary_refused e = record { answer = refused_is d _ e; taken_back = λ _ h g. absurd (none_gives g) }
 
-  pub binary_given : (op : Binary) {w : List ℕ} {c : CountedRows} → r ≡ Some w → Sized c.pair
+  pub binary_given : (op : Binary) {c : CountedRows} → is_divisor d f a ≡ true → is_divisor d f b ≡ true → Sized c.pair
       → ((C : Theory.Curve (𝔸 d)) → OnCurve d f C → StandsCounted d c (binary op C (rows_pair d a) (rows_pair d b)))
       → BinaryAnswers op d f a b (Some c)
   unfolding binary_answer
-  binary_given op {c = c} e z stands =
-      let held = sym binary_tested ∙ ap is_some e in
-      let divisors = both (is_divisor d f a) (is_divisor d f b) held in
-      let h = shown divisors.0 in
+  binary_given op {c} first second z stands =
+      let h = shown first in
       let C = row_curve d f in
       let s = stands C h.on in
       let m = divisor_reduced h in
-      let n = divisor_reduced (shown divisors.1) in
+      let n = divisor_reduced (shown second) in
       record {
-        answer = given_is d _ held z s;
+        answer = given_is d _ (ap₂ ◌&&◌ first second) z s;
         taken_back = λ o k g.
             let back = subst (λ op. StandsPair d c.pair (binary op C (rows_pair d a) (rows_pair d b)).class) o s.pair_stands in
             subst (Only d f (Precedes d f a b)) (given_pair g)
@@ -174,6 +164,13 @@ module _ {d : ℕ} {f : List ℕ} {a b : RowPair} (size : length f ≡ 12) (firs
             (double_subtract_and_halve C m n)
             (λ E k q. sym (subtract_double_and_add C k n) ∙ ap (λ S. subtract_and_halve C S (rows_pair d b)) q));
       }
+
+-- ---- the answers by the degree and the row that a curve keeps
+pub unary_moved : {op : Unary} {d e : ℕ} {f g : List ℕ} {a : RowPair} {r : Option CountedRows} → e ≡ d → g ≡ f → UnaryAnswers op e g a r → UnaryAnswers op d f a r
+unary_moved {op} {d} {e} {f} {g} {a} {r} p q h = subst (λ d. UnaryAnswers op d f a r) p (subst (λ f. UnaryAnswers op e f a r) q h)
+
+pub binary_moved : {op : Binary} {d e : ℕ} {f g : List ℕ} {a b : RowPair} {r : Option CountedRows} → e ≡ d → g ≡ f → BinaryAnswers op e g a b r → BinaryAnswers op d f a b r
+binary_moved {op} {d} {e} {f} {g} {a} {b} {r} p q h = subst (λ d. BinaryAnswers op d f a b r) p (subst (λ f. BinaryAnswers op e f a b r) q h)
 
 -- ---- what a caller uses of the answers
 module _ {op : Unary} {d : ℕ} {f : List ℕ} {a : RowPair} {r : Option CountedRows} (h : UnaryAnswers op d f a r) where

@@ -1,9 +1,7 @@
 -- The check of rows of any numbers: what each test shows where it holds and where it fails.
-use Prim.Native.Nat.{ℕ, ◌+◌, ◌-◌, ◌≤◌, ◌<◌, ◌^◌}
+use Prim.Native.Nat.{ℕ, ◌-◌, ◌≤◌, ◌<◌, ◌^◌}
 use mathlib.Core.{Path.◌≡◌, Path.refl, Path.sym, Path.◌∙◌, Path.ap, Path.subst, Bool.Bool, Bool.true, Bool.false, Bool.true≢false, Bool.◌&&◌, List.List}
 use native.Mathlib.{Omega.arith, Decide.dec_le}
-use Rattle.std.specs.Prelude.{Option, Some, None, is_some}
-use Rattle.std.proofs.lemmas.Option.{same_Some}
 use lib.{Dec.eqb, ListN.length, ListN.get_or, ListN.get_or-eq_default}
 use borrow.Author.Tests.{eqb-true, eq-eqb}
 use Rattle.binary_field_theory.specs.Element.{Accepted}
@@ -13,23 +11,14 @@ use Rattle.char2_algebra.specs.Lead.{Monic}
 use Rattle.char2_algebra.proofs.{Degree.len_zero, Degree.len_of_zero, Division.rem_of_divides, Division.divides_of_rem, Lead.monic_nonzero}
 use Rattle.class_group.specs.Mumford.{value}
 use Rattle.row_theory.specs.{Field.degree_of, Field.𝔸, Field.el, Field.poly, Row.InRange, Row.Stands, Row.row_len}
-use Rattle.class_rows.specs.{Pair.rows_pair, internal.Check.Decides, Core.Divisor, internal.Check.FormedRows, internal.Check.CheckedRows, internal.Cofactor.CofactorRow}
+use Rattle.class_rows.specs.{Pair.rows_pair, internal.Check.Decides, Core.Divisor, internal.Check.FormedRows}
 use Rattle.row_theory.proofs.{Rows.Elements.degree_is, Rows.Elements.zero_lt, Rows.Elements.el_one, Rows.Elements.one_of_one, Rows.Lead.leads, Rows.Lead.lead_row}
 use Rattle.class_rows.proofs.ReductionRows.{reduced_on, value_stands}
 use Rattle.class_rows.specs.declared.row.RowPair.{RowPair}
 
 -- ---- tests that decide a statement
-pub decides_true : {P : Type 0} → P → Decides true P
-decides_true p = (λ _. p, λ _. refl)
-
 pub decides_not : {t : Bool} {P : Type 0} → Decides t P → t ≡ false → ¬ P
 decides_not h e p = true≢false (sym (h.1 p) ∙ e)
-
-pub decides_false : {t : Bool} {P : Type 0} → t ≡ false → ¬ P → Decides t P
-decides_false e h = (λ t. absurd (true≢false (sym t ∙ e)), λ p. absurd (h p))
-
-pub decides_iff : {t : Bool} {P Q : Type 0} → Decides t P → (P → Q) → (Q → P) → Decides t Q
-decides_iff h f g = (λ e. f (h.0 e), λ q. h.1 (g q))
 
 pub by_number : {m n : ℕ} {P : Type 0} → (m ≡ n → P) → (P → m ≡ n) → Decides (eqb m n) P
 by_number {m} {n} f g = (λ e. f (eqb-true m n e), λ p. eq-eqb m n (g p))
@@ -53,18 +42,8 @@ pub record Below (d : ℕ) (r : List ℕ) (i : ℕ) : Type 0 where
 
 module _ (d : ℕ) where
   module _ {r : List ℕ} where
-    pub below_none : Below d r 0
-    below_none = record { at = λ j h. absurd (omega arith) }
-
-    pub below_more : {i m : ℕ} → Below d r i → m ≡ 2 ^ degree_of d → get_or r i 0 < m → Below d r (i + 1)
-    below_more {i} {m} b e h = record { at = λ j k. go j k (dec_le i j) }
-      where
-        go : (j : ℕ) → j < i + 1 → Dec (i ≤ j) → get_or r j 0 < 2 ^ degree_of d
-        go j k (no l) = b.at j (omega arith)
-        go j k (yes l) = let s : i ≡ j = omega arith in subst (λ n. get_or r n 0 < 2 ^ degree_of d) s (omega (arith, e))
-
-    pub below_all : {i : ℕ} → Below d r i → 12 ≤ i → length r ≡ 12 → InRange d r
-    below_all {i} b h e j = go (dec_le 12 j)
+    pub below_range : {i : ℕ} → Below d r i → 12 ≤ i → length r ≡ 12 → InRange d r
+    below_range {i} b h e j = go (dec_le 12 j)
       where
         go : Dec (12 ≤ j) → get_or r j 0 < 2 ^ degree_of d
         go (no l) = b.at j (omega arith)
@@ -124,22 +103,3 @@ module _ {d : ℕ} {f : List ℕ} {a : RowPair} where
       → Decides (eqb n 0) (Divisor d f a)
   division_decides h t s e =
       remainder_decides h (e ∙ ap (𝔸 d).len (s.stands ∙ ap (λ z. (𝔸 d).rem z (poly d a.u)) (value_stands d a.v h.curve.1 t)))
-
--- ---- what a check answers
-module _ {d : ℕ} {f : List ℕ} {a : RowPair} where
-  pub check_fails : {P : Type 0} → ¬ P → CheckedRows d f P a None
-  check_fails h = record { decides = decides_false refl h; cofactor = λ w e. cc }
-
-  pub check_gives : {P : Type 0} {w : List ℕ} → P → CofactorRow d f a w → CheckedRows d f P a (Some w)
-  check_gives p c = record { decides = decides_true p; cofactor = λ w e. subst (CofactorRow d f a) (same_Some _ _ e) c }
-
-  -- a cofactor that is given shows what is asked
-  pub check_shows : {P : Type 0} {r : Option (List ℕ)} {w : List ℕ} → CheckedRows d f P a r → r ≡ Some w → P
-  check_shows h e = h.decides.0 (ap is_some e)
-
-  -- where none is given, what is asked fails
-  pub check_refutes : {P : Type 0} {r : Option (List ℕ)} → CheckedRows d f P a r → r ≡ None → ¬ P
-  check_refutes h e = decides_not h.decides (ap is_some e)
-
-  pub check_as : {P Q : Type 0} {r : Option (List ℕ)} → CheckedRows d f P a r → (P → Q) → (Q → P) → CheckedRows d f Q a r
-  check_as h f g = record { decides = decides_iff h.decides f g; cofactor = h.cofactor }

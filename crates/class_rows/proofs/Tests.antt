@@ -5,17 +5,19 @@
 use Prim.Native.Nat.{ℕ, zero, suc, ◌-◌, ◌≤◌, ◌<◌, ◌^◌}
 use mathlib.Core.{Path.◌≡◌, Path.refl, Path.sym, Path.◌∙◌, Path.ap, Path.subst, Bool.Bool, Bool.true, Bool.false, Bool.◌&&◌, List.List, List.[], List.◌∷◌, Logic.◌↔◌}
 use native.Mathlib.Omega.{arith}
-use lib.{Dec.T, Dec.ltb, ListN.length, ListN.get_or}
+use Rattle.std.specs.Prelude.{Some, None, IsTrue, EachIndex}
+use Rattle.std.proofs.lemmas.Option.{same_Some, none-some}
+use lib.{Dec.T, Dec.eqb, Dec.ltb, ListN.length, ListN.get_or}
 use borrow.Author.Tests.{eqb-true, eq-eqb, ltb-true, lt-ltb, leb-true, le-leb}
 use Rattle.binary_field_theory.specs.Element.{is_degree, Accepted}
-use Rattle.binary_field.specs.Answer.{below}
+use Rattle.binary_field.specs.Answer.{below, bound}
 use Rattle.char2_algebra.specs.Lead.{Monic}
 use Rattle.class_group.specs.Coefficients.{monic_7, curve_of}
-use Rattle.row_theory.specs.{Field.𝔸, Field.el, Field.poly, Row.InRange, Row.places, Row.row_len}
+use Rattle.row_theory.specs.{Field.𝔸, Field.el, Field.poly, Row.InRange, Row.Stands, Row.places, Row.row_len}
 use Rattle.row_theory.proofs.Rows.{Elements.degree_is, Elements.zero_lt, Elements.el_one, Coefficients.coeff_poly, Coefficients.poly_is, Length.places_past, Length.places_len}
 use Rattle.class_rows.specs.{Core.OnCurve, Checked.is_row, Checked.is_monic, Checked.is_curve, Checked.is_pair, Checked.row_curve, Checked.divides, Checked.is_divisor}
-use Rattle.class_rows.specs.{internal.Check.Decides, Core.Divisor, internal.Check.FormedPair, declared.row.RowPair.RowPair}
-use Rattle.class_rows.proofs.CheckRows.{monic_decides, formed_divisor, remainder_decides}
+use Rattle.class_rows.specs.{internal.Check.Decides, Core.Divisor, internal.Check.FormedPair, internal.Check.CheckedRows, internal.Cofactor.CofactorRow, declared.row.RowPair.RowPair}
+use Rattle.class_rows.proofs.{CheckRows.same_answer, CheckRows.bound_is, CheckRows.below_range, CheckRows.monic_decides, CheckRows.formed_divisor, CheckRows.remainder_decides, CheckRows.division_decides, ReductionRows.cofactor_row}
 
 -- ---- two tests, and those of a row
 pub both : (x y : Bool) → (x && y) ≡ true → (x ≡ true) × (y ≡ true)
@@ -88,7 +90,7 @@ module _ (d : ℕ) (f : List ℕ) where
   curve_is n o = poly_is d f (poly d monic_row) (λ i. ap (el d) (same_numbers n o i) ∙ sym (coeff_poly d monic_row i)) ∙ monic_row_is
 
   module _ (ok : Accepted d) where
-    curve_shown : is_curve d f ≡ true → (length f ≡ 12) × OnCurve d f (row_curve d f)
+    pub curve_shown : is_curve d f ≡ true → (length f ≡ 12) × OnCurve d f (row_curve d f)
     unfolding is_curve is_monic
     curve_shown e =
         let h = both _ _ e in
@@ -107,7 +109,7 @@ module _ (d : ℕ) (f : List ℕ) where
 
 -- ---- the pair
 module _ {d : ℕ} {a : RowPair} (ok : Accepted d) where
-  pair_shown : is_pair d a ≡ true → (length a.u ≡ 12) × (length a.v ≡ 12) × FormedPair d a
+  pub pair_shown : is_pair d a ≡ true → (length a.u ≡ 12) × (length a.v ≡ 12) × FormedPair d a
   unfolding is_pair
   pair_shown e =
       let h = both _ _ e in
@@ -147,6 +149,29 @@ module _ {d : ℕ} {a : RowPair} (ok : Accepted d) where
         lt-ltb (places a.v) (places a.u) (omega arith),
         (monic_test ok u (λ z. omega arith)).1 p.u_monic,
       )
+
+-- the test of each number shows that a row is one of elements
+pub row_answer : (d : ℕ) (r : List ℕ) (t : Bool) → Accepted d → length r ≡ 12 → IsTrue t ↔ EachIndex r (λ i. get_or r i 0 < bound d) → t ≡ is_row d r
+row_answer d r t ok size h =
+    let e = bound_is d ok refl in
+    same_answer t (is_row d r) h (
+      λ k i _. subst (λ m. get_or r i 0 < m) (sym e) ((row_shown ok k).range i),
+      λ k. row_test ok (record { size = size; range = below_range d {i = 12} (record { at = λ j l. subst (λ m. get_or r j 0 < m) e (k j (omega arith)) }) (omega arith) size }),
+    )
+
+-- the tests of f
+pub curve_formed : (d : ℕ) (f : List ℕ) {n : ℕ} → is_row d f ≡ true → n ≡ places f → n ≡ 8 → get_or f 7 0 ≡ 1 → is_curve d f ≡ true
+unfolding is_curve is_monic
+curve_formed d f r e n o = let p : places f ≡ 8 = sym e ∙ n in rw (r, p, o)
+
+pub curve_parts : (d : ℕ) (f : List ℕ) → is_curve d f ≡ true → (is_row d f ≡ true) × (places f ≡ 8) × (get_or f 7 0 ≡ 1)
+unfolding is_curve is_monic
+curve_parts d f e =
+    let h = both _ _ e in
+    let k = both _ _ h.0 in
+    let n : places f ≡ 8 = eqb-true _ _ k.1 in
+    let o : get_or f (places f - 1) 0 ≡ 1 = eqb-true _ _ h.1 in
+    (k.0, n, ap (λ k. get_or f (k - 1) 0) (sym n) ∙ o)
 
 -- ---- the rows
 -- two rows of twelve numbers
@@ -194,3 +219,42 @@ module _ {d : ℕ} {f : List ℕ} {a : RowPair} where
 
 pub divisor_iff : (d : ℕ) (f : List ℕ) (a : RowPair) → length f ≡ 12 → length a.u ≡ 12 → length a.v ≡ 12 → (is_divisor d f a ≡ true) ↔ Divisor d f a
 divisor_iff d f a size u v = test_decides size (record { u_size = u; v_size = v })
+
+-- ---- the cofactor of a divisor
+is_false : (t : Bool) → ¬ (t ≡ true) → t ≡ false
+is_false true h = absurd (h refl)
+is_false false h = refl
+
+pub no_curve : (d : ℕ) (f : List ℕ) (a : RowPair) → ¬ ((is_degree d && is_curve d f) ≡ true) → is_divisor d f a ≡ false
+unfolding is_divisor
+no_curve d f a h = rw (is_false (is_degree d && is_curve d f) h)
+
+module _ {d : ℕ} {f : List ℕ} {a : RowPair} where
+  module _ (ok : Accepted d) (curve : is_curve d f ≡ true) where
+    pub no_pair : is_pair d a ≡ false → CheckedRows d f a None
+    unfolding is_divisor
+    no_pair e = record { decides = rw (test_accepted d ok, curve, e); cofactor = λ w n. absurd (none-some _ n) }
+
+    module _ (pair : is_pair d a ≡ true) {l rest : List ℕ} {n : ℕ}
+        (value : Stands d l ((𝔸 d).ring.add ((𝔸 d).ring.add ((𝔸 d).ring.mul (poly d a.v) (poly d a.v)) (poly d a.v)) (poly d f)))
+        (R : Stands d rest ((𝔸 d).rem (poly d l) (poly d a.u)))
+        (len : n ≡ places rest) where
+      decided : Decides (eqb n 0) (Divisor d f a)
+      decided =
+          division_decides (record { degree = ok; curve = (row_curve d f, (curve_shown d f ok curve).1); pair = (pair_shown ok pair).2 }) value R (places_len rest len d R.in_range)
+
+      pub divided : {q : List ℕ} → n ≡ 0 → Stands d q ((𝔸 d).quot (poly d l) (poly d a.u)) → CheckedRows d f a (Some q)
+      divided e Q =
+          let c = curve_shown d f ok curve in
+          let p = pair_shown ok pair in
+          record {
+            decides = sym (test c.0 (record { u_size = p.0; v_size = p.1 }) (decided.0 (eq-eqb n 0 e)));
+            cofactor = λ w s. subst (CofactorRow d f a) (same_Some _ _ s) (cofactor_row d a value Q);
+          }
+
+      pub undivided : ¬ (n ≡ 0) → CheckedRows d f a None
+      undivided h =
+          record {
+            decides = sym (is_false (is_divisor d f a) (λ e. h (eqb-true n 0 (decided.1 (shown {d = d} {f = f} {a = a} e).divisor))));
+            cofactor = λ w s. absurd (none-some _ s);
+          }

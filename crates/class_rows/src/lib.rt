@@ -7,7 +7,7 @@ ghost use mathlib.Core.Path.{◌≡◌};
 ghost use Rattle.class_rows.specs.{Checked.is_divisor, Answer.UnaryAnswers, Answer.BinaryAnswers};
 
 mod composition;
-mod divisor;
+mod curve;
 mod element;
 mod euclid;
 mod halving;
@@ -16,10 +16,9 @@ pub mod reduction;
 pub mod row;
 mod sums;
 
-use crate::divisor::{checked, checked_both};
+use crate::curve::Curve;
 use crate::reduction::CountedRows;
-use crate::row::RowPair;
-use crate::sums::{binary_of_reduced, unary_of_reduced};
+use crate::row::{Row, RowPair};
 
 // The operations on one pair.
 #[derive(Clone, Copy)]
@@ -38,26 +37,32 @@ pub enum Binary {
 }
 
 // Is the pair a reduced divisor of the curve?
-pub fn is_divisor(d: u8, f: [u64; 12], a: RowPair) -> bool
+pub fn is_divisor(d: u8, f: Row, a: RowPair) -> bool
     ensures { result ≡ is_divisor d f a }
 {
-    checked(d, f, a).is_some()
+    match Curve::of_row(d, f) {
+        Some(curve) => curve.cofactor_of_divisor(a).is_some(),
+        None => false,
+    }
 }
 
 // The operation on one pair, or `None` where it is no divisor. The half of a divisor is the only divisor whose double is
 // the one given.
-pub fn unary_rows(op: Unary, d: u8, f: [u64; 12], a: RowPair) -> Option<CountedRows>
+pub fn unary_rows(op: Unary, d: u8, f: Row, a: RowPair) -> Option<CountedRows>
     ensures { UnaryAnswers op d f a result }
 {
-    let w = checked(d, f, a)?;
-    Some(unary_of_reduced(op, d, f, a, w))
+    let curve = Curve::of_row(d, f)?;
+    let w = curve.cofactor_of_divisor(a)?;
+    Some(curve.unary(op, a, w))
 }
 
 // The operation on two pairs, or `None` where one is no divisor. The half of the first less the second is the only
 // divisor that doubled, plus the second, is the first.
-pub fn binary_rows(op: Binary, d: u8, f: [u64; 12], a: RowPair, b: RowPair) -> Option<CountedRows>
+pub fn binary_rows(op: Binary, d: u8, f: Row, a: RowPair, b: RowPair) -> Option<CountedRows>
     ensures { BinaryAnswers op d f a b result }
 {
-    let w = checked_both(d, f, a, b)?;
-    Some(binary_of_reduced(op, d, f, a, w, b))
+    let curve = Curve::of_row(d, f)?;
+    let w = curve.cofactor_of_divisor(a)?;
+    curve.cofactor_of_divisor(b)?;
+    Some(curve.binary(op, a, w, b))
 }

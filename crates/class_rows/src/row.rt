@@ -1,13 +1,18 @@
 // Polynomials as rows of twelve coefficients by value, the lowest first.
-ghost use Rattle.std.specs.Prelude.{ℕ, suc, ◌+◌, ◌≤◌, ◌<◌, ◌^◌, ◌≡◌};
-ghost use Rattle.binary_field_theory.specs.Element.{Accepted};
+ghost use Rattle.std.specs.Prelude.{ℕ, suc, ◌+◌, ◌≤◌, ◌<◌, ◌^◌, ◌≡◌, [], ◌∷◌};
 ghost use Rattle.char2_algebra.specs.{Lead.lead, Lead.monic_of, Square.sqrt};
-ghost use Rattle.row_theory.specs.{Field.degree_of, Field.𝔸, Field.el, Field.poly, internal.Elements.Inverts, Row.InRange, Row.Stands, Row.places, Row.row_len, internal.Elements.x_power};
+ghost use Rattle.row_theory.specs.{Field.degree_of, Field.𝔸, Field.el, Field.poly, internal.Elements.Inverts, Row.InRange, Row.Stands, Row.filled, Row.places, Row.row_len, internal.Elements.x_power};
 
-use crate::element::{inverted, product_of, root_of, squared, sum_of};
+use crate::element::Field;
+
+// The number of coefficients of a row.
+pub const ROW_LENGTH: usize = 12;
 
 // The coefficients, the lowest first, and 0 after them.
-pub type Row = [u64; 12];
+pub type Row = [u64; ROW_LENGTH];
+
+// The row of the polynomial 0.
+pub(crate) const ZERO: Row = [0; ROW_LENGTH];
 
 // A Mumford pair as two rows.
 #[derive(Clone, Copy)]
@@ -34,156 +39,159 @@ pub(crate) struct Lead {
 pub fn length(a: Row) -> usize
     ensures { result ≡ places a }
 {
-    let mut n: usize = 12;
-    while n > 0 {
-        if a[n - 1] != 0 {
-            return n;
+    for n in (0..ROW_LENGTH).rev() {
+        if a[n] != 0 {
+            return n + 1;
         }
-        n -= 1;
     }
     0
+}
+
+// The row of the five lowest coefficients.
+pub(crate) fn low_row(c0: u64, c1: u64, c2: u64, c3: u64, c4: u64) -> Row
+    ensures { result ≡ filled (c0 ∷ c1 ∷ c2 ∷ c3 ∷ c4 ∷ []) }
+{
+    [c0, c1, c2, c3, c4, 0, 0, 0, 0, 0, 0, 0]
 }
 
 // The polynomial 1.
 pub(crate) fn one() -> Row
     ensures { (d : ℕ) → Stands d result (𝔸 d).ring.one }
 {
-    [1, 0, 0, 0, 0, 0, 0, 0, 0, 0, 0, 0]
+    low_row(1, 0, 0, 0, 0)
 }
 
-// The index and the inverse of the leading coefficient. 1 is not inverted.
-pub(crate) fn leading(d: u8, a: Row) -> Lead
-    requires { Accepted d × InRange d a × ¬ (poly d a ≡ (𝔸 d).ring.zero) }
-    ensures { (row_len d a ≡ suc result.top) × Inverts d result.inverse (lead (𝔸 d) (poly d a)) }
-{
-    let top = length(a) - 1;
-    let inverse = inverted(d, a[top]);
-    Lead { top, inverse }
-}
-
-// The sum.
-pub(crate) fn sum_rows(d: u8, a: Row, b: Row) -> Row
-    requires { Accepted d × InRange d a × InRange d b }
-    ensures { Stands d result ((𝔸 d).ring.add (poly d a) (poly d b)) }
-{
-    add_multiple(d, a, 1, b, 0)
-}
-
-// The row of a + c x^shift b. No product is computed where c is 0 or 1.
-pub(crate) fn add_multiple(d: u8, a: Row, c: u64, b: Row, shift: usize) -> Row
-    requires { Accepted d × InRange d a × (c < 2 ^ degree_of d) × InRange d b × (row_len d b + shift ≤ 12) }
-    ensures { Stands d result ((𝔸 d).ring.add (poly d a) ((𝔸 d).ring.mul ((𝔸 d).con (el d c)) ((𝔸 d).ring.mul (x_power d shift) (poly d b)))) }
-{
-    if c == 0 {
-        return a;
+impl Field {
+    // The index and the inverse of the leading coefficient. 1 is not inverted.
+    pub(crate) fn leading(self, a: Row) -> Lead
+        requires a_in { InRange self.degree a }
+        requires nonzero { let d = self.degree in ¬ (poly d a ≡ (𝔸 d).ring.zero) }
+        ensures { let d = self.degree in (row_len d a ≡ suc result.top) × Inverts d result.inverse (lead (𝔸 d) (poly d a)) }
+    {
+        let top = length(a) - 1;
+        Lead {
+            top,
+            inverse: self.inverse(a[top]),
+        }
     }
-    let n = length(b);
-    let mut r = a;
-    let mut i = 0;
-    while i < n {
-        let j = shift + i;
-        r[j] = sum_of(d, r[j], product_of(d, c, b[i]));
-        i += 1;
-    }
-    r
-}
 
-// The row of c a.
-pub(crate) fn scale(d: u8, c: u64, a: Row) -> Row
-    requires { Accepted d × (c < 2 ^ degree_of d) × InRange d a }
-    ensures { Stands d result ((𝔸 d).ring.mul ((𝔸 d).con (el d c)) (poly d a)) }
-{
-    add_multiple(d, [0; 12], c, a, 0)
-}
+    // The sum.
+    pub(crate) fn sum_rows(self, a: Row, b: Row) -> Row
+        requires a_in { InRange self.degree a }
+        requires b_in { InRange self.degree b }
+        ensures { let d = self.degree in Stands d result ((𝔸 d).ring.add (poly d a) (poly d b)) }
+    {
+        self.add_multiple(a, 1, b, 0)
+    }
 
-// The square: the squares of the coefficients, at the even powers.
-pub(crate) fn square_row(d: u8, a: Row) -> Row
-    requires { Accepted d × InRange d a × (row_len d a ≤ 6) }
-    ensures { Stands d result ((𝔸 d).ring.mul (poly d a) (poly d a)) }
-{
-    let n = length(a);
-    let mut r = [0; 12];
-    let mut i = 0;
-    while i < n {
-        r[i + i] = squared(d, a[i]);
-        i += 1;
+    // The row of a + c x^shift b. No product is computed where c is 0 or 1.
+    pub(crate) fn add_multiple(self, a: Row, c: u64, b: Row, shift: usize) -> Row
+        requires a_in { InRange self.degree a }
+        requires c_in { c < 2 ^ degree_of self.degree }
+        requires b_in { InRange self.degree b }
+        requires room { row_len self.degree b + shift ≤ 12 }
+        ensures { let d = self.degree in Stands d result ((𝔸 d).ring.add (poly d a) ((𝔸 d).ring.mul ((𝔸 d).con (el d c)) ((𝔸 d).ring.mul (x_power d shift) (poly d b)))) }
+    {
+        if c == 0 {
+            return a;
+        }
+        let mut r = a;
+        for i in 0..length(b) {
+            r[shift + i] = self.sum(r[shift + i], self.product(c, b[i]));
+        }
+        r
     }
-    r
-}
 
-// The product.
-pub(crate) fn product_rows(d: u8, a: Row, b: Row) -> Row
-    requires { Accepted d × InRange d a × InRange d b × (row_len d a + row_len d b ≤ 13) }
-    ensures { Stands d result ((𝔸 d).ring.mul (poly d a) (poly d b)) }
-{
-    let n = length(a);
-    let mut r = [0; 12];
-    let mut i = 0;
-    while i < n {
-        let t = add_multiple(d, r, a[i], b, i);
-        r = t;
-        i += 1;
+    // The row of c a.
+    pub(crate) fn scale(self, c: u64, a: Row) -> Row
+        requires c_in { c < 2 ^ degree_of self.degree }
+        requires a_in { InRange self.degree a }
+        ensures { let d = self.degree in Stands d result ((𝔸 d).ring.mul ((𝔸 d).con (el d c)) (poly d a)) }
+    {
+        self.add_multiple(ZERO, c, a, 0)
     }
-    r
-}
 
-// Quotient and remainder. The leading coefficient of b is inverted once, and not at all where it is 1.
-pub(crate) fn divide(d: u8, a: Row, b: Row) -> Division
-    requires { Accepted d × InRange d a × InRange d b × ¬ (poly d b ≡ (𝔸 d).ring.zero) }
-    ensures { Stands d result.quotient ((𝔸 d).quot (poly d a) (poly d b)) × Stands d result.remainder ((𝔸 d).rem (poly d a) (poly d b)) }
-{
-    let first = leading(d, b);
-    let top = first.top;
-    let inverse = first.inverse;
-    let mut low = b;
-    low[top] = 0;
-    let mut q = [0; 12];
-    let mut r = a;
-    let mut k = length(a);
-    while top < k {
-        k -= 1;
-        let c = product_of(d, r[k], inverse);
-        let s = k - top;
-        q[s] = c;
-        r[k] = 0;
-        let t = add_multiple(d, r, c, low, s);
-        r = t;
+    // The square: the squares of the coefficients, at the even powers.
+    pub(crate) fn square_row(self, a: Row) -> Row
+        requires a_in { InRange self.degree a }
+        requires short { row_len self.degree a ≤ 6 }
+        ensures { let d = self.degree in Stands d result ((𝔸 d).ring.mul (poly d a) (poly d a)) }
+    {
+        let mut r = ZERO;
+        for i in 0..length(a) {
+            r[i + i] = self.square(a[i]);
+        }
+        r
     }
-    Division {
-        quotient: q,
-        remainder: r,
-    }
-}
 
-// a divided by its leading coefficient.
-pub(crate) fn monic(d: u8, a: Row) -> Row
-    requires { Accepted d × InRange d a × ¬ (poly d a ≡ (𝔸 d).ring.zero) }
-    ensures { Stands d result (monic_of (𝔸 d) (poly d a)) }
-{
-    let first = leading(d, a);
-    let top = first.top;
-    let inverse = first.inverse;
-    if inverse == 1 {
-        return a;
+    // The product.
+    pub(crate) fn product_rows(self, a: Row, b: Row) -> Row
+        requires a_in { InRange self.degree a }
+        requires b_in { InRange self.degree b }
+        requires room { row_len self.degree a + row_len self.degree b ≤ 13 }
+        ensures { let d = self.degree in Stands d result ((𝔸 d).ring.mul (poly d a) (poly d b)) }
+    {
+        let mut r = ZERO;
+        for i in 0..length(a) {
+            // The check takes a row that is changed from a variable, and not from a call.
+            let next = self.add_multiple(r, a[i], b, i);
+            r = next;
+        }
+        r
     }
-    let mut low = a;
-    low[top] = 0;
-    let mut r = scale(d, inverse, low);
-    r[top] = 1;
-    r
-}
 
-// The square root of a polynomial without odd powers: the square roots of the even coefficients.
-pub(crate) fn root_row(d: u8, a: Row) -> Row
-    requires { Accepted d × InRange d a }
-    ensures { Stands d result (sqrt (𝔸 d) (poly d a)) }
-{
-    let n = length(a);
-    let mut r = [0; 12];
-    let mut i = 0;
-    while i + i < n {
-        r[i] = root_of(d, a[i + i]);
-        i += 1;
+    // Quotient and remainder. The leading coefficient of b is inverted once, and not at all where it is 1.
+    pub(crate) fn divide(self, a: Row, b: Row) -> Division
+        requires a_in { InRange self.degree a }
+        requires b_in { InRange self.degree b }
+        requires nonzero { let d = self.degree in ¬ (poly d b ≡ (𝔸 d).ring.zero) }
+        ensures { let d = self.degree in Stands d result.quotient ((𝔸 d).quot (poly d a) (poly d b)) × Stands d result.remainder ((𝔸 d).rem (poly d a) (poly d b)) }
+    {
+        let Lead { top, inverse } = self.leading(b);
+        let mut low = b;
+        low[top] = 0;
+        let mut quotient = ZERO;
+        let mut remainder = a;
+        for k in (top..length(a)).rev() {
+            let c = self.product(remainder[k], inverse);
+            quotient[k - top] = c;
+            remainder[k] = 0;
+            // The check takes a row that is changed from a variable, and not from a call.
+            let next = self.add_multiple(remainder, c, low, k - top);
+            remainder = next;
+        }
+        Division {
+            quotient,
+            remainder,
+        }
     }
-    r
+
+    // a divided by its leading coefficient.
+    pub(crate) fn monic(self, a: Row) -> Row
+        requires a_in { InRange self.degree a }
+        requires nonzero { let d = self.degree in ¬ (poly d a ≡ (𝔸 d).ring.zero) }
+        ensures { let d = self.degree in Stands d result (monic_of (𝔸 d) (poly d a)) }
+    {
+        let Lead { top, inverse } = self.leading(a);
+        if inverse == 1 {
+            return a;
+        }
+        let mut low = a;
+        low[top] = 0;
+        let mut r = self.scale(inverse, low);
+        r[top] = 1;
+        r
+    }
+
+    // The square root of a polynomial without odd powers: the square roots of the even coefficients.
+    pub(crate) fn root_row(self, a: Row) -> Row
+        requires { InRange self.degree a }
+        ensures { let d = self.degree in Stands d result (sqrt (𝔸 d) (poly d a)) }
+    {
+        let mut r = ZERO;
+        for i in 0..(length(a) + 1) / 2 {
+            r[i] = self.root(a[i + i]);
+        }
+        r
+    }
 }

@@ -19,6 +19,9 @@ pub record NonNeutral (d : ℕ) (f : List ℕ) (a : RowPair) (w : List ℕ) (n :
   pub more : 1 < n
   pub short : n ≤ 4
 
+pub non_neutral : (d : ℕ) {f : List ℕ} {a : RowPair} {w : List ℕ} {n : ℕ} → ReducedRows d f a → CofactorRow d f a w → n ≡ row_len d a.u → 1 < n → NonNeutral d f a w n
+non_neutral d h w e m = record { reduced = h; cofactor = w; length_is = e; more = m; short = omega (arith, e, (reduced_len d h).0) }
+
 module _ (d : ℕ) {f : List ℕ} {a : RowPair} where
   -- the neutral class is its own half
   pub half_neutral : {n : ℕ} {r : RowPair}

@@ -1,8 +1,12 @@
 -- `is_divisor` meets its contract.
-use mathlib.Core.Path.{◌∙◌}
-use Rattle.class_rows.proofs.{CheckRows.same_answer, Tests.sized, Tests.test_decides}
+use mathlib.Core.Path.{sym, ◌∙◌, ap₂}
+use Rattle.class_rows.specs.Checked.{is_divisor}
+use Rattle.class_rows.proofs.Tests.{no_curve}
 use Rattle.class_rows.proofs.is_divisor.Goals as goal
 
-pub returns : goal.returns
-returns c =
-    let rows = c.well_formed.1.1.0.1.1 in c.is_some.ensures ∙ same_answer _ _ c.checked.ensures.decides (test_decides c.well_formed.1.0.1.0.1 (sized c.args.a rows.0.1.0.1 rows.1.0.1.0.1))
+pub returns-in-None : goal.returns-in-None
+returns-in-None c = sym (no_curve _ _ _ c.in-None.ensures)
+
+pub returns-in-Some : goal.returns-in-Some
+returns-in-Some c =
+    let e = c.in-Some.ensures in c.is_some.ensures ∙ c.cofactor_of_divisor.ensures.decides ∙ ap₂ (λ d f. is_divisor d f c.args.a) e.0 e.1

@@ -5,7 +5,7 @@ use Rattle.binary_field_theory.specs.Element.{Accepted}
 use Rattle.char2_algebra.specs.Lead.{Monic}
 use Rattle.class_group.specs.Curve as Theory
 use Rattle.row_theory.specs.{Field.𝔸, Field.poly, Row.InRange, Row.row_len}
-use Rattle.class_rows.specs.{Core.OnCurve, internal.Cofactor.CofactorRow}
+use Rattle.class_rows.specs.{Checked.is_divisor, Core.OnCurve, internal.Cofactor.CofactorRow}
 use Rattle.class_rows.specs.declared.row.RowPair.{RowPair}
 
 -- t is true exactly where P holds
@@ -26,7 +26,7 @@ pub record FormedRows (d : ℕ) (f : List ℕ) (a : RowPair) : Type 0 where
   pub curve : (C : Theory.Curve (𝔸 d)) × OnCurve d f C
   pub pair : FormedPair d a
 
--- a cofactor is given exactly where `asked` holds, and it is that of the pair
-pub record CheckedRows (d : ℕ) (f : List ℕ) (asked : Type 0) (a : RowPair) (r : Option (List ℕ)) : Type 0 where
-  pub decides : Decides (is_some r) asked
+-- a cofactor is given exactly where the pair is a divisor of the curve of f, and it is that of the pair
+pub record CheckedRows (d : ℕ) (f : List ℕ) (a : RowPair) (r : Option (List ℕ)) : Type 0 where
+  pub decides : is_some r ≡ is_divisor d f a
   pub cofactor : (w : List ℕ) → r ≡ Some w → CofactorRow d f a w
