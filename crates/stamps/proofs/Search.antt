@@ -5,7 +5,7 @@
 -- `root_answered`: the search for a root of a candidate's equation is never refused.
 -- `found_at`, `found_none`: the search finds the first candidate with a class, or none.
 -- `refused_first`, `answered_last`: the answer is the refusal before the search, or what the search finds.
-use Prim.Native.Nat.{ℕ, zero, suc, ◌+◌, ◌-◌, ◌*◌, ◌^◌, ◌≤◌, ◌<◌}
+use Prim.Native.Nat.{ℕ, zero, suc, ◌+◌, ◌-◌, ◌*◌, ◌/◌, ◌^◌, ◌≤◌, ◌<◌}
 use mathlib.Core.{Path.◌≡◌, Path.refl, Path.sym, Path.ap, Path.subst, Path.fun_ext, Path.◌∙◌, List.List, Option.Option, Option.none, Option.some, Option.map, Logic.◌↔◌}
 use native.Mathlib.{Numerals.add-one, Omega.arith}
 use borrow.Author.Tests.{lt-ltb, le-ltb, ltb-true}
@@ -14,8 +14,9 @@ use Rattle.binary_field_theory.proofs.Search.{first_zero, none_yet, found_first}
 use Rattle.std.specs.Prelude.{Result, Ok, Err, Some, None}
 use Rattle.std.specs.Prelude as std
 use Rattle.refusals.specs.{Refusals.number, declared.Refusal.Refusal}
-use Rattle.binary_field.specs.{Answer.found, Answer.no_root, Answer.solution_reply, Answer.quadratic_reply, Answer.QuadraticMeans}
+use Rattle.binary_field.specs.{Answer.bound, Answer.found, Answer.no_root, Answer.solution_reply, Answer.quadratic_reply, Answer.QuadraticMeans}
 use Rattle.binary_field.specs.Answer as quadratic
+use Rattle.binary_field.proofs.Degrees.{bound_accepted}
 use Rattle.binary_field.proofs.Refusing.{number_positive, goes_on}
 use Rattle.binary_field.proofs.Replies.{quadratic_means, quadratic_none, quadratic_some, found_is, none_found}
 use Rattle.row_theory.specs.Row.{filled}
@@ -31,6 +32,10 @@ eight_times = by_degree (λ d. 8 * 2 ^ (d - 3) ≡ 2 ^ d) refl refl
 
 pub candidate_lt : (d s i : ℕ) → Accepted d → s < 2 ^ (d - 3) → i < 8 → 8 * s + i < 2 ^ d
 candidate_lt d s i ok hs hi = let e : 8 * 2 ^ (d - 3) ≡ 2 ^ d = eight_times d ok in omega arith
+
+-- an eighth of the field's elements, which is one more than the largest stamp
+pub eighth : (d : ℕ) → Accepted d → {m : ℕ} → m ≡ bound d → m / 8 ≡ 2 ^ (d - 3)
+eighth d ok e = ap (λ m. m / 8) (e ∙ bound_accepted _ ok) ∙ by_degree (λ (d : ℕ). 2 ^ d / 8 ≡ 2 ^ (d - 3)) refl refl d ok
 
 pub bound_le : (d : ℕ) → Accepted d → 2 ^ (d - 3) ≤ 2 ^ 58
 bound_le = by_degree (λ d. 2 ^ (d - 3) ≤ 2 ^ 58) (omega arith) (omega arith)

@@ -5,40 +5,17 @@
 
 ghost use Rattle.std.specs.Prelude.{◌-◌, ◌<◌, ◌^◌, ◌≡◌};
 ghost use Rattle.refusals.specs.Refusals.{refusal_of};
-ghost use Rattle.binary_field_theory.specs.Element.{Accepted};
-ghost use Rattle.row_theory.specs.{Field.degree_of, Field.F, Field.el, Row.InRange, internal.Elements.Is};
 ghost use Rattle.jacobian.specs.Answer.{reply};
-ghost use Rattle.stamps.specs.Stamps.{value_at, point_class, first_class, stamp_refusal, stamped, stamp_answer};
+ghost use Rattle.stamps.specs.Stamps.{point_class, first_class, stamp_refusal, stamped, stamp_answer};
 
-use jacobian::{Class, CountedClass, Curve};
+mod polynomial;
+
+use crate::polynomial::Polynomial;
+use jacobian::{Class, CountedClass, Curve, curves};
 use refusals::Refusal;
 
 // The number of candidates of a stamp.
 const CANDIDATES: u64 = 8;
-
-// r x + a, by the calls on elements. No product is computed where r is 0.
-fn times_plus(d: u8, r: u64, x: u64, a: u64) -> u64
-    requires { Accepted d × (r < 2 ^ degree_of d) × (x < 2 ^ degree_of d) × (a < 2 ^ degree_of d) }
-    ensures { Is d result ((F d).ring.add (el d a) ((F d).ring.mul (el d x) (el d r))) }
-{
-    if r == 0 {
-        return a;
-    }
-    let p = binary_field::product(d, x, r).unwrap();
-    binary_field::sum(d, a, p).unwrap()
-}
-
-// The value of f at x, by Horner's rule.
-fn value_at(d: u8, f: [u64; 12], x: u64) -> u64
-    requires { Accepted d × InRange d f × (x < 2 ^ d) }
-    ensures { result ≡ value_at d f x }
-{
-    let mut r = 0;
-    for i in (0..12).rev() {
-        r = times_plus(d, r, x, f[i]);
-    }
-    r
-}
 
 // The class of the point (x, y).
 #[tactic(auto, unfolding(crate::specs::Stamps::point_class))]
@@ -53,13 +30,13 @@ fn point(x: u64, y: u64) -> Class
 }
 
 // The class of the first candidate that has one, with no reduction step, else refusal 116.
-fn first_class(d: u8, f: [u64; 12], s: u64) -> Result<CountedClass, Refusal>
-    requires { Accepted d × InRange d f × (s < 2 ^ (d - 3)) }
-    ensures { reply result ≡ stamped 0 (first_class d f s) }
+fn first_class(f: Polynomial, s: u64) -> Result<CountedClass, Refusal>
+    requires { s < 2 ^ (f.d - 3) }
+    ensures { reply result ≡ stamped 0 (first_class f.d f.coefficients s) }
 {
     for i in 0..CANDIDATES {
         let x = CANDIDATES * s + i;
-        if let Some(y) = binary_field::quadratic_root(d, value_at(d, f, x))? {
+        if let Some(y) = binary_field::quadratic_root(f.d, f.value_at(x))? {
             return Ok(CountedClass {
                 class: point(x, y),
                 steps: 0,
@@ -69,20 +46,12 @@ fn first_class(d: u8, f: [u64; 12], s: u64) -> Result<CountedClass, Refusal>
     Err(Refusal::StampWithoutClass)
 }
 
-// One more than the largest stamp of a degree: the candidates of all smaller numbers make up the field.
-fn limit(d: u8) -> u64
-    requires { Accepted d }
-    ensures { result ≡ 2 ^ (d - 3) }
-{
-    binary_field::bound(d) / CANDIDATES
-}
-
-// The checks of a stamp before any candidate is tried.
+// The checks of a stamp before any candidate is tried. The candidates of all smaller numbers make up the field.
 fn check_stamp(curve: Curve, s: u64) -> Result<(), Refusal>
     ensures { refusal_of result ≡ stamp_refusal curve s }
 {
-    jacobian::curves::check_curve(curve)?;
-    if s < limit(curve.degree) {
+    curves::check_curve(curve)?;
+    if s < binary_field::bound(curve.degree) / CANDIDATES {
         Ok(())
     } else {
         Err(Refusal::StampTooLarge)
@@ -94,5 +63,9 @@ pub fn stamp(curve: Curve, s: u64) -> Result<CountedClass, Refusal>
     ensures { reply result ≡ stamp_answer curve s }
 {
     check_stamp(curve, s)?;
-    first_class(curve.degree, jacobian::curves::f_row(curve), s)
+    let f = Polynomial {
+        d: curve.degree,
+        coefficients: curves::f_row(curve),
+    };
+    first_class(f, s)
 }

@@ -10,10 +10,10 @@ returns-in_err-check_stamp c =
     rw (p.1, p.2) (refused_first _ _ _ c.in_err-check_stamp.ensures)
 
 pub first_class-requires : goal.first_class-requires
-first_class-requires c =
-    let z = passed _ _ c.in_ok-check_stamp.ensures in
-    let p = curve_passes _ z.0 in
-    (p.accepted, (on_curve _ p c.f_row.ensures).in_range, z.1)
+first_class-requires c = (passed _ _ c.in_ok-check_stamp.ensures).1
+
+pub invariant_of-f : goal.invariant_of-f
+invariant_of-f c = let p = curve_passes _ (passed _ _ c.in_ok-check_stamp.ensures).0 in record { accepted = p.accepted; in_range = (on_curve _ p c.f_row.ensures).in_range }
 
 pub returns : goal.returns
 returns c = answered_last _ _ c.in_ok-check_stamp.ensures c.f_row.ensures c.first_class.ensures
