@@ -1,15 +1,17 @@
 -- The value of a polynomial at an element, as Horner's rule computes it, by the field's laws.
 -- `zero_plus`, `sum_with`: r x + a, where r is 0 and where the product is a number that stands for r x.
 -- `value_lt`: the value is an element. `value_filled`: zeros at the end change nothing.
--- `no_place`, `one_place_more`, `all_places`: the loop, from the last index down.
-use Prim.Native.Nat.{ℕ, zero, suc, ◌-◌, ◌^◌, ◌≤◌, ◌<◌}
+-- `none_gone`, `one_gone`, `all_gone`: the loop, from the last coefficient to the first. `last_range`: each is in range.
+use Prim.Native.Nat.{ℕ, zero, suc, ◌-◌, ◌^◌, ◌<◌}
 use mathlib.Core.{Path.◌≡◌, Path.refl, Path.sym, Path.ap, Path.ap₂, Path.subst, Path.◌∙◌, List.List, List.[], List.◌∷◌, List.◌++◌, List.map}
 use native.Mathlib.Omega.{arith}
-use lib.ListN.{length, get_or, drop, replicate}
+use lib.ListN.{length, get_or, replicate}
 use Rattle.char2_algebra.proofs.Ring.{𝟘_⊞, ⊞_𝟘, ·_𝟘}
 use Rattle.binary_field_theory.specs.Element.{Accepted}
 use Rattle.class_group.specs.NonSingular.{evaluate}
-use Rattle.row_theory.specs.{Field.degree_of, Field.K, Field.F, Field.el, Row.filled, internal.Elements.Is}
+use Rattle.row_theory.specs.{Field.degree_of, Field.K, Field.F, Field.el, Row.InRange, Row.filled, internal.Elements.Is}
+use Rattle.std.proofs.Common.{append_assoc}
+use Rattle.std.proofs.lemmas.List.{append-nil}
 use Rattle.row_theory.proofs.Rows.{Elements.degree_is, Elements.el_number, Elements.el_zero, Elements.zero_is, Elements.self_is, Elements.is_eq, Answers.number_is}
 use Rattle.stamps.specs.Stamps.{value_at}
 
@@ -56,37 +58,39 @@ module _ (d : ℕ) where
   unfolding value_at filled
   value_filled f x = ap (λ (e : K d). e.0) (filled_zeros f (12 - length f) (el d x))
 
--- ---- the loop, from the last index down
+-- ---- the loop, from the last coefficient to the first
 
-drop_all : (f : List ℕ) (n : ℕ) → length f ≡ n → drop n f ≡ []
-drop_all [] zero e = refl
-drop_all [] (suc n) e = refl
-drop_all (a ∷ f) zero e = absurd (omega arith)
-drop_all (a ∷ f) (suc n) e = drop_all f n (omega arith)
+at_seam : (r : List ℕ) (a : ℕ) (t : List ℕ) → get_or (r ++ a ∷ t) (length r) 0 ≡ a
+at_seam [] a t = refl
+at_seam (b ∷ r) a t = at_seam r a t
 
-drop_less : (f : List ℕ) (i : ℕ) → i < length f → drop i f ≡ get_or f i 0 ∷ drop (suc i) f
-drop_less [] i h = absurd (omega arith)
-drop_less (a ∷ f) zero h = refl
-drop_less (a ∷ f) (suc i) h = drop_less f i (omega arith)
+-- r is the value of the coefficients after those that are left
+pub record Gone (d : ℕ) (f : List ℕ) (x r : ℕ) (left : List ℕ) : Type 0 where
+  pub tail : List ℕ
+  pub is : f ≡ left ++ tail
+  pub value : Is d r (evaluated d tail x)
 
-module _ (d : ℕ) (f : List ℕ) (x : ℕ) where
-  pub no_place : length f ≡ 12 → Is d 0 (evaluated d (drop 12 f) x)
+module _ {d : ℕ} {f : List ℕ} {x : ℕ} where
+  pub none_gone : {left : List ℕ} → left ≡ f → Gone d f x 0 left
   unfolding evaluate
-  no_place e = is_eq d (sym (ap (λ g. evaluated d g x) (drop_all f 12 e))) (zero_is d)
+  none_gone e = record { tail = []; is = sym e ∙ sym (append-nil _); value = zero_is d }
 
-  pub one_place_more : length f ≡ 12 → {i r s : ℕ} → 0 < i → i ≤ 12 → Is d r (evaluated d (drop i f) x)
-      → Is d s ((F d).ring.add (el d (get_or f (i - 1) 0)) ((F d).ring.mul (el d x) (el d r))) → Is d s (evaluated d (drop (i - 1) f) x)
+  pub last_range : {r : ℕ} {left : List ℕ} (rest : List ℕ) (a : ℕ) → Gone d f x r left → left ≡ rest ++ a ∷ [] → InRange d f → a < 2 ^ degree_of d
+  last_range rest a g e h =
+      let is : f ≡ rest ++ a ∷ g.tail = g.is ∙ ap (λ l. l ++ g.tail) e ∙ append_assoc rest (a ∷ []) g.tail in
+      subst (λ n. n < 2 ^ degree_of d) (ap (λ l. get_or l (length rest) 0) is ∙ at_seam rest a g.tail) (h (length rest))
+
+  pub one_gone : {r s : ℕ} {left : List ℕ} (rest : List ℕ) (a : ℕ) → Gone d f x r left → left ≡ rest ++ a ∷ []
+      → Is d s ((F d).ring.add (el d a) ((F d).ring.mul (el d x) (el d r))) → Gone d f x s rest
   unfolding evaluate
-  one_place_more l {i} pos low e g =
-      let n : suc (i - 1) ≡ i = omega arith in
-      let k : i - 1 < length f = omega arith in
-      is_eq d
-      (ap (λ z. (F d).ring.add (el d (get_or f (i - 1) 0)) ((F d).ring.mul (el d x) z)) (e.stands ∙ sym (ap (λ j. evaluated d (drop j f) x) n))
-      ∙ sym (ap (λ h. evaluated d h x) (drop_less f (i - 1) k)))
-      g
+  one_gone rest a g e h =
+      record {
+        tail = a ∷ g.tail;
+        is = g.is ∙ ap (λ l. l ++ g.tail) e ∙ append_assoc rest (a ∷ []) g.tail;
+        value = is_eq d (ap (λ z. (F d).ring.add (el d a) ((F d).ring.mul (el d x) z)) g.value.stands) h;
+      }
 
-  pub all_places : {i r : ℕ} → i ≤ 0 → Is d r (evaluated d (drop i f) x) → r ≡ value_at d f x
+  pub all_gone : {r : ℕ} (left : List ℕ) → length left ≡ 0 → Gone d f x r left → r ≡ value_at d f x
   unfolding value_at
-  all_places {i} {r} h e =
-      let z : i ≡ 0 = omega arith in
-      sym (el_number d r e.in_range) ∙ ap (λ (a : K d). a.0) (e.stands ∙ ap (λ j. evaluated d (drop j f) x) z)
+  all_gone {r} [] e g = sym (el_number d r g.value.in_range) ∙ ap (λ (a : K d). a.0) (g.value.stands ∙ ap (λ l. evaluated d l x) (sym g.is))
+  all_gone (a ∷ left) e g = absurd (omega arith)

@@ -34,8 +34,8 @@ impl Polynomial {
         ensures { result ≡ value_at self.d self.coefficients x }
     {
         let mut r = 0;
-        for i in (0..12).rev() {
-            r = self.times_plus(r, x, self.coefficients[i]);
+        for &a in self.coefficients.iter().rev() {
+            r = self.times_plus(r, x, a);
         }
         r
     }

@@ -1,8 +1,6 @@
--- The invariant of `Polynomial::value_at`: the loop holds the value of the coefficients from index i on.
-use lib.ListN.{drop}
-use Rattle.row_theory.specs.internal.Elements.{Is}
-use Rattle.stamps.proofs.Values.{evaluated}
+-- The invariant of `Polynomial::value_at`: r is the value of the coefficients after those that are left.
+use Rattle.stamps.proofs.Values.{Gone}
 use Rattle.stamps.proofs.polynomial.Polynomial.value_at.Given as goal
 
-abbrev pub invariant-loop-i : goal.invariant-loop-i
-invariant-loop-i l = let f = l.self in Is f.d l.r (evaluated f.d (drop l.i f.coefficients) l.x)
+abbrev pub invariant-loop-a : goal.invariant-loop-a
+invariant-loop-a l = let f = l.fn.self in Gone f.d f.coefficients l.x l.r l.a-iterator.iter.rest.now
