@@ -13,6 +13,7 @@ use refusals::Refusal;
 pub const COEFFICIENTS: usize = 3;
 
 // The coefficients in the stored order, the highest power first.
+#[tactic(auto, unfolding(crate::specs::Curves::coefficients))]
 pub fn coefficients(c: Curve) -> [u64; COEFFICIENTS]
     ensures { result ≡ coefficients c }
 {
@@ -20,6 +21,7 @@ pub fn coefficients(c: Curve) -> [u64; COEFFICIENTS]
 }
 
 // The curve over the field of degree d with these coefficients.
+#[tactic(auto, unfolding(crate::specs::Curves::curve_with))]
 pub fn curve_with(d: u8, cs: [u64; COEFFICIENTS]) -> Curve
     ensures { result ≡ curve_with d cs }
 {
@@ -32,6 +34,7 @@ pub fn curve_with(d: u8, cs: [u64; COEFFICIENTS]) -> Curve
 }
 
 // The coefficients of f, the lowest first.
+#[tactic(auto, unfolding(row_theory::specs::Row::filled, crate::specs::Curves::f_row))]
 pub fn f_row(c: Curve) -> [u64; 12]
     ensures { result ≡ filled (f_row c) }
 {
@@ -39,6 +42,7 @@ pub fn f_row(c: Curve) -> [u64; 12]
 }
 
 // The curve in the answer of a refused reading.
+#[tactic(auto, unfolding(crate::specs::Curves::blank_curve))]
 pub fn blank_curve() -> Curve
     ensures { result ≡ blank_curve }
 {

@@ -44,6 +44,7 @@ pub struct CountedClass {
 }
 
 // The neutral class [1, 0].
+#[tactic(auto, unfolding(crate::specs::Answer::neutral_class))]
 pub fn neutral() -> Class
     ensures { result ≡ neutral_class }
 {
@@ -55,6 +56,7 @@ pub fn neutral() -> Class
 }
 
 // The checks of a call on one class before the division.
+#[tactic(auto, using(crate::proofs::ByValue::Checks::accepted_curve, binary_field::proofs::Refusing::stops_first, binary_field::proofs::Refusing::goes_on))]
 fn check_curve_and_form(c: Curve, a: Class) -> Result<(), Refusal>
     ensures { refusal_of result ≡ (curve_refusal c or_else form_refusal c.degree a) }
 {
@@ -115,6 +117,7 @@ fn on_two(op: Binary, curve: Curve, a: Class, b: Class) -> Result<CountedClass, 
 }
 
 // Is the pair a class of the curve?
+#[tactic(auto, using(crate::proofs::ByValue::Answers::verdict_of_number), unfolding(crate::specs::Answer::membership_answer))]
 pub fn membership(curve: Curve, a: Class) -> Result<(), Refusal>
     ensures { verdict result ≡ membership_answer curve a }
 {
@@ -122,6 +125,7 @@ pub fn membership(curve: Curve, a: Class) -> Result<(), Refusal>
 }
 
 // The opposite of a class.
+#[tactic(auto, unfolding(crate::specs::Answer::opposite_answer))]
 pub fn opposite(curve: Curve, a: Class) -> Result<CountedClass, Refusal>
     ensures { reply result ≡ opposite_answer curve a }
 {
@@ -129,6 +133,7 @@ pub fn opposite(curve: Curve, a: Class) -> Result<CountedClass, Refusal>
 }
 
 // The double of a class.
+#[tactic(auto, unfolding(crate::specs::Answer::double_answer))]
 pub fn double(curve: Curve, a: Class) -> Result<CountedClass, Refusal>
     ensures { reply result ≡ double_answer curve a }
 {
@@ -143,6 +148,7 @@ pub fn half(curve: Curve, a: Class) -> Result<CountedClass, Refusal>
 }
 
 // The sum of two classes.
+#[tactic(auto, unfolding(crate::specs::Answer::sum_answer))]
 pub fn sum(curve: Curve, a: Class, b: Class) -> Result<CountedClass, Refusal>
     ensures { reply result ≡ sum_answer curve a b }
 {
@@ -150,6 +156,7 @@ pub fn sum(curve: Curve, a: Class, b: Class) -> Result<CountedClass, Refusal>
 }
 
 // Twice a class plus another, as a commit moves a seal.
+#[tactic(auto, unfolding(crate::specs::Answer::double_and_add_answer))]
 pub fn double_and_add(curve: Curve, a: Class, b: Class) -> Result<CountedClass, Refusal>
     ensures { reply result ≡ double_and_add_answer curve a b }
 {
@@ -164,6 +171,7 @@ pub fn subtract_and_halve(curve: Curve, a: Class, b: Class) -> Result<CountedCla
 }
 
 // Is the curve accepted?
+#[tactic(auto, using(crate::proofs::ByValue::Answers::verdict_of_number), unfolding(crate::specs::Answer::curve_answer))]
 pub fn accepts_curve(curve: Curve) -> Result<(), Refusal>
     ensures { verdict result ≡ curve_answer curve }
 {

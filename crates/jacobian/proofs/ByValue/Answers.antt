@@ -29,6 +29,9 @@ unfolding verdict_of
 verdict_is (Ok _) = refl
 verdict_is (Err r) = refused_verdict (number r) (number_positive r)
 
+pub verdict_of_number : (o : Result (Unit {0}) Refusal) {n : ℕ} → refusal_of o ≡ n → verdict o ≡ verdict_of n
+verdict_of_number o e = verdict_is o ∙ ap verdict_of e
+
 -- the number of an outcome is the refusal of the call
 pub refusal_of_is : (o : Result (Unit {0}) Refusal) (n : ℕ) → verdict o ≡ verdict_of n → refusal_of o ≡ n
 refusal_of_is o n e = numbered (sym (verdict_is o) ∙ e)

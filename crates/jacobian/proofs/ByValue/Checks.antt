@@ -1,6 +1,6 @@
 -- What the checks of a curve and a class show where none of them refuses.
 use Prim.Native.Nat.{ℕ, zero, suc, ◌^◌, ◌≤◌, ◌<◌}
-use mathlib.Core.Path.{◌≡◌, refl}
+use mathlib.Core.Path.{◌≡◌, refl, sym}
 use mathlib.Core.{Bool.true, List.List, List.[], List.◌∷◌}
 use native.Mathlib.Omega.{arith}
 use lib.{Dec.eqb, Dec.lit<, Dec.lit≤, ListN.get_or, ListN.length, ListN.drop, Pow.pow_pos}
@@ -59,6 +59,9 @@ curve_passes c e =
       coefficients_below = at;
       f_below = eight (λ n. n < 2 ^ c.degree) (at 2) (at 1) (omega arith) (at 0) (omega arith);
     }
+
+pub accepted_curve : (c : Curve) → 0 ≡ curve_refusal c → Accepted c.degree
+accepted_curve c e = (curve_passes c (sym e)).accepted
 
 -- ---- a class that no check refuses
 pub record ShapePasses (a : Class) : Type 0 where
