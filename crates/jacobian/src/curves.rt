@@ -7,6 +7,7 @@ ghost use Rattle.jacobian.specs.Curves.{coefficients, curve_with, blank_curve, c
 ghost use Rattle.row_theory.specs.Row.{filled};
 
 use crate::Curve;
+use class_rows::row::Row;
 use refusals::Refusal;
 
 // The number of coefficients of a curve.
@@ -35,7 +36,7 @@ pub fn curve_with(d: u8, cs: [u64; COEFFICIENTS]) -> Curve
 
 // The coefficients of f, the lowest first.
 #[tactic(auto, unfolding(row_theory::specs::Row::filled, crate::specs::Curves::f_row))]
-pub fn f_row(c: Curve) -> [u64; 12]
+pub fn f_row(c: Curve) -> Row
     ensures { result ≡ filled (f_row c) }
 {
     [c.f0, c.f1, 0, c.f3, 0, 0, 0, 1, 0, 0, 0, 0]

@@ -1,5 +1,6 @@
 // Reduced divisor classes on y² + y = f(x) over GF(2^5) and GF(2^61), by value.
 // The checks come in the stored order: 106 and 107 for the curve, then 104, 110 and 111 for each class.
+// A call takes the curve beside its classes, since one curve has many of them.
 #![tactic(auto)]
 
 ghost use Rattle.std.specs.Prelude.{ℕ, ◌≡◌, Some, is_some};
@@ -72,7 +73,7 @@ pub fn check_class(curve: Curve, a: Class) -> Result<(), Refusal>
     classes::check_divisor(curve, a)
 }
 
-// The checks of a call on two classes, where both are in form, divisors or not.
+// The checks of a call on two classes before the divisions. What passes is in form, and need not be a divisor.
 // The first class's 111 comes before the second's 104 and 110.
 fn check_forms(c: Curve, a: Class, b: Class) -> Result<(), Refusal>
     ensures { FormRefusalOfTwo c a b (refusal_of result) }
