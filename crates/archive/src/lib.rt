@@ -184,7 +184,8 @@ pub fn read_header(s: &[u8]) -> Result<Advance, Refusal>
     Ok(advance_to(operations_expected(values.count), values, next))
 }
 
-// Refuses an archive that breaks a rule. Takes steps until nothing is expected or a field is refused.
+// Refuses an archive that breaks a rule. Takes steps until nothing is expected or a field is refused: a `while`, since
+// the bytes say how many steps there are.
 #[tactic(auto, using(crate::proofs::ReaderSteps::begun, crate::proofs::ReaderSteps::step_stops, crate::proofs::ReaderSteps::step_goes_on, crate::proofs::ReaderSteps::step_shortens, crate::proofs::ReaderSteps::all_read))]
 pub fn check_archive(s: &[u8]) -> Result<(), Refusal>
     ensures { refusal_of result ≡ archive_refusal s.now }

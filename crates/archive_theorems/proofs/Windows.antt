@@ -13,7 +13,7 @@ use lib.Seq.{take-take, take_all, drop-drop, get_or-take, get_or-drop}
 use Rattle.stored_form.specs.{Number.part, Reading.Reading, Reading.found, Reading.refuse, Reading.checked, Head.body_length, Fields.end_refusal, Fields.ended, Tags.rules, Tags.longest_body}
 use Rattle.stored_form.specs.{Reader.read_head_by, Reader.read_head, Reader.read_body, Reader.read_field, Reader.header_layout, declared.Record.Record}
 use Rattle.stored_form.specs.Pairs.{pairs_length, pairs_refusal, decode_pairs, read_pairs_field, read_pairs}
-use Rattle.stored_form.proofs.{Readings.then_where, Parts.drop_take, Heads.head_found, Lengths.allows_short}
+use Rattle.stored_form.proofs.{Readings.then_where, Heads.head_found, Lengths.allows_short}
 use Rattle.stored_form_theorems.proofs.Pairs.{pairs_length_decides}
 use Rattle.archive.specs.declared.{Expected.Expected, Reader.Reader}
 use Rattle.archive.specs.declared.Expected.TheVariants.{Header, Operations, Pairs, End, Nothing}
@@ -105,7 +105,7 @@ module _ (k : ℕ) (s : List ℕ) where
 
 module _ (m : ℕ) (s : List ℕ) where
   part_within : (i n : ℕ) → i + n ≤ m → part (take m s) i n ≡ part s i n
-  part_within i n h = ap (take n) (drop_take i m s) ∙ take-take n (m - i) (drop i s) (omega arith)
+  part_within i n h = ap (take n) (sym (between_is s i m)) ∙ take-take n (m - i) (drop i s) (omega arith)
 
   ends_within : (i : ℕ) → i ≤ m → ltb (length (take m s)) i ≡ ltb (length s) i
   ends_within i h = same_test (suc (length (take m s))) i (suc (length s)) i (λ l. omega (arith, length-take m s)) (λ l. omega (arith, length-take m s))

@@ -2,7 +2,7 @@
 -- `number_lt`: the number of bytes is below 256 to the power of their count.
 -- `number_snoc`: one more byte is one more digit in base 256.
 -- `number_fits`: the number of up to eight bytes is below 2^64.
--- `byte_fits`: the number of one byte is below 2^8.
+-- `one_byte`: the number of one byte is that byte.
 -- `turn`, `shift_fits`, `turn_fits`: a turn of the loop that decodes bytes.
 use Prim.Native.Nat.{ℕ, zero, suc, ◌+◌, ◌*◌, ◌^◌, ◌≤◌, ◌<◌}
 use mathlib.Core.Path.{◌≡◌, refl, sym, ap, ap₂, ◌∙◌}
@@ -53,8 +53,11 @@ part_bytes s h at k = take_bytes k (drop at s) (λ i. rw get_or-drop (h (at + i)
 pub number_fits : (s : List ℕ) → Bytes s → length s ≤ 8 → decode_number s < 2 ^ 64
 number_fits s h le = lt_of_lt_of_le (number_lt s h) (pow-le-pow_right {n = 256} (lit< tt) {j = 8} le)
 
-pub byte_fits : (s : List ℕ) → ((j : ℕ) → Fits w8 (get_or s j 0)) → length s ≡ 1 → decode_number s < 2 ^ 8
-byte_fits s h e = lt_of_lt_of_le (number_lt s (λ j. (h j).fits)) (pow-le-pow_right {n = 256} (lit< tt) {j = 1} (omega arith))
+pub one_byte : (s : List ℕ) → length s ≡ 1 → decode_number s ≡ get_or s 0 0
+unfolding decode_number
+one_byte [] e = absurd (omega arith)
+one_byte (b ∷ []) e = omega arith
+one_byte (b ∷ c ∷ s) e = absurd (omega arith)
 
 pub turn : (s : List ℕ) (i n : ℕ) → i < length s → n ≡ decode_number (take i s) → n * 256 + get_or s i 0 ≡ decode_number (take (i + 1) s)
 turn s i n lt e = rw (e, add-one, take-suc s i 0 lt) (sym (number_snoc (take i s) _))

@@ -10,10 +10,10 @@ use lib.Dec.{leb}
 use lib.ListN.{length, drop, replicate}
 use lib.Seq.{take-append_seam}
 use Rattle.std.specs.List.{list_all}
+use Rattle.std.proofs.lemmas.List.{drop-replicate}
 use Rattle.std.proofs.lemmas.List.Recursion.{same_from_clauses}
 use Rattle.stored_form.specs.{Head.drawing_limit, Fields.printable, Record.decode_drawing, Record.drawing_name}
 use Rattle.stored_form.specs.declared.Drawing.{Drawing}
-use Rattle.stored_form.proofs.Stores.{drop_replicate}
 
 pub name_decoded : (xs : List ℕ) → drawing_name (decode_drawing xs) ≡ xs
 unfolding drawing_name decode_drawing
@@ -23,7 +23,7 @@ name_decoded xs = take-append_seam xs _
 pub drawing_decoded : (xs : List ℕ) {ys : List ℕ} → ys ≡ xs →
     ◌≡◌ {A = Drawing} (record { len = length xs; bytes = ys ++ drop (length xs) (replicate drawing_limit 0) }) (decode_drawing xs)
 unfolding decode_drawing
-drawing_decoded xs e = ap₂ (λ (l z : List ℕ). record { len = length xs; bytes = l ++ z }) e (drop_replicate (length xs) drawing_limit)
+drawing_decoded xs e = ap₂ (λ (l z : List ℕ). record { len = length xs; bytes = l ++ z }) e (drop-replicate (length xs) drawing_limit 0)
 
 -- whether a byte lies in 0x20 to 0x7E
 abbrev pub printable_byte : ℕ → Bool

@@ -3,7 +3,7 @@
 -- `head_whole`: the head is found.
 -- `head_found`: what holds of a head that was found (`Whole`).
 -- `length_inside`, `length_outside`: the length that the head gives where it is whole, and where it is cut.
--- `head_by_length`: the head is that of the rule of lengths at the length that was read.
+-- `head_by_length`: the head is the same where only the length that was read is known to be allowed or not.
 use Prim.Native.Nat.{ℕ, ◌+◌, ◌≤◌, ◌<◌}
 use mathlib.Core.Path.{◌≡◌, refl, sym, ap}
 use mathlib.Core.Bool.{Bool, true, false, not, cond}

@@ -13,7 +13,8 @@ use native.Mathlib.Omega.{arith}
 use lib.ListN.{length, get_or, take, drop, length-append}
 use lib.Seq.{take-take, drop-drop}
 use Rattle.stored_form.specs.Number.{decode_number, encode_number, decode_numbers, encode_numbers, part}
-use Rattle.stored_form.proofs.{Digits.length_bytes, Parts.drop_take}
+use Rattle.std.proofs.lemmas.Slice.{between_is}
+use Rattle.stored_form.proofs.Digits.{length_bytes}
 
 module _ (k : ℕ) where
   pub length_decode_numbers : (n : ℕ) (s : List ℕ) → length (decode_numbers k n s) ≡ n
@@ -28,7 +29,7 @@ module _ (k : ℕ) where
       let e : k * suc n ≡ k * n + k = mul-suc k n in
       ap₂ (λ (x : ℕ) (xs : List ℕ). x ∷ xs)
       (ap decode_number (take-take k m s (omega (arith, e))))
-      (ap (decode_numbers k n) (drop_take k m s) ∙ decode_numbers_take n (m - k) (drop k s) (omega (arith, e)))
+      (ap (decode_numbers k n) (sym (between_is s k m)) ∙ decode_numbers_take n (m - k) (drop k s) (omega (arith, e)))
 
   pub decode_numbers_add : (j n : ℕ) (s : List ℕ) → decode_numbers k (j + n) s ≡ decode_numbers k j s ++ decode_numbers k n (drop (k * j) s)
   unfolding decode_numbers

@@ -71,7 +71,7 @@ module _ {A B : Type 0} (f : A → ℕ → Reading B) where
   then_same (found a n) e = e a n
   then_same (refused k) e = refl
 
-  -- for a code that stops where the first reading is refused, and reads on from what it finds
+  -- for code that stops where the first reading is refused, and reads on from what it finds
   pub stops : {x : Reading A} {k : ℕ} → refused k ≡ x → refused k ≡ (x then f)
   stops e = sym (then_refused (sym e))
 

@@ -24,8 +24,3 @@ store_more d at xs i h f e =
     ∙ ap (λ (k : ℕ). sets (sets d at (take i xs)) (at + k) (get_or xs i 0 ∷ [])) (sym len)
     ∙ sets_append d at (take i xs) (get_or xs i 0 ∷ [])
     ∙ ap (sets d at) (sym more)
-
-pub drop_replicate : (k n : ℕ) → drop {A = ℕ} k (replicate n 0) ≡ replicate (n - k) 0
-drop_replicate zero n = let e : n - 0 ≡ n = omega arith in rw e
-drop_replicate (suc k) zero = let e : 0 - suc k ≡ 0 = omega arith in rw e
-drop_replicate (suc k) (suc n) = let e : suc n - suc k ≡ n - k = omega arith in rw e (drop_replicate k n)

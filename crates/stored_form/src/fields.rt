@@ -20,14 +20,14 @@ fn curve_of_degree(d: u8) -> Curve
 
 impl Record {
     // The record with the value of this tag that a body decodes to.
-    #[tactic(auto, using(crate::proofs::Digits::byte_fits), unfolding(crate::specs::Tags::rules))]
+    #[tactic(auto, using(crate::proofs::Digits::one_byte), unfolding(crate::specs::Tags::rules))]
     pub(crate) fn with_field(self, tag: u8, body: &[u8]) -> Record
         requires { (rules tag).allows self (length body.now) ≡ true }
         ensures { result ≡ (rules tag).with_field body.now self }
     {
         match tag {
             DEGREE => Record {
-                curve: curve_of_degree(numbers::decode_number(body) as u8),
+                curve: curve_of_degree(body[0]),
                 ..self
             },
             CURVE => Record {

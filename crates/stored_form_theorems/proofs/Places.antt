@@ -13,12 +13,13 @@ use lib.ListN.{length, get_or, take, drop, length-append, length-take, length-dr
 use lib.Seq.{take-take, take-length, take_all, take-append_seam, drop-append_seam, drop-drop, take-add, drop-cons, get_or-take, get_or-drop}
 use borrow.Author.Tests.{ltb-false, le-ltb}
 use Rattle.stored_form.specs.{Number.part, Reading.Reading, Reading.found, Head.BytesAt, Fields.end_refusal, Fields.ended}
-use Rattle.stored_form.proofs.{Parts.drop_take, Readings.checked_found, Readings.checked_none, Readings.same_found}
+use Rattle.std.proofs.lemmas.Slice.{between_is}
+use Rattle.stored_form.proofs.{Readings.checked_found, Readings.checked_none, Readings.same_found}
 use Rattle.stored_form_theorems.specs.Fields.{Field}
 
 -- a part of a part
 pub part_part : (s : List ℕ) (at k i j : ℕ) → i + j ≤ k → part (part s at k) i j ≡ part s (at + i) j
-part_part s at k i j h = rw (drop_take, take-take j (k - i) (drop i (drop at s)) (omega arith), drop-drop)
+part_part s at k i j h = rw (← between_is (drop at s) i k, take-take j (k - i) (drop i (drop at s)) (omega arith), drop-drop)
 
 -- a part cut in two
 pub part_add : (s : List ℕ) (at i j : ℕ) → part s at (i + j) ≡ part s at i ++ part s (at + i) j
