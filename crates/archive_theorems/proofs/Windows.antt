@@ -13,6 +13,7 @@ use lib.Seq.{take-take, take_all, drop-drop, get_or-take, get_or-drop}
 use Rattle.stored_form.specs.{Number.part, Reading.Reading, Reading.found, Reading.refuse, Reading.checked, Head.body_length, Fields.end_refusal, Fields.ended, Tags.rules, Tags.longest_body}
 use Rattle.stored_form.specs.{Reader.read_head_by, Reader.read_head, Reader.read_body, Reader.read_field, Reader.header_layout, declared.Record.Record}
 use Rattle.stored_form.specs.Pairs.{pairs_length, pairs_refusal, decode_pairs, read_pairs_field, read_pairs}
+use Rattle.std.proofs.lemmas.Slice.{between_is}
 use Rattle.stored_form.proofs.{Readings.then_where, Heads.head_found, Lengths.allows_short}
 use Rattle.stored_form_theorems.proofs.Pairs.{pairs_length_decides}
 use Rattle.archive.specs.declared.{Expected.Expected, Reader.Reader}
