@@ -54,12 +54,8 @@ fn check_element(degree: Degree, a: u64) -> Result<(), Refusal>
 fn check_elements(degree: Degree, a: u64, b: u64) -> Result<(), Refusal>
     ensures { refusal_of result ≡ unless (below (2 ^ degree_number degree) (a ∷ b ∷ [])) 110 }
 {
-    let bound = degree.bound();
-    if a < bound && b < bound {
-        Ok(())
-    } else {
-        Err(Refusal::NotAnElement)
-    }
+    check_element(degree, a)?;
+    check_element(degree, b)
 }
 
 // Refuses 0, which has no inverse.
