@@ -7,3 +7,4 @@ pub mod Replies
 pub mod Valid
 pub mod Checking
 pub mod Refusing
+pub mod Masks

@@ -12,6 +12,7 @@ use std::marker::Model;
 // The carry-less product of two 32-bit numbers. Each is cut into four parts by bit position modulo 4.
 // In the integer product of two parts at most eight ones meet at a position, so that their count fits the four bits up
 // to the next position. The lowest bit of the count is the exclusive or of the ones.
+#[tactic(auto, using(crate::proofs::Masks::both_masked))]
 pub(crate) fn clmul32(a: u64, b: u64) -> u64
     requires { (a < 2 ^ 32) × (b < 2 ^ 32) }
     ensures { result ≡ clmul a b }
@@ -69,6 +70,7 @@ pub(crate) fn wide_product(a: u64, b: u64) -> Words
 // The carry-less product of bits and m, by integer products of bits six apart.
 // m has six bits, so that multiples by bits six apart do not overlap and nothing is carried.
 // Two octal digits are six bits.
+#[tactic(auto, using(crate::proofs::Masks::one_masked))]
 fn multiples(bits: u64, m: u64) -> u64
     requires { (bits < 2 ^ 58) × (m < 2 ^ 6) }
     ensures { result ≡ clmul bits m }
