@@ -9,6 +9,7 @@ use crate::squaring::{Sixfold, Squaring};
 use crate::{carryless, spreading, squaring};
 
 // x, squared by n steps, times y.
+#[tactic(auto, using(binary_field_theory::proofs::Words::ChainSteps::multiplied, crate::proofs::Degrees::accepted))]
 fn joined<S: Squaring>(by: S, x: u64, n: u8, y: u64) -> u64
     requires { let d = degree_number (S.field_degree by) in (x < 2 ^ d) × (y < 2 ^ d) }
     ensures { let d = degree_number (S.field_degree by) in

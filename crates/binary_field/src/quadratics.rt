@@ -10,6 +10,7 @@ use crate::squaring;
 use crate::squaring::{Sixfold, Squaring};
 
 // The trace: the sum of bits 0 and d - 2.
+#[tactic(auto, using(binary_field_theory::proofs::Words::HalfTraces::trace_by_digits, crate::proofs::Degrees::accepted))]
 pub(crate) fn trace_of(degree: Degree, a: u64) -> u64
     requires { a < 2 ^ degree_number degree }
     ensures { result ≡ trace (degree_number degree) a }

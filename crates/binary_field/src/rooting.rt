@@ -53,6 +53,7 @@ fn times_root_of_t(degree: Degree, n: u64) -> u64
 }
 
 // The square root of an element, from its bits at even and at odd positions.
+#[tactic(auto, using(binary_field_theory::proofs::Words::Roots::root_made, binary_field_theory::proofs::Words::Roots::odd_below, crate::proofs::Degrees::accepted))]
 pub(crate) fn root_of(degree: Degree, a: u64) -> u64
     requires { a < 2 ^ degree_number degree }
     ensures { result ≡ root (degree_number degree) a }

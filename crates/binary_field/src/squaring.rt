@@ -32,6 +32,7 @@ impl Squaring for Degree {
         self
     }
 
+    #[tactic(auto, unfolding(binary_field_theory::specs::Element::squarings))]
     fn step(self, a: u64) -> u64 {
         spreading::square_of(self, a)
     }

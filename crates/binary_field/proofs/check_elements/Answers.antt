@@ -1,6 +1,6 @@
 -- `check_elements` meets its contract: the numbers are checked one after the other.
-use mathlib.Core.{Path.◌≡◌, Path.refl, Path.sym, Path.◌∙◌, Bool.Bool, Bool.true, Bool.false, Bool.◌&&◌}
-use Prim.Native.Nat.{ℕ, ◌^◌}
+use mathlib.Core.{Path.◌≡◌, Path.refl, Path.◌∙◌, Bool.Bool, Bool.true, Bool.false, Bool.◌&&◌}
+use Prim.Native.Nat.{◌^◌}
 use Rattle.std.specs.Prelude.{ltb}
 use Rattle.std.proofs.lemmas.Result.{err_from_is_err_and}
 use Rattle.binary_field.specs.{Checks.unless, Checks.◌or_else◌, Answer.below, Degree.degree_number}

@@ -1,11 +1,10 @@
 -- `multiples` meets its contract: the ones of each mask are six apart, and the six masks together have 60 ones.
 use mathlib.Core.Path.{◌≡◌, refl}
 use Prim.Native.Nat.{ℕ, ◌*◌, ◌^◌, ◌<◌}
-use native.Mathlib.{Omega.arith, Nat.lt_of_le_of_lt}
-use lib.{Bits.bit_and, Bits.and_le_l, Dec.T}
-use mir.{Syntax.w64, Val.Fits}
+use native.Mathlib.{Omega.arith}
+use lib.{Bits.bit_and, Dec.T}
 use Rattle.binary_field_theory.specs.Carryless.{◌⊕◌, clmul}
-use Rattle.binary_field_theory.proofs.Words.{Sizes.times_lt, Multiples.apart, Multiples.no_carry, Multiples.parts_joined, Multiples.all_picked}
+use Rattle.binary_field_theory.proofs.Words.{Multiples.apart, Multiples.no_carry, Multiples.parts_joined, Multiples.all_picked}
 use Rattle.binary_field.proofs.carryless.multiples.Goals as goal
 
 module _ (n m : ℕ) (h : m < 2 ^ 6) where
