@@ -63,7 +63,7 @@ one_below {m} {a} e = elim (in_range m e) [ more h hs ↦ h ]
 pub two_below : {m a b : ℕ} → 0 ≡ unless (below m (a ∷ b ∷ [])) 110 → (a < m) × (b < m)
 two_below {m} {a} {b} e = elim (in_range m e) [ more h hs ↦ (h, elim hs [ more k ks ↦ k ]) ]
 
--- what the proofs of the calls use
+-- by these the goals of the calls are found
 pub ruleset answering = (refuses, replies, wrong_degree, then_range, one_below, two_below)
 
 -- where a call on one number is not refused, the degree is accepted and the number in range

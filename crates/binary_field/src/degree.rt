@@ -6,7 +6,8 @@ ghost use Rattle.binary_field.specs.Degree.{degree_number};
 
 use refusals::Refusal;
 
-// The degree of a field.
+// The degree of a field. An element stays a bare number beside it: a struct of both would owe at each sum and product
+// that two degrees are one.
 #[derive(Clone, Copy)]
 pub(crate) enum Degree {
     Five = 5,

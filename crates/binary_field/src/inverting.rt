@@ -43,7 +43,7 @@ fn inverse_61(a: u64) -> u64
     spreading::square_of(Degree::SixtyOne, a60)
 }
 
-// The inverse of an element other than 0, by the chain of the degree.
+// The inverse of an element other than 0. The degrees have chains of different steps, which share `joined` alone.
 pub(crate) fn inverse_of(degree: Degree, a: u64) -> u64
     requires { a < 2 ^ degree_number degree }
     ensures { let d = degree_number degree in result ≡ power d a (2 ^ d - 2) }

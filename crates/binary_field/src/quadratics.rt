@@ -52,7 +52,7 @@ fn half_trace_61(a: u64) -> u64
     terms_joined(Degree::SixtyOne, h30, 2, a)
 }
 
-// The half-trace, by the chain of the degree.
+// The half-trace. The degrees have chains of different steps, which share `terms_joined` alone.
 pub(crate) fn half_trace_of(degree: Degree, a: u64) -> u64
     requires { a < 2 ^ degree_number degree }
     ensures { result ≡ half_trace (degree_number degree) a }

@@ -8,7 +8,7 @@ ghost use Rattle.binary_field.specs.Degree.{degree_number};
 use crate::degree::Degree;
 use crate::{multisquaring, spreading};
 
-// A step that squares an element of a field a fixed number of times.
+// A step that squares an element of a field a fixed number of times. A degree is the step of one squaring in its field.
 pub(crate) trait Squaring: Copy {
     ghost field_degree: { Self → Degree };
 
@@ -38,7 +38,7 @@ impl Squaring for Degree {
     }
 }
 
-// Six squarings at once.
+// Six squarings in one step, in GF(2^61).
 #[derive(Clone, Copy)]
 pub(crate) struct Sixfold;
 

@@ -2,10 +2,10 @@
 -- `by_tests`: the rule holds if two computed tests pass. Squaring is additive, so that the rule is tested at the powers
 -- of t alone, which are the digits 1, 2, 4 and 8 at each position: each value is t^64 times the one before it.
 -- Every other entry is tested to be the sum of those.
--- `no_digit`, `place_lt`, `one_digit_more`, `all_digits`: the loop over the digits, the lowest first.
+-- `no_digit`, `place_lt`, `one_digit_more`: the loop over the digits, the lowest first.
 use mathlib.Core.{Path.◌≡◌, Path.refl, Path.ap, Path.sym, Path.◌∙◌, Bool.Bool, Bool.true, Bool.◌&&◌, List.List, List.[], List.◌∷◌}
-use Prim.Native.Nat.{ℕ, zero, suc, ◌+◌, ◌*◌, ◌/◌, ◌%◌, ◌^◌, ◌<◌, ◌≤◌}
-use native.Mathlib.{Nat.mod-lt, Nat.mod-eq_of_lt, Nat.lt_of_lt_of_le, Nat.add-zero, Nat.zero-add, Nat.le_of_suc-le-suc, Nat.not-suc-le-zero, Omega.arith}
+use Prim.Native.Nat.{ℕ, zero, suc, ◌+◌, ◌*◌, ◌/◌, ◌%◌, ◌^◌, ◌<◌}
+use native.Mathlib.{Nat.mod-lt, Nat.lt_of_lt_of_le, Nat.add-zero, Nat.zero-add, Nat.le_of_suc-le-suc, Nat.not-suc-le-zero, Omega.arith}
 use lib.{Dec.T, Dec.eqb, Dec.eqb→eq, Bits.bit_xor, Bits.bit_and, Bits.and_mask, Bits.mask_lt, Pow.pow_pos, Pow.pow_mono, Pow.shl_lt, Pow.mod-pow-add}
 use lib.ListN.{length, get_or, drop}
 use Rattle.binary_field_theory.specs.{Carryless.◌⊕◌, Carryless.digits_to, Carryless.digits, Carryless.spread, Carryless.reduce, Carryless.remainder, Element.low, Element.product, Element.squarings, Chain.spreadings, Spreading.every, Multisquaring.Multisquares}
@@ -100,8 +100,3 @@ one_digit_more a i {xs} {r} m h e =
     let k : 4 * (i + 1) ≡ 4 + 4 * i = omega arith in
     let g = rw (p, q) at (m.entry (16 * i + x) (place_lt (a / 2 ^ (4 * i)) i h)) in
     rw (e, g, k) (sym (digit_added a (4 * i)))
-
-pub all_digits : (a i : ℕ) {r : ℕ} → a < 2 ^ 64 → i ≤ 16 → 16 ≤ i → r ≡ squarings 61 6 (a % 2 ^ (4 * i)) → r ≡ squarings 61 6 a
-all_digits a i ha p q e =
-    let k : i ≡ 16 = omega arith in
-    e ∙ ap (squarings 61 6) (rw k (mod-eq_of_lt ha))
