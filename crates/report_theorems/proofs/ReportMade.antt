@@ -178,5 +178,5 @@ report_made s = go (read_archive s) refl
 pub report_only : (s : List ℕ) {lines : List (List ℕ)} → MakesAll s (begin s) lines → lines ≡ report_lines s
 report_only s l = makes_only s l (report_made s)
 
-pub halfway_begin : (s : List ℕ) → Halfway s (begin s)
+unfoldable pub halfway_begin : (s : List ℕ) → Halfway s (begin s)
 halfway_begin s = record { so_far = []; to_come = report_lines s; made = none; left = report_made s; whole = refl }

@@ -2,11 +2,13 @@
 -- `none`: appending nothing leaves the line.
 -- `both`: appending one text after another appends both.
 -- `laid`: a text appended to the empty line, where it has room, is the line of that text.
+-- `line_bytes`: the bytes of the line of a text are the text.
 use Prim.Native.Nat.{ℕ, suc, ◌+◌, ◌-◌, ◌≤◌, ◌<◌}
 use mathlib.Core.Path.{◌≡◌, refl, sym, ap, ◌∙◌}
 use mathlib.Core.List.{List, [], ◌∷◌, ◌++◌, append_assoc, append-nil}
 use native.Mathlib.Omega.{arith}
-use lib.ListN.{length, set, replicate, length-append, length-replicate}
+use lib.ListN.{length, set, take, replicate, length-append, length-replicate}
+use Rattle.std.proofs.lemmas.List.{take-append-le, take_all}
 use borrow.Author.Tests.{lt-ltb}
 use Rattle.text.specs.{Line.line_room, Line.in_line, Line.with_byte, Line.with_bytes, declared.Line.Line}
 
@@ -43,3 +45,7 @@ behind_laid ys (b ∷ xs) h =
 
 pub laid : (xs : List ℕ) → length xs ≤ line_room → with_bytes (in_line []) xs ≡ in_line xs
 laid xs h = behind_laid [] xs (omega arith)
+
+pub line_bytes : (xs : List ℕ) → take (in_line xs).len (in_line xs).bytes ≡ xs
+unfolding in_line
+line_bytes xs = take-append-le (length xs) xs (replicate (line_room - length xs) 0) (omega arith) ∙ take_all (length xs) xs (omega arith)

@@ -1,6 +1,7 @@
 -- The loop of the program (walk_report/specs/Loop.antt).
 -- `makes_only`: from a state the loop makes one list of lines and no other.
 -- `halfway_next`: a turn of the loop keeps that the lines made so far, and then those to come, are the report's.
+-- `next_so_far`: the lines made so far are then those before and the line of the turn.
 -- `halfway_over`: where no line is pending, the lines made are the report's, all of them.
 use Prim.Native.Nat.{ℕ}
 use mathlib.Core.Path.{◌≡◌, refl, sym, ap, ◌∙◌, subst}
@@ -15,7 +16,7 @@ module _ (s : List ℕ) where
   turn_all {m} {x} {lines} h e l = subst (λ (y : LineResult). MakesAll s y.progress lines → MakesAll s m (y.text ∷ lines)) e (λ l. record { end = l.end; makes = turn h l.makes; over = l.over }) l
 
   -- a turn after the others
-  turn_last : {m n : Progress} {lines : List (List ℕ)} → Makes s m lines n → pending n.report.stage ≡ true → Makes s m (lines ++ (made_line s n).text ∷ []) (made_line s n).progress
+  pub turn_last : {m n : Progress} {lines : List (List ℕ)} → Makes s m lines n → pending n.report.stage ≡ true → Makes s m (lines ++ (made_line s n).text ∷ []) (made_line s n).progress
   turn_last none h = turn h none
   turn_last (turn g l) h = turn g (turn_last l h)
 
@@ -28,7 +29,7 @@ module _ (s : List ℕ) where
   pub makes_only : {m : Progress} {a b : List (List ℕ)} → MakesAll s m a → MakesAll s m b → a ≡ b
   makes_only x y = lines_only x.makes x.over y.makes y.over
 
-  halfway_turn : {m end : Progress} {so_far to_come : List (List ℕ)} → Makes s (begin s) so_far m → Makes s m to_come end → pending end.report.stage ≡ false →
+  unfoldable pub halfway_turn : {m end : Progress} {so_far to_come : List (List ℕ)} → Makes s (begin s) so_far m → Makes s m to_come end → pending end.report.stage ≡ false →
       so_far ++ to_come ≡ report_lines s → pending m.report.stage ≡ true → Halfway s (made_line s m).progress
   halfway_turn made none over whole h = absurd (true≢false (sym h ∙ over))
   halfway_turn {m} {end} {so_far} made (turn {lines = lines} g rest) over whole h = record {
@@ -39,8 +40,18 @@ module _ (s : List ℕ) where
     whole = append_assoc so_far ((made_line s m).text ∷ []) lines ∙ whole;
   }
 
-  pub halfway_next : {m : Progress} → Halfway s m → pending m.report.stage ≡ true → Halfway s (made_line s m).progress
+  unfoldable pub halfway_next : {m : Progress} → Halfway s m → pending m.report.stage ≡ true → Halfway s (made_line s m).progress
   halfway_next x h = halfway_turn x.made x.left.makes x.left.over x.whole h
+
+  turn_so_far : {m end : Progress} {so_far to_come : List (List ℕ)} (made : Makes s (begin s) so_far m) (left : Makes s m to_come end) (over : pending end.report.stage ≡ false)
+      (whole : so_far ++ to_come ≡ report_lines s) (h : pending m.report.stage ≡ true) → (halfway_turn made left over whole h).so_far ≡ so_far ++ (made_line s m).text ∷ []
+  unfolding halfway_turn
+  turn_so_far made none over whole h = absurd (true≢false (sym h ∙ over))
+  turn_so_far made (turn g rest) over whole h = refl
+
+  pub next_so_far : {m : Progress} (x : Halfway s m) (h : pending m.report.stage ≡ true) → (halfway_next x h).so_far ≡ x.so_far ++ (made_line s m).text ∷ []
+  unfolding halfway_next
+  next_so_far x h = turn_so_far x.made x.left.makes x.left.over x.whole h
 
   -- the same, of what the code of a line answers
   pub halfway_answer : {r : Report} {at : ℕ} {x : LineAnswer} → Halfway s (progress r at) → pending r.stage ≡ true → x ≡ line_answer (next_line r s at) → Halfway s (progress x.report x.next.at)

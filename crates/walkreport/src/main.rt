@@ -19,8 +19,11 @@ fn write_report<W: Write>(out: &mut W, archive: &[u8]) -> io::Result<()>
 {
     let mut state = walk_report::begin(archive);
     while walk_report::pending(state.report) {
-        let LineAnswer { line, report, next } =
-            walk_report::next_line(state.report, archive, state.next);
+        let LineAnswer { line, report, next } = walk_report::next_line(
+            state.report,
+            archive,
+            state.next,
+        );
         line.write_to(out)?;
         state = Progress { report, next };
     }

@@ -1,13 +1,11 @@
 -- `write_report` ends: each turn leaves fewer lines to write.
 -- At every turn the lines made so far, which are written, and then those to come are the report of the archive.
-use mathlib.Core.List.{flatten}
-use Rattle.std.specs.Io.KnownBytes.{Appends}
-use Rattle.walk_report.specs.Loop.{Halfway}
 use Rattle.walk_report.proofs.LinesLeft.{lines_left}
+use Rattle.walkreport.proofs.Written.{Written}
 use Rattle.walkreport.proofs.write_report.Given as goal
 
 abbrev pub invariant-loop-state : goal.invariant-loop-state
-invariant-loop-state g l = (x : Halfway l.archive l.state) × Appends (g.W.Write.contents l.initial.out) (g.W.Write.contents l.out) (flatten x.so_far)
+invariant-loop-state g l = Written l.archive l.state (g.W.Write.contents l.initial.out) (g.W.Write.contents l.out)
 
 abbrev pub decreases-loop-state : goal.decreases-loop-state
 decreases-loop-state g l = lines_left l.state.report

@@ -1,0 +1,2 @@
+-- The lines written by the loop.
+pub mod Written
