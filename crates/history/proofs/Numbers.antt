@@ -12,19 +12,21 @@
 -- `release_refuses`, `release_follows`: what a release answers where the register is refused, and where it is not.
 -- `curve_refuses`, `counts_refuse`, `seal_refuses`, `class_refuses`, `edge_refuses`: what a step answers where this check
 -- is the first that refuses.
-use Rattle.std.specs.Prelude.{ℕ, zero, suc, ◌≤◌, Ok, Err}
+-- `commit_moves`, `undo_moves`: what a commit and an undo answer where only the class operation can refuse.
+-- `undo_room`: an undo that its edge does not refuse has an operation to take out.
+use Rattle.std.specs.Prelude.{ℕ, zero, suc, ◌≤◌, ◌+◌, ◌-◌, Ok, Err}
 use mathlib.Core.Path.{◌≡◌, refl, sym, ◌∙◌, ap, ap₂}
 use native.Mathlib.Omega.{arith}
-use Rattle.jacobian.specs.{Checks.◌or_else◌, Curves.curve_refusal, Classes.class_refusal, Answer.refusal, Answer.refusal_of_two, Answer.refused}
+use Rattle.jacobian.specs.{Checks.◌or_else◌, Curves.curve_refusal, Classes.class_refusal, Answer.refusal, Answer.refusal_of_two, Answer.refused, Answer.result, Answer.double_and_add_answer, Answer.subtract_and_halve_answer}
 use Rattle.jacobian.specs.declared.{Curve.Curve, Class.Class}
 use Rattle.refusals.specs.{Refusals.number, declared.Refusal.Refusal}
 use Rattle.binary_field.proofs.Refusing.{number_positive, stops_first, goes_on}
 use Rattle.jacobian.proofs.ByValue.Checks.{then_zero, first_due}
 use Rattle.count_limit.specs.Limit.{count_limit, count_refusal, released_refusal}
 use Rattle.count_limit.proofs.Limit.{limit_keeps}
-use Rattle.history.specs.Register.{register_refusal, edge_refusal, step_refusal, stepped, with_released, RegisterReply, follows, step_answer, release_answer}
-use Rattle.history.specs.{internal.Next.next_reply, declared.Register.Register, declared.Step.Step}
-use Rattle.history.proofs.Registers.{follows_zero, follows_refused}
+use Rattle.history.specs.Register.{commit_seal, undo_seal, register_refusal, edge_refusal, step_refusal, stepped, with_released, RegisterReply, follows, step_answer, release_answer}
+use Rattle.history.specs.{internal.Next.next_reply, internal.Next.moved_reply, declared.Register.Register, declared.Step.Step, declared.Step.TheVariants.Commit, declared.Step.TheVariants.Undo}
+use Rattle.history.proofs.{Registers.OffEdge, Registers.edge_off, Registers.follows_zero, Registers.follows_refused, Answers.double_and_add_sealed, Answers.subtract_and_halve_sealed, Answers.moved_sealed}
 
 -- ---- checks one after the other
 pub then_positive : (m n : ℕ) → ¬ (n ≡ 0) → ¬ (m or_else n ≡ 0)
@@ -135,3 +137,27 @@ module _ (k : Step) (r : Register) (a : Class) (f : Refusal) where
 
       pub edge_refuses : 0 ≡ refusal r.curve a → number f ≡ edge_refusal k r.count r.released → next_reply r (Err f) ≡ step_answer k r a
       edge_refuses class e = refused_answer (goes_on (class ∙ second_refused r.curve r.seal a (sym seal)) e ∙ sym (step_within k r a (sym counts)))
+
+-- a step that only the class operation can refuse
+module _ (r : Register) (a : Class) (counts : 0 ≡ count_refusal r.count or_else released_refusal r.count r.released) where
+  pub commit_moves : 0 ≡ edge_refusal Commit r.count r.released → moved_reply r (r.count + 1) (result (double_and_add_answer r.curve r.seal a)) ≡ step_answer Commit r a
+  unfolding stepped
+  commit_moves edge =
+      step_follows Commit r a (sym counts) (sym edge) refl
+      (ap (moved_reply r (r.count + 1)) (double_and_add_sealed r.curve r.seal a) ∙ moved_sealed r (r.count + 1) _ (commit_seal r.curve r.seal a))
+
+  pub undo_moves : 0 ≡ edge_refusal Undo r.count r.released → moved_reply r (r.count - 1) (result (subtract_and_halve_answer r.curve r.seal a)) ≡ step_answer Undo r a
+  unfolding stepped
+  undo_moves edge =
+      step_follows Undo r a (sym counts) (sym edge) refl
+      (ap (moved_reply r (r.count - 1)) (subtract_and_halve_sealed r.curve r.seal a) ∙ moved_sealed r (r.count - 1) _ (undo_seal r.curve r.seal a))
+
+-- an undo finds an operation to take out
+pub undo_room : (k : Step) (n released : ℕ) → k ≡ Undo → 0 ≡ edge_refusal k n released → 1 ≤ n
+unfolding OffEdge
+undo_room k n released is e =
+    let off = (edge_off Undo n released (ap (λ j. edge_refusal j n released) (sym is) ∙ sym e)).0 in
+    omega (arith, off)
+
+-- what a step answers, and the bounds that it needs
+pub ruleset step_rules = (curve_refuses, counts_refuse, seal_refuses, class_refuses, edge_refuses, commit_moves, undo_moves, counts_low, undo_room)

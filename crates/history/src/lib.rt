@@ -4,13 +4,12 @@
 // One step of a walk, which has no register, is jacobian::subtract_and_halve.
 #![tactic(auto)]
 
-ghost use Rattle.std.specs.Prelude.{ℕ, ◌≡◌};
+ghost use Rattle.std.specs.Prelude.{◌≡◌};
 ghost use Rattle.refusals.specs.Refusals.{refusal_of};
 ghost use Rattle.jacobian.specs.{Checks.◌or_else◌, Curves.curve_refusal, Answer.reply, Answer.result as class_result};
-ghost use Rattle.jacobian.specs.declared.Class.{Class as Seal};
 ghost use Rattle.count_limit.specs.Limit.{count_refusal, released_refusal};
-ghost use Rattle.history.specs.Register.{register_refusal, edge_refusal, with_count_and_seal, sealed, register_reply, follows, step_answer, commit_answer, release_answer, StepAnswers, UndoAnswers};
-ghost use Rattle.history.specs.internal.Next.{next_reply};
+ghost use Rattle.history.specs.Register.{register_refusal, edge_refusal, register_reply, step_answer, commit_answer, release_answer, StepAnswers, UndoAnswers};
+ghost use Rattle.history.specs.internal.Next.{next_reply, moved_reply};
 
 use count_limit::COUNT_LIMIT;
 use jacobian::{Class, CountedClass, Curve};
@@ -85,9 +84,9 @@ impl Register {
     }
 
     // The register moved to this count, with the answered class as its seal.
-    #[tactic(auto, using(crate::proofs::Answers::sealed_next, crate::proofs::Answers::refused_next), unfolding(crate::specs::Register::with_count_and_seal))]
+    #[tactic(auto, using(crate::proofs::Answers::moved_accepted, crate::proofs::Answers::moved_refused), unfolding(crate::specs::Register::with_count_and_seal))]
     fn moved(self, count: u64, answer: Result<CountedClass, Refusal>) -> Result<Register, Refusal>
-        ensures { (n : ℕ) (seal : Seal) → class_result (reply answer) ≡ sealed n seal → next_reply self result ≡ follows n self (with_count_and_seal count seal self) }
+        ensures { next_reply self result ≡ moved_reply self count (class_result (reply answer)) }
     {
         let seal = answer?.class;
         Ok(Register {
@@ -98,7 +97,7 @@ impl Register {
     }
 
     // The register after a step. If accepted, the checks of the classes run once, inside the class operation.
-    #[tactic(auto, using(crate::proofs::Numbers::curve_refuses, crate::proofs::Numbers::counts_refuse, crate::proofs::Numbers::seal_refuses, crate::proofs::Numbers::class_refuses, crate::proofs::Numbers::edge_refuses))]
+    #[tactic(auto, using(crate::proofs::Numbers::step_rules))]
     fn after_step(self, step: Step, class: Class) -> Result<Register, Refusal>
         ensures { next_reply self result ≡ step_answer step self class }
     {

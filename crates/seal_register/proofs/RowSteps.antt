@@ -174,3 +174,6 @@ module _ (c : Curve) (s : Class) (row : List Class) (i : ℕ) (y : Result) (h : 
 pub ends : (c : Curve) (s : Class) (row : List Class) (i : ℕ) (y : Result) → length row ≤ i → foldl (onward c) (gives s) (drop i row) ≡ y → gives s ≡ y
 unfolding foldl
 ends c s row i y h from = sym (ap (foldl (onward c) (gives s)) (drop_all i row h)) ∙ from
+
+-- what each turn of the walk shows
+pub ruleset walk_rules = (row_walked, row_refused, goes_on, stops, ends)

@@ -33,7 +33,7 @@ fn check_start(curve: Curve, last: Class, classes: usize) -> Result<(), Refusal>
 }
 
 // The earliest seal, or the first refusal.
-#[tactic(auto, using(crate::proofs::RowSteps::row_walked, crate::proofs::RowSteps::row_refused, crate::proofs::RowSteps::goes_on, crate::proofs::RowSteps::stops, crate::proofs::RowSteps::ends))]
+#[tactic(auto, using(crate::proofs::RowSteps::walk_rules))]
 fn earliest_seal(curve: Curve, last: Class, row: &[Class]) -> Result<Class, Refusal>
     ensures { class_result result ≡ row_walk_answer curve last row.now }
 {
