@@ -1,22 +1,24 @@
--- Responses written into the lent output, the copy that the code makes, and what a call does for what it reads.
+-- Responses written into the lent output, and what a call does for what it reads.
 -- `put_written`, `put_refusal`: the effect of a response that fits, and of a refusal.
 -- `put_accepted`, `put_refused`: the same for a response that depends on a verdict.
+-- `put_short`, `put_all`, `put_none`: the effect of a response as the code writes it.
+-- `gives_refusal`, `gives_bytes`: the response after a call by value.
 -- `call_short`: an output that is too short is refused with 101.
 -- `call_refused`, `call_found`: a call whose record is refused, and one whose record is read.
 -- `answer_written`, `answer_refused`: a call whose response depends on a verdict.
-use Prim.Native.Nat.{ℕ, ◌-◌, ◌≤◌, ◌<◌, min}
+use Prim.Native.Nat.{ℕ, ◌≤◌, ◌<◌}
 use mathlib.Core.Path.{◌≡◌, sym, ap, ◌∙◌}
-use mathlib.Core.List.{List, [], ◌++◌}
+use mathlib.Core.List.{List, ◌++◌}
 use native.Mathlib.Omega.{arith}
-use lib.{ListN.length, ListN.take, ListN.drop, ListN.length-take, Seq.take-take, Seq.take-length}
+use lib.ListN.{length, drop}
 use borrow.Author.Tests.{lt-ltb, le-ltb, le-leb, lt-leb}
-use Rattle.jacobian.specs.{Checks.unless, Answer.Verdict, Answer.accepted, Answer.refused as said_no}
+use Rattle.jacobian.specs.{Checks.unless, Answer.Verdict, Answer.verdict, Answer.accepted, Answer.refused as said_no, declared.Outcome.Outcome}
+use Rattle.jacobian.specs.declared.Outcome.TheVariants as declared
+use Rattle.std.specs.Prelude.{Result, Ok, Err}
 use Rattle.stored_form.specs.{Reading.Reading, Reading.found, Reading.refused, Reading.checked, Reader.read_record, Reader.read_of, Reader.offset_refusal}
 use Rattle.stored_form.specs.declared.{Record.Record, Read.Read, Cursor.Cursor, Offset.TheVariants.Next, Offset.TheVariants.Refused}
-use Rattle.written_form.specs.Effect.{Effect, Response, effect, refuse, write, response, refusal_response, bytes_response, on_outcome, on_reading, put, read_call, room_refusal, byte_call, room}
+use Rattle.written_form.specs.Effect.{Effect, Response, effect, refuse, write, refusal_response, bytes_response, on_outcome, on_reading, put, read_call, room_refusal, byte_call, response_of}
 use Rattle.stored_form.proofs.Readers.{offset_found, offset_refused_as}
-use Rattle.written_form.specs.Ranges.{append}
-use Rattle.written_form.proofs.Appending.{append_write}
 
 -- ---- a response written
 
@@ -47,27 +49,30 @@ module _ (v : Verdict) (xs out : List ℕ) where
   unfolding on_outcome
   put_refused {n} e = ap (λ (w : Verdict). put (on_outcome w xs) out) e ∙ put_refusal n out
 
--- ---- the copy that the code makes
+-- ---- a response as the code writes it
 
--- the first bytes of a buffer, appended at the start of the output
-module _ (answer len : ℕ) (buffer out : List ℕ) (long : length buffer ≡ room) {n : ℕ} (e : n ≡ min len room) where
-  abbrev xs : List ℕ
-  xs = take len buffer
+module _ {r : Result (List ℕ) ℕ} (out : List ℕ) where
+  pub put_short : {bytes : List ℕ} → r ≡ Ok bytes → length out < length bytes → effect 101 out ≡ put (response_of r) out
+  put_short {bytes} e h = put_over (bytes_response bytes) out h ∙ ap (λ (x : Result (List ℕ) ℕ). put (response_of x) out) (sym e)
 
-  first_length : length xs ≡ n
-  first_length = length-take len buffer ∙ ap (min len) long ∙ sym e
+  pub put_all : {bytes after : List ℕ} → r ≡ Ok bytes → length bytes ≤ length out → after ≡ bytes ++ drop (length bytes) out → effect (length bytes) after ≡ put (response_of r) out
+  put_all {bytes} e h f =
+      ap (effect (length bytes)) f ∙ sym (put_in (bytes_response bytes) out h) ∙ ap (λ (x : Result (List ℕ) ℕ). put (response_of x) out) (sym e)
 
-  pub put_short : length out < n → effect 101 out ≡ put (response answer xs) out
-  put_short h = put_over _ out (let l = first_length in omega arith)
+  pub put_none : {n : ℕ} → r ≡ Err n → effect n out ≡ put (response_of r) out
+  unfolding refuse
+  put_none {n} e = sym (put_refusal n out) ∙ ap (λ (x : Result (List ℕ) ℕ). put (response_of x) out) (sym e)
 
-  pub put_all : n ≤ length out → {r : ℕ} {output : List ℕ} → effect r output ≡ append buffer 0 n (effect 0 out) → effect answer output ≡ put (response answer xs) out
-  unfolding write
-  put_all h f =
-      let l = first_length in
-      let z : n - 0 ≡ n = omega arith in
-      let all : take n buffer ≡ xs = sym (take-take n len buffer (omega arith)) ∙ ap (λ (k : ℕ). take k xs) (sym l) ∙ take-length xs in
-      let wrote = append_write buffer 0 n [] out (omega arith) (omega arith) (omega arith) ∙ ap (λ (k : ℕ). write (take k buffer) out) z ∙ ap (λ (ys : List ℕ). write ys out) all in
-      ap (λ (x : Effect). effect answer x.output) (f ∙ wrote) ∙ sym (put_in _ out (omega arith))
+-- ---- the response after a call by value
+
+module _ {o : Outcome} (bytes : List ℕ) where
+  pub gives_refusal : {n : ℕ} → o ≡ declared.Refused n → refusal_response n ≡ on_outcome (verdict o) bytes
+  unfolding on_outcome
+  gives_refusal e = sym (ap (λ (p : Outcome). on_outcome (verdict p) bytes) e)
+
+  pub gives_bytes : {written : List ℕ} → o ≡ declared.Accepted → written ≡ bytes → bytes_response written ≡ on_outcome (verdict o) bytes
+  unfolding on_outcome
+  gives_bytes e f = ap bytes_response f ∙ sym (ap (λ (p : Outcome). on_outcome (verdict p) bytes) e)
 
 -- ---- a call
 

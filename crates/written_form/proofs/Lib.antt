@@ -1,7 +1,7 @@
 -- Laws of a call's response and effect, of rows of bytes as the code fills them; every call wrote or refused.
 pub mod Appending
 pub mod Effects
-pub mod Buffers
+pub mod Bytes
 pub mod Checking
 pub mod WroteOrRefused
 pub mod Wrote

@@ -1,13 +1,12 @@
 -- What a call on byte areas answers, and what it leaves in the lent output (docs/SPECIFICATION.md, 5 and 6).
-use Rattle.std.specs.Prelude.{ℕ, ◌+◌, ◌≤◌, ◌<◌, ◌≡◌, cond, List, [], ◌∷◌, ◌++◌, length, take, drop, leb, ltb}
-use Rattle.jacobian.specs.{Checks.unless, Checks.Check, Checks.check, Checks.AllHold, Checks.FirstFails, Answer.Verdict, Answer.Result, Answer.accepted, Answer.refused as said_no}
+use Rattle.std.specs.Prelude.{ℕ, ◌+◌, ◌≤◌, ◌<◌, ◌≡◌, cond, List, [], ◌∷◌, ◌++◌, length, drop, leb, ltb, Result, Ok, Err}
+use Rattle.jacobian.specs.{Checks.unless, Checks.Check, Checks.check, Checks.AllHold, Checks.FirstFails, Answer.Verdict, Answer.Result as ClassResult, Answer.accepted, Answer.refused as said_no}
 use Rattle.stored_form.specs.Reading.{Reading, found, refused, checked}
 use Rattle.stored_form.specs.Head.{count_length, class_room}
 use Rattle.stored_form.specs.Classes.{class_field}
 use Rattle.stored_form.specs.Reader.{read_record}
 use Rattle.stored_form.specs.declared.Record.{Record}
 use Rattle.stored_form_theorems.specs.{Checking.record_checks, Checking.record_values, Numbers.OneOf}
-use Rattle.written_form.specs.declared.effect.Output.{Output}
 
 -- ---- the answer and the output
 
@@ -53,7 +52,7 @@ on_outcome accepted bytes = bytes_response bytes
 on_outcome (said_no n) bytes = refusal_response n
 
 -- the response with a class, as one 0x43 field
-unfoldable pub class_response : Result → Response
+unfoldable pub class_response : ClassResult → Response
 class_response r = on_outcome r.outcome (class_field 0x43 r.class)
 
 -- the refusal of a reading, else the answer for the value that was found
@@ -96,9 +95,10 @@ room = register_room
 
 -- ---- the code's output
 
--- the response that the code's output stands for
-abbrev pub response_of : Output → Response
-response_of o = response o.answer (take o.len o.bytes)
+-- the response that the code's result stands for
+abbrev pub response_of : Result (List ℕ) ℕ → Response
+response_of (Ok bytes) = bytes_response bytes
+response_of (Err n) = refusal_response n
 
 -- ---- the checks of a call
 

@@ -2,4 +2,3 @@
 pub mod Effect
 pub mod Wrote
 pub mod Ranges
-pub mod internal

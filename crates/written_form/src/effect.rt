@@ -1,10 +1,12 @@
 // The response of a call on byte areas, and the one function that writes it.
-ghost use Rattle.std.specs.Prelude.{◌≡◌, min, take};
-ghost use Rattle.written_form.specs.Effect.{room, read_call, effect, response, refusal_response, response_of, put};
-ghost use Rattle.stored_form.specs.Reader.{read_of};
+ghost use Rattle.std.specs.Prelude.{◌≡◌, ◌+◌, ◌≤◌, ℕ, List, [], ◌++◌, length, take};
+ghost use Rattle.written_form.specs.Effect.{Response, room, read_call, byte_call, effect, response_of, put};
+ghost use Rattle.stored_form.specs.{Head.class_room, Reader.read_of};
+ghost use Rattle.stored_form.specs.declared.Record.{Record};
 
 use crate::ranges;
-use stored_form::Read;
+use std::marker::Model;
+use stored_form::{Offset, Read, Record};
 
 // The length of a count's field and of a released step's field alike, and that of both followed by the longest field
 // of a class.
@@ -15,12 +17,47 @@ pub const REGISTER_ROOM: usize = COUNT_ROOM + COUNT_ROOM + stored_form::CLASS_RO
 // The most bytes that a response has.
 pub const ROOM: usize = REGISTER_ROOM;
 
-// The response of a call: its answer, and the bytes to write at the start of the lent output, the first len of the buffer.
-#[derive(Clone, Copy)]
+// The bytes that a call writes at the start of the lent output: the first len of the array.
+#[derive(Drop)]
 pub struct Output {
-    pub answer: u32,
-    pub len: usize,
-    pub bytes: [u8; ROOM],
+    len: usize,
+    bytes: [u8; ROOM],
+}
+
+impl Model for Output {
+    ghost Value = { List ℕ };
+
+    ghost view = { λ o. take o.len o.bytes };
+
+    ghost invariant = { λ o. o.len ≤ room };
+}
+
+impl Output {
+    // No bytes.
+    pub fn new() -> Output
+        ensures { result ≡ [] }
+    {
+        Output {
+            len: 0,
+            bytes: [0; ROOM],
+        }
+    }
+
+    // The bytes that were pushed.
+    pub fn bytes(&self) -> &[u8]
+        ensures { result.now ≡ self.now }
+    {
+        &self.bytes[..self.len]
+    }
+
+    // Appends bytes.
+    pub(crate) fn push_bytes(&mut self, more: &[u8])
+        requires { length self.old + length more.now ≤ room }
+        ensures { self.new ≡ self.old ++ more.now }
+    {
+        ranges::copy(more, &mut self.bytes[self.len..]);
+        self.len += more.len();
+    }
 }
 
 // Reads the record of a call; an output with less room than is required is refused with 101 before any byte is read.
@@ -33,44 +70,52 @@ pub fn read_call(has: usize, least: usize, tags: &[u8], input: &[u8]) -> Read
     stored_form::read_record(tags, input)
 }
 
-// The response of a refusal: its number, and no bytes.
-pub fn refusal_output(n: u32) -> Output
-    ensures { response_of result ≡ refusal_response n }
+// Writes a response's bytes at the start of the output and answers their length; a refusal answers its number.
+// If the output is too short for the bytes, nothing is written and the answer is 101.
+pub fn put(response: Result<Output, u32>, output: &mut [u8]) -> u32
+    ensures { effect result output.new ≡ put (response_of response) output.old }
 {
-    Output {
-        answer: n,
-        len: 0,
-        bytes: [0u8; ROOM],
+    match response {
+        Ok(written) => {
+            let bytes = written.bytes();
+            if output.len() < bytes.len() {
+                return 101;
+            }
+            ranges::copy(bytes, output);
+            bytes.len() as u32
+        }
+        Err(refusal) => refusal,
     }
 }
 
-// The length, but at most that of the buffer.
-fn within(len: usize) -> usize
-    ensures { result ≡ min len room }
-{
-    if len < ROOM {
-        return len;
-    }
-    ROOM
+// A call on byte areas, by the response that it gives to the values of a record.
+pub trait ByteCall {
+    ghost response: { Self → Record → Response };
+
+    fn answer(self, h: Record) -> Result<Output, u32>
+        ensures { response_of result ≡ response self h };
 }
 
-// Writes the first len bytes of a buffer at the start of the output and answers `answer`; 101 if they do not fit.
-fn put_bytes(answer: u32, len: usize, buffer: [u8; ROOM], output: &mut [u8]) -> u32
-    ensures { effect result output.new ≡ put (response answer (take len buffer)) output.old }
+// The body of every call that writes: the check of the room (101), then the record, then the response.
+pub fn byte_call<C: ByteCall + Copy>(
+    call: C,
+    room: usize,
+    tags: &[u8],
+    input: &[u8],
+    output: &mut [u8],
+) -> u32
+    ensures { effect result output.new ≡ byte_call room tags.now (C.response call) input.now output.old }
 {
-    let n = within(len);
-    if output.len() < n {
-        return 101;
-    }
-    ranges::append(&buffer, 0, n, output, 0);
-    answer
+    let r = read_call(output.len(), room, tags, input);
+    let Offset::Next(_) = r.offset else {
+        return stored_form::offset_refusal(r.offset);
+    };
+    put(call.answer(r.values), output)
 }
 
-// Writes a response's bytes at the start of the output and answers its answer.
-// If the output is too short for them, nothing is written and the answer is 101.
-pub fn put(o: Output, output: &mut [u8]) -> u32
-    ensures { effect result output.new ≡ put (response_of o) output.old }
+// A call that answers a class.
+pub fn class_call<C: ByteCall + Copy>(call: C, tags: &[u8], input: &[u8], output: &mut [u8]) -> u32
+    ensures { effect result output.new ≡ byte_call class_room tags.now (C.response call) input.now output.old }
 {
-    let bytes = o.bytes;
-    put_bytes(o.answer, o.len, bytes, output)
+    byte_call(call, stored_form::CLASS_ROOM, tags, input, output)
 }

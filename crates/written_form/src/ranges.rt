@@ -4,14 +4,13 @@ ghost use Rattle.written_form.specs.Effect.{effect};
 ghost use Rattle.written_form.specs.Ranges.{append};
 
 // Copies a source to the front of an output that has room for it.
-fn copy(source: &[u8], output: &mut [u8])
+// Its own loop, since `copy_from_slice` would make the libraries for C call memmove.
+pub(crate) fn copy(source: &[u8], output: &mut [u8])
     requires { length source.now ≤ length output.old }
     ensures { output.new ≡ source.now ++ drop (length source.now) output.old }
 {
-    let mut i = 0;
-    while i < source.len() {
-        output[i] = source[i];
-        i += 1;
+    for (i, byte) in source.iter().enumerate() {
+        output[i] = *byte;
     }
 }
 
@@ -21,16 +20,7 @@ pub fn append(source: &[u8], start: usize, end: usize, output: &mut [u8], at: us
     ensures { effect result output.new ≡ append source.now start end (effect at output.old) }
 {
     let room = output.len();
-    if end < start {
-        return room + 1;
-    }
-    if source.len() < end {
-        return room + 1;
-    }
-    if room < at {
-        return room + 1;
-    }
-    if room - at < end - start {
+    if end < start || source.len() < end || room < at || room - at < end - start {
         return room + 1;
     }
     let next = at + (end - start);

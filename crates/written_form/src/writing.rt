@@ -1,6 +1,5 @@
-// The fields that calls on byte areas write, encoded into a buffer.
-ghost use Rattle.std.specs.Prelude.{◌≡◌, ◌++◌, ◌+◌, ◌*◌, ◌/◌, ◌%◌, ◌^◌, ◌≤◌, ◌<◌, min, length};
-ghost use Rattle.std.proofs.lemmas.List.Edits.{sets};
+// The fields that calls on byte areas write, pushed to the bytes of their output.
+ghost use Rattle.std.specs.Prelude.{◌≡◌, ◌++◌, ◌+◌, ◌*◌, ◌≤◌, length};
 ghost use Rattle.jacobian.specs.Answer.{verdict, reply, result as class_result};
 ghost use Rattle.stored_form.specs.Number.{encode_number};
 ghost use Rattle.stored_form.specs.Head.{class_room, count_length, head_bytes, encode_field};
@@ -8,120 +7,87 @@ ghost use Rattle.stored_form.specs.Elements.{element_length, encode_elements};
 ghost use Rattle.stored_form.specs.Fields.{count_field, released_field};
 ghost use Rattle.stored_form.specs.Classes.{encode_row, class_field};
 ghost use Rattle.written_form.specs.Effect.{room, count_room, on_outcome, class_response, response_of};
-ghost use Rattle.written_form.specs.internal.Buffers.{filled};
 
-use crate::effect::{COUNT_ROOM, Output, ROOM, refusal_output};
+use crate::effect::Output;
 use jacobian::{Class, ClassAnswer, Outcome};
 use stored_form::{COUNT_LENGTH, ELEMENT_LENGTH};
 
-// Byte i of a number, counted from the lowest.
-fn byte_of(x: u64, i: usize) -> u8
-    requires { i < element_length }
-    ensures { result ≡ x / 256 ^ i % 256 }
-{
-    ((x >> (8 * i)) % 256) as u8
-}
-
-// The buffer with the k lowest bytes of a number stored at an offset, high byte first.
-fn with_number(buffer: [u8; ROOM], at: usize, k: usize, x: u64) -> [u8; ROOM]
-    requires { (k ≤ element_length) × (at + k ≤ room) }
-    ensures { result ≡ sets buffer at (encode_number k x) }
-{
-    let mut r = buffer;
-    let mut i = 0;
-    while i < k {
-        r[at + i] = byte_of(x, k - 1 - i);
-        i += 1;
+impl Output {
+    // Appends the k lowest bytes of a number, high byte first.
+    fn push_number(&mut self, k: usize, x: u64)
+        requires { (k ≤ element_length) × (length self.old + k ≤ room) }
+        ensures { self.new ≡ self.old ++ encode_number k x }
+    {
+        self.push_bytes(&x.to_be_bytes()[ELEMENT_LENGTH - k..]);
     }
-    r
-}
 
-// The buffer with the head of a field stored at an offset.
-fn with_head(buffer: [u8; ROOM], at: usize, tag: u8, len: usize) -> [u8; ROOM]
-    requires { at + 3 ≤ room }
-    ensures { result ≡ sets buffer at (head_bytes tag len) }
-{
-    let mut r = buffer;
-    r[at] = tag;
-    with_number(r, at + 1, 2, len as u64)
-}
-
-// The buffer with the coefficients below degree n stored at an offset, highest power first.
-fn with_coefficients(buffer: [u8; ROOM], at: usize, n: usize, r: [u64; 3]) -> [u8; ROOM]
-    requires { (n ≤ 3) × (at + element_length * n ≤ room) }
-    ensures { (result ≡ sets buffer at (encode_elements (encode_row n r))) × (length r ≡ 3) }
-{
-    let mut t = buffer;
-    let mut i = n;
-    while 0 < i {
-        let more = with_number(t, at + ELEMENT_LENGTH * (n - i), ELEMENT_LENGTH, r[i - 1]);
-        t = more;
-        i -= 1;
+    // Appends the head of a field.
+    #[tactic(auto, unfolding(stored_form::specs::Head::head_bytes))]
+    fn push_head(&mut self, tag: u8, len: usize)
+        requires { length self.old + 3 ≤ room }
+        ensures { self.new ≡ self.old ++ head_bytes tag len }
+    {
+        self.push_bytes(&[tag]);
+        self.push_number(2, len as u64);
     }
-    t
-}
 
-// The number of coefficients of a row below a degree.
-fn places_of(degree: u64) -> usize
-    ensures { result ≡ min degree 3 }
-{
-    if degree < 3 {
-        return degree as usize;
+    // Appends the coefficients below degree n, highest power first.
+    fn push_coefficients(&mut self, n: usize, row: [u64; 3])
+        requires { (n ≤ 3) × (length self.old + element_length * n ≤ room) }
+        ensures { self.new ≡ self.old ++ encode_elements (encode_row n row) }
+    {
+        for i in (0..n).rev() {
+            self.push_number(ELEMENT_LENGTH, row[i]);
+        }
     }
-    3
-}
 
-// The output of a buffer with the field of a class at an offset, and of all bytes before it.
-fn with_class(buffer: [u8; ROOM], at: usize, a: Class) -> Output
-    requires { at + class_room ≤ room }
-    ensures { (result ≡ filled buffer at (class_field 0x43 a)) × (length (class_field 0x43 a) ≤ class_room) }
-{
-    let n = places_of(a.degree);
-    let each = ELEMENT_LENGTH * n;
-    let headed = with_head(buffer, at, stored_form::CLASS, each + each);
-    let u = a.u;
-    let v = a.v;
-    let first = with_coefficients(headed, at + 3, n, u);
-    let both = with_coefficients(first, at + 3 + each, n, v);
-    let len = at + 3 + each + each;
-    Output {
-        answer: len as u32,
-        len: len,
-        bytes: both,
+    // Appends the field of a class.
+    fn push_class(&mut self, a: Class)
+        requires { length self.old + class_room ≤ room }
+        ensures { self.new ≡ self.old ++ class_field 0x43 a }
+    {
+        let n = a.degree.min(3) as usize;
+        self.push_head(stored_form::CLASS, 2 * (ELEMENT_LENGTH * n));
+        self.push_coefficients(n, a.u);
+        self.push_coefficients(n, a.v);
     }
-}
 
-// The buffer with the field of a count or of a released step, by its tag, stored at an offset.
-fn with_count(buffer: [u8; ROOM], at: usize, tag: u8, n: u64) -> [u8; ROOM]
-    requires { at + count_room ≤ room }
-    ensures { result ≡ sets buffer at (encode_field tag (encode_number count_length n)) }
-{
-    let headed = with_head(buffer, at, tag, COUNT_LENGTH);
-    with_number(headed, at + 3, COUNT_LENGTH, n)
+    // Appends the field of a count or of a released step, by its tag.
+    fn push_count(&mut self, tag: u8, n: u64)
+        requires { length self.old + count_room ≤ room }
+        ensures { self.new ≡ self.old ++ encode_field tag (encode_number count_length n) }
+    {
+        self.push_head(tag, COUNT_LENGTH);
+        self.push_number(COUNT_LENGTH, n);
+    }
 }
 
 // The response with the field of a class, or with the refusal.
-pub fn class_output(a: ClassAnswer) -> Output
+pub fn class_output(a: ClassAnswer) -> Result<Output, u32>
     ensures { response_of result ≡ class_response (class_result (reply a)) }
 {
-    let o = a.outcome;
-    let class = a.class;
-    match o {
-        Outcome::Refused(n) => refusal_output(n),
-        Outcome::Accepted => with_class([0u8; ROOM], 0, class),
+    match a.outcome {
+        Outcome::Refused(n) => Err(n),
+        Outcome::Accepted => {
+            let mut output = Output::new();
+            output.push_class(a.class);
+            Ok(output)
+        }
     }
 }
 
 // The response with the fields of a count, a released step and a seal, or with the refusal.
-pub fn register_output(o: Outcome, count: u64, released: u64, seal: Class) -> Output
+pub fn register_output(o: Outcome, count: u64, released: u64, seal: Class) -> Result<Output, u32>
     ensures { response_of result ≡ on_outcome (verdict o) (count_field count ++ released_field released ++ class_field 0x43 seal) }
 {
     match o {
-        Outcome::Refused(n) => refusal_output(n),
+        Outcome::Refused(n) => Err(n),
         Outcome::Accepted => {
-            let counted = with_count([0u8; ROOM], 0, stored_form::COUNT, count);
-            let both = with_count(counted, COUNT_ROOM, stored_form::RELEASED, released);
-            with_class(both, COUNT_ROOM + COUNT_ROOM, seal)
+            let mut output = Output::new();
+            output.push_count(stored_form::COUNT, count);
+            output.push_count(stored_form::RELEASED, released);
+            output.push_class(seal);
+            Ok(output)
         }
     }
 }

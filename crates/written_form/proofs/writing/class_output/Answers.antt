@@ -1,16 +1,17 @@
 -- `writing::class_output` meets its contract.
-use mathlib.Core.Path.{refl}
-use mathlib.Core.List.{[]}
-use native.Mathlib.Omega.{arith}
+use mathlib.Core.Path.{ap, ◌∙◌}
+use mathlib.Core.List.{List, ◌++◌}
+use Prim.Native.Nat.{ℕ}
+use Rattle.stored_form.specs.Classes.{class_field}
 use Rattle.written_form.specs.Effect.{class_response}
-use Rattle.written_form.proofs.Buffers.{filled_response, refuses, writes}
+use Rattle.written_form.proofs.Effects.{gives_refusal, gives_bytes}
 use Rattle.written_form.proofs.writing.class_output.Goals as goal
 
 pub returns-in-Refused : goal.returns-in-Refused
 unfolding class_response
-returns-in-Refused c = refuses _ c.in-Refused.is c.refusal_output.ensures
+returns-in-Refused c = gives_refusal _ c.in-Refused.is
 
 pub returns-in-Accepted : goal.returns-in-Accepted
 unfolding class_response
 returns-in-Accepted c =
-    let field = c.with_class.ensures in writes _ c.in-Accepted.is (filled_response [] _ (omega arith) refl refl field.0)
+    gives_bytes _ c.in-Accepted.is (c.push_class.ensures ∙ ap (λ (l : List ℕ). l ++ class_field 0x43 c.args.a.class) c.new-output.ensures)

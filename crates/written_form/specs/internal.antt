@@ -1,2 +1,0 @@
--- Definitions for the contracts of functions that are not open.
-pub mod Buffers
