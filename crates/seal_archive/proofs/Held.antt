@@ -1,7 +1,6 @@
 -- Whether an operation is held, as the code finds it out.
 -- `HeldSoFar`: the pairs from the i-th on do not hold operation k, and where the next later operation is looked for.
 -- `pairs_at`, `pairs_number`, `pairs_inside`: where the pairs begin, and how many there are.
--- `held_empty`: without pairs nothing is held.
 -- `held_begin`, `held_turn`, `held_found`, `held_none`: before the first turn, after a turn, and both ends of the loop.
 use Prim.Native.Nat.{ℕ, suc, ◌+◌, ◌-◌, ◌/◌, ◌≤◌, ◌<◌}
 use mathlib.Core.Path.{◌≡◌, refl, sym, ap, ap₂, ◌∙◌}
@@ -162,12 +161,3 @@ module _ {s : List ℕ} {first n : ℕ} (b : Bytes s) (at : AtOperations s first
 
   pub pairs_inside : ¬ (m ≡ 0) → end + 3 ≤ length s
   pairs_inside some = omega (arith, end_is, pairs_end fields fine (omega (arith, pairs_number, some)))
-
--- without pairs nothing is held
-pub held_empty : (s : List ℕ) (k : ℕ) → length (archive_said s).pairs ≡ 0 → false ≡ held k (archive_said s)
-unfolding held held_by
-held_empty s k e = go (archive_said s).pairs e
-  where
-    go : (ps : List ℕ) → length ps ≡ 0 → false ≡ held_by k (archive_said s).operations ps
-    go [] e = refl
-    go (p ∷ ps) e = absurd (omega arith)

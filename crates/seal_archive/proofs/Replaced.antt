@@ -1,12 +1,12 @@
 -- The ranges that are copied make the stored form of the suppressed archive.
--- `new_seal_field`: the field of the new seal, as the code computes it.
+-- `operation_read`, `new_seal`: the operation, and the new seal as the code computes it.
 -- `both_written`: the input with its two fields replaced is the suppressed archive's stored form.
 use Prim.Native.Nat.{ℕ, suc, ◌+◌, ◌-◌, ◌≤◌, ◌<◌}
 use mathlib.Core.Path.{◌≡◌, refl, sym, ap, ap₂, ◌∙◌, subst, subst₂}
 use mathlib.Core.List.{List, [], ◌∷◌, ◌++◌, append_assoc}
 use native.Mathlib.Omega.{arith}
-use lib.ListN.{length, get_or, take, drop, set, length-append, length-set, length-take}
-use lib.Seq.{set_split}
+use lib.ListN.{length, get_or, take, drop, set, length-append, length-set}
+use lib.Seq.{set_split, take-length}
 use Rattle.lists.proofs.Lists.{all_at}
 use Rattle.jacobian.specs.{Answer.Accepts, Answer.Result, Answer.sum_answer, Answer.result, Answer.neutral_class, Group.opposite_of, Group.doublings, declared.Curve.Curve, declared.Class.Class}
 use Rattle.jacobian.proofs.{Calls.opposite_accepts, Group.sum_given, Group.doublings_accept}
@@ -20,11 +20,11 @@ use Rattle.archive.specs.{Archive.Archive, Archive.archive_said, Skipping.next_f
 use Rattle.archive.proofs.Skipped.{next_within, fields_more, skip_inside}
 use Rattle.archive_theorems.specs.Written.{archive_bytes, Storable}
 use Rattle.archive_theorems.proofs.FieldPlaces.{Layout, front_bytes, operation_fields_append, operation_place, operation_stands, place_within}
-use Rattle.written_form.specs.{Effect.effect, Effect.write, Effect.room as written_room, Effect.bytes_response, Effect.on_outcome, Effect.class_response, Ranges.append}
+use Rattle.written_form.specs.{Effect.effect, Effect.write, Ranges.append}
 use Rattle.written_form.proofs.Appending.{append_write}
 use Rattle.suppression_theory.specs.{Suppression.operation_of, Suppression.suppressed_operations, Suppression.suppressed_seal, Archives.suppressed}
 use Rattle.suppression_theory.proofs.Suppression.{suppressed_seal_accepts}
-use Rattle.seal_archive.specs.{internal.Accepted.Suppressible, internal.Accepted.seal_without, internal.Accepted.replaced, internal.Accepted.both_replaced}
+use Rattle.seal_archive.specs.{internal.Accepted.Suppressible, internal.Accepted.replaced, internal.Accepted.both_replaced}
 use Rattle.seal_archive.proofs.Accepted.{said_stored, said_laid, header_curve, header_seal}
 
 -- a field copied after what was written
@@ -91,7 +91,7 @@ module _ {s : List ℕ} {h : Record} {first k room : ℕ} (b : Bytes s) (ask : S
 
     -- ---- the new seal
 
-    operation_read : (read_of (read_field 0x44 h s operation)).values.operation ≡ operation_of k ops
+    pub operation_read : (read_of (read_field 0x44 h s operation)).values.operation ≡ operation_of k ops
     unfolding read_of operation_of
     operation_read =
         let passes = all_at p neutral_class p_inside ok.operations_allowed in
@@ -99,21 +99,22 @@ module _ {s : List ℕ} {h : Record} {first k room : ℕ} (b : Bytes s) (ask : S
         let read = up_to f (value_read_back (operation_law h) s (fields_end p s laid.first) (subst (λ (c : Curve). Accepts c (get_or ops p neutral_class)) (header_curve s b ask.operations.accepted ask.header) passes)) in
         ap (λ (i : ℕ). (read_of (read_field 0x44 h s i)).values.operation) operation_is ∙ ap (λ x. (read_of x).values.operation) read
 
-    pub new_seal_field : class_response (seal_without h s operation (h.count - k)) ≡ bytes_response (class_field 0x43 (suppressed_seal a.curve k a.seal ops))
-    unfolding class_response on_outcome seal_without suppressed_seal operation_of
-    new_seal_field =
-        let c = a.curve in
-        let newer = h.count - k in
-        let curve_is = sym (header_curve s b ask.operations.accepted ask.header) in
-        let seal_is = sym (header_seal s b ask.operations.accepted ask.header) in
-        let rule : Curve → Class → ℕ → Class → Result = λ x seal n d. result (sum_answer x seal (opposite_of x (doublings x n d))) in
-        let number : newer ≡ p = ap (λ (n : ℕ). n - k) count_is in
-        let passes = all_at p neutral_class p_inside ok.operations_allowed in
-        ap class_response
-        (ap (rule h.curve h.class newer) operation_read
-        ∙ ap₂ (λ (x : Curve) (seal : Class). rule x seal newer (operation_of k ops)) curve_is seal_is
-        ∙ ap (λ (n : ℕ). rule c a.seal n (operation_of k ops)) number
-        ∙ sum_given c ok.seal_allowed (opposite_accepts c (doublings_accept c passes p)))
+  pub new_seal : {operation : Class} → operation ≡ operation_of k ops →
+      (sum_answer h.curve h.class (opposite_of h.curve (doublings h.curve (h.count - k) operation))).class ≡ suppressed_seal a.curve k a.seal ops
+  unfolding suppressed_seal operation_of
+  new_seal read =
+      let c = a.curve in
+      let newer = h.count - k in
+      let curve_is = sym (header_curve s b ask.operations.accepted ask.header) in
+      let seal_is = sym (header_seal s b ask.operations.accepted ask.header) in
+      let rule : Curve → Class → ℕ → Class → Result = λ x seal n d. result (sum_answer x seal (opposite_of x (doublings x n d))) in
+      let number : newer ≡ p = ap (λ (n : ℕ). n - k) count_is in
+      let passes = all_at p neutral_class p_inside ok.operations_allowed in
+      ap (λ (r : Result). r.class)
+      (ap (rule h.curve h.class newer) read
+      ∙ ap₂ (λ (x : Curve) (seal : Class). rule x seal newer (operation_of k ops)) curve_is seal_is
+      ∙ ap (λ (n : ℕ). rule c a.seal n (operation_of k ops)) number
+      ∙ sum_given c ok.seal_allowed (opposite_accepts c (doublings_accept c passes p)))
 
   -- ---- the ranges
 
@@ -139,22 +140,17 @@ module _ {s : List ℕ} {h : Record} {first k room : ℕ} (b : Bytes s) (ask : S
       ∙ ap (λ (n : ℕ). curve_fields_bytes a.curve ++ drawing_field a.drawing ++ count_field n ++ F ++ operation_fields (set ops p neutral_class) ++ pairs_field a.pairs) (sym (length-set ops p neutral_class))
 
   module _ {seal operation next : ℕ} (at_seal : seal ≡ skip_fields 4 s 0) (at_operation : operation ≡ skip_fields (h.count - k) s first) (at_next : next ≡ next_field s operation)
-      (field : List ℕ) (len : ℕ) (buffer : length field ≡ written_room) (written : take len field ≡ F) (out : List ℕ) (roomy : length out ≡ room) where
+      (out : List ℕ) (roomy : length out ≡ room) where
     -- the fields that are copied
     front : Field s 0 (front_bytes a) seal
     front = subst (Field s 0 (front_bytes a)) (sym (seal_is at_seal)) laid.front
 
-    -- the new seal's field is shorter than the buffer
+    -- the new seal's field
     new_short : length F ≤ 51
     new_short = class_short 0x43 a.curve _ (suppressed_seal_accepts ok.seal_allowed ok.operations_allowed k ask.low (omega (arith, ask.high, count_is))).none
 
-    length_is : length F ≡ len
-    length_is = let n = ap length (sym written) ∙ length-take len field in omega (arith, n, buffer, new_short)
-
-    new : Field field 0 F len
-    new =
-        let n : length F ≡ len = length_is in
-        record { stands = ap (λ (i : ℕ). take i field) n ∙ written; ends = omega (arith, n) }
+    new : Field F 0 F (length F)
+    new = record { stands = take-length F; ends = omega arith }
 
     newer : Field s first O operation
     newer = subst₂ (λ (i j : ℕ). Field s i O j) (sym first_is) (sym (operation_is at_operation)) (operation_place laid ok p (omega (arith, p_inside))).0
@@ -176,7 +172,7 @@ module _ {s : List ℕ} {h : Record} {first k room : ℕ} (b : Bytes s) (ask : S
         let f = operation_stands laid ok p p_inside in
         omega (arith, operation_is at_operation, next_is at_operation at_next, f.ends, length_stored 0x44 (encode_class (get_or ops p neutral_class)))
 
-    pub both_written : both_replaced s seal first operation next field len (effect 0 out) ≡ write (archive_bytes (suppressed k a)) out
+    pub both_written : both_replaced s seal first F operation next (effect 0 out) ≡ write (archive_bytes (suppressed k a)) out
     unfolding both_replaced replaced write
     both_written =
         let fits = ask.fits in
@@ -192,8 +188,8 @@ module _ {s : List ℕ} {h : Record} {first k room : ℕ} (b : Bytes s) (ask : S
         ap (append s next (length s))
         (ap (append (0x44 ∷ 0x00 ∷ 0x00 ∷ []) 0 3)
         (ap (append s first operation)
-        (ap (append field 0 len) (append_field [] out front (omega (arith, seal_long, o, operation_long, r)) (omega (arith, x, seal_long, o, operation_long, r, roomy)))
-        ∙ append_field X out new (omega (arith, length_is, buffer, new_short)) (omega (arith, x, f, new_short, seal_long, o, operation_long, r, roomy)))
+        (ap (append F 0 (length F)) (append_field [] out front (omega (arith, seal_long, o, operation_long, r)) (omega (arith, x, seal_long, o, operation_long, r, roomy)))
+        ∙ append_field X out new (omega arith) (omega (arith, x, f, new_short, seal_long, o, operation_long, r, roomy)))
         ∙ append_field (X ++ F) out newer (omega (arith, operation_long, r)) (omega (arith, xf, x, f, new_short, seal_long, o, operation_long, r, roomy)))
         ∙ append_field (X ++ F ++ O) out replacing (omega arith) (omega (arith, xf, xfo, x, f, n, new_short, seal_long, o, operation_long, r, roomy)))
         ∙ append_field (X ++ F ++ O ++ N) out rest (omega arith) (omega (arith, xf, xfo, xfon, x, f, n, new_short, seal_long, o, operation_long, r, roomy))

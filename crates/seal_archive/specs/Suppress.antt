@@ -1,5 +1,5 @@
 -- What the call that suppresses an operation answers and leaves in the output (docs/SPECIFICATION.md, 6 and 9).
-use Rattle.std.specs.Prelude.{ℕ, ◌+◌, not, ◌&&◌, List, [], ◌∷◌, ◌++◌, leb, length, drop}
+use Rattle.std.specs.Prelude.{ℕ, ◌+◌, not, ◌&&◌, List, [], ◌∷◌, ◌++◌, leb, length, drop, Result, Ok, Err}
 use Rattle.jacobian.specs.Checks.{unless, ◌or_else◌}
 use Rattle.stored_form.specs.Reading.{Reading, found, refused, checked, ◌then◌}
 use Rattle.written_form.specs.Effect.{room_refusal}
@@ -26,6 +26,11 @@ refusal_written n = record { refusal = n; length = 0 }
 -- the answer of a call that wrote so many bytes
 abbrev pub length_written : ℕ → Written
 length_written n = record { refusal = 0; length = n }
+
+-- what the code's result, a length or a refusal, is answered as
+abbrev pub written_of : Result ℕ ℕ → Written
+written_of (Ok n) = length_written n
+written_of (Err n) = refusal_written n
 
 -- a refusal: no lent byte changes
 unfoldable pub refuse_archive : ℕ → List ℕ → WrittenEffect

@@ -1,19 +1,19 @@
 // Suppressing an operation of an archive: its class becomes neutral, and the last seal becomes the one that a walk
 // forward over the changed operations reaches. The new archive is the input with two fields replaced.
 ghost use Rattle.std.specs.Prelude.{◌≡◌, ◌&&◌, not, ◌+◌, ◌-◌, ◌≤◌, eqb, length};
-ghost use Rattle.jacobian.specs.{Answer.sum_answer, Answer.reply, Group.opposite_of, Group.doublings};
+ghost use Rattle.jacobian.specs.{Answer.sum_answer, Group.opposite_of, Group.doublings};
 ghost use Rattle.stored_form.specs.{Head.length_at, Pairs.earlier};
 ghost use Rattle.archive.specs.Archive.{archive_said, archive_refusal};
-ghost use Rattle.written_form.specs.{Effect.effect, Effect.write, Effect.room, Effect.response_of, Effect.class_response};
+ghost use Rattle.written_form.specs.{Effect.effect, Effect.write};
 ghost use Rattle.suppression_theory.specs.Archives.{held, suppressed};
 ghost use Rattle.archive_theorems.specs.Written.{archive_bytes};
-ghost use Rattle.seal_archive.specs.Suppress.{growth, refusal_written, written_effect, suppress_call};
-ghost use Rattle.seal_archive.specs.internal.Accepted.{AtOperations, AtPairs, Suppressible, seal_without, replaced, both_replaced};
+ghost use Rattle.seal_archive.specs.Suppress.{growth, written_effect, written_of, suppress_call};
+ghost use Rattle.seal_archive.specs.internal.Accepted.{AtOperations, Suppressible, replaced, both_replaced};
 
 use archive::skipping;
-use jacobian::{Class, ClassAnswer, Curve};
+use jacobian::{Class, Curve};
+use std::ops::Range;
 use stored_form::{Cursor, HEADER_FIELDS, PAIR_LENGTH, Record, head, pairs};
-use written_form::effect::{Output, ROOM};
 use written_form::{ranges, writing};
 
 // How many bytes longer than the input the output has to be.
@@ -30,61 +30,45 @@ pub struct Written {
     pub length: u64,
 }
 
-// The answer of a refusal.
-fn refused(n: u32) -> Written
-    ensures { result ≡ refusal_written n }
-{
-    Written {
-        refusal: n,
-        length: 0,
-    }
-}
-
 // A class doubled n times.
 fn doublings(curve: Curve, a: Class, n: u64) -> Class
     ensures { result ≡ doublings curve n a }
 {
-    let mut r = a;
-    let mut i = 0u64;
-    while i < n {
-        let answer = jacobian::double(curve, r);
-        r = answer.class;
-        i += 1;
+    let mut double = a;
+    for _ in 0..n {
+        double = jacobian::double(curve, double).class;
     }
-    r
+    double
 }
 
 // A seal less a class doubled n times.
-fn seal_less(curve: Curve, seal: Class, a: Class, n: u64) -> ClassAnswer
-    ensures { reply result ≡ sum_answer curve seal (opposite_of curve (doublings curve n a)) }
+fn seal_less(curve: Curve, seal: Class, a: Class, n: u64) -> Class
+    ensures { result ≡ (sum_answer curve seal (opposite_of curve (doublings curve n a))).class }
 {
-    let minus = jacobian::opposite(curve, doublings(curve, a, n));
-    let b = minus.class;
-    jacobian::sum(curve, seal, b)
+    let minus = jacobian::opposite(curve, doublings(curve, a, n)).class;
+    jacobian::sum(curve, seal, minus).class
 }
 
 // Whether a pair, whose later operation's field is at an offset, holds operation k.
 fn holds(s: &[u8], at: usize, p: u64, k: u64) -> bool
     ensures { result ≡ (eqb (earlier p) k && not (eqb (length_at s.now at) 0)) }
 {
-    if p % 65536 != k {
-        return false;
-    }
-    head::length_at(s, at) != 0
+    p % 65536 == k && head::length_at(s, at) != 0
 }
 
-// Whether one of m pairs holds operation k. The pairs are taken from the last to the first, so that their later
-// operations, numbered from the oldest and stored newest first, come one after the other.
-fn held_by(s: &[u8], first: usize, n: u64, k: u64, begin: usize, m: usize) -> bool
-    requires { AtPairs s.now first n begin m }
+// Whether operation k of an accepted archive is held; its n operations begin at an offset. The pairs are taken from the
+// last to the first, so that their later operations, numbered from the oldest and stored newest first, come one after
+// the other.
+fn held(s: &[u8], first: usize, n: u64, k: u64) -> bool
+    requires { AtOperations s.now first n }
     ensures { result ≡ held k (archive_said s.now) }
 {
+    let end = skipping::skip_fields(s, first, n);
+    let m = head::length_at(s, end) / PAIR_LENGTH;
     let mut at = first;
     let mut number = n;
-    let mut i = m;
-    while 0 < i {
-        i -= 1;
-        let p = pairs::pair_at(s, begin, i);
+    for i in (0..m).rev() {
+        let p = pairs::pair_at(s, end + 3, i);
         let later = p / 65536;
         at = skipping::skip_fields(s, at, number - later);
         number = later;
@@ -95,66 +79,34 @@ fn held_by(s: &[u8], first: usize, n: u64, k: u64, begin: usize, m: usize) -> bo
     false
 }
 
-// Whether operation k of an accepted archive is held; its n operations begin at an offset.
-fn held(s: &[u8], first: usize, n: u64, k: u64) -> bool
-    requires { AtOperations s.now first n }
-    ensures { result ≡ held k (archive_said s.now) }
+// Copies a range of the input to the output, and after it a field that replaces one.
+fn replaced(s: &[u8], kept: Range<usize>, field: &[u8], output: &mut [u8], at: usize) -> usize
+    ensures { effect result output.new ≡ replaced s.now kept.start kept.end field.now (effect at output.old) }
 {
-    let end = skipping::skip_fields(s, first, n);
-    let m = head::length_at(s, end) / PAIR_LENGTH;
-    if m == 0 {
-        return false;
-    }
-    held_by(s, first, n, k, end + 3, m)
+    let next = ranges::append(s, kept.start, kept.end, output, at);
+    ranges::append(field, 0, field.len(), output, next)
 }
 
-// Copies a range of the input to the output, and after it the first len bytes of a field that replaces one.
-fn replaced(
-    s: &[u8],
-    start: usize,
-    end: usize,
-    field: &[u8],
-    len: usize,
-    output: &mut [u8],
-    at: usize,
-) -> usize
-    ensures { effect result output.new ≡ replaced s.now start end field.now len (effect at output.old) }
-{
-    let next = ranges::append(s, start, end, output, at);
-    ranges::append(field, 0, len, output, next)
-}
-
-// Copies the input to the output but for its seal and one operation. The seal's field goes from `seal` to `first`, and
-// the first len bytes of a buffer replace it; the operation's goes from `operation` to `next`, and a neutral one
-// replaces it.
+// Copies the input to the output but for its seal and one operation: another field replaces the seal's, and a neutral
+// one the operation's.
 fn both_replaced(
     s: &[u8],
-    seal: usize,
-    first: usize,
-    operation: usize,
-    next: usize,
-    field: [u8; ROOM],
-    len: usize,
+    seal: Range<usize>,
+    field: &[u8],
+    operation: Range<usize>,
     output: &mut [u8],
 ) -> usize
-    ensures { (effect result output.new ≡ both_replaced s.now seal first operation next field len (effect 0 output.old)) × (length field ≡ room) }
+    ensures { effect result output.new ≡ both_replaced s.now seal.start seal.end field.now operation.start operation.end (effect 0 output.old) }
 {
-    let neutral = NEUTRAL_OPERATION;
-    let sealed = replaced(s, 0, seal, &field, len, output, 0);
-    let suppressed = replaced(s, first, operation, &neutral, 3, output, sealed);
-    ranges::append(s, next, s.len(), output, suppressed)
-}
-
-// The field of the header's seal less n doublings of the operation at an offset.
-fn new_seal(h: Record, s: &[u8], at: usize, n: u64) -> Output
-    ensures { response_of result ≡ class_response (seal_without h s.now at n) }
-{
-    let read = stored_form::read_field(stored_form::OPERATION, h, s, Cursor { at });
-    let values = read.values;
-    let operation = values.operation;
-    let curve = h.curve;
-    let seal = h.class;
-    writing::class_output(seal_less(curve, seal, operation, n))
+    let sealed = replaced(s, 0..seal.start, field, output, 0);
+    let suppressed = replaced(
+        s,
+        seal.end..operation.start,
+        &NEUTRAL_OPERATION,
+        output,
+        sealed,
+    );
+    ranges::append(s, operation.end, s.len(), output, suppressed)
 }
 
 // Writes an accepted archive with operation k suppressed, and answers the length. Its header was read, and its
@@ -165,36 +117,42 @@ fn put_suppressed(s: &[u8], h: Record, first: usize, k: u64, output: &mut [u8]) 
 {
     let newer = h.count - k;
     let seal = skipping::skip_fields(s, 0, HEADER_FIELDS as u64 - 1);
-    let operation = skipping::skip_fields(s, first, newer);
-    let next = skipping::next_field(s, operation);
-    let o = new_seal(h, s, operation, newer);
-    let field = o.bytes;
-    both_replaced(s, seal, first, operation, next, field, o.len, output)
+    let at = skipping::skip_fields(s, first, newer);
+    let next = skipping::next_field(s, at);
+    let read = stored_form::read_field(stored_form::OPERATION, h, s, Cursor { at });
+    let class = seal_less(h.curve, h.class, read.values.operation, newer);
+    let field = writing::class_bytes(class);
+    both_replaced(s, seal..first, field.bytes(), at..next, output)
 }
 
-// Suppresses operation k of an accepted archive, which has room in the output.
-fn suppress_accepted(s: &[u8], k: u64, output: &mut [u8]) -> Written
+// Suppresses operation k of an accepted archive, which has room in the output, and answers the length.
+fn suppress_accepted(s: &[u8], k: u64, output: &mut [u8]) -> Result<usize, u32>
     requires { (archive_refusal s.now ≡ 0) × (length s.now + growth ≤ length output.old) }
-    ensures { written_effect result output.new ≡ suppress_call s.now k output.old }
+    ensures { written_effect (written_of result) output.new ≡ suppress_call s.now k output.old }
 {
-    let t = archive::read_header(s);
-    let reader = t.reader;
-    let h = reader.values;
-    if k < 1 {
-        return refused(123);
-    }
-    if h.count < k {
-        return refused(123);
+    let h = archive::read_header(s).reader.values;
+    if k < 1 || h.count < k {
+        return Err(123);
     }
     let first = skipping::skip_fields(s, 0, HEADER_FIELDS as u64);
     if held(s, first, h.count, k) {
-        return refused(124);
+        return Err(124);
     }
-    let length = put_suppressed(s, h, first, k, output);
-    Written {
-        refusal: 0,
-        length: length as u64,
+    Ok(put_suppressed(s, h, first, k, output))
+}
+
+// Suppresses operation k of an archive, and answers the length.
+fn suppress(s: &[u8], k: u64, output: &mut [u8]) -> Result<usize, u32>
+    ensures { written_effect (written_of result) output.new ≡ suppress_call s.now k output.old }
+{
+    if output.len() < GROWTH || output.len() - GROWTH < s.len() {
+        return Err(101);
     }
+    let n = archive::archive_refusal(s);
+    if n != 0 {
+        return Err(n);
+    }
+    suppress_accepted(s, k, output)
 }
 
 // Suppresses operation k of an archive, counted 1 to n from the oldest: the new archive is written to the output.
@@ -202,15 +160,11 @@ fn suppress_accepted(s: &[u8], k: u64, output: &mut [u8]) -> Written
 pub fn seal_suppress(input: &[u8], k: u64, output: &mut [u8]) -> Written
     ensures { written_effect result output.new ≡ suppress_call input.now k output.old }
 {
-    if output.len() < GROWTH {
-        return refused(101);
+    match suppress(input, k, output) {
+        Ok(length) => Written {
+            refusal: 0,
+            length: length as u64,
+        },
+        Err(refusal) => Written { refusal, length: 0 },
     }
-    if output.len() - GROWTH < input.len() {
-        return refused(101);
-    }
-    let n = archive::archive_refusal(input);
-    if n != 0 {
-        return refused(n);
-    }
-    suppress_accepted(input, k, output)
 }

@@ -62,17 +62,22 @@ impl Output {
     }
 }
 
+// The bytes of the field of a class.
+pub fn class_bytes(a: Class) -> Output
+    ensures { result ≡ class_field 0x43 a }
+{
+    let mut output = Output::new();
+    output.push_class(a);
+    output
+}
+
 // The response with the field of a class, or with the refusal.
 pub fn class_output(a: ClassAnswer) -> Result<Output, u32>
     ensures { response_of result ≡ class_response (class_result (reply a)) }
 {
     match a.outcome {
         Outcome::Refused(n) => Err(n),
-        Outcome::Accepted => {
-            let mut output = Output::new();
-            output.push_class(a.class);
-            Ok(output)
-        }
+        Outcome::Accepted => Ok(class_bytes(a.class)),
     }
 }
 

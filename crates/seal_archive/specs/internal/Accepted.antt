@@ -1,8 +1,7 @@
 -- For the contracts of functions that are not open: where the parts of accepted bytes begin, and the ranges of them
 -- that are copied.
 use Rattle.std.specs.Prelude.{ℕ, ◌+◌, ◌≤◌, ◌≡◌, List, [], ◌∷◌, length}
-use Rattle.jacobian.specs.{Answer.Result, Answer.result, Answer.sum_answer, Group.opposite_of, Group.doublings}
-use Rattle.stored_form.specs.{Reading.found, Cuts.fields_end, Record.empty_record, Reader.read_field, Reader.read_fields, Reader.header_layout, Reader.read_of, declared.Record.Record}
+use Rattle.stored_form.specs.{Reading.found, Cuts.fields_end, Record.empty_record, Reader.read_fields, Reader.header_layout, declared.Record.Record}
 use Rattle.written_form.specs.{Effect.Effect, Ranges.append}
 use Rattle.archive.specs.Archive.{archive_said, archive_refusal}
 use Rattle.seal_archive.specs.Suppress.{growth}
@@ -28,18 +27,12 @@ pub record Suppressible (s : List ℕ) (h : Record) (first k room : ℕ) : Type 
   pub high : k ≤ h.count
   pub fits : length s + growth ≤ room
 
--- the seal of the header h less n doublings of the operation at an offset
-unfoldable pub seal_without : Record → List ℕ → ℕ → ℕ → Result
-seal_without h s at n =
-    let operation = (read_of (read_field 0x44 h s at)).values.operation in
-    result (sum_answer h.curve h.class (opposite_of h.curve (doublings h.curve n operation)))
+-- a range of s appended, and then a field in the place of one of s
+unfoldable pub replaced : List ℕ → ℕ → ℕ → List ℕ → Effect → Effect
+replaced s start end field e = append field 0 (length field) (append s start end e)
 
--- a range of s appended, and then the first len bytes of a field in the place of one of s
-unfoldable pub replaced : List ℕ → ℕ → ℕ → List ℕ → ℕ → Effect → Effect
-replaced s start end field len e = append field 0 len (append s start end e)
-
--- all of s appended, but for the field from `seal` to `first` and the one from `operation` to `next`: len bytes of a
--- field replace the first, the field of a neutral operation the second
-unfoldable pub both_replaced : List ℕ → ℕ → ℕ → ℕ → ℕ → List ℕ → ℕ → Effect → Effect
-both_replaced s seal first operation next field len e =
-    append s next (length s) (replaced s first operation (0x44 ∷ 0x00 ∷ 0x00 ∷ []) 3 (replaced s 0 seal field len e))
+-- all of s appended, but for the field from `seal` to `first` and the one from `operation` to `next`: a field replaces
+-- the first, the field of a neutral operation the second
+unfoldable pub both_replaced : List ℕ → ℕ → ℕ → List ℕ → ℕ → ℕ → Effect → Effect
+both_replaced s seal first field operation next e =
+    append s next (length s) (replaced s first operation (0x44 ∷ 0x00 ∷ 0x00 ∷ []) (replaced s 0 seal field e))

@@ -6,8 +6,5 @@ use Rattle.seal_archive.proofs.suppress.both_replaced.Goals as goal
 
 pub returns : goal.returns
 unfolding both_replaced
-returns c = (
-  c.append.ensures
-      ∙ ap (append _ _ _) (c.replaced-suppressed.ensures ∙ ap (replaced _ _ _ _ _) c.replaced-sealed.ensures),
-  c.well_formed.1.1.1.1.1.0.1.0.1,
-)
+returns c =
+    c.append.ensures ∙ ap (append _ _ _) (c.replaced-suppressed.ensures ∙ ap (replaced _ _ _ _) c.replaced-sealed.ensures)

@@ -1,11 +1,7 @@
--- The invariant of `suppress::doublings`: before turn i the class has been doubled i times.
-use Prim.Native.Nat.{◌≤◌, ◌-◌}
+-- The invariant of `suppress::doublings`: before a turn the class has been doubled as often as there were turns.
 use mathlib.Core.Path.{◌≡◌}
 use Rattle.jacobian.specs.{Group.doublings}
 use Rattle.seal_archive.proofs.suppress.doublings.Given as goal
 
-abbrev pub invariant-loop-i : goal.invariant-loop-i
-invariant-loop-i l = (l.r ≡ doublings l.curve l.i l.initial.r) × (l.i ≤ l.n)
-
-abbrev pub decreases-loop-i : goal.decreases-loop-i
-decreases-loop-i l = l.n - l.i
+abbrev pub invariant-loop : goal.invariant-loop
+invariant-loop l = l.double ≡ doublings l.curve l.counter l.initial.double

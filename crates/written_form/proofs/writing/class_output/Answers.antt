@@ -13,5 +13,4 @@ returns-in-Refused c = gives_refusal _ c.in-Refused.is
 
 pub returns-in-Accepted : goal.returns-in-Accepted
 unfolding class_response
-returns-in-Accepted c =
-    gives_bytes _ c.in-Accepted.is (c.push_class.ensures ∙ ap (λ (l : List ℕ). l ++ class_field 0x43 c.args.a.class) c.new-output.ensures)
+returns-in-Accepted c = gives_bytes _ c.in-Accepted.is c.class_bytes.ensures
