@@ -2,7 +2,6 @@
 -- `put_written`, `put_refusal`: the effect of a response that fits, and of a refusal.
 -- `put_accepted`, `put_refused`: the same for a response that depends on a verdict.
 -- `put_short`, `put_all`, `put_none`: the effect of a response as the code writes it.
--- `gives_refusal`, `gives_bytes`: the response after a call by value.
 -- `call_short`: an output that is too short is refused with 101.
 -- `call_refused`, `call_found`: a call whose record is refused, and one whose record is read.
 -- `answer_written`, `answer_refused`: a call whose response depends on a verdict.
@@ -12,13 +11,12 @@ use mathlib.Core.List.{List, ◌++◌}
 use native.Mathlib.Omega.{arith}
 use lib.ListN.{length, drop}
 use borrow.Author.Tests.{lt-ltb, le-ltb, le-leb, lt-leb}
-use Rattle.jacobian.specs.{Checks.unless, Answer.Verdict, Answer.verdict, Answer.accepted, Answer.refused as said_no, declared.Outcome.Outcome}
-use Rattle.jacobian.specs.declared.Outcome.TheVariants as declared
+use Rattle.jacobian.specs.{Checks.unless, Answer.Verdict, Answer.accepted, Answer.refused as said_no}
+use Rattle.refusals.specs.{Refusals.number, declared.Refusal.Refusal}
 use Rattle.std.specs.Prelude.{Result, Ok, Err}
-use Rattle.stored_form.specs.{Reading.Reading, Reading.found, Reading.refused, Reading.checked, Reader.read_record, Reader.read_of, Reader.offset_refusal}
-use Rattle.stored_form.specs.declared.{Record.Record, Read.Read, Cursor.Cursor, Offset.TheVariants.Next, Offset.TheVariants.Refused}
-use Rattle.written_form.specs.Effect.{Effect, Response, effect, refuse, write, refusal_response, bytes_response, on_outcome, on_reading, put, read_call, room_refusal, byte_call, response_of}
-use Rattle.stored_form.proofs.Readers.{offset_found, offset_refused_as}
+use Rattle.stored_form.specs.{Reading.Reading, Reading.found, Reading.refused, Reading.checked, Reader.read_record}
+use Rattle.stored_form.specs.declared.Record.{Record}
+use Rattle.written_form.specs.Effect.{Response, effect, refuse, write, refusal_response, bytes_response, on_outcome, on_reading, put, read_call, room_refusal, byte_call, response_of}
 
 -- ---- a response written
 
@@ -51,38 +49,27 @@ module _ (v : Verdict) (xs out : List ℕ) where
 
 -- ---- a response as the code writes it
 
-module _ {r : Result (List ℕ) ℕ} (out : List ℕ) where
-  pub put_short : {bytes : List ℕ} → r ≡ Ok bytes → length out < length bytes → effect 101 out ≡ put (response_of r) out
-  put_short {bytes} e h = put_over (bytes_response bytes) out h ∙ ap (λ (x : Result (List ℕ) ℕ). put (response_of x) out) (sym e)
+module _ {r : Result (List ℕ) Refusal} (out : List ℕ) where
+  pub put_short : {bytes : List ℕ} {n : ℕ} → r ≡ Ok bytes → length out < length bytes → n ≡ 101 → effect n out ≡ put (response_of r) out
+  put_short {bytes} e h is = ap (λ (k : ℕ). effect k out) is ∙ put_over (bytes_response bytes) out h ∙ ap (λ (x : Result (List ℕ) Refusal). put (response_of x) out) (sym e)
 
   pub put_all : {bytes after : List ℕ} → r ≡ Ok bytes → length bytes ≤ length out → after ≡ bytes ++ drop (length bytes) out → effect (length bytes) after ≡ put (response_of r) out
   put_all {bytes} e h f =
-      ap (effect (length bytes)) f ∙ sym (put_in (bytes_response bytes) out h) ∙ ap (λ (x : Result (List ℕ) ℕ). put (response_of x) out) (sym e)
+      ap (effect (length bytes)) f ∙ sym (put_in (bytes_response bytes) out h) ∙ ap (λ (x : Result (List ℕ) Refusal). put (response_of x) out) (sym e)
 
-  pub put_none : {n : ℕ} → r ≡ Err n → effect n out ≡ put (response_of r) out
+  pub put_none : {refusal : Refusal} {n : ℕ} → r ≡ Err refusal → n ≡ number refusal → effect n out ≡ put (response_of r) out
   unfolding refuse
-  put_none {n} e = sym (put_refusal n out) ∙ ap (λ (x : Result (List ℕ) ℕ). put (response_of x) out) (sym e)
-
--- ---- the response after a call by value
-
-module _ {o : Outcome} (bytes : List ℕ) where
-  pub gives_refusal : {n : ℕ} → o ≡ declared.Refused n → refusal_response n ≡ on_outcome (verdict o) bytes
-  unfolding on_outcome
-  gives_refusal e = sym (ap (λ (p : Outcome). on_outcome (verdict p) bytes) e)
-
-  pub gives_bytes : {written : List ℕ} → o ≡ declared.Accepted → written ≡ bytes → bytes_response written ≡ on_outcome (verdict o) bytes
-  unfolding on_outcome
-  gives_bytes e f = ap bytes_response f ∙ sym (ap (λ (p : Outcome). on_outcome (verdict p) bytes) e)
+  put_none is e = ap (λ (k : ℕ). effect k out) e ∙ sym (put_refusal _ out) ∙ ap (λ (x : Result (List ℕ) Refusal). put (response_of x) out) (sym is)
 
 -- ---- a call
 
 -- the record that it reads, by the room of the output
 module _ (has least : ℕ) (tags s : List ℕ) where
-  pub room_refused : has < least → read_call has least tags s ≡ refused 101
+  pub room_refused : has < least → refused 101 ≡ read_call has least tags s
   unfolding read_call room_refusal unless checked
   room_refused h = rw (lt-leb least has h)
 
-  pub room_read : least ≤ has → read_call has least tags s ≡ read_record tags s
+  pub room_read : least ≤ has → read_record tags s ≡ read_call has least tags s
   unfolding read_call room_refusal unless checked
   room_read h = rw (le-leb least has h)
 
@@ -101,13 +88,13 @@ module _ (least : ℕ) (tags : List ℕ) (answer : Record → Response) (s out :
   answers_call e = does e
 
   pub call_short : length out < least → byte_call least tags answer s out ≡ refuse 101 out
-  call_short h = refuses_call (room_refused _ _ _ _ h)
+  call_short h = refuses_call (sym (room_refused _ _ _ _ h))
 
   pub call_refused : least ≤ length out → {n : ℕ} → read_record tags s ≡ refused n → byte_call least tags answer s out ≡ refuse n out
-  call_refused fits e = refuses_call (room_read _ _ _ _ fits ∙ e)
+  call_refused fits e = refuses_call (sym (room_read _ _ _ _ fits) ∙ e)
 
   pub call_found : least ≤ length out → {h : Record} {end : ℕ} → read_record tags s ≡ found h end → byte_call least tags answer s out ≡ put (answer h) out
-  call_found fits e = answers_call (room_read _ _ _ _ fits ∙ e)
+  call_found fits e = answers_call (sym (room_read _ _ _ _ fits) ∙ e)
 
   -- a record that is read and answered by a verdict and bytes
   module _ (fits : least ≤ length out) {h : Record} {end : ℕ} (read : read_record tags s ≡ found h end) (v : Verdict) (xs : List ℕ) (is : answer h ≡ on_outcome v xs) where
@@ -119,12 +106,3 @@ module _ (least : ℕ) (tags : List ℕ) (answer : Record → Response) (s out :
 
     pub answer_refused : {n : ℕ} → v ≡ said_no n → byte_call least tags answer s out ≡ refuse n out
     answer_refused e = handed_over ∙ put_refused v xs out e
-
-  -- as the code tests it: the reader's answer, then the refusal or the response
-  module _ (r : Read) (e : r ≡ read_of (read_call (length out) least tags s)) where
-    pub call_unread : {n k : ℕ} → r.offset ≡ Refused n → k ≡ offset_refusal r.offset → effect k out ≡ byte_call least tags answer s out
-    unfolding refuse
-    call_unread f h = sym (refuses_call (offset_refused_as r e f h))
-
-    pub call_read : {next : Cursor} {x : Response} {y : Effect} → r.offset ≡ Next next → x ≡ answer r.values → y ≡ put x out → y ≡ byte_call least tags answer s out
-    call_read f g h = h ∙ ap (λ (z : Response). put z out) g ∙ sym (answers_call (offset_found r e f))

@@ -1,5 +1,6 @@
 -- What a call on byte areas answers, and what it leaves in the lent output (docs/SPECIFICATION.md, 5 and 6).
 use Rattle.std.specs.Prelude.{ℕ, ◌+◌, ◌≤◌, ◌<◌, ◌≡◌, cond, List, [], ◌∷◌, ◌++◌, length, drop, leb, ltb, Result, Ok, Err}
+use Rattle.refusals.specs.{Refusals.number, declared.Refusal.Refusal}
 use Rattle.jacobian.specs.{Checks.unless, Checks.Check, Checks.check, Checks.AllHold, Checks.FirstFails, Answer.Verdict, Answer.Result as ClassResult, Answer.accepted, Answer.refused as said_no}
 use Rattle.stored_form.specs.Reading.{Reading, found, refused, checked}
 use Rattle.stored_form.specs.Head.{count_length, class_room}
@@ -96,9 +97,9 @@ room = register_room
 -- ---- the code's output
 
 -- the response that the code's result stands for
-abbrev pub response_of : Result (List ℕ) ℕ → Response
+abbrev pub response_of : Result (List ℕ) Refusal → Response
 response_of (Ok bytes) = bytes_response bytes
-response_of (Err n) = refusal_response n
+response_of (Err r) = refusal_response (number r)
 
 -- ---- the checks of a call
 

@@ -1,12 +1,13 @@
 // The response of a call on byte areas, and the one function that writes it.
 ghost use Rattle.std.specs.Prelude.{◌≡◌, ◌+◌, ◌≤◌, ℕ, List, [], ◌++◌, length, take};
-ghost use Rattle.written_form.specs.Effect.{Response, room, read_call, byte_call, effect, response_of, put};
-ghost use Rattle.stored_form.specs.{Head.class_room, Reader.read_of};
+ghost use Rattle.written_form.specs.Effect.{Response, room, read_call, on_reading, byte_call, effect, response_of, put};
+ghost use Rattle.stored_form.specs.{Head.class_room, Reader.reading_of};
 ghost use Rattle.stored_form.specs.declared.Record.{Record};
 
 use crate::ranges;
+use refusals::Refusal;
 use std::marker::Model;
-use stored_form::{Offset, Read, Record};
+use stored_form::{Read, Record};
 
 // The length of a count's field and of a released step's field alike, and that of both followed by the longest field
 // of a class.
@@ -61,30 +62,31 @@ impl Output {
 }
 
 // Reads the record of a call; an output with less room than is required is refused with 101 before any byte is read.
-pub fn read_call(has: usize, least: usize, tags: &[u8], input: &[u8]) -> Read
-    ensures { result ≡ read_of (read_call has least tags.now input.now) }
+#[tactic(auto, using(crate::proofs::Effects::room_refused, crate::proofs::Effects::room_read))]
+pub fn read_call(has: usize, least: usize, tags: &[u8], input: &[u8]) -> Result<Read, Refusal>
+    ensures { reading_of result ≡ read_call has least tags.now input.now }
 {
     if has < least {
-        return stored_form::refused(101);
+        return Err(Refusal::OutputTooShort);
     }
     stored_form::read_record(tags, input)
 }
 
 // Writes a response's bytes at the start of the output and answers their length; a refusal answers its number.
 // If the output is too short for the bytes, nothing is written and the answer is 101.
-pub fn put(response: Result<Output, u32>, output: &mut [u8]) -> u32
+pub fn put(response: Result<Output, Refusal>, output: &mut [u8]) -> u32
     ensures { effect result output.new ≡ put (response_of response) output.old }
 {
     match response {
         Ok(written) => {
             let bytes = written.bytes();
             if output.len() < bytes.len() {
-                return 101;
+                return Refusal::OutputTooShort.number();
             }
             ranges::copy(bytes, output);
             bytes.len() as u32
         }
-        Err(refusal) => refusal,
+        Err(refusal) => refusal.number(),
     }
 }
 
@@ -92,25 +94,37 @@ pub fn put(response: Result<Output, u32>, output: &mut [u8]) -> u32
 pub trait ByteCall {
     ghost response: { Self → Record → Response };
 
-    fn answer(self, h: Record) -> Result<Output, u32>
+    fn answer(self, h: Record) -> Result<Output, Refusal>
         ensures { response_of result ≡ response self h };
 }
 
+// The response of a call to the record that it reads, if the output has the room that is required.
+#[tactic(auto, unfolding(crate::specs::Effect::on_reading))]
+fn answer_read<C: ByteCall + Copy>(
+    call: C,
+    has: usize,
+    least: usize,
+    tags: &[u8],
+    input: &[u8],
+) -> Result<Output, Refusal>
+    ensures { response_of result ≡ on_reading (read_call has least tags.now input.now) (C.response call) }
+{
+    let read = read_call(has, least, tags, input)?;
+    call.answer(read.values)
+}
+
 // The body of every call that writes: the check of the room (101), then the record, then the response.
+#[tactic(auto, unfolding(crate::specs::Effect::byte_call))]
 pub fn byte_call<C: ByteCall + Copy>(
     call: C,
-    room: usize,
+    least: usize,
     tags: &[u8],
     input: &[u8],
     output: &mut [u8],
 ) -> u32
-    ensures { effect result output.new ≡ byte_call room tags.now (C.response call) input.now output.old }
+    ensures { effect result output.new ≡ byte_call least tags.now (C.response call) input.now output.old }
 {
-    let r = read_call(output.len(), room, tags, input);
-    let Offset::Next(_) = r.offset else {
-        return stored_form::offset_refusal(r.offset);
-    };
-    put(call.answer(r.values), output)
+    put(answer_read(call, output.len(), least, tags, input), output)
 }
 
 // A call that answers a class.

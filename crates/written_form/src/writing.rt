@@ -9,7 +9,8 @@ ghost use Rattle.stored_form.specs.Classes.{encode_row, class_field};
 ghost use Rattle.written_form.specs.Effect.{room, count_room, on_outcome, class_response, response_of};
 
 use crate::effect::Output;
-use jacobian::{Class, ClassAnswer, Outcome};
+use jacobian::{Class, CountedClass};
+use refusals::Refusal;
 use stored_form::{COUNT_LENGTH, ELEMENT_LENGTH};
 
 impl Output {
@@ -72,27 +73,34 @@ pub fn class_bytes(a: Class) -> Output
 }
 
 // The response with the field of a class, or with the refusal.
-pub fn class_output(a: ClassAnswer) -> Result<Output, u32>
-    ensures { response_of result ≡ class_response (class_result (reply a)) }
+#[tactic(auto, unfolding(crate::specs::Effect::class_response, crate::specs::Effect::on_outcome))]
+pub fn class_output(answer: Result<CountedClass, Refusal>) -> Result<Output, Refusal>
+    ensures { response_of result ≡ class_response (class_result (reply answer)) }
 {
-    match a.outcome {
-        Outcome::Refused(n) => Err(n),
-        Outcome::Accepted => Ok(class_bytes(a.class)),
-    }
+    Ok(class_bytes(answer?.class))
+}
+
+// The bytes of the fields of a count, a released step and a seal.
+fn register_bytes(count: u64, released: u64, seal: Class) -> Output
+    ensures { result ≡ count_field count ++ released_field released ++ class_field 0x43 seal }
+{
+    let mut output = Output::new();
+    output.push_count(stored_form::COUNT, count);
+    output.push_count(stored_form::RELEASED, released);
+    output.push_class(seal);
+    output
 }
 
 // The response with the fields of a count, a released step and a seal, or with the refusal.
-pub fn register_output(o: Outcome, count: u64, released: u64, seal: Class) -> Result<Output, u32>
-    ensures { response_of result ≡ on_outcome (verdict o) (count_field count ++ released_field released ++ class_field 0x43 seal) }
+#[tactic(auto, unfolding(crate::specs::Effect::on_outcome))]
+pub fn register_output(
+    outcome: Result<(), Refusal>,
+    count: u64,
+    released: u64,
+    seal: Class,
+) -> Result<Output, Refusal>
+    ensures { response_of result ≡ on_outcome (verdict outcome) (count_field count ++ released_field released ++ class_field 0x43 seal) }
 {
-    match o {
-        Outcome::Refused(n) => Err(n),
-        Outcome::Accepted => {
-            let mut output = Output::new();
-            output.push_count(stored_form::COUNT, count);
-            output.push_count(stored_form::RELEASED, released);
-            output.push_class(seal);
-            Ok(output)
-        }
-    }
+    outcome?;
+    Ok(register_bytes(count, released, seal))
 }
