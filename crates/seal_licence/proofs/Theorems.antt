@@ -16,6 +16,7 @@
 -- `only_halvings`: an accepted class that k doublings take to another class is what k halvings of that class give.
 -- `halvings_only`: k halvings give the only accepted class that k doublings take to the class.
 -- `halvings_answers`: so what `halvings` promises follows from its answer.
+-- `halvings_stop`, `halvings_given`: as the code answers it.
 -- `halvings_of_multiple`: k halvings of 2^k times the class give the class, for k below 61.
 -- `multiple_of_halvings`: 2^k times what k halvings of the class give is the class, for k below 61.
 -- Refusals of an accepted class (Checking.antt has all refusals in their order):
@@ -36,7 +37,8 @@ use Rattle.jacobian.specs.declared.{Curve.Curve, Class.Class}
 use Rattle.jacobian.proofs.{Calls.reduced, Calls.class_pair, Calls.sum_gives, Calls.sum_accepts, Calls.double_gives, Calls.half_gives, Group.class_is, Group.gives_own, Group.doublings_accept}
 use Rattle.jacobian.proofs.{Representation.pair_injective}
 use Rattle.seal_licence.specs.Multiples.{multiple_limit, halvings_limit, refuses, given, multiple_class, halved_class, multiple_refusal, halvings_refusal, multiple_answer, halvings_answer, HalvingsAnswers, halves}
-use Rattle.seal_licence.proofs.Answers.{halvings_passes}
+use Rattle.refusals.specs.{Refusals.number, declared.Refusal.Refusal}
+use Rattle.seal_licence.proofs.Answers.{halvings_passes, halvings_answer_stops, halvings_answer_given}
 use Rattle.seal_licence.proofs.Values.{multiple_accepts, multiple_pair, multiple_none, halved_accepts, halved_pair, halved_none, halved_next}
 
 -- ---- an accepted class
@@ -170,6 +172,14 @@ halvings_answers {c} {a} {k} e = record {
       let p = halvings_passes c a k none in
       subst (λ (r : Result). Only c (λ b. doublings c k b ≡ a) r.class) (sym e) (halvings_only p.0 k p.1);
 }
+
+-- what the code answers, a refusal or a class
+module _ (c : Curve) (a : Class) (k : ℕ) where
+  pub halvings_stop : (r : Refusal) → number r ≡ halvings_refusal c a k → HalvingsAnswers c a k (refuses (number r))
+  halvings_stop r e = halvings_answers (halvings_answer_stops c a k r e)
+
+  pub halvings_given : {x : Class} → 0 ≡ halvings_refusal c a k → x ≡ halved_class c a k → HalvingsAnswers c a k (gives x)
+  halvings_given e f = halvings_answers (halvings_answer_given c a k e f)
 
 -- ---- refusals
 module _ (c : Curve) (a : Class) (n : ℕ) where

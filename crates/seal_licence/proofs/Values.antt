@@ -1,4 +1,5 @@
 -- n times an accepted class, and an accepted class halved k times: what they stand for, and how the code reaches them.
+-- `none_left`: no digit of n is left after as many as it has.
 -- `multiple_accepts`: n times the class is accepted.
 -- `multiple_pair`: it stands for n times the class in the group.
 -- `multiple_none`: 0 times the class is the neutral class.
@@ -8,8 +9,11 @@
 -- `halved_pair`: it stands for the class halved k times in the group.
 -- `halved_none`: halved 0 times it is the class.
 -- `halved_next`: halved k + 1 times it is the half of the class halved k times.
-use Prim.Native.Nat.{ℕ, suc, ◌/◌, ◌%◌}
+use Prim.Native.Nat.{ℕ, suc, ◌-◌, ◌/◌, ◌%◌, ◌^◌, ◌<◌}
 use mathlib.Core.Path.{◌≡◌, sym, ◌∙◌, ap}
+use native.Mathlib.{Omega.arith, Nat.div-eq_of_lt}
+use lib.Count.{count_leading_zeros}
+use Rattle.std.proofs.lemmas.Nat.{leading_length}
 use Rattle.class_group.specs.{Mumford.Pair, Mumford.Reduced, Mumford.neutral, Operations.sum, Operations.double, Half.half, Moves.double_and_add}
 use Rattle.class_group.specs.Multiples.{multiple, repeat}
 use Rattle.class_group.proofs.{Group.classes, Group.class_doubling, Halving.class_halving, Multiples.multiple_member, Multiples.multiple_zero, Doublings.halvings_member, Digits.even_turn as group_even_turn, Digits.odd_turn as group_odd_turn}
@@ -19,6 +23,13 @@ use Rattle.jacobian.specs.declared.{Curve.Curve, Class.Class}
 use Rattle.jacobian.proofs.{Calls.reduced, Calls.double_gives, Calls.half_gives, Calls.neutral_value, Moves.double_and_add_gives}
 use Rattle.jacobian.proofs.Representation.{accepts_curve, class_of_accepted, class_of_pair, Form.pair_class_of}
 use Rattle.seal_licence.specs.Multiples.{multiple_class, halved_class}
+
+-- no digit of n is left after as many as it has
+pub none_left : (n : ℕ) → n < 2 ^ 64 → n / 2 ^ (64 - count_leading_zeros 64 n) ≡ 0
+none_left n fits =
+    let p = leading_length 64 n fits in
+    let e : 64 - count_leading_zeros 64 n ≡ p.0 = omega (arith, p.1) in
+    ap (λ i. n / 2 ^ i) e ∙ div-eq_of_lt p.2
 
 module _ {c : Curve} {a : Class} (h : Accepts c a) where
   abbrev d : ℕ

@@ -1,10 +1,11 @@
 -- n times a class, and a class halved k times, by value (docs/SPECIFICATION.md, 2.11, 3 and 6).
-use Rattle.std.specs.Prelude.{ℕ, zero, suc, ◌^◌, ◌≡◌, ltb, leb}
+use Rattle.std.specs.Prelude.{ℕ, zero, suc, ◌^◌, ◌≡◌, ltb, leb, Ok, Err}
+use Rattle.std.specs.Prelude as Prelude
+use Rattle.refusals.specs.{Refusals.number, declared.Refusal.Refusal}
 use Rattle.class_group.specs.{Mumford.neutral, Operations.sum, Half.half, Multiples.multiple, Multiples.repeat}
 use Rattle.jacobian.specs.{Checks.unless, Checks.◌or_else◌, Curves.curve, Classes.pair, Classes.class_of}
-use Rattle.jacobian.specs.{Answer.Result, Answer.verdict, Answer.result, Answer.gives, Answer.refusing, Answer.refusal, Answer.Only, Answer.half_answer, Group.doublings}
+use Rattle.jacobian.specs.{Answer.Result, Answer.result, Answer.gives, Answer.refusing, Answer.refusal, Answer.Only, Answer.half_answer, Group.doublings}
 use Rattle.jacobian.specs.declared.{Curve.Curve, Class.Class}
-use Rattle.seal_licence.specs.declared.multiples.ClassResult.{ClassResult}
 
 -- one more than the largest n
 abbrev pub multiple_limit : ℕ
@@ -14,13 +15,14 @@ multiple_limit = 2 ^ 61
 abbrev pub halvings_limit : ℕ
 halvings_limit = 64
 
--- the code's answer as a result
-abbrev pub class_result : ClassResult → Result
-class_result r = record { outcome = verdict r.outcome; class = r.class }
-
 -- refusal n with the neutral class
 abbrev pub refuses : ℕ → Result
 refuses n = result (refusing n)
+
+-- the code's answer as a result
+abbrev pub class_result : Prelude.Result Class Refusal → Result
+class_result (Ok a) = gives a
+class_result (Err r) = refuses (number r)
 
 -- the class where the number is 0, else that refusal with the neutral class
 unfoldable pub given : ℕ → Class → Result

@@ -2,6 +2,7 @@
 pub mod Appending
 pub mod Effects
 pub mod Bytes
+pub mod Given
 pub mod Checking
 pub mod WroteOrRefused
 pub mod Wrote
