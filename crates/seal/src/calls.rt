@@ -6,6 +6,7 @@ ghost use Rattle.written_form.specs.{Effect.register_room, Effect.effect, Effect
 ghost use Rattle.seal.specs.Calls.{register_response, answered, membership_call, opposite_call, double_call, sum_call, commit_call, release_call, stamp_call, Halves, Undoes};
 
 use history::{Register, RegisterAnswer};
+use refusals::Refusal;
 use stored_form::Record;
 use written_form::effect::{ByteCall, Output};
 use written_form::{effect, writing};
@@ -15,8 +16,7 @@ use written_form::{effect, writing};
 pub fn seal_membership(input: &[u8]) -> u32
     ensures { result ≡ membership_call input.now }
 {
-    let r = stored_form::read_record(&stored_form::CLASS_LAYOUT, input);
-    stored_form::offset_refusal(r.offset)
+    refusals::refusal_number(stored_form::read_record(&stored_form::CLASS_LAYOUT, input))
 }
 
 // The calls that write.
@@ -34,7 +34,7 @@ enum Call {
 
 // The response with the fields of count, released step and seal, or with the refusal.
 #[tactic(auto, unfolding(crate::specs::Calls::register_response))]
-fn register_output(a: RegisterAnswer) -> Result<Output, u32>
+fn register_output(a: RegisterAnswer) -> Result<Output, Refusal>
     ensures { response_of result ≡ register_response (register_reply a) }
 {
     writing::register_output(
@@ -50,7 +50,7 @@ impl ByteCall for Call {
 
     // By the call by value.
     #[tactic(auto, unfolding(crate::specs::Calls::answered))]
-    fn answer(self, h: Record) -> Result<Output, u32> {
+    fn answer(self, h: Record) -> Result<Output, Refusal> {
         let register = Register {
             curve: h.curve,
             count: h.count,
