@@ -2,7 +2,7 @@
 -- `short`, `unread`: the output is too short; the archive is refused.
 -- `below_first`, `above_last`, `is_held`, `accepted_writes`: of an accepted archive with room, k is no operation's
 -- number; operation k is held; else the suppressed archive is written. `suppresses`: as the code writes it.
--- `header_read`, `at_operations`, `suppressible`: what the code knows once it has read the header.
+-- `header_accepted`, `header_read`, `at_operations`, `suppressible`: what the code knows once it has read the header.
 use Prim.Native.Nat.{ℕ, ◌+◌, ◌≤◌, ◌<◌}
 use mathlib.Core.Path.{◌≡◌, refl, sym, ap, ◌∙◌}
 use mathlib.Core.Bool.{true, false}
@@ -10,12 +10,16 @@ use mathlib.Core.List.{List}
 use native.Mathlib.Omega.{arith}
 use lib.ListN.{length}
 use borrow.Author.Tests.{lt-leb, le-leb}
+use Rattle.std.specs.Prelude.{Result, Ok, Err}
+use Rattle.std.specs.Result.{IsOk}
+use Rattle.refusals.specs.{Refusals.number, declared.Refusal.Refusal}
 use Rattle.jacobian.specs.Checks.{unless, ◌or_else◌}
 use Rattle.stored_form.specs.{Number.Bytes, Reading.Reading, Reading.found, Reading.refused, Reading.checked, Reading.reading_refusal, Cuts.fields_end, Record.empty_record, Reader.read_fields, Reader.header_layout, declared.Record.Record}
+use Rattle.binary_field.proofs.Refusing.{number_positive}
 use Rattle.stored_form.proofs.Readings.{then_found, then_refused, checked_none, checked_some, same_found}
 use Rattle.stored_form_theorems.proofs.Checking.{first_read}
 use Rattle.written_form.specs.Effect.{Effect, effect, write, room_refusal}
-use Rattle.archive.specs.{Archive.Archive, Archive.read_archive, Archive.archive_said, Archive.archive_refusal, Reader.read_header, Reader.advance_of, Skipping.skip_fields, declared.Advance.Advance}
+use Rattle.archive.specs.{Archive.Archive, Archive.read_archive, Archive.archive_said, Archive.archive_refusal, Reader.read_header, Reader.reader, Reader.operations_expected, Reader.advance_reading, declared.Reader.Reader, Skipping.skip_fields, declared.Advance.Advance}
 use Rattle.archive.proofs.Skipped.{skip_inside}
 use Rattle.archive_theorems.specs.Written.{archive_bytes}
 use Rattle.archive_theorems.proofs.{Parts.parts_of}
@@ -39,9 +43,10 @@ module _ (s : List ℕ) (k : ℕ) (out : List ℕ) where
     unfolding room_refusal unless
     read_first = rw (le-leb (length s + growth) (length out) roomy) (checked_none 0 _ refl)
 
-    pub unread : {n : ℕ} → n ≡ archive_refusal s → ¬ (n ≡ 0) → refuse_archive n out ≡ suppress_call s k out
+    pub unread : (r : Refusal) → number r ≡ archive_refusal s → refuse_archive (number r) out ≡ suppress_call s k out
     unfolding suppress_call suppress_archive put_archive archive_refusal
-    unread {n} e z =
+    unread r e =
+        let z = number_positive r in
         sym (ap (λ (x : Reading Archive). put_archive x out) (then_refused _ (read_first ∙ refused_read (read_archive s) (λ f. z (e ∙ f)) ∙ ap refused (sym e))))
 
     module _ (b : Bytes s) (accepted : archive_refusal s ≡ 0) where
@@ -81,12 +86,20 @@ module _ (s : List ℕ) (k : ℕ) (out : List ℕ) where
 -- ---- what the code knows
 
 module _ (s : List ℕ) (b : Bytes s) (accepted : archive_refusal s ≡ 0) where
-  pub header_read : {t : Advance} → t ≡ advance_of (read_header s) → read_fields header_layout empty_record s 0 ≡ found t.reader.values (fields_end (length header_layout) s 0)
-  unfolding read_header advance_of
-  header_read {t} e =
+  header_found : read_header s ≡ found (reader (operations_expected (parts_of s (said_read s b accepted).1).values.count) (parts_of s (said_read s b accepted).1).values) (parts_of s (said_read s b accepted).1).first
+  unfolding read_header
+  header_found = then_found _ (parts_of s (said_read s b accepted).1).header_read
+
+  pub header_accepted : (x : Result Advance Refusal) → advance_reading x ≡ read_header s → IsOk x
+  header_accepted (Ok t) e = refl
+  header_accepted (Err r) e = let f : refused (number r) ≡ _ = e ∙ header_found in cc
+
+  pub header_read : {x : Result Advance Refusal} {t : Advance} → advance_reading x ≡ read_header s → x ≡ Ok t →
+      read_fields header_layout empty_record s 0 ≡ found t.reader.values (fields_end (length header_layout) s 0)
+  header_read {t = t} e is =
       let p = parts_of s (said_read s b accepted).1 in
       let place = (same_found (sym p.header_read ∙ (first_read s header_layout).value (ap reading_refusal p.header_read))).1 in
-      let values : t.reader.values ≡ p.values = ap (λ (x : Advance). x.reader.values) (e ∙ ap advance_of (then_found _ p.header_read)) in
+      let values : t.reader.values ≡ p.values = ap (λ (r : Reader). r.values) (same_found (ap advance_reading (sym is) ∙ e ∙ header_found)).0 in
       p.header_read ∙ ap (found p.values) place ∙ ap (λ (h : Record). found h (fields_end (length header_layout) s 0)) (sym values)
 
   module _ {h : Record} {first : ℕ} (header : read_fields header_layout empty_record s 0 ≡ found h (fields_end (length header_layout) s 0)) (skipped : first ≡ skip_fields 5 s 0) where

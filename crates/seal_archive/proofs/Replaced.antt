@@ -1,5 +1,5 @@
 -- The ranges that are copied make the stored form of the suppressed archive.
--- `operation_read`, `new_seal`: the operation, and the new seal as the code computes it.
+-- `operation_accepted`, `operation_read`, `both_accepted`, `new_seal`: the operation, and the new seal as the code computes it.
 -- `both_written`: the input with its two fields replaced is the suppressed archive's stored form.
 use Prim.Native.Nat.{ℕ, suc, ◌+◌, ◌-◌, ◌≤◌, ◌<◌}
 use mathlib.Core.Path.{◌≡◌, refl, sym, ap, ap₂, ◌∙◌, subst, subst₂}
@@ -8,12 +8,15 @@ use native.Mathlib.Omega.{arith}
 use lib.ListN.{length, get_or, take, drop, set, length-append, length-set}
 use lib.Seq.{set_split, take-length}
 use Rattle.lists.proofs.Lists.{all_at}
+use Rattle.std.specs.Prelude as std
+use Rattle.std.specs.Result.{IsOk}
+use Rattle.refusals.specs.{Refusals.number, declared.Refusal.Refusal}
 use Rattle.jacobian.specs.{Answer.Accepts, Answer.Result, Answer.sum_answer, Answer.result, Answer.neutral_class, Group.opposite_of, Group.doublings, declared.Curve.Curve, declared.Class.Class}
 use Rattle.jacobian.proofs.{Calls.opposite_accepts, Group.sum_given, Group.doublings_accept}
-use Rattle.stored_form.specs.{Number.Bytes, Number.part, Head.head_bytes, Head.encode_field, Number.encode_number, Number.encode_numbers, Cuts.fields_end, Pairs.pairs_field, Reader.read_field, Reader.read_of, declared.Record.Record}
+use Rattle.stored_form.specs.{Number.Bytes, Number.part, Head.head_bytes, Head.encode_field, Number.encode_number, Number.encode_numbers, Cuts.fields_end, Pairs.pairs_field, Reader.read_field, Reader.reading_of, Reading.found, Reading.refused, Record.with_operation, declared.Record.Record, declared.Read.Read}
 use Rattle.stored_form.specs.{Fields.drawing_field, Fields.count_field}
 use Rattle.stored_form.specs.Classes.{curve_fields_bytes, encode_row, encode_class, class_field, operation_fields}
-use Rattle.stored_form.proofs.Lengths.{length_stored}
+use Rattle.stored_form.proofs.{Lengths.length_stored, Readings.same_found}
 use Rattle.stored_form_theorems.specs.Fields.{Field}
 use Rattle.stored_form_theorems.proofs.{Places.behind, Places.up_to, FieldLaws.value_read_back, FieldValues.operation_law, ClassRoundTrips.class_short}
 use Rattle.archive.specs.{Archive.Archive, Archive.archive_said, Skipping.next_field, Skipping.skip_fields}
@@ -91,13 +94,28 @@ module _ {s : List ℕ} {h : Record} {first k room : ℕ} (b : Bytes s) (ask : S
 
     -- ---- the new seal
 
-    pub operation_read : (read_of (read_field 0x44 h s operation)).values.operation ≡ operation_of k ops
-    unfolding read_of operation_of
-    operation_read =
+    operation_found : (end : ℕ) × (read_field 0x44 h s operation ≡ found (with_operation (operation_of k ops) h) end)
+    unfolding operation_of
+    operation_found =
         let passes = all_at p neutral_class p_inside ok.operations_allowed in
         let f = operation_stands laid ok p p_inside in
         let read = up_to f (value_read_back (operation_law h) s (fields_end p s laid.first) (subst (λ (c : Curve). Accepts c (get_or ops p neutral_class)) (header_curve s b ask.operations.accepted ask.header) passes)) in
-        ap (λ (i : ℕ). (read_of (read_field 0x44 h s i)).values.operation) operation_is ∙ ap (λ x. (read_of x).values.operation) read
+        (_, ap (read_field 0x44 h s) operation_is ∙ read)
+
+    pub operation_accepted : (x : std.Result Read Refusal) → reading_of x ≡ read_field 0x44 h s operation → IsOk x
+    operation_accepted (std.Ok r) e = refl
+    operation_accepted (std.Err r) e = let f : refused (number r) ≡ _ = e ∙ operation_found.1 in cc
+
+    pub operation_read : {x : std.Result Read Refusal} {r : Read} → reading_of x ≡ read_field 0x44 h s operation → x ≡ std.Ok r → r.values.operation ≡ operation_of k ops
+    operation_read e is = ap (λ (m : Record). m.operation) (same_found (ap reading_of (sym is) ∙ e ∙ operation_found.1)).0
+
+  -- the header's seal and the operation are accepted
+  pub both_accepted : {operation : Class} → operation ≡ operation_of k ops → Accepts h.curve h.class × Accepts h.curve operation
+  unfolding operation_of
+  both_accepted read =
+      let curve_is = header_curve s b ask.operations.accepted ask.header in
+      let passes = all_at p neutral_class p_inside ok.operations_allowed in
+      (subst₂ Accepts curve_is (header_seal s b ask.operations.accepted ask.header) ok.seal_allowed, subst₂ Accepts curve_is (sym read) passes)
 
   pub new_seal : {operation : Class} → operation ≡ operation_of k ops →
       (sum_answer h.curve h.class (opposite_of h.curve (doublings h.curve (h.count - k) operation))).class ≡ suppressed_seal a.curve k a.seal ops

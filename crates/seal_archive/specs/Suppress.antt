@@ -1,5 +1,6 @@
 -- What the call that suppresses an operation answers and leaves in the output (docs/SPECIFICATION.md, 6 and 9).
 use Rattle.std.specs.Prelude.{ℕ, ◌+◌, not, ◌&&◌, List, [], ◌∷◌, ◌++◌, leb, length, drop, Result, Ok, Err}
+use Rattle.refusals.specs.{Refusals.number, declared.Refusal.Refusal}
 use Rattle.jacobian.specs.Checks.{unless, ◌or_else◌}
 use Rattle.stored_form.specs.Reading.{Reading, found, refused, checked, ◌then◌}
 use Rattle.written_form.specs.Effect.{room_refusal}
@@ -28,9 +29,9 @@ abbrev pub length_written : ℕ → Written
 length_written n = record { refusal = 0; length = n }
 
 -- what the code's result, a length or a refusal, is answered as
-abbrev pub written_of : Result ℕ ℕ → Written
+abbrev pub written_of : Result ℕ Refusal → Written
 written_of (Ok n) = length_written n
-written_of (Err n) = refusal_written n
+written_of (Err r) = refusal_written (number r)
 
 -- a refusal: no lent byte changes
 unfoldable pub refuse_archive : ℕ → List ℕ → WrittenEffect

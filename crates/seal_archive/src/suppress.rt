@@ -1,7 +1,7 @@
 // Suppressing an operation of an archive: its class becomes neutral, and the last seal becomes the one that a walk
 // forward over the changed operations reaches. The new archive is the input with two fields replaced.
 ghost use Rattle.std.specs.Prelude.{◌≡◌, ◌&&◌, not, ◌+◌, ◌-◌, ◌≤◌, eqb, length};
-ghost use Rattle.jacobian.specs.{Answer.sum_answer, Group.opposite_of, Group.doublings};
+ghost use Rattle.jacobian.specs.{Answer.Accepts, Answer.sum_answer, Group.opposite_of, Group.doublings};
 ghost use Rattle.stored_form.specs.{Head.length_at, Pairs.earlier};
 ghost use Rattle.archive.specs.Archive.{archive_said, archive_refusal};
 ghost use Rattle.written_form.specs.{Effect.effect, Effect.write};
@@ -12,6 +12,7 @@ ghost use Rattle.seal_archive.specs.internal.Accepted.{AtOperations, Suppressibl
 
 use archive::skipping;
 use jacobian::{Class, Curve};
+use refusals::Refusal;
 use std::ops::Range;
 use stored_form::{Cursor, HEADER_FIELDS, PAIR_LENGTH, Record, head, pairs};
 use written_form::{ranges, writing};
@@ -30,23 +31,26 @@ pub struct Written {
     pub length: u64,
 }
 
-// A class doubled n times.
+// An accepted class doubled n times.
 fn doublings(curve: Curve, a: Class, n: u64) -> Class
+    requires { Accepts curve a }
     ensures { result ≡ doublings curve n a }
 {
     let mut double = a;
     for _ in 0..n {
-        double = jacobian::double(curve, double).class;
+        double = jacobian::double(curve, double).unwrap().class;
     }
     double
 }
 
-// A seal less a class doubled n times.
+// An accepted seal less an accepted class doubled n times.
 fn seal_less(curve: Curve, seal: Class, a: Class, n: u64) -> Class
+    requires { Accepts curve seal × Accepts curve a }
     ensures { result ≡ (sum_answer curve seal (opposite_of curve (doublings curve n a))).class }
 {
-    let minus = jacobian::opposite(curve, doublings(curve, a, n)).class;
-    jacobian::sum(curve, seal, minus).class
+    let more = doublings(curve, a, n);
+    let minus = jacobian::opposite(curve, more).unwrap().class;
+    jacobian::sum(curve, seal, minus).unwrap().class
 }
 
 // Whether a pair, whose later operation's field is at an offset, holds operation k.
@@ -119,39 +123,36 @@ fn put_suppressed(s: &[u8], h: Record, first: usize, k: u64, output: &mut [u8]) 
     let seal = skipping::skip_fields(s, 0, HEADER_FIELDS as u64 - 1);
     let at = skipping::skip_fields(s, first, newer);
     let next = skipping::next_field(s, at);
-    let read = stored_form::read_field(stored_form::OPERATION, h, s, Cursor { at });
+    let read = stored_form::read_field(stored_form::OPERATION, h, s, Cursor { at }).unwrap();
     let class = seal_less(h.curve, h.class, read.values.operation, newer);
     let field = writing::class_bytes(class);
     both_replaced(s, seal..first, field.bytes(), at..next, output)
 }
 
 // Suppresses operation k of an accepted archive, which has room in the output, and answers the length.
-fn suppress_accepted(s: &[u8], k: u64, output: &mut [u8]) -> Result<usize, u32>
+fn suppress_accepted(s: &[u8], k: u64, output: &mut [u8]) -> Result<usize, Refusal>
     requires { (archive_refusal s.now ≡ 0) × (length s.now + growth ≤ length output.old) }
     ensures { written_effect (written_of result) output.new ≡ suppress_call s.now k output.old }
 {
-    let h = archive::read_header(s).reader.values;
+    let h = archive::read_header(s).unwrap().reader.values;
     if k < 1 || h.count < k {
-        return Err(123);
+        return Err(Refusal::NoSuchOperation);
     }
     let first = skipping::skip_fields(s, 0, HEADER_FIELDS as u64);
     if held(s, first, h.count, k) {
-        return Err(124);
+        return Err(Refusal::OperationHeld);
     }
     Ok(put_suppressed(s, h, first, k, output))
 }
 
 // Suppresses operation k of an archive, and answers the length.
-fn suppress(s: &[u8], k: u64, output: &mut [u8]) -> Result<usize, u32>
+fn suppress(s: &[u8], k: u64, output: &mut [u8]) -> Result<usize, Refusal>
     ensures { written_effect (written_of result) output.new ≡ suppress_call s.now k output.old }
 {
     if output.len() < GROWTH || output.len() - GROWTH < s.len() {
-        return Err(101);
+        return Err(Refusal::OutputTooShort);
     }
-    let n = archive::archive_refusal(s);
-    if n != 0 {
-        return Err(n);
-    }
+    archive::check_archive(s)?;
     suppress_accepted(s, k, output)
 }
 
@@ -165,6 +166,9 @@ pub fn seal_suppress(input: &[u8], k: u64, output: &mut [u8]) -> Written
             refusal: 0,
             length: length as u64,
         },
-        Err(refusal) => Written { refusal, length: 0 },
+        Err(refusal) => Written {
+            refusal: refusal.number(),
+            length: 0,
+        },
     }
 }

@@ -4,7 +4,7 @@ use mathlib.Core.Path.{◌≡◌, refl, sym, ap, ◌∙◌}
 use Rattle.std.specs.Result.{IsOk}
 use Rattle.std.specs.Prelude as std
 use Rattle.refusals.specs.{Refusals.number, declared.Refusal.Refusal}
-use Rattle.jacobian.specs.{Answer.Verdict, Answer.accepted, Answer.refused, Answer.Reply, Answer.Result, Answer.reply, Answer.result, Answer.gives, declared.Class.Class, declared.CountedClass.CountedClass}
+use Rattle.jacobian.specs.{Answer.accepted, Answer.refused, Answer.Reply, Answer.Result, Answer.reply, Answer.result, Answer.gives, declared.Class.Class, declared.CountedClass.CountedClass}
 
 pub is_given : (x : std.Result CountedClass Refusal) {r : Reply} {a : Class} → reply x ≡ r → result r ≡ gives a → IsOk x
 is_given (std.Ok y) e f = refl

@@ -1,5 +1,6 @@
 -- `suppress::suppress` meets its contract.
 use native.Mathlib.Omega.{arith}
+use Rattle.std.proofs.lemmas.Result.{err_from_is_err_and}
 use Rattle.seal_archive.specs.Suppress.{refuse_archive}
 use Rattle.seal_archive.proofs.Answers.{short, unread}
 use Rattle.seal_archive.proofs.suppress.suppress.Goals as goal
@@ -14,7 +15,8 @@ returns-then-output-lt-GROWTH c =
       | then-output-lt-GROWTH-via-else-output-lt-GROWTH+then-output-s w ↦ omega arith
     ])
 
-pub returns-then-n-ne0 : goal.returns-then-n-ne0
+pub returns-in_err-check_archive : goal.returns-in_err-check_archive
 unfolding refuse_archive
-returns-then-n-ne0 c =
-    unread c.args.s.now c.args.k c.args.output.now (omega arith) c.archive_refusal-n.ensures c.if-n-ne0.true
+returns-in_err-check_archive c =
+    let p = err_from_is_err_and c.from_residual.result c.from_residual.ensures.1 in
+    rw (p.1, p.2) (unread _ _ _ (omega arith) _ c.in_err-check_archive.ensures)
