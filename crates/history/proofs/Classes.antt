@@ -4,10 +4,8 @@
 -- `steps_reverse`, `classes_reverse`: the steps and the classes of a reversed list are the reversed ones.
 -- `step_no_release`: a step is no release.
 -- `commits_are_steps`, `commits_no_undos`: commits are neither releases nor undos.
-use Prim.Native.Nat.{ℕ}
 use mathlib.Core.Path.{◌≡◌, refl, sym, ◌∙◌, ap, ap₂}
 use mathlib.Core.List.{List, [], ◌∷◌, map, reverse, reverse_aux}
-use native.Mathlib.Omega.{arith}
 use lib.ListN.{length, length-map}
 use Rattle.lists.specs.Lists.{none, more}
 use Rattle.jacobian.specs.declared.Class.{Class}
@@ -63,10 +61,10 @@ classes_reverse es =
 
 -- ---- commits
 pub step_no_release : (k : Step) (a : Class) → ¬ (step k a ≡ release)
-step_no_release k a e = let z : ◌≡◌ {A = ℕ} 0 1 = cc in omega arith
+step_no_release k a e = cc
 
 commit_no_undo : (a b : Class) → ¬ (commit a ≡ undo b)
-commit_no_undo a b e = let z : ◌≡◌ {A = ℕ} 0 1 = cc in omega arith
+commit_no_undo a b e = cc
 
 pub commits_are_steps : {es : List Event} → OnlyCommits es → NoReleases es
 commits_are_steps none = none

@@ -88,7 +88,7 @@ module _ (n : ℕ) (given next : Register) where
     where
       go : (m : ℕ) → (follows m given next).outcome ≡ accepted → m ≡ 0
       go zero e = refl
-      go (suc m) e = let z : ◌≡◌ {A = ℕ} 0 1 = cc in absurd (omega arith)
+      go (suc m) e = cc
 
   pub follows_outcome : (follows n given next).outcome ≡ verdict_of n
   unfolding follows verdict_of
@@ -115,7 +115,7 @@ module _ (n : ℕ) (given next : Register) where
   follows_number m e = go n e
     where
       go : (k : ℕ) → (follows k given next).outcome ≡ refused m → (k ≡ m) × ¬ (k ≡ 0)
-      go zero e = let z : ◌≡◌ {A = ℕ} 0 1 = cc in absurd (omega arith)
+      go zero e = cc
       go (suc k) e = (cc, λ z. omega arith)
 
   pub follows_stays : (m : ℕ) → (follows n given next).outcome ≡ refused m → (follows n given next).register ≡ given
@@ -123,7 +123,7 @@ module _ (n : ℕ) (given next : Register) where
   follows_stays m e = go n e
     where
       go : (k : ℕ) → (follows k given next).outcome ≡ refused m → (follows k given next).register ≡ given
-      go zero e = let z : ◌≡◌ {A = ℕ} 0 1 = cc in absurd (omega arith)
+      go zero e = cc
       go (suc k) e = refl
 
   pub follows_either : (P : Register → Type 0) → P given → P next → P (follows n given next).register

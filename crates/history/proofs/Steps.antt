@@ -38,7 +38,7 @@ module _ {c : Curve} where
 sealed_accepted : (n : ℕ) (s : Class) → (sealed n s).outcome ≡ accepted → (sealed n s).class ≡ s
 unfolding sealed
 sealed_accepted zero s e = refl
-sealed_accepted (suc n) s e = let z : ◌≡◌ {A = ℕ} 0 1 = cc in absurd (omega arith)
+sealed_accepted (suc n) s e = cc
 
 step_accepted : (c : Curve) (s a : Class) → (step_back c s a).outcome ≡ accepted → (step_back c s a).class ≡ undo_seal c s a
 step_accepted c s a e =

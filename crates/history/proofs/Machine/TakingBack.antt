@@ -5,10 +5,8 @@
 -- `taken_back_states`: any function of the states just before the accepted calls comes back, newest first.
 -- `taken_back_all`: after all of them the state is the first one.
 -- `last_final`: every list is in two parts, the first empty or up to its last accepted call that has no way back.
-use Prim.Native.Nat.{ℕ}
 use mathlib.Core.Path.{◌≡◌, refl, sym, ◌∙◌, ap, ap₂, subst}
 use mathlib.Core.Logic.{◌⊎◌, inl, inr}
-use native.Mathlib.Omega.{arith}
 use mathlib.Core.List.{List, [], ◌∷◌, ◌++◌, map, map-map, reverse, reverse-cons, map-append}
 use Rattle.lists.specs.{Lists.All, Lists.none, Lists.more, Walk.foldl}
 use Rattle.jacobian.specs.Answer.{Verdict, accepted, refused}
@@ -100,7 +98,7 @@ module _ {State Call : Type 0} (M : Machine State Call) {Final : Call → Type 0
       go : (v : Verdict) → M.outcome s c ≡ v → Final c ⊎ (¬ Final c) → LastFinal M Final s (c ∷ cs)
       go accepted e (inl f) = record { before = c ∷ []; after = cs; parts = refl; at_final = ends [] c f e; none_after = h }
       go accepted e (inr not_final) = all_after (λ q. not_final)
-      go (refused n) e f = all_after (λ q. let z : ◌≡◌ {A = ℕ} 0 1 = cc in absurd (omega arith))
+      go (refused n) e f = all_after (λ q. cc)
 
   -- one call before a list
   extended : (s : State) (c : Call) {cs before : List Call} (after : List Call) → cs ≡ before ++ after → EndsFinal M Final (M.next s c) before
