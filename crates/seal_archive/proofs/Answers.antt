@@ -1,5 +1,5 @@
 -- What the call does, check by check.
--- `short`, `unread`: the output is too short; the archive is refused.
+-- `short`, `unread`, `archive_refused`: the output is too short; the archive is refused.
 -- `below_first`, `above_last`, `is_held`, `accepted_writes`: of an accepted archive with room, k is no operation's
 -- number; operation k is held; else the suppressed archive is written. `suppresses`: as the code writes it.
 -- `header_accepted`, `header_read`, `at_operations`, `suppressible`: what the code knows once it has read the header.
@@ -43,11 +43,14 @@ module _ (s : List ℕ) (k : ℕ) (out : List ℕ) where
     unfolding room_refusal unless
     read_first = rw (le-leb (length s + growth) (length out) roomy) (checked_none 0 _ refl)
 
-    pub unread : (r : Refusal) → number r ≡ archive_refusal s → refuse_archive (number r) out ≡ suppress_call s k out
+    pub unread : {n : ℕ} → n ≡ archive_refusal s → ¬ (n ≡ 0) → refuse_archive n out ≡ suppress_call s k out
     unfolding suppress_call suppress_archive put_archive archive_refusal
-    unread r e =
-        let z = number_positive r in
+    unread {n} e z =
         sym (ap (λ (x : Reading Archive). put_archive x out) (then_refused _ (read_first ∙ refused_read (read_archive s) (λ f. z (e ∙ f)) ∙ ap refused (sym e))))
+
+    -- as the code answers it
+    pub archive_refused : (r : Refusal) → number r ≡ archive_refusal s → refuse_archive (number r) out ≡ suppress_call s k out
+    archive_refused r e = unread e (number_positive r)
 
     module _ (b : Bytes s) (accepted : archive_refusal s ≡ 0) where
       abbrev a : Archive

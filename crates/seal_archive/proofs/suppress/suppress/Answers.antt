@@ -2,7 +2,7 @@
 use native.Mathlib.Omega.{arith}
 use Rattle.std.proofs.lemmas.Result.{err_from_is_err_and}
 use Rattle.seal_archive.specs.Suppress.{refuse_archive}
-use Rattle.seal_archive.proofs.Answers.{short, unread}
+use Rattle.seal_archive.proofs.Answers.{short, archive_refused}
 use Rattle.seal_archive.proofs.suppress.suppress.Goals as goal
 use Rattle.seal_archive.proofs.suppress.suppress.Goals.{then-output-lt-GROWTH-via-then-output-lt-GROWTH, then-output-lt-GROWTH-via-else-output-lt-GROWTH+then-output-s}
 
@@ -19,4 +19,4 @@ pub returns-in_err-check_archive : goal.returns-in_err-check_archive
 unfolding refuse_archive
 returns-in_err-check_archive c =
     let p = err_from_is_err_and c.from_residual.result c.from_residual.ensures.1 in
-    rw (p.1, p.2) (unread _ _ _ (omega arith) _ c.in_err-check_archive.ensures)
+    rw (p.1, p.2) (archive_refused _ _ _ (omega arith) _ c.in_err-check_archive.ensures)
