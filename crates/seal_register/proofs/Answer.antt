@@ -8,7 +8,7 @@ use Rattle.std.specs.Prelude.{ℕ, zero, suc, Ok, Err}
 use Rattle.refusals.specs.{Refusals.number, declared.Refusal.Refusal}
 use Rattle.binary_field.proofs.Refusing.{number_positive}
 use mathlib.Core.{Path.◌≡◌, Path.refl, Path.sym, Path.◌∙◌, Path.ap}
-use Rattle.jacobian.specs.{Answer.Verdict, Answer.accepted, Answer.refused, Answer.verdict_of, declared.Class.Class}
+use Rattle.jacobian.specs.{Answer.verdict_of, declared.Class.Class}
 use Rattle.jacobian.proofs.ByValue.Answers.{refused_verdict}
 use Rattle.history.specs.{Register.register_reply, Register.follows, Register.step_answer, Register.release_answer, Register.StepAnswers, Calls.Call, Calls.step, Calls.answer}
 use Rattle.history.specs.declared.{Register.Register, RegisterAnswer.RegisterAnswer, Step.Step}
@@ -16,18 +16,12 @@ use Rattle.history.proofs.Promises.{step_promised, step_answered}
 use Rattle.seal_register.specs.{InPlace.in_place, internal.Kept.kept}
 use Rattle.seal_register.proofs.InPlace.{refusal_leaves}
 
--- the number of an outcome
-outcome_number : Verdict → ℕ
-outcome_number accepted = 0
-outcome_number (refused n) = n
-
-number_of : (n : ℕ) → outcome_number (verdict_of n) ≡ n
-unfolding verdict_of outcome_number
-number_of zero = refl
-number_of (suc n) = refl
-
 pub verdict_number : (m n : ℕ) → verdict_of m ≡ verdict_of n → m ≡ n
-verdict_number m n e = sym (number_of m) ∙ ap outcome_number e ∙ number_of n
+unfolding verdict_of
+verdict_number zero zero e = refl
+verdict_number zero (suc n) e = cc
+verdict_number (suc m) zero e = cc
+verdict_number (suc m) (suc n) e = cc
 
 module _ (r : Register) (c : Call) where
   pub call_unchanged : (n : ℕ) (told : Register) → in_place n told ≡ answer r c → ¬ (n ≡ 0) → in_place n r ≡ answer r c
