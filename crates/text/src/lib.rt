@@ -20,7 +20,8 @@ const HEXADECIMAL_DIGITS: usize = 16;
 // The number of bytes that a line has room for. That every line of the walk report fits is proved in report_theorems.
 pub const LINE: usize = 320;
 
-// A line: len bytes, and 0 after them. What a full line is given more is dropped.
+// A line: len bytes, and 0 after them. What a full line is given more is dropped. Memory is fixed, so the bytes stand in
+// an array with their length beside.
 #[derive(Clone, Copy)]
 pub struct Line {
     len: usize,

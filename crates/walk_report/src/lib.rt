@@ -23,7 +23,7 @@ use text::Line;
 // The line that is expected next.
 #[derive(Clone, Copy)]
 pub enum Stage {
-    // A refusal's number.
+    // A refusal's number, of which the specification makes this state.
     Refusal(u32),
     // walk, the count and the drawing number.
     First,
@@ -79,99 +79,118 @@ fn older(expected: Expected) -> u64
     }
 }
 
-// Reads the next operation, which is to be undone next; if none is left, the report is over.
-#[tactic(auto, using(crate::proofs::Advances::none_older, crate::proofs::Advances::next_refused, crate::proofs::Advances::next_operation))]
-fn advanced(r: Report, s: &[u8], at: Cursor) -> Progress
-    ensures { result ≡ advanced r s.now at.at }
-{
-    if older(r.reader.expected) > 0
-        && let Ok(Advance { reader, next }) = archive::read_next(r.reader, s, at)
+impl Progress {
+    // Reads the next operation, which is to be undone next; if none is left, the report is over.
+    #[tactic(auto, using(crate::proofs::Advances::none_older, crate::proofs::Advances::next_refused, crate::proofs::Advances::next_operation))]
+    fn advanced(self, s: &[u8]) -> Progress
+        ensures { result ≡ advanced self.report s.now self.next.at }
     {
-        return Progress {
+        let reader = self.report.reader;
+        if older(reader.expected) > 0
+            && let Ok(Advance { reader, next }) = archive::read_next(reader, s, self.next)
+        {
+            return Progress {
+                report: Report {
+                    stage: Stage::Undo,
+                    reader,
+                    operation: reader.values.operation,
+                    ..self.report
+                },
+                next,
+            };
+        }
+        Progress {
             report: Report {
-                stage: Stage::Undo,
-                reader,
-                operation: reader.values.operation,
-                ..r
+                stage: Stage::Over,
+                ..self.report
             },
+            ..self
+        }
+    }
+
+    // Undoes the next operation and makes the line of the seal before it.
+    #[tactic(auto, unfolding(crate::specs::Steps::line_answer, crate::specs::Steps::undone))]
+    fn undone(self, s: &[u8]) -> LineAnswer
+        ensures { result ≡ line_answer (undone self.report s.now self.next.at) }
+    {
+        let Reader { expected, values } = self.report.reader;
+        let operation = self.report.operation;
+        let seal = class_of(jacobian::subtract_and_halve(
+            values.curve,
+            self.report.seal,
+            operation,
+        ));
+        let Progress { report, next } = self.advanced(s);
+        let undone = values.count.saturating_sub(older(expected));
+        let letter = letters::letter_before(values.curve, operation, report);
+        LineAnswer {
+            line: lines::seal_line(undone, letter, seal),
+            report: Report { seal, ..report },
             next,
-        };
+        }
     }
-    Progress {
-        report: Report {
-            stage: Stage::Over,
-            ..r
-        },
-        next: at,
+
+    // The line of the last seal; the newest operation is to be undone next.
+    #[tactic(auto, unfolding(crate::specs::Steps::line_answer))]
+    fn last_line(self, s: &[u8]) -> LineAnswer
+        ensures { result ≡ line_answer (record { text = line 0 0x2E self.report.seal; progress = advanced self.report s.now self.next.at }) }
+    {
+        let Progress { report, next } = self.advanced(s);
+        LineAnswer {
+            line: lines::seal_line(0, b'.', self.report.seal),
+            report,
+            next,
+        }
     }
-}
 
-// Undoes the next operation and makes the line of the seal before it.
-#[tactic(auto, unfolding(crate::specs::Steps::line_answer, crate::specs::Steps::undone))]
-fn undone(r: Report, s: &[u8], at: Cursor) -> LineAnswer
-    ensures { result ≡ line_answer (undone r s.now at.at) }
-{
-    let Record { curve, count, .. } = r.reader.values;
-    let seal = class_of(jacobian::subtract_and_halve(curve, r.seal, r.operation));
-    let Progress { report, next } = advanced(r, s, at);
-    let undone = count.saturating_sub(older(r.reader.expected));
-    let letter = letters::letter_before(curve, r.operation, report);
-    LineAnswer {
-        line: lines::seal_line(undone, letter, seal),
-        report: Report { seal, ..report },
-        next,
+    // The first line of the report.
+    #[tactic(auto, using(crate::proofs::Advances::take_min), unfolding(stored_form::specs::Record::drawing_name))]
+    fn first_line(self) -> Line
+        ensures { let values = self.report.reader.values in result ≡ in_line (first_line values.count (drawing_name values.drawing)) }
+    {
+        let Record { count, drawing, .. } = self.report.reader.values;
+        lines::first_line(count, &drawing.bytes[..drawing.len.min(DRAWING_LIMIT)])
     }
-}
 
-// The line of the last seal; the newest operation is to be undone next.
-#[tactic(auto, unfolding(crate::specs::Steps::line_answer))]
-fn last_line(r: Report, s: &[u8], at: Cursor) -> LineAnswer
-    ensures { result ≡ line_answer (record { text = line 0 0x2E r.seal; progress = advanced r s.now at.at }) }
-{
-    let Progress { report, next } = advanced(r, s, at);
-    LineAnswer {
-        line: lines::seal_line(0, b'.', r.seal),
-        report,
-        next,
+    // The answer with this line and the state with another line expected.
+    #[tactic(auto, unfolding(crate::specs::Steps::line_answer))]
+    fn answer(self, line: Line, stage: Stage) -> LineAnswer
+        ensures { (text : List ℕ) → line ≡ in_line text → result ≡ line_answer (record { text = text; progress = progress (with_stage stage self.report) self.next.at }) }
+    {
+        LineAnswer {
+            line,
+            report: Report {
+                stage,
+                ..self.report
+            },
+            next: self.next,
+        }
     }
-}
 
-// The first line of the report, from its state.
-#[tactic(auto, using(crate::proofs::Advances::take_min), unfolding(stored_form::specs::Record::drawing_name))]
-fn header_line(r: Report) -> Line
-    ensures { result ≡ in_line (first_line r.reader.values.count (drawing_name r.reader.values.drawing)) }
-{
-    let drawing = r.reader.values.drawing;
-    lines::first_line(
-        r.reader.values.count,
-        &drawing.bytes[..drawing.len.min(DRAWING_LIMIT)],
-    )
-}
-
-// The answer with this line and the state with another line expected.
-#[tactic(auto, unfolding(crate::specs::Steps::line_answer))]
-fn answer_line(line: Line, stage: Stage, r: Report, next: Cursor) -> LineAnswer
-    ensures { (text : List ℕ) → line ≡ in_line text → result ≡ line_answer (record { text = text; progress = progress (with_stage stage r) next.at }) }
-{
-    LineAnswer {
-        line,
-        report: Report { stage, ..r },
-        next,
+    // Makes the line that is expected. The stage is the state's own, so closures in its place would say no more.
+    #[tactic(auto, unfolding(crate::specs::Steps::next_line, crate::specs::Steps::next_of))]
+    fn next_line(self, s: &[u8]) -> LineAnswer
+        ensures { result ≡ line_answer (next_line self.report s.now self.next.at) }
+    {
+        match self.report.stage {
+            Stage::Refusal(n) => self.answer(lines::refusal_line(n), Stage::Over),
+            Stage::First => self.answer(self.first_line(), Stage::Last),
+            Stage::Last => self.last_line(s),
+            Stage::Undo => self.undone(s),
+            Stage::Over => self.answer(Line::new(), Stage::Over),
+        }
     }
 }
 
 // Makes the line that is expected, from the input at an offset; it is empty if the report is over.
-#[tactic(auto, unfolding(crate::specs::Steps::next_line, crate::specs::Steps::next_of))]
 pub fn next_line(r: Report, s: &[u8], at: Cursor) -> LineAnswer
     ensures { result ≡ line_answer (next_line r s.now at.at) }
 {
-    match r.stage {
-        Stage::Refusal(n) => answer_line(lines::refusal_line(n), Stage::Over, r, at),
-        Stage::First => answer_line(header_line(r), Stage::Last, r, at),
-        Stage::Last => last_line(r, s, at),
-        Stage::Undo => undone(r, s, at),
-        Stage::Over => answer_line(Line::new(), Stage::Over, r, at),
-    }
+    let state = Progress {
+        report: r,
+        next: at,
+    };
+    state.next_line(s)
 }
 
 // The state of a report that is a refusal alone.
