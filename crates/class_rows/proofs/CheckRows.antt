@@ -1,6 +1,6 @@
 -- The check of rows of any numbers: what each test shows where it holds and where it fails.
 use Prim.Native.Nat.{ℕ, ◌-◌, ◌≤◌, ◌<◌, ◌^◌}
-use mathlib.Core.{Path.◌≡◌, Path.refl, Path.sym, Path.◌∙◌, Path.ap, Path.subst, Bool.Bool, Bool.true, Bool.false, Bool.true≢false, Bool.◌&&◌, List.List}
+use mathlib.Core.{Path.◌≡◌, Path.refl, Path.sym, Path.◌∙◌, Path.ap, Path.subst, Bool.Bool, Bool.true, Bool.false, List.List}
 use native.Mathlib.{Omega.arith, Decide.dec_le}
 use lib.{Dec.eqb, ListN.length, ListN.get_or, ListN.get_or-eq_default}
 use borrow.Author.Tests.{eqb-true, eq-eqb}
@@ -17,9 +17,6 @@ use Rattle.class_rows.proofs.ReductionRows.{reduced_on, value_stands}
 use Rattle.class_rows.specs.declared.row.RowPair.{RowPair}
 
 -- ---- tests that decide a statement
-pub decides_not : {t : Bool} {P : Type 0} → Decides t P → t ≡ false → ¬ P
-decides_not h e p = true≢false (sym (h.1 p) ∙ e)
-
 pub by_number : {m n : ℕ} {P : Type 0} → (m ≡ n → P) → (P → m ≡ n) → Decides (eqb m n) P
 by_number {m} {n} f g = (λ e. f (eqb-true m n e), λ p. eq-eqb m n (g p))
 
@@ -27,11 +24,6 @@ pub same_answer : (t x : Bool) {P : Type 0} → Decides t P → Decides x P → 
 same_answer true x h k = sym (k.1 (h.0 refl))
 same_answer false true h k = h.1 (k.0 refl)
 same_answer false false h k = refl
-
-pub both_decide : (x y : Bool) {P Q : Type 0} → Decides x P → Decides y Q → Decides (x && y) (P × Q)
-both_decide true y h k = (λ e. (h.0 refl, k.0 e), λ p. k.1 p.1)
-both_decide false true h k = (λ e. (h.0 e, k.0 refl), λ p. h.1 p.0)
-both_decide false false h k = (λ e. (h.0 e, k.0 e), λ p. h.1 p.0)
 
 -- ---- the range of a row
 pub bound_is : (d : ℕ) {m : ℕ} → Accepted d → m ≡ bound d → m ≡ 2 ^ degree_of d
@@ -50,9 +42,6 @@ module _ (d : ℕ) where
         go (yes l) = subst (λ n. n < 2 ^ degree_of d) (sym (get_or-eq_default r 0 (omega arith))) (zero_lt d)
 
   -- ---- the leading coefficient
-  pub none_monic : (r : List ℕ) → 0 ≡ row_len d r → ¬ Monic (𝔸 d) (poly d r)
-  none_monic r e m = monic_nonzero (𝔸 d) (poly d r) m (len_zero (𝔸 d) (poly d r) (sym e))
-
   pub monic_decides : (r : List ℕ) {n : ℕ} → length r ≡ 12 → InRange d r → n ≡ row_len d r → ¬ (n ≡ 0)
       → Decides (eqb (get_or r (n - 1) 0) 1) (Monic (𝔸 d) (poly d r))
   monic_decides r {n} size range e h =

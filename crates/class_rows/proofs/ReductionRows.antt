@@ -96,9 +96,6 @@ module _ (d : ℕ) where
         → CofactorRow d f a w
     cofactor_row a n w C on = stands_eq d (ap (λ z. quot z (poly d a.u)) (value_stands d a.v on n)) w
 
-    pub cofactor_row_range : {a : RowPair} {w : List ℕ} → SemiReducedRows d f a → CofactorRow d f a w → InRange d w
-    cofactor_row_range s w = (w s.C s.on_curve).in_range
-
     pub cofactor_row_nonzero : {a : RowPair} {w : List ℕ} → SemiReducedRows d f a → CofactorRow d f a w → ¬ (poly d w ≡ 𝟘)
     unfolding rows_pair
     cofactor_row_nonzero s w e = cofactor_nonzero s.C (semi_on s s.on_curve) (sym (w s.C s.on_curve).stands ∙ e)

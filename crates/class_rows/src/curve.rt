@@ -57,20 +57,12 @@ impl Curve {
     fn is_pair(self, a: RowPair) -> bool
         ensures { result ≡ is_pair self.field.degree a }
     {
-        if !self.field.is_row(a.u) {
-            return false;
-        }
-        if !self.field.is_row(a.v) {
-            return false;
-        }
         let n = length(a.u);
-        if n > 4 {
-            return false;
-        }
-        if length(a.v) >= n {
-            return false;
-        }
-        a.u[n - 1] == 1
+        self.field.is_row(a.u)
+            && self.field.is_row(a.v)
+            && n <= 4
+            && length(a.v) < n
+            && a.u[n - 1] == 1
     }
 
     // The cofactor of a divisor, or `None` where the pair is none: is v² + v + f a multiple of u?

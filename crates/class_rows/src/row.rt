@@ -66,7 +66,9 @@ impl Field {
     pub(crate) fn leading(self, a: Row) -> Lead
         requires a_in { InRange self.degree a }
         requires nonzero { let d = self.degree in ¬ (poly d a ≡ (𝔸 d).ring.zero) }
-        ensures { let d = self.degree in (row_len d a ≡ suc result.top) × Inverts d result.inverse (lead (𝔸 d) (poly d a)) }
+        ensures within { result.top < 12 }
+        ensures top { row_len self.degree a ≡ suc result.top }
+        ensures inverse { let d = self.degree in Inverts d result.inverse (lead (𝔸 d) (poly d a)) }
     {
         let top = length(a) - 1;
         Lead {

@@ -1,4 +1,4 @@
--- The promises of the private functions of the check.
+-- The promise of the check of a pair, and what its tests show.
 use Rattle.std.specs.Prelude.{ℕ, ◌≤◌, ◌<◌, Option, Some, is_some}
 use mathlib.Core.{Path.◌≡◌, Bool.Bool, Bool.true, List.List, Logic.◌↔◌}
 use Rattle.binary_field_theory.specs.Element.{Accepted}

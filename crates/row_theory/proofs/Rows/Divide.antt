@@ -11,7 +11,7 @@ use Rattle.char2_algebra.specs.Lead.{lead}
 use Rattle.char2_algebra.proofs.{Ring.ring2, Ring.𝟘_⊞, Ring.𝟘_·, Ring.⊞_𝟘, Ring.·_𝟘, Ring.·_𝟙, Ring.·_assoc, Ring.·_comm, Degree.con_mul}
 use Rattle.char2_algebra.proofs.Division.{rem_is, quot_is}
 use Rattle.row_theory.specs.{Field.K, Field.F, Field.Poly, Field.𝔸, Field.el, Field.poly, internal.Elements.Is, internal.Elements.Inverts, Row.InRange, Row.Stands, Row.row_len, internal.Elements.x_power}
-use Rattle.row_theory.proofs.{Rows.Elements.zero_lt, Rows.Elements.el_zero, Rows.Elements.zero_of_zero, Rows.Answers.inverts_eq, Rows.Coefficients.coeff_poly}
+use Rattle.row_theory.proofs.{Rows.Elements.el_zero, Rows.Elements.zero_of_zero, Rows.Answers.inverts_eq, Rows.Coefficients.coeff_poly}
 use Rattle.row_theory.proofs.Rows.Coefficients.{row_len_le, zero_past, self_stands, stands_eq}
 use Rattle.row_theory.proofs.{Rows.Length.Blank, Rows.Fill.range_set, Rows.Fill.zeros_at, Rows.Fill.zeros_range, Rows.Fill.zeros_poly, Rows.Shift.x_power_add}
 use Rattle.row_theory.proofs.{Rows.Shift.poly_set_zero, Rows.Shift.poly_strike, Rows.Shift.coeff_shift_past, Rows.Lead.Leads, Rows.Lead.lead_row, Rows.Lead.row_split}
@@ -74,9 +74,6 @@ module _ {d : ℕ} {low : List ℕ} {top inverse : ℕ} where
     struck : (i : ℕ) → k - 1 ≤ i → Dec (i ≡ k - 1) → get_or (set r (k - 1) 0) i 0 ≡ 0
     struck i m (yes e) = rw e (get_or-set_same r (k - 1) 0 0 (let z : length r ≡ 12 = v.r_size in omega arith))
     struck i m (no e) = get_or-set_other r (k - 1) i 0 0 e ∙ v.r_blank.zeros i (omega arith)
-
-    pub struck_range : InRange d (set r (k - 1) 0)
-    struck_range = range_set d r (k - 1) 0 (let z : length r ≡ 12 = v.r_size in omega arith) v.r_range (zero_lt d)
 
     module _ {t : List ℕ} {c : ℕ} (low_len : row_len d low ≤ top) (c_is : Is d c ((F d).ring.mul (el d (get_or r (k - 1) 0)) (el d inverse))) (u : Stands d t ((𝔸 d).ring.add (poly d (set r (k - 1) 0)) ((𝔸 d).ring.mul ((𝔸 d).con (el d c)) ((𝔸 d).ring.mul (x_power d (k - 1 - top)) (poly d low))))) where
       leading : (l : K d) → (F d).ring.mul l (el d inverse) ≡ (F d).ring.one → (F d).ring.mul (el d c) l ≡ el d (get_or r (k - 1) 0)

@@ -10,6 +10,3 @@ returns-then-length-le4 c =
 
 pub reduce_with-requires-clause-long : goal.reduce_with-requires-clause-long
 reduce_with-requires-clause-long c = let n = places_len _ c.length.ensures _ c.requires.u_range in omega (arith, n, c.if-length-le4.false)
-
-pub returns : goal.returns
-returns c = c.reduce_with.ensures

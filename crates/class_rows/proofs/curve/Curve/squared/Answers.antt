@@ -9,9 +9,6 @@ square_row-square-requires-clause-short c = let l = reduced_len _ c.requires in 
 pub square_row-other-requires-clause-short : goal.square_row-other-requires-clause-short
 square_row-other-requires-clause-short c = let l = reduced_len _ c.requires in omega arith
 
-pub sum_rows-sum-requires-clause-b_in : goal.sum_rows-sum-requires-clause-b_in
-sum_rows-sum-requires-clause-b_in c = c.requires.on_curve.in_range
-
 pub divide-requires-clause-nonzero : goal.divide-requires-clause-nonzero
 divide-requires-clause-nonzero c = squared_nonzero _ c.requires c.square_row-square.ensures
 

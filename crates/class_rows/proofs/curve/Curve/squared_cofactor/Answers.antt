@@ -1,10 +1,6 @@
 -- `squared_cofactor` meets its contract: the lengths fit, and the sum is w² + q + q² u².
-use Rattle.class_rows.proofs.ReductionRows.{cofactor_row_range}
-use Rattle.class_rows.proofs.DoubleRows.{reduced_semi, cofactor_fits, quotient_fits, product_fits, squared_cofactor}
+use Rattle.class_rows.proofs.DoubleRows.{cofactor_fits, quotient_fits, product_fits, squared_cofactor}
 use Rattle.class_rows.proofs.curve.Curve.squared_cofactor.Goals as goal
-
-pub square_row-square-requires-clause-a_in : goal.square_row-square-requires-clause-a_in
-square_row-square-requires-clause-a_in c = cofactor_row_range _ (reduced_semi _ c.requires.reduced) c.requires.cofactor
 
 pub square_row-square-requires-clause-short : goal.square_row-square-requires-clause-short
 square_row-square-requires-clause-short c = let p = c.requires in cofactor_fits _ p.reduced p.squared p.long p.cofactor

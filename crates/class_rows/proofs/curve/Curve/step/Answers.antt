@@ -2,14 +2,11 @@
 use mathlib.Core.Path.{sym, ◌∙◌}
 use Rattle.char2_algebra.proofs.Lead.{monic_of_nonzero}
 use Rattle.row_theory.specs.Field.{𝔸}
-use Rattle.class_rows.proofs.ReductionRows.{cofactor_row_range, cofactor_row_nonzero, step_rows}
+use Rattle.class_rows.proofs.ReductionRows.{cofactor_row_nonzero, step_rows}
 use Rattle.class_rows.proofs.curve.Curve.step.Goals as goal
 
 pub monic-next-requires-clause-nonzero : goal.monic-next-requires-clause-nonzero
 monic-next-requires-clause-nonzero c = cofactor_row_nonzero _ c.requires.semi_reduced c.requires.cofactor
-
-pub monic-next-requires-clause-a_in : goal.monic-next-requires-clause-a_in
-monic-next-requires-clause-a_in c = cofactor_row_range _ c.requires.semi_reduced c.requires.cofactor
 
 pub divide-requires-clause-nonzero : goal.divide-requires-clause-nonzero
 divide-requires-clause-nonzero c e =

@@ -18,9 +18,6 @@ returns-in-0 t c = c.bezout_zero.ensures c.args.b (sym (places_len _ c.length.en
 pub bezout_constant-requires-clause-constant : goal.bezout_constant-requires-clause-constant
 bezout_constant-requires-clause-constant t c = sym (places_len _ c.length.ensures c.args.self.degree c.requires.b_in) ∙ c.in-1.is
 
-pub returns-in-1 : goal.returns-in-1
-returns-in-1 t c = c.bezout_constant.ensures c.args.a
-
 pub divide-requires-clause-nonzero : goal.divide-requires-clause-nonzero
 divide-requires-clause-nonzero t c = b_nonzero c.args.self.degree _ c.args.b (places_len _ c.length.ensures c.args.self.degree c.requires.b_in) (λ z. absurd (omega arith))
 

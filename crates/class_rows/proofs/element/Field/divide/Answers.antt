@@ -7,13 +7,7 @@ use Rattle.class_rows.proofs.element.Field.divide.Goals.{After-leading-top}
 
 -- the leading number of b
 led : (c : After-leading-top) → Leads c.args.self.degree c.args.b c.leading-top.result.top
-led c = let size : length c.args.b ≡ 12 = search rules in leads_at _ _ size c.requires.b_in c.leading-top.ensures.0
-
-pub offset_bounds-low-top : goal.offset_bounds-low-top
-offset_bounds-low-top c = omega (arith, (led (goal.at.offset_bounds-low-top c).After-leading-top).top_lt)
-
-pub bounds-low-top : goal.bounds-low-top
-bounds-low-top c = omega (arith, (led (goal.at.bounds-low-top c).After-leading-top).top_lt)
+led c = let size : length c.args.b ≡ 12 = search rules in leads_at _ _ size c.requires.b_in c.leading-top.ensures.top
 
 pub loop-k-init : goal.loop-k-init
 loop-k-init c =
@@ -34,5 +28,5 @@ loop-k-preserved c =
 pub returns : goal.returns
 returns c =
     let v = c.loop-k.invariant.1 in let at = led (goal.at.returns c).After-leading-top in
-    let w = divisor at c.leading-top.ensures.1 in
+    let w = divisor at c.leading-top.ensures.inverse in
     (quotient_stands v w c.loop-k-test.false at.len, remainder_stands v w c.loop-k-test.false at.len)

@@ -24,4 +24,5 @@ pub inverse-requires-clause-nonzero : goal.inverse-requires-clause-nonzero
 inverse-requires-clause-nonzero c = (led (goal.at.inverse-requires-clause-nonzero c).After-length-top).nonzero
 
 pub returns : goal.returns
-returns c = let s = led (goal.at.returns c).After-length-top in (s.len, inverts_eq _ (sym (lead_row s)) c.inverse.ensures)
+returns c =
+    let s = led (goal.at.returns c).After-length-top in record { within = s.top_lt; top = s.len; inverse = inverts_eq _ (sym (lead_row s)) c.inverse.ensures }

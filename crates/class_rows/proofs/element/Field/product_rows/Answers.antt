@@ -9,9 +9,6 @@ loop-i-init c =
     let size : length c.args.a ≡ 12 = search rules in
     (length_le _ _ (places_len _ c.length-i-end.ensures _ c.requires.a_in) size, partial_start)
 
-pub add_multiple-next-requires-clause-a_in : goal.add_multiple-next-requires-clause-a_in
-add_multiple-next-requires-clause-a_in c = c.loop-i.invariant.1.range
-
 pub add_multiple-next-requires-clause-room : goal.add_multiple-next-requires-clause-room
 add_multiple-next-requires-clause-room c =
     let len = places_len _ c.length-i-end.ensures _ c.requires.a_in in

@@ -1,11 +1,8 @@
 -- `root_pair` meets its contract: the root is not 0, and v is divided by it.
-use mathlib.Core.Path.{sym, ◌∙◌, ap}
+use mathlib.Core.Path.{ap}
 use Rattle.row_theory.specs.{Field.𝔸, internal.Halving.root_pair}
 use Rattle.row_theory.proofs.Rows.Coefficients.{stands_eq}
 use Rattle.class_rows.proofs.element.Field.root_pair.Goals as goal
-
-pub divide-requires-clause-nonzero : goal.divide-requires-clause-nonzero
-divide-requires-clause-nonzero c e = c.requires.nonzero (sym c.root_row-root.ensures.stands ∙ e)
 
 pub returns : goal.returns
 unfolding root_pair

@@ -1,10 +1,7 @@
 -- `scale` meets its contract: a multiple added to 0 with no shift.
 use Rattle.std.proofs.Common.{◌≡◌, rules, arith, length}
-use Rattle.row_theory.proofs.Rows.{Coefficients.row_len_length, Coefficients.stands_eq, Fill.zeros_range, Sums.multiple_alone}
+use Rattle.row_theory.proofs.Rows.{Coefficients.row_len_length, Coefficients.stands_eq, Sums.multiple_alone}
 use Rattle.class_rows.proofs.element.Field.scale.Goals as goal
-
-pub add_multiple-requires-clause-a_in : goal.add_multiple-requires-clause-a_in
-add_multiple-requires-clause-a_in c = zeros_range _ 12
 
 pub add_multiple-requires-clause-room : goal.add_multiple-requires-clause-room
 add_multiple-requires-clause-room c =
