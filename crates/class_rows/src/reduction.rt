@@ -1,6 +1,7 @@
 // Cantor's reduction, and the double.
 // The cofactor w = (v² + v + f) / u is found once for each step, by an exact division.
 // For a double it is computed from that of the class by squares: no polynomial of degree 10 is divided.
+// Pairs and cofactors are passed beside their curve: a struct with their facts would hold the curve once more for each.
 ghost use Rattle.std.specs.Prelude.{◌<◌};
 ghost use Rattle.class_group.specs.Curve.{Curve as TheoryCurve};
 ghost use Rattle.class_group.specs.Reduction.{reduction_step, reduce};
