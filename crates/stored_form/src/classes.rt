@@ -39,6 +39,7 @@ fn decode_row(body: &[u8], n: usize) -> [u64; 3]
 }
 
 // The class that a body decodes to.
+#[tactic(auto, using(crate::proofs::Lengths::class_length_le, crate::proofs::Lengths::class_length_even, crate::proofs::Items::class_is))]
 pub(crate) fn decode_class(body: &[u8]) -> Class
     requires { class_length (length body.now) ≡ true }
     ensures { result ≡ decode_class body.now }

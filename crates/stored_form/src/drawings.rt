@@ -10,6 +10,7 @@ use refusals::Refusal;
 
 impl Drawing {
     // The drawing number that a body decodes to.
+    #[tactic(auto, using(crate::proofs::DrawingBytes::drawing_decoded))]
     pub(crate) fn decode(body: &[u8]) -> Drawing
         requires { length body.now ≤ drawing_limit }
         ensures { result ≡ decode_drawing body.now }
