@@ -1,8 +1,8 @@
 -- Demand 3 of rows, for every degree, every row f of a curve and all rows that are a divisor of it.
 -- The answers are those of `unary_rows` and `binary_rows`, and each is given to the next call.
 -- `unary_accepted`, `binary_accepted`: each operation gives an answer for divisors, and it is a divisor again.
--- `double_of_half`: the double of the half is the divisor.
--- `half_of_double`: the half of the double is the divisor.
+-- `double_of_half`: the half is given, and its double is the divisor.
+-- `half_of_double`: the double is given, and its half is the divisor.
 -- `only_half`: the half is the only divisor whose double is the one given.
 -- `subtract_of_add`: subtract and halve undoes double and add with the same second pair.
 -- `add_of_subtract`: double and add undoes subtract and halve with the same second pair.
@@ -77,24 +77,33 @@ module _ (d : ℕ) (f : List ℕ) where
       subst (λ r. Gives (binary_answer back d f r b) a) (same_pair (binary_gives op a b h k) g) (subst (Gives (binary_answer back d f there b)) (sym (divisor_rows (shown h))) returns)
 
   -- ---- double and half
-  pub double_of_half : (a : RowPair) → is_divisor d f a ≡ true → (r : RowPair) → Gives (unary_answer Half d f a) r → Gives (unary_answer Double d f r) a
+  undone_double : (a : RowPair) → is_divisor d f a ≡ true → (r : RowPair) → Gives (unary_answer Double d f a) r → Gives (unary_answer Half d f r) a
   unfolding double
-  double_of_half = unary_undone Half Double (λ D r. double_half C r)
+  undone_double = unary_undone Double Half (λ D r. half_double C r)
 
-  pub half_of_double : (a : RowPair) → is_divisor d f a ≡ true → (r : RowPair) → Gives (unary_answer Double d f a) r → Gives (unary_answer Half d f r) a
+  pub double_of_half : (a : RowPair) → is_divisor d f a ≡ true → (r : RowPair) × Gives (unary_answer Half d f a) r × Gives (unary_answer Double d f r) a
   unfolding double
-  half_of_double = unary_undone Double Half (λ D r. half_double C r)
+  double_of_half a h =
+      let r = unary_accepted Half a h in
+      (r.0, r.1.0, unary_undone Half Double (λ D r. double_half C r) a h r.0 r.1.0)
+
+  pub half_of_double : (a : RowPair) → is_divisor d f a ≡ true → (r : RowPair) × Gives (unary_answer Double d f a) r × Gives (unary_answer Half d f r) a
+  half_of_double a h = let r = unary_accepted Double a h in (r.0, r.1.0, undone_double a h r.0 r.1.0)
 
   pub only_half : (a b : RowPair) → is_divisor d f b ≡ true → Gives (unary_answer Double d f b) a → Gives (unary_answer Half d f a) b
-  only_half a b k g = half_of_double b k a g
+  only_half a b k g = undone_double b k a g
 
   -- ---- the two rules that move a seal
   pub subtract_of_add : (a b : RowPair) → is_divisor d f a ≡ true → is_divisor d f b ≡ true
-      → (r : RowPair) → Gives (binary_answer DoubleAndAdd d f a b) r → Gives (binary_answer SubtractAndHalve d f r b) a
+      → (r : RowPair) × Gives (binary_answer DoubleAndAdd d f a b) r × Gives (binary_answer SubtractAndHalve d f r b) a
   unfolding double_and_add subtract_and_halve counted_double_and_add counted_subtract_and_halve sum double
-  subtract_of_add = binary_undone DoubleAndAdd SubtractAndHalve (λ D E r s. subtract_double_and_add C r s)
+  subtract_of_add a b h k =
+      let r = binary_accepted DoubleAndAdd a b h k in
+      (r.0, r.1.0, binary_undone DoubleAndAdd SubtractAndHalve (λ D E r s. subtract_double_and_add C r s) a b h k r.0 r.1.0)
 
   pub add_of_subtract : (a b : RowPair) → is_divisor d f a ≡ true → is_divisor d f b ≡ true
-      → (r : RowPair) → Gives (binary_answer SubtractAndHalve d f a b) r → Gives (binary_answer DoubleAndAdd d f r b) a
+      → (r : RowPair) × Gives (binary_answer SubtractAndHalve d f a b) r × Gives (binary_answer DoubleAndAdd d f r b) a
   unfolding double_and_add subtract_and_halve counted_double_and_add counted_subtract_and_halve sum double
-  add_of_subtract = binary_undone SubtractAndHalve DoubleAndAdd (λ D E r s. double_subtract_and_halve C r s)
+  add_of_subtract a b h k =
+      let r = binary_accepted SubtractAndHalve a b h k in
+      (r.0, r.1.0, binary_undone SubtractAndHalve DoubleAndAdd (λ D E r s. double_subtract_and_halve C r s) a b h k r.0 r.1.0)
