@@ -150,7 +150,7 @@ impl Line {
     }
 }
 
-// A digit as a byte: 0 to 9, then a to f.
+// A digit as a byte: 0 to 9, then a to f. std's `char::from_digit` gives an Option of a char, to be taken apart again.
 #[tactic(auto, unfolding(crate::specs::Text::digit))]
 fn digit(n: u64) -> u8
     requires { n < 16 }
