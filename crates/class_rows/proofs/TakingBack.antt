@@ -85,10 +85,10 @@ module _ (d : ℕ) (f : List ℕ) where
   unfolding double
   double_of_half a h =
       let r = unary_accepted Half a h in
-      (r.0, r.1.0, unary_undone Half Double (λ D r. double_half C r) a h r.0 r.1.0)
+      (r.0, r.1, unary_undone Half Double (λ D r. double_half C r) a h r.0 r.1)
 
   pub half_of_double : (a : RowPair) → is_divisor d f a ≡ true → (r : RowPair) × Gives (unary_answer Double d f a) r × Gives (unary_answer Half d f r) a
-  half_of_double a h = let r = unary_accepted Double a h in (r.0, r.1.0, undone_double a h r.0 r.1.0)
+  half_of_double a h = let r = unary_accepted Double a h in (r.0, r.1, undone_double a h r.0 r.1)
 
   pub only_half : (a b : RowPair) → is_divisor d f b ≡ true → Gives (unary_answer Double d f b) a → Gives (unary_answer Half d f a) b
   only_half a b k g = undone_double b k a g
@@ -99,11 +99,11 @@ module _ (d : ℕ) (f : List ℕ) where
   unfolding double_and_add subtract_and_halve counted_double_and_add counted_subtract_and_halve sum double
   subtract_of_add a b h k =
       let r = binary_accepted DoubleAndAdd a b h k in
-      (r.0, r.1.0, binary_undone DoubleAndAdd SubtractAndHalve (λ D E r s. subtract_double_and_add C r s) a b h k r.0 r.1.0)
+      (r.0, r.1, binary_undone DoubleAndAdd SubtractAndHalve (λ D E r s. subtract_double_and_add C r s) a b h k r.0 r.1)
 
   pub add_of_subtract : (a b : RowPair) → is_divisor d f a ≡ true → is_divisor d f b ≡ true
       → (r : RowPair) × Gives (binary_answer SubtractAndHalve d f a b) r × Gives (binary_answer DoubleAndAdd d f r b) a
   unfolding double_and_add subtract_and_halve counted_double_and_add counted_subtract_and_halve sum double
   add_of_subtract a b h k =
       let r = binary_accepted SubtractAndHalve a b h k in
-      (r.0, r.1.0, binary_undone SubtractAndHalve DoubleAndAdd (λ D E r s. double_subtract_and_halve C r s) a b h k r.0 r.1.0)
+      (r.0, r.1, binary_undone SubtractAndHalve DoubleAndAdd (λ D E r s. double_subtract_and_halve C r s) a b h k r.0 r.1)
