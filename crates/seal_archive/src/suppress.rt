@@ -23,7 +23,8 @@ pub const GROWTH: usize = 48;
 // The field of an operation whose class is neutral.
 const NEUTRAL_OPERATION: [u8; 3] = [stored_form::OPERATION, 0, 0];
 
-// What a call answers that writes an archive: 0 and the length written, or the number of a refusal and 0.
+// What a call answers that writes an archive: 0 and the length written, or the number of a refusal and 0. In C's layout,
+// since the call for C answers it.
 #[repr(C)]
 #[derive(Clone, Copy)]
 pub struct Written {
@@ -31,7 +32,8 @@ pub struct Written {
     pub length: u64,
 }
 
-// An accepted class doubled n times.
+// An accepted class doubled n times. The halves of seal_licence have their own loop: a function for both would stand in a
+// third crate and be no shorter.
 fn doublings(curve: Curve, a: Class, n: u64) -> Class
     requires { Accepts curve a }
     ensures { result ≡ doublings curve n a }

@@ -1,4 +1,4 @@
--- Laws of a call's response and effect, of rows of bytes as the code fills them; every call wrote or refused.
+-- Laws of a call's response and effect, of bytes as the code pushes them; every call wrote or refused.
 pub mod Appending
 pub mod Effects
 pub mod Bytes

@@ -1,4 +1,4 @@
-// Writing the stored form: fields encoded into a buffer, and the response of a call on byte areas.
+// Writing the stored form: fields pushed to the bytes of an output, and the response of a call on byte areas.
 #![tactic(auto)]
 
 pub mod effect;

@@ -4,7 +4,8 @@ ghost use Rattle.written_form.specs.Effect.{effect};
 ghost use Rattle.written_form.specs.Ranges.{append};
 
 // Copies a source to the front of an output that has room for it.
-// Its own loop, since `copy_from_slice` would make the libraries for C call memmove.
+// The bytes are copied by a loop, since `copy_from_slice` would make the libraries for C call memmove; over a `zip` with
+// `iter_mut` the loop's invariant has no name for the output, so the loop is over an index.
 pub(crate) fn copy(source: &[u8], output: &mut [u8])
     requires { length source.now ≤ length output.old }
     ensures { output.new ≡ source.now ++ drop (length source.now) output.old }
