@@ -8,30 +8,30 @@ ghost use Rattle.refusals.specs.Refusals.{number, refusal_of};
 // Why a call refuses.
 #[derive(Clone, Copy, Debug, PartialEq, Eq)]
 pub enum Refusal {
-    OutputTooShort,
-    HeadCut,
-    WrongTag,
-    WrongLength,
-    BodyCut,
-    WrongDegree,
-    CurveCoefficient,
-    DrawingNumber,
-    CountTooHigh,
-    NotAnElement,
-    NotAClass,
-    BytesRemain,
-    UndoAtZero,
-    CommitAtLimit,
-    StampTooLarge,
-    StampWithoutClass,
-    ZeroHasNoInverse,
-    MultipleTooLarge,
-    TooManyHalvings,
-    ReleasedTooHigh,
-    UndoAtReleased,
-    WrongPair,
-    NoSuchOperation,
-    OperationHeld,
+    OutputTooShort = 101,
+    HeadCut = 102,
+    WrongTag = 103,
+    WrongLength = 104,
+    BodyCut = 105,
+    WrongDegree = 106,
+    CurveCoefficient = 107,
+    DrawingNumber = 108,
+    CountTooHigh = 109,
+    NotAnElement = 110,
+    NotAClass = 111,
+    BytesRemain = 112,
+    UndoAtZero = 113,
+    CommitAtLimit = 114,
+    StampTooLarge = 115,
+    StampWithoutClass = 116,
+    ZeroHasNoInverse = 117,
+    MultipleTooLarge = 118,
+    TooManyHalvings = 119,
+    ReleasedTooHigh = 120,
+    UndoAtReleased = 121,
+    WrongPair = 122,
+    NoSuchOperation = 123,
+    OperationHeld = 124,
 }
 
 impl Refusal {
@@ -39,32 +39,7 @@ impl Refusal {
     pub fn number(self) -> u32
         ensures { result ≡ number self }
     {
-        match self {
-            Refusal::OutputTooShort => 101,
-            Refusal::HeadCut => 102,
-            Refusal::WrongTag => 103,
-            Refusal::WrongLength => 104,
-            Refusal::BodyCut => 105,
-            Refusal::WrongDegree => 106,
-            Refusal::CurveCoefficient => 107,
-            Refusal::DrawingNumber => 108,
-            Refusal::CountTooHigh => 109,
-            Refusal::NotAnElement => 110,
-            Refusal::NotAClass => 111,
-            Refusal::BytesRemain => 112,
-            Refusal::UndoAtZero => 113,
-            Refusal::CommitAtLimit => 114,
-            Refusal::StampTooLarge => 115,
-            Refusal::StampWithoutClass => 116,
-            Refusal::ZeroHasNoInverse => 117,
-            Refusal::MultipleTooLarge => 118,
-            Refusal::TooManyHalvings => 119,
-            Refusal::ReleasedTooHigh => 120,
-            Refusal::UndoAtReleased => 121,
-            Refusal::WrongPair => 122,
-            Refusal::NoSuchOperation => 123,
-            Refusal::OperationHeld => 124,
-        }
+        self as u32
     }
 }
 
