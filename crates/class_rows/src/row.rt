@@ -9,6 +9,7 @@ use crate::element::Field;
 pub const ROW_LENGTH: usize = 12;
 
 // The coefficients, the lowest first, and 0 after them.
+// A row alone is an array, so its range (`InRange`) is a `requires` of each function that takes one.
 pub type Row = [u64; ROW_LENGTH];
 
 // The row of the polynomial 0.
@@ -47,7 +48,7 @@ pub fn length(a: Row) -> usize
     0
 }
 
-// The row of the five lowest coefficients.
+// The row of the five lowest coefficients. The literal stands once.
 pub(crate) fn low_row(c0: u64, c1: u64, c2: u64, c3: u64, c4: u64) -> Row
     ensures { result ≡ filled (c0 ∷ c1 ∷ c2 ∷ c3 ∷ c4 ∷ []) }
 {
@@ -135,7 +136,7 @@ impl Field {
     {
         let mut r = ZERO;
         for i in 0..length(a) {
-            // The check takes a row that is changed from a variable, and not from a call.
+            // A row that a call answers is bound before it replaces another: the check does not cover the assignment of a call.
             let next = self.add_multiple(r, a[i], b, i);
             r = next;
         }
@@ -158,7 +159,7 @@ impl Field {
             let c = self.product(remainder[k], inverse);
             quotient[k - top] = c;
             remainder[k] = 0;
-            // The check takes a row that is changed from a variable, and not from a call.
+            // A row that a call answers is bound before it replaces another: the check does not cover the assignment of a call.
             let next = self.add_multiple(remainder, c, low, k - top);
             remainder = next;
         }

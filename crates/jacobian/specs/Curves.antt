@@ -24,7 +24,7 @@ curve_with d cs = record { degree = d; f3 = get_or cs 0 0; f1 = get_or cs 1 0; f
 unfoldable pub f_row : Curve → List ℕ
 f_row c = c.f0 ∷ c.f1 ∷ 0 ∷ c.f3 ∷ 0 ∷ 0 ∷ 0 ∷ 1 ∷ []
 
--- the curve in the answer of a refused reading
+-- the curve of a record before its first field
 unfoldable pub blank_curve : Curve
 blank_curve = curve_with 5 (replicate coefficient_count 0)
 

@@ -42,7 +42,7 @@ pub fn f_row(c: Curve) -> Row
     [c.f0, c.f1, 0, c.f3, 0, 0, 0, 1, 0, 0, 0, 0]
 }
 
-// The curve in the answer of a refused reading.
+// The curve of a record before its first field.
 #[tactic(auto, unfolding(crate::specs::Curves::blank_curve))]
 pub fn blank_curve() -> Curve
     ensures { result ≡ blank_curve }

@@ -117,7 +117,7 @@ fn on_two(op: Binary, curve: Curve, a: Class, b: Class) -> Result<CountedClass, 
     answered(binary_rows(op, curve.degree, f, left, right))
 }
 
-// Is the pair a class of the curve?
+// Is the pair a class of the curve? This is `check_class` under the product's name, with its own definition.
 #[tactic(auto, using(crate::proofs::ByValue::Answers::verdict_of_number), unfolding(crate::specs::Answer::membership_answer))]
 pub fn membership(curve: Curve, a: Class) -> Result<(), Refusal>
     ensures { verdict result ≡ membership_answer curve a }
@@ -171,7 +171,7 @@ pub fn subtract_and_halve(curve: Curve, a: Class, b: Class) -> Result<CountedCla
     on_two(Binary::SubtractAndHalve, curve, a, b)
 }
 
-// Is the curve accepted?
+// Is the curve accepted? This is `check_curve` under the product's name, with its own definition.
 #[tactic(auto, using(crate::proofs::ByValue::Answers::verdict_of_number), unfolding(crate::specs::Answer::curve_answer))]
 pub fn accepts_curve(curve: Curve) -> Result<(), Refusal>
     ensures { verdict result ≡ curve_answer curve }

@@ -7,6 +7,7 @@ ghost use Rattle.stamps.specs.Stamps.{value_at};
 use class_rows::row::Row;
 
 // A polynomial with elements of the field of degree d as coefficients, the lowest first.
+// The field is not class_rows's `Field`, which is private to that crate; a polynomial has no rows of its own.
 #[derive(Clone, Copy)]
 pub(crate) struct Polynomial {
     pub d: u8,

@@ -1,5 +1,5 @@
 -- What the private functions of the halving rule require of their rows, and the polynomials of their promises.
--- No contract of an open function cites these: `half_of_reduced` promises the half of class_group.
+-- No contract of an open function cites these: `half` promises the half of class_group.
 use Rattle.std.specs.Prelude.{ℕ, ◌+◌, ◌<◌}
 use mathlib.Core.{Path.◌≡◌, List.List}
 use Rattle.field_laws.specs.{Field.Field2}
