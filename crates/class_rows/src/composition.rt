@@ -54,15 +54,14 @@ impl Curve {
         requires combines { Combines self.field.degree a.u b.u first }
         ensures { let d = self.field.degree in (C : TheoryCurve (𝔸 d)) → OnCurve d self.f C → StandsPair d result (compose C (rows_pair d a) (rows_pair d b)) }
     {
-        let field = self.field;
-        let sum = field.sum_rows(a.v, b.v);
-        let c = field.sum_rows(sum, one());
-        let second = field.bezout(first.g, c);
+        let sum = self.field.sum_rows(a.v, b.v);
+        let c = self.field.sum_rows(sum, one());
+        let second = self.field.bezout(first.g, c);
         let w = self.cofactor(a);
-        let m = field.multiple_row(sum, w, first, second);
-        let d1 = field.divide(a.u, second.g).quotient;
-        let d2 = field.divide(b.u, second.g).quotient;
-        field.joined_rows(d1, d2, a.v, m)
+        let m = self.field.multiple_row(sum, w, first, second);
+        let d1 = self.field.divide(a.u, second.g).quotient;
+        let d2 = self.field.divide(b.u, second.g).quotient;
+        self.field.joined_rows(d1, d2, a.v, m)
     }
 
     // The composition of two reduced pairs. Where u1 and u2 have no common divisor, only the coefficient of u1 is

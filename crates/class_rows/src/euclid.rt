@@ -36,9 +36,11 @@ impl Field {
             };
         }
         let c = self.leading(a).inverse;
-        let g = self.scale(c, a);
-        let s = self.constant(c);
-        Combination { g, s, t: ZERO }
+        Combination {
+            g: self.scale(c, a),
+            s: self.constant(c),
+            t: ZERO,
+        }
     }
 
     // The greatest common divisor of any polynomial and a constant other than 0: 1.
@@ -48,9 +50,11 @@ impl Field {
         ensures { (a : List ℕ) → Combines self.degree a b result }
     {
         let c = self.leading(b).inverse;
-        let g = one();
-        let t = self.constant(c);
-        Combination { g, s: ZERO, t }
+        Combination {
+            g: one(),
+            s: ZERO,
+            t: self.constant(c),
+        }
     }
 
     // One step back: from g = s b + t r and a = q b + r, g = t a + (s + t q) b.

@@ -221,10 +221,7 @@ impl Curve {
         ensures { let d = self.field.degree in (C : TheoryCurve (𝔸 d)) → OnCurve d self.f C → StandsPair d result (half C (rows_pair d a)) }
     {
         match length(a.u) {
-            0 | 1 => {
-                let unit = one();
-                RowPair { u: unit, v: ZERO }
-            }
+            0 | 1 => RowPair { u: one(), v: ZERO },
             2 => self.field.half_of_degree_1(a.u, a.v, w),
             3 => self.field.half_of_degree_2(a.u, a.v, w),
             _ => self.field.half_of_degree_3(a.u, a.v, w),

@@ -57,8 +57,7 @@ impl Curve {
         ensures { let d = self.field.degree in (C : TheoryCurve (𝔸 d)) → OnCurve d self.f C → StandsCounted d result (reduce C (rows_pair d a)) }
     {
         let once = self.step(a, w);
-        let left = length(once.u);
-        if left <= 4 {
+        if length(once.u) <= 4 {
             return CountedRows {
                 pair: once,
                 steps: 1,

@@ -31,9 +31,8 @@ impl Curve {
         if length(a.u) < 2 {
             return a;
         }
-        let u = a.u;
         let v = self.field.sum_rows(a.v, one());
-        RowPair { u, v }
+        RowPair { v, ..a }
     }
 
     // Twice the first pair, whose cofactor is w, plus the second, with the steps of both.

@@ -6,7 +6,7 @@ use Rattle.class_rows.proofs.curve.Curve.half.Goals as goal
 
 pub returns-in-0 : goal.returns-in-0
 returns-in-0 c C on =
-    half_neutral _ c.requires.reduced (places_len _ c.length.ensures _ c.requires.reduced.u_range) (omega arith) (c.one-unit.ensures _) (record { in_range = zeros_range _ 12; stands = zeros_poly _ 12 }) C on
+    half_neutral _ c.requires.reduced (places_len _ c.length.ensures _ c.requires.reduced.u_range) (omega arith) (c.one.ensures _) (record { in_range = zeros_range _ 12; stands = zeros_poly _ 12 }) C on
 
 pub half_of_degree_1-requires : goal.half_of_degree_1-requires
 half_of_degree_1-requires c =

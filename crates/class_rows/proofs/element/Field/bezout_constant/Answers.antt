@@ -12,4 +12,4 @@ leading-c-requires-clause-nonzero c =
 pub returns : goal.returns
 returns c =
     let d = c.args.self.degree in
-    constant_rows d c.args.b c.requires.constant c.leading-c.ensures.inverse (c.one-g.ensures _) (constant_stands d 0 (zero_lt d)) c.constant-t.ensures
+    constant_rows d c.args.b c.requires.constant c.leading-c.ensures.inverse (c.one.ensures _) (constant_stands d 0 (zero_lt d)) c.constant.ensures

@@ -20,4 +20,4 @@ leading-c-requires-clause-nonzero c =
 pub returns : goal.returns
 returns c =
     let d = c.args.self.degree in
-    zero_rows d c.args.a c.leading-c.ensures.inverse c.scale-g.ensures c.constant-s.ensures (constant_stands d 0 (zero_lt d))
+    zero_rows d c.args.a c.leading-c.ensures.inverse c.scale.ensures c.constant.ensures (constant_stands d 0 (zero_lt d))
