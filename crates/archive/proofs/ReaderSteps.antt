@@ -12,7 +12,7 @@ use lib.Dec.{ltb}
 use lib.ListN.{length, get_or, drop, drop_of_length-le}
 use lib.Seq.{drop-cons}
 use borrow.Author.Tests.{lt-ltb, le-ltb, ltb-true, ltb-false}
-use Rattle.stored_form.specs.{Reading.Reading, Reading.found, Reading.refused, Reading.checked, Reading.◌then◌, Reading.reading_refusal, Fields.end_refusal, Fields.ended, Record.empty_record, Pairs.read_pairs, Pairs.offset_of}
+use Rattle.stored_form.specs.{Reading.Reading, Reading.found, Reading.refused, Reading.checked, Reading.◌then◌, Reading.reading_refusal, Fields.end_refusal, Fields.ended, Record.empty_record, Pairs.read_pairs, Pairs.without_value}
 use Rattle.stored_form.specs.Reader.{read_field, read_fields, read_operations, header_layout}
 use Rattle.stored_form.specs.declared.{Record.Record}
 use Rattle.stored_form.proofs.Readings.{stops, reads_on, found_not_refused, then_found, then_refused, both_found, checked_found, same_found, then_same, then_where, then_assoc, found_refusal, same_refusal}
@@ -146,19 +146,19 @@ module _ (h : Record) (s : List ℕ) (at : ℕ) where
   unfolding read_operation
   operation_goes_on n {d} {more} {next} e f = reads_on _ e (ap (λ (d : Expected). found (reader d more) next) f)
 
-  pub pairs_stop : {k : ℕ} → refused k ≡ offset_of (read_pairs h.count s at) → refused k ≡ read_pairs_expected h s at
+  pub pairs_stop : {k : ℕ} → refused k ≡ without_value (read_pairs h.count s at) → refused k ≡ read_pairs_expected h s at
   unfolding read_pairs_expected ◌then◌
   pairs_stop {k} e = go (read_pairs h.count s at) e
     where
-      go : (x : Reading (List ℕ)) → refused k ≡ offset_of x → refused k ≡ (x then λ pairs next. found (reader End h) next)
+      go : (x : Reading (List ℕ)) → refused k ≡ without_value x → refused k ≡ (x then λ pairs next. found (reader End h) next)
       go (found a next) e = absurd (found_not_refused e)
       go (refused n) e = ap refused cc
 
-  pub pairs_go_on : {next : ℕ} → found tt next ≡ offset_of (read_pairs h.count s at) → found (reader End h) next ≡ read_pairs_expected h s at
+  pub pairs_go_on : {next : ℕ} → found tt next ≡ without_value (read_pairs h.count s at) → found (reader End h) next ≡ read_pairs_expected h s at
   unfolding read_pairs_expected ◌then◌
   pairs_go_on {next} e = go (read_pairs h.count s at) e
     where
-      go : (x : Reading (List ℕ)) → found tt next ≡ offset_of x → found (reader End h) next ≡ (x then λ pairs next. found (reader End h) next)
+      go : (x : Reading (List ℕ)) → found tt next ≡ without_value x → found (reader End h) next ≡ (x then λ pairs next. found (reader End h) next)
       go (found a n) e = ap (found (reader End h)) (same_found e).1
       go (refused n) e = absurd (found_not_refused (sym e))
 

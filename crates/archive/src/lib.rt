@@ -53,6 +53,7 @@ pub fn start() -> Reader
 }
 
 // The tag of field i of the header, and 0, which is no tag, if there is none.
+// It is no Option, since the definition answers 0 there.
 fn header_tag(i: usize) -> u8
     ensures { result ≡ get_or header_layout i 0 }
 {

@@ -1,5 +1,5 @@
 // Fields that are passed over by the lengths in their heads: nothing of them is checked.
-// The bytes and an offset stay two parameters, as public functions keep theirs.
+// The bytes and an offset stay two parameters, and the offset a number and no `Cursor`, as public functions keep theirs.
 ghost use Rattle.std.specs.Prelude.{◌≡◌};
 ghost use Rattle.archive.specs.Skipping.{next_field, skip_fields};
 

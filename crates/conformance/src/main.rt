@@ -35,6 +35,7 @@ impl Trial for Classes {
     fn answer(&mut self, case: Case) -> Option<Line> {
         let (curve, a, b) = (case.curve(), case.class(3), case.class(10));
         let mut line = Line::new();
+        // The byte is the input's format, so the calls are no enum.
         match case.call() {
             1 => push_accepted(&mut line, jacobian::membership(curve, a)),
             2 => push_answer(&mut line, jacobian::opposite(curve, a)),
@@ -74,6 +75,7 @@ fn push_class(line: &mut Line, answer: Result<Class, Refusal>) {
 }
 
 // Appends a class without its number of reduction steps, or its refusal.
+// Each trial has a `push_answer` of its own, since what an answer appends differs.
 fn push_answer(line: &mut Line, answer: Result<CountedClass, Refusal>) {
     push_class(line, answer.map(|counted| counted.class));
 }

@@ -20,6 +20,7 @@ impl Trial for Elements {
     fn answer(&mut self, case: Case) -> Option<Line> {
         let (d, a, b) = (case.degree(), case.number(0), case.number(1));
         let mut line = Line::new();
+        // The byte is the input's format, so the calls are no enum.
         match case.call() {
             1 => push_answer(&mut line, binary_field::sum(d, a, b)),
             2 => push_answer(&mut line, binary_field::product(d, a, b)),
@@ -34,6 +35,7 @@ impl Trial for Elements {
 }
 
 // Appends an element, or its refusal.
+// Each trial has a `push_answer` of its own, since what an answer appends differs.
 fn push_answer(line: &mut Line, answer: Result<u64, Refusal>) {
     match answer {
         Ok(element) => line.push_hexadecimal(element),

@@ -29,6 +29,7 @@ struct Registers {
 impl Trial for Registers {
     fn answer(&mut self, case: Case) -> Option<Line> {
         let mut line = Line::new();
+        // The byte is the input's format, so the calls are no enum.
         match case.call() {
             0 => {
                 self.register = started(case);
@@ -46,6 +47,7 @@ impl Trial for Registers {
 
 impl Registers {
     // Keeps the register of an answer, and appends its count, released step and seal, or the refusal.
+    // Each trial has a `push_answer` of its own, since what an answer appends differs.
     fn push_answer(&mut self, line: &mut Line, answer: RegisterAnswer) {
         self.register = answer.register;
         match answer.outcome {

@@ -4,7 +4,6 @@ pub mod Lengths
 pub mod Readings
 pub mod Heads
 pub mod Parts
-pub mod Stores
 pub mod DrawingBytes
 pub mod Readers
 pub mod Passing

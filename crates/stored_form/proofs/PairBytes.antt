@@ -16,7 +16,7 @@ use borrow.Author.Tests.{lt-leb, le-leb, eq-eqb, ne_eqb}
 use Rattle.refusals.specs.{Refusals.number, declared.Refusal.Refusal}
 use Rattle.stored_form.specs.Number.{decode_number, decode_numbers, part}
 use Rattle.stored_form.specs.{Reading.found, Reading.refused, Reading.checked, Reader.read_head_by}
-use Rattle.stored_form.specs.Pairs.{pair_length, pairs_length, pair_within, pairs_after, pairs_refusal, decode_pairs, read_pairs_field, read_pairs, offset_of, pair_at}
+use Rattle.stored_form.specs.Pairs.{pair_length, pairs_length, pair_within, pairs_after, pairs_refusal, decode_pairs, read_pairs_field, read_pairs, without_value, pair_at}
 use Rattle.stored_form.proofs.{Readings.check_stops, Readings.check_passes, Readings.then_found, Readings.then_refused, Heads.head_found}
 
 -- ---- all pairs
@@ -60,21 +60,21 @@ module _ (n : ℕ) (s : List ℕ) (at : ℕ) where
     field_due h = rw (lt-leb (length s) at left, eq-eqb (get_or s at 0) 0x48 h)
 
   -- the same, as the code answers it
-  pub none_left : length s ≤ at → found tt at ≡ offset_of (read_pairs n s at)
-  none_left h = ap offset_of (sym (no_pairs h))
+  pub none_left : length s ≤ at → found tt at ≡ without_value (read_pairs n s at)
+  none_left h = ap without_value (sym (no_pairs h))
 
-  pub rest_refused : at < length s → ¬ (get_or s at 0 ≡ 0x48) → refused 112 ≡ offset_of (read_pairs n s at)
-  rest_refused left h = ap offset_of (sym (other_byte left h))
+  pub rest_refused : at < length s → ¬ (get_or s at 0 ≡ 0x48) → refused 112 ≡ without_value (read_pairs n s at)
+  rest_refused left h = ap without_value (sym (other_byte left h))
 
-  pub field_follows : at < length s → get_or s at 0 ≡ 0x48 → offset_of (read_pairs_field n s at) ≡ offset_of (read_pairs n s at)
-  field_follows left h = ap offset_of (sym (field_due left h))
+  pub field_follows : at < length s → get_or s at 0 ≡ 0x48 → without_value (read_pairs_field n s at) ≡ without_value (read_pairs n s at)
+  field_follows left h = ap without_value (sym (field_due left h))
 
   pub field_cut : {m : ℕ} → read_head_by 0x48 pairs_length s at ≡ refused m → read_pairs_field n s at ≡ refused m
   unfolding read_pairs_field
   field_cut e = then_refused _ e
 
-  pub cut_stops : {k : ℕ} → refused k ≡ read_head_by 0x48 pairs_length s at → refused k ≡ offset_of (read_pairs_field n s at)
-  cut_stops e = ap offset_of (sym (field_cut (sym e)))
+  pub cut_stops : {k : ℕ} → refused k ≡ read_head_by 0x48 pairs_length s at → refused k ≡ without_value (read_pairs_field n s at)
+  cut_stops e = ap without_value (sym (field_cut (sym e)))
 
   -- the body as the code takes it: the last bytes before the offset after it
   module _ {len next : ℕ} (e : found len next ≡ read_head_by 0x48 pairs_length s at) where
@@ -92,11 +92,11 @@ module _ (n : ℕ) (s : List ℕ) (at : ℕ) where
         let long : next - (at + 3) ≡ len = omega (arith, w.ends) in
         then_found _ (sym e) ∙ rw (first, long)
 
-    pub check_stops_pairs : (r : Refusal) → number r ≡ pairs_refusal n (decode_pairs taken) → refused (number r) ≡ offset_of (read_pairs_field n s at)
-    check_stops_pairs r g = ap offset_of (check_stops r _ g ∙ sym field_read)
+    pub check_stops_pairs : (r : Refusal) → number r ≡ pairs_refusal n (decode_pairs taken) → refused (number r) ≡ without_value (read_pairs_field n s at)
+    check_stops_pairs r g = ap without_value (check_stops r _ g ∙ sym field_read)
 
-    pub pairs_pass : 0 ≡ pairs_refusal n (decode_pairs taken) → found tt next ≡ offset_of (read_pairs_field n s at)
-    pairs_pass g = ap offset_of (check_passes g refl ∙ sym field_read)
+    pub pairs_pass : 0 ≡ pairs_refusal n (decode_pairs taken) → found tt next ≡ without_value (read_pairs_field n s at)
+    pairs_pass g = ap without_value (check_passes g refl ∙ sym field_read)
 
 -- ---- a pair by its place
 

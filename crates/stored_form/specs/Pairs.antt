@@ -71,9 +71,9 @@ offset_reading (Ok next) = found tt next.at
 offset_reading (Err r) = refused (number r)
 
 -- a reading without its value
-abbrev pub offset_of : {A : Type 0} → Reading A → Reading (Unit {0})
-offset_of (found a next) = found tt next
-offset_of (refused n) = refused n
+abbrev pub without_value : {A : Type 0} → Reading A → Reading (Unit {0})
+without_value (found a next) = found tt next
+without_value (refused n) = refused n
 
 -- pair i of those that begin at an offset, and 0 if the input ends before it does
 unfoldable pub pair_at : List ℕ → ℕ → ℕ → ℕ

@@ -17,7 +17,7 @@ drawing_name d = take d.len d.bytes
 unfoldable pub curve_of_degree : ℕ → Curve
 curve_of_degree d = curve_with d (replicate coefficient_count 0)
 
--- the record before the first field, which is also the one of a refused reading
+-- the record before the first field
 unfoldable pub empty_record : Record
 empty_record = record {
   curve = blank_curve;

@@ -15,7 +15,6 @@ pub mod head;
 mod numbers;
 pub mod pairs;
 
-use head::Body;
 use jacobian::curves::COEFFICIENTS;
 use jacobian::{Class, Curve};
 use refusals::Refusal;
@@ -83,6 +82,7 @@ pub struct Cursor {
 }
 
 // A drawing number: len bytes, and 0 after them. Memory is fixed, so that the bytes stand in the value.
+// It has no invariant: its definitions take any length, by `take`.
 #[derive(Clone, Copy)]
 pub struct Drawing {
     pub len: usize,
@@ -145,12 +145,15 @@ pub fn read_field(tag: u8, h: Record, s: &[u8], at: Cursor) -> Result<Read, Refu
 {
     // A head is taken apart by `let .. else`, a rule of the project; `?` would do.
     let head = at.read_head(tag, s);
-    let Ok(Body { len, next }) = head else {
+    let Ok(body) = head else {
         return Err(head.unwrap_err());
     };
-    let values = h.with_field(tag, &s[next.at - len..next.at]);
+    let values = h.with_field(tag, body.bytes(s));
     values.check_field(tag)?;
-    Ok(Read { values, next })
+    Ok(Read {
+        values,
+        next: body.next,
+    })
 }
 
 // Reads the fields with these tags, one after the other from an offset on, into the record h.

@@ -3,11 +3,25 @@
 ghost use Rattle.std.specs.Prelude.{◌≡◌, ◌&&◌, ltb};
 ghost use Rattle.refusals.specs.Refusals.{refusal_of};
 ghost use Rattle.stored_form.specs.Reader.{read_head_by, head_reading};
-ghost use Rattle.stored_form.specs.Pairs.{pairs_length, pair_within, pairs_refusal, decode_pairs, read_pairs_field, read_pairs, offset_reading, offset_of, pair_at};
+ghost use Rattle.stored_form.specs.Pairs.{later, earlier, pairs_length, pair_within, pairs_refusal, decode_pairs, read_pairs_field, read_pairs, offset_reading, without_value, pair_at};
 
 use crate::head::Body;
 use crate::{Cursor, PAIR_LENGTH, PAIRS, PAIRS_LIMIT, head, numbers};
 use refusals::Refusal;
+
+// The number of a pair's later operation.
+pub fn later(p: u64) -> u64
+    ensures { result ≡ later p }
+{
+    p / 65536
+}
+
+// The number of a pair's earlier operation.
+pub fn earlier(p: u64) -> u64
+    ensures { result ≡ earlier p }
+{
+    p % 65536
+}
 
 // Whether this is the length of 1 to 2,048 pairs.
 #[tactic(auto, unfolding(crate::specs::Pairs::pairs_length))]
@@ -22,9 +36,7 @@ fn pairs_allow(len: usize) -> bool
 fn pair_within(n: u64, p: u64) -> bool
     ensures { result ≡ pair_within n p }
 {
-    let later = p / 65536;
-    let earlier = p % 65536;
-    1 <= earlier && earlier < later && later <= n
+    1 <= earlier(p) && earlier(p) < later(p) && later(p) <= n
 }
 
 // Whether a pair comes after the pair `last` and is within n.
@@ -61,15 +73,15 @@ impl Cursor {
     // Reads the field 0x48 of an archive with n operations: the offset after it.
     #[tactic(auto, using(crate::proofs::PairBytes::cut_stops, crate::proofs::PairBytes::pairs_inside, crate::proofs::PairBytes::check_stops_pairs, crate::proofs::PairBytes::pairs_pass))]
     fn read_pairs_field(self, n: u64, s: &[u8]) -> Result<Cursor, Refusal>
-        ensures { offset_reading result ≡ offset_of (read_pairs_field n s.now self.at) }
+        ensures { offset_reading result ≡ without_value (read_pairs_field n s.now self.at) }
     {
         // A head is taken apart by `let .. else`, a rule of the project; `?` would do.
         let head = self.read_pairs_head(s);
-        let Ok(Body { len, next }) = head else {
+        let Ok(body) = head else {
             return Err(head.unwrap_err());
         };
-        check_pairs(n, &s[next.at - len..next.at])?;
-        Ok(next)
+        check_pairs(n, body.bytes(s))?;
+        Ok(body.next)
     }
 }
 
@@ -77,7 +89,7 @@ impl Cursor {
 // There are none if no byte is left; a byte other than 0x48 is refused.
 #[tactic(auto, using(crate::proofs::PairBytes::none_left, crate::proofs::PairBytes::rest_refused, crate::proofs::PairBytes::field_follows))]
 pub fn read_pairs(n: u64, s: &[u8], at: Cursor) -> Result<Cursor, Refusal>
-    ensures { offset_reading result ≡ offset_of (read_pairs n s.now at.at) }
+    ensures { offset_reading result ≡ without_value (read_pairs n s.now at.at) }
 {
     match s.get(at.at) {
         None => Ok(at),
@@ -87,6 +99,7 @@ pub fn read_pairs(n: u64, s: &[u8], at: Cursor) -> Result<Cursor, Refusal>
 }
 
 // Pair i of those that begin at an offset, and 0 if the input ends before it does.
+// It is no Option, since the definition answers 0 there.
 #[tactic(auto, using(crate::proofs::PairBytes::pair_beyond, crate::proofs::PairBytes::pair_there))]
 pub fn pair_at(s: &[u8], at: usize, i: usize) -> u64
     ensures { result ≡ pair_at s.now at i }

@@ -14,7 +14,7 @@ use std::io::{Read, Write};
 // The most digits of a number of 64 bits in decimal.
 const DECIMAL_DIGITS: usize = 20;
 
-// And in hexadecimal.
+// The most digits of a number of 64 bits in hexadecimal.
 const HEXADECIMAL_DIGITS: usize = 16;
 
 // The number of bytes that a line has room for. That every line of the walk report fits is proved in report_theorems.
@@ -22,6 +22,7 @@ pub const LINE: usize = 320;
 
 // A line: len bytes, and 0 after them. What a full line is given more is dropped. Memory is fixed, so the bytes stand in
 // an array with their length beside.
+// It has no invariant: its definitions take any length, by `take`.
 #[derive(Clone, Copy)]
 pub struct Line {
     len: usize,
@@ -92,7 +93,7 @@ impl Line {
         self.push_digits(10, DECIMAL_DIGITS, n);
     }
 
-    // Appends an element in hexadecimal.
+    // Appends a number in hexadecimal.
     #[tactic(auto, unfolding(crate::specs::Text::hexadecimal))]
     pub fn push_hexadecimal(&mut self, n: u64)
         ensures { self.new ≡ with_bytes self.old (hexadecimal n) }

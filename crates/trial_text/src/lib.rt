@@ -90,11 +90,7 @@ impl Case<'_> {
         requires { at ≤ 4076 }
         ensures { result ≡ numbers_from self.now.bytes.now at }
     {
-        [
-            self.eight_bytes(at),
-            self.eight_bytes(at + 8),
-            self.eight_bytes(at + 16),
-        ]
+        std::array::from_fn(|i| self.eight_bytes(at + 8 * i))
     }
 }
 

@@ -5,7 +5,7 @@ ghost use Rattle.walk_report.specs.{Walk.opposed, Steps.letter_before};
 use crate::{Report, Stage};
 use jacobian::{Class, Curve};
 
-// Whether a class is the opposite of another. On a refusal that is the neutral class.
+// Whether a is the opposite of b; where that call refuses b, the neutral class stands for the opposite.
 fn opposed(curve: Curve, a: Class, b: Class) -> bool
     ensures { result ≡ opposed curve a b }
 {

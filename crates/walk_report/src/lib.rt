@@ -23,7 +23,7 @@ use text::Line;
 // The line that is expected next.
 #[derive(Clone, Copy)]
 pub enum Stage {
-    // A refusal's number, of which the specification makes this state.
+    // `refused` and this number: a number and no `Refusal`, as in the specification's state.
     Refusal(u32),
     // walk, the count and the drawing number.
     First,
@@ -63,10 +63,7 @@ pub struct LineAnswer {
 fn class_of(answer: Result<CountedClass, Refusal>) -> Class
     ensures { result ≡ (reply answer).class }
 {
-    match answer {
-        Ok(counted) => counted.class,
-        Err(_) => jacobian::neutral(),
-    }
+    answer.map_or_else(|_| jacobian::neutral(), |counted| counted.class)
 }
 
 // The number of operations still to be read.
@@ -85,9 +82,12 @@ impl Progress {
     fn advanced(self, s: &[u8]) -> Progress
         ensures { result ≡ advanced self.report s.now self.next.at }
     {
-        let reader = self.report.reader;
-        if older(reader.expected) > 0
-            && let Ok(Advance { reader, next }) = archive::read_next(reader, s, self.next)
+        if older(self.report.reader.expected) > 0
+            && let Ok(Advance { reader, next }) = archive::read_next(
+                self.report.reader,
+                s,
+                self.next,
+            )
         {
             return Progress {
                 report: Report {
@@ -114,15 +114,14 @@ impl Progress {
         ensures { result ≡ line_answer (undone self.report s.now self.next.at) }
     {
         let Reader { expected, values } = self.report.reader;
-        let operation = self.report.operation;
         let seal = class_of(jacobian::subtract_and_halve(
             values.curve,
             self.report.seal,
-            operation,
+            self.report.operation,
         ));
         let Progress { report, next } = self.advanced(s);
         let undone = values.count.saturating_sub(older(expected));
-        let letter = letters::letter_before(values.curve, operation, report);
+        let letter = letters::letter_before(values.curve, self.report.operation, report);
         LineAnswer {
             line: lines::seal_line(undone, letter, seal),
             report: Report { seal, ..report },

@@ -14,6 +14,7 @@ use walk_report::{LineAnswer, Progress};
 const ARCHIVE: usize = 65536;
 
 // Writes the walk report of an archive, one line for each turn, until no line is left.
+// The loop is a `while`, since the report's state says how many lines there are.
 fn write_report<W: Write>(out: &mut W, archive: &[u8]) -> io::Result<()>
     ensures { OnOk result (Appends (W.contents out.old) (W.contents out.new) (report archive.now)) }
 {
