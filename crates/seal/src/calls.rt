@@ -3,7 +3,7 @@
 ghost use Rattle.std.specs.Prelude.{◌≡◌};
 ghost use Rattle.history.specs.Register.{register_reply};
 ghost use Rattle.written_form.specs.{Effect.register_room, Effect.effect, Effect.response_of, Effect.byte_call};
-ghost use Rattle.seal.specs.Calls.{register_response, answered, membership_call, opposite_call, double_call, sum_call, commit_call, release_call, stamp_call, Halves, Undoes};
+ghost use Rattle.seal.specs.Calls.{register, register_response, answered, membership_call, opposite_call, double_call, sum_call, commit_call, release_call, stamp_call, Halves, Undoes};
 
 use history::{Register, RegisterAnswer};
 use refusals::Refusal;
@@ -19,7 +19,7 @@ pub fn seal_membership(input: &[u8]) -> u32
     refusals::refusal_number(stored_form::read_record(&stored_form::CLASS_LAYOUT, input))
 }
 
-// The calls that write.
+// The calls that write. They stay an enum, since definitions in specs/ (`answered`) and theorems go by its cases.
 #[derive(Clone, Copy)]
 enum Call {
     Opposite,
@@ -45,26 +45,32 @@ fn register_output(a: RegisterAnswer) -> Result<Output, Refusal>
     )
 }
 
+// The register of a record, whose class is the seal.
+fn register_of(h: Record) -> Register
+    ensures { result ≡ register h }
+{
+    Register {
+        curve: h.curve,
+        count: h.count,
+        seal: h.class,
+        released: h.released,
+    }
+}
+
 impl ByteCall for Call {
     ghost response = { answered };
 
     // By the call by value.
     #[tactic(auto, unfolding(crate::specs::Calls::answered))]
     fn answer(self, h: Record) -> Result<Output, Refusal> {
-        let register = Register {
-            curve: h.curve,
-            count: h.count,
-            seal: h.class,
-            released: h.released,
-        };
         match self {
             Call::Opposite => writing::class_output(jacobian::opposite(h.curve, h.class)),
             Call::Double => writing::class_output(jacobian::double(h.curve, h.class)),
             Call::Half => writing::class_output(jacobian::half(h.curve, h.class)),
             Call::Sum => writing::class_output(jacobian::sum(h.curve, h.previous, h.class)),
-            Call::Commit => register_output(Register::commit(register, h.operation)),
-            Call::Undo => register_output(Register::undo(register, h.operation)),
-            Call::Release => register_output(Register::release(register)),
+            Call::Commit => register_output(register_of(h).commit(h.operation)),
+            Call::Undo => register_output(register_of(h).undo(h.operation)),
+            Call::Release => register_output(register_of(h).release()),
             Call::Stamp(s) => writing::class_output(stamps::stamp(h.curve, s)),
         }
     }

@@ -23,8 +23,7 @@ pub const GROWTH: usize = 48;
 // The field of an operation whose class is neutral.
 const NEUTRAL_OPERATION: [u8; 3] = [stored_form::OPERATION, 0, 0];
 
-// What a call answers that writes an archive: 0 and the length written, or the number of a refusal and 0. In C's layout,
-// since the call for C answers it.
+// The answer for C of a call that writes an archive: 0 and the length written, or the number of a refusal and 0.
 #[repr(C)]
 #[derive(Clone, Copy)]
 pub struct Written {
@@ -34,6 +33,7 @@ pub struct Written {
 
 // An accepted class doubled n times. The halves of seal_licence have their own loop: a function for both would stand in a
 // third crate and be no shorter.
+// `Accepts` is a `requires` here and in `seal_less`, since open calls check for themselves.
 fn doublings(curve: Curve, a: Class, n: u64) -> Class
     requires { Accepts curve a }
     ensures { result ≡ doublings curve n a }

@@ -1,5 +1,5 @@
 -- The answers of the two calls by their checks.
--- `multiple_accepted`, `halvings_accepted`: where no check refuses, the class is accepted.
+-- `halvings_accepted`: where no check of k halvings refuses, the class is accepted.
 -- `multiple_stops`: where a check of n times refuses, the answer is that refusal.
 -- `multiple_given`: where none refuses, the answer is the class.
 -- `halvings_answer_stops`, `halvings_answer_given`: the same of k halvings.
@@ -35,9 +35,6 @@ module _ (c : Curve) (a : Class) (n : ℕ) where
   pub halvings_passes : halvings_refusal c a n ≡ 0 → Accepts c a × (n ≤ halvings_limit)
   unfolding halvings_refusal
   halvings_passes e = let p = then_zero _ _ e in (record { none = p.0 }, leb-true _ _ (unless_zero _ 119 (lit< tt) p.1))
-
-  pub multiple_accepted : 0 ≡ multiple_refusal c a n → Accepts c a
-  multiple_accepted e = (multiple_passes (sym e)).0
 
   pub halvings_accepted : 0 ≡ halvings_refusal c a n → Accepts c a
   halvings_accepted e = (halvings_passes (sym e)).0

@@ -1,5 +1,5 @@
 -- n times an accepted class, and an accepted class halved k times: what they stand for, and how the code reaches them.
--- `none_left`: no digit of n is left after as many as it has.
+-- `digits_end`: n below 2^61 has at most 61 digits, and none of it is left after them.
 -- `multiple_accepts`: n times the class is accepted.
 -- `multiple_pair`: it stands for n times the class in the group.
 -- `multiple_none`: 0 times the class is the neutral class.
@@ -9,11 +9,11 @@
 -- `halved_pair`: it stands for the class halved k times in the group.
 -- `halved_none`: halved 0 times it is the class.
 -- `halved_next`: halved k + 1 times it is the half of the class halved k times.
-use Prim.Native.Nat.{ℕ, suc, ◌-◌, ◌/◌, ◌%◌, ◌^◌, ◌<◌}
-use mathlib.Core.Path.{◌≡◌, sym, ◌∙◌, ap}
-use native.Mathlib.{Omega.arith, Nat.div-eq_of_lt}
-use lib.Count.{count_leading_zeros}
-use Rattle.std.proofs.lemmas.Nat.{leading_length}
+use Prim.Native.Nat.{ℕ, suc, ◌+◌, ◌-◌, ◌*◌, ◌/◌, ◌%◌, ◌^◌, ◌≤◌, ◌<◌}
+use mathlib.Core.{Path.◌≡◌, Path.sym, Path.◌∙◌, Path.ap, Logic.◌⊎◌, Logic.inl, Logic.inr}
+use native.Mathlib.{Omega.arith, Nat.div-eq_of_lt, Nat.pow-le-pow_right}
+use lib.{Count.count_leading_zeros, Dec.lit<}
+use Rattle.std.proofs.lemmas.{Nat.leading_length, Bool.cases_lt}
 use Rattle.class_group.specs.{Mumford.Pair, Mumford.Reduced, Mumford.neutral, Operations.sum, Operations.double, Half.half, Moves.double_and_add}
 use Rattle.class_group.specs.Multiples.{multiple, repeat}
 use Rattle.class_group.proofs.{Group.classes, Group.class_doubling, Halving.class_halving, Multiples.multiple_member, Multiples.multiple_zero, Doublings.halvings_member, Digits.even_turn as group_even_turn, Digits.odd_turn as group_odd_turn}
@@ -25,11 +25,24 @@ use Rattle.jacobian.proofs.Representation.{accepts_curve, class_of_accepted, cla
 use Rattle.seal_licence.specs.Multiples.{multiple_class, halved_class}
 
 -- no digit of n is left after as many as it has
-pub none_left : (n : ℕ) → n < 2 ^ 64 → n / 2 ^ (64 - count_leading_zeros 64 n) ≡ 0
+none_left : (n : ℕ) → n < 2 ^ 64 → n / 2 ^ (64 - count_leading_zeros 64 n) ≡ 0
 none_left n fits =
     let p = leading_length 64 n fits in
     let e : 64 - count_leading_zeros 64 n ≡ p.0 = omega (arith, p.1) in
     ap (λ i. n / 2 ^ i) e ∙ div-eq_of_lt p.2
+
+at_most_61 : (m n : ℕ) → n < 2 ^ 61 → 2 ^ m ≤ 2 * n + 1 → (61 < m) ⊎ (m ≤ 61) → m ≤ 61
+at_most_61 m n small low (inl more) =
+    let high : 2 ^ 62 ≤ 2 ^ m = pow-le-pow_right {n = 2} (lit< tt) {i = 62} {j = m} (omega (arith, more)) in absurd (omega (arith, small, low, high))
+at_most_61 m n small low (inr few) = few
+
+-- n below 2^61 has at most 61 digits, and none of it is left after them
+pub digits_end : (n : ℕ) → n < 2 ^ 61 → (64 - count_leading_zeros 64 n ≤ 61) × (n / 2 ^ (64 - count_leading_zeros 64 n) ≡ 0)
+digits_end n small =
+    let fits : n < 2 ^ 64 = omega (arith, small) in
+    let p = leading_length 64 n fits in
+    let few = at_most_61 p.0 n small p.3 (cases_lt 61 p.0) in
+    (omega (arith, p.1, few), none_left n fits)
 
 module _ {c : Curve} {a : Class} (h : Accepts c a) where
   abbrev d : ℕ

@@ -13,6 +13,7 @@ use written_form::effect::{ByteCall, Output};
 use written_form::{effect, writing};
 
 // The two calls on the class of a record: n times it, and the class halved k times.
+// They stay an enum, since definitions in specs/ (`answered`) and theorems go by its cases.
 #[derive(Clone, Copy)]
 enum Call {
     Multiple(u64),

@@ -1,15 +1,15 @@
 // n times a class, and a class halved k times, by value.
 // The refusal is that of the first check that fails: 106 and 107 of the curve, then 104, 110 and 111 of the class, then
 // 118 of n or 119 of k.
-ghost use Rattle.std.specs.Prelude.{◌<◌, ◌/◌, ◌≡◌};
+ghost use Rattle.std.specs.Prelude.{◌≤◌, ◌<◌, ◌/◌, ◌^◌, ◌≡◌};
 ghost use Rattle.refusals.specs.Refusals.{refusal_of};
 ghost use Rattle.jacobian.specs.Answer.{Accepts};
-ghost use Rattle.seal_licence.specs.Multiples.{class_result, multiple_class, halved_class, multiple_refusal, halvings_refusal, multiple_answer, HalvingsAnswers};
+ghost use Rattle.seal_licence.specs.Multiples.{multiple_limit, class_result, multiple_class, halved_class, multiple_refusal, halvings_refusal, multiple_answer, HalvingsAnswers};
 
 use jacobian::{Class, Curve};
 use refusals::Refusal;
 
-// One more than the largest n: 2^61.
+// One more than the largest n: 2^61, so that n has at most 61 binary digits.
 pub const MULTIPLE_LIMIT: u64 = 0x2000_0000_0000_0000;
 
 // The largest k.
@@ -26,14 +26,21 @@ fn doubled(curve: Curve, a: Class, n: u64, half: Class) -> Class
     jacobian::double(curve, half).unwrap().class
 }
 
+// Bit length of n: n / 2^r is 0.
+fn digits(n: u64) -> u32
+    requires { n < multiple_limit }
+    ensures { (result ≤ 61) × (n / 2 ^ result ≡ 0) }
+{
+    u64::BITS - n.leading_zeros()
+}
+
 // n times an accepted class, by the binary digits of n, the highest first.
 fn multiple_of_accepted(curve: Curve, a: Class, n: u64) -> Class
-    requires { Accepts curve a }
+    requires { Accepts curve a × (n < multiple_limit) }
     ensures { result ≡ multiple_class curve a n }
 {
-    let digits = u64::BITS - n.leading_zeros();
     let mut times = jacobian::neutral();
-    for i in (0..digits).rev() {
+    for i in (0..digits(n)).rev() {
         times = doubled(curve, a, n >> i, times);
     }
     times
@@ -76,7 +83,7 @@ fn check_halvings(curve: Curve, a: Class, k: u64) -> Result<(), Refusal>
 }
 
 // n times a class.
-#[tactic(auto, using(crate::proofs::Answers::multiple_stops, crate::proofs::Answers::multiple_given, crate::proofs::Answers::multiple_accepted))]
+#[tactic(auto, using(crate::proofs::Answers::multiple_stops, crate::proofs::Answers::multiple_given))]
 pub fn multiple(curve: Curve, a: Class, n: u64) -> Result<Class, Refusal>
     ensures { class_result result ≡ multiple_answer curve a n }
 {

@@ -4,8 +4,8 @@ ghost use Rattle.written_form.specs.Effect.{effect};
 ghost use Rattle.written_form.specs.Ranges.{append};
 
 // Copies a source to the front of an output that has room for it.
-// The bytes are copied by a loop, since `copy_from_slice` would make the libraries for C call memmove; over a `zip` with
-// `iter_mut` the loop's invariant has no name for the output, so the loop is over an index.
+// The loop is its own, since of two areas that a host lends std's `copy_from_slice` makes the libraries for C call memmove;
+// over a `zip` with `iter_mut` its invariant has no name for the output, so it is over an index.
 pub(crate) fn copy(source: &[u8], output: &mut [u8])
     requires { length source.now ≤ length output.old }
     ensures { output.new ≡ source.now ++ drop (length source.now) output.old }
@@ -17,6 +17,7 @@ pub(crate) fn copy(source: &[u8], output: &mut [u8])
 
 // Copies the bytes of a source from start to end to an offset in the output, and answers the offset after them.
 // If they do not fit, no byte changes and the answer is the output's length plus 1, after which no range fits.
+// Start and end stay two numbers, and an offset past the output's end means that nothing fits, as the definition says.
 pub fn append(source: &[u8], start: usize, end: usize, output: &mut [u8], at: usize) -> usize
     ensures { effect result output.new ≡ append source.now start end (effect at output.old) }
 {

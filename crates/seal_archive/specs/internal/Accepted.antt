@@ -1,5 +1,5 @@
--- For the contracts of functions that are not open: where the parts of accepted bytes begin, and the ranges of them
--- that are copied.
+-- For the contracts and the invariants of functions that are not open: where the parts of accepted bytes begin, and the
+-- ranges of them that are copied.
 use Rattle.std.specs.Prelude.{ℕ, ◌+◌, ◌≤◌, ◌≡◌, List, [], ◌∷◌, length}
 use Rattle.stored_form.specs.{Reading.found, Cuts.fields_end, Record.empty_record, Reader.read_fields, Reader.header_layout, declared.Record.Record}
 use Rattle.written_form.specs.{Effect.Effect, Ranges.append}
