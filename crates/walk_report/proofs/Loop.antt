@@ -7,8 +7,8 @@ use Prim.Native.Nat.{ℕ}
 use mathlib.Core.Path.{◌≡◌, refl, sym, ap, ◌∙◌, subst}
 use mathlib.Core.Bool.{true, false, true≢false}
 use mathlib.Core.List.{List, [], ◌∷◌, ◌++◌, append-nil, append_assoc}
-use Rattle.walk_report.specs.{Report.report_lines, Steps.progress, Steps.LineResult, Steps.line_answer, Steps.next_line, Steps.begin, Steps.pending, Loop.made_line, Loop.Makes, Loop.none, Loop.turn, Loop.MakesAll, Loop.Halfway}
-use Rattle.walk_report.specs.declared.{Report.Report, Progress.Progress, LineAnswer.LineAnswer}
+use Rattle.walk_report.specs.{Report.report_lines, Steps.LineResult, Steps.line_answer, Steps.next_line, Steps.begin, Steps.pending, Loop.made_line, Loop.Makes, Loop.none, Loop.turn, Loop.MakesAll, Loop.Halfway}
+use Rattle.walk_report.specs.declared.{Progress.Progress, LineAnswer.LineAnswer}
 
 module _ (s : List ℕ) where
   -- a turn before the others, where the line and the state after it are x
@@ -54,9 +54,9 @@ module _ (s : List ℕ) where
   next_so_far x h = turn_so_far x.made x.left.makes x.left.over x.whole h
 
   -- the same, of what the code of a line answers
-  pub halfway_answer : {r : Report} {at : ℕ} {x : LineAnswer} → Halfway s (progress r at) → pending r.stage ≡ true → x ≡ line_answer (next_line r s at) → Halfway s (progress x.report x.next.at)
+  pub halfway_answer : {m : Progress} {x : LineAnswer} → Halfway s m → pending m.report.stage ≡ true → x ≡ line_answer (next_line m.report s m.next.at) → Halfway s x.progress
   unfolding line_answer
-  halfway_answer x h e = subst (λ (y : LineAnswer). Halfway s (progress y.report y.next.at)) (sym e) (halfway_next x h)
+  halfway_answer x h e = subst (λ (y : LineAnswer). Halfway s y.progress) (sym e) (halfway_next x h)
 
   pub halfway_over : {m : Progress} (x : Halfway s m) → pending m.report.stage ≡ false → x.so_far ≡ report_lines s
   halfway_over {m} x h =

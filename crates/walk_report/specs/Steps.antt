@@ -66,7 +66,7 @@ pub record LineResult : Type 0 where
 
 -- the code's answer for a line
 unfoldable pub line_answer : LineResult → LineAnswer
-line_answer n = record { line = in_line n.text; report = n.progress.report; next = n.progress.next }
+line_answer n = record { line = in_line n.text; progress = n.progress }
 
 -- The line and the state after an undo of the operation.
 -- Its number is the count less the operations that are still to be read.

@@ -51,12 +51,11 @@ pub struct Progress {
     pub next: Cursor,
 }
 
-// A line, the report's state after it, and the offset of the next field.
+// A line, and the report's state after it with the offset of the next field.
 #[derive(Clone, Copy)]
 pub struct LineAnswer {
     pub line: Line,
-    pub report: Report,
-    pub next: Cursor,
+    pub progress: Progress,
 }
 
 // The class of an answer; of a refusal the neutral class.
@@ -124,8 +123,10 @@ impl Progress {
         let letter = letters::letter_before(values.curve, self.report.operation, report);
         LineAnswer {
             line: lines::seal_line(undone, letter, seal),
-            report: Report { seal, ..report },
-            next,
+            progress: Progress {
+                report: Report { seal, ..report },
+                next,
+            },
         }
     }
 
@@ -134,11 +135,9 @@ impl Progress {
     fn last_line(self, s: &[u8]) -> LineAnswer
         ensures { result ≡ line_answer (record { text = line 0 0x2E self.report.seal; progress = advanced self.report s.now self.next.at }) }
     {
-        let Progress { report, next } = self.advanced(s);
         LineAnswer {
             line: lines::seal_line(0, b'.', self.report.seal),
-            report,
-            next,
+            progress: self.advanced(s),
         }
     }
 
@@ -158,17 +157,27 @@ impl Progress {
     {
         LineAnswer {
             line,
-            report: Report {
-                stage,
-                ..self.report
+            progress: Progress {
+                report: Report {
+                    stage,
+                    ..self.report
+                },
+                ..self
             },
-            next: self.next,
         }
     }
 
-    // Makes the line that is expected. The stage is the state's own, so closures in its place would say no more.
+    // Whether a line is still to come.
+    pub fn is_pending(self) -> bool
+        ensures { result ≡ pending self.report.stage }
+    {
+        !matches!(self.report.stage, Stage::Over)
+    }
+
+    // Makes the line that is expected, from the input at the next field; it is empty if the report is over.
+    // The stage is the state's own, so closures in its place would say no more.
     #[tactic(auto, unfolding(crate::specs::Steps::next_line, crate::specs::Steps::next_of))]
-    fn next_line(self, s: &[u8]) -> LineAnswer
+    pub fn next_line(self, s: &[u8]) -> LineAnswer
         ensures { result ≡ line_answer (next_line self.report s.now self.next.at) }
     {
         match self.report.stage {
@@ -179,17 +188,6 @@ impl Progress {
             Stage::Over => self.answer(Line::new(), Stage::Over),
         }
     }
-}
-
-// Makes the line that is expected, from the input at an offset; it is empty if the report is over.
-pub fn next_line(r: Report, s: &[u8], at: Cursor) -> LineAnswer
-    ensures { result ≡ line_answer (next_line r s.now at.at) }
-{
-    let state = Progress {
-        report: r,
-        next: at,
-    };
-    state.next_line(s)
 }
 
 // The state of a report that is a refusal alone.
@@ -234,11 +232,4 @@ pub fn begin(s: &[u8]) -> Progress
         },
         Err(refusal) => refused(refusal.number()),
     }
-}
-
-// Whether a line is still to come.
-pub fn pending(r: Report) -> bool
-    ensures { result ≡ pending r.stage }
-{
-    !matches!(r.stage, Stage::Over)
 }

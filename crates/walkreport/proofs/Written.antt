@@ -28,10 +28,10 @@ module _ (s : List ℕ) where
   written_begin held e = subst (λ m. Written m held held) (sym e) (begun held)
 
   pub written_next : {m : Progress} {held holds now : Option (List ℕ)} {x : LineAnswer} → Written m held holds → pending m.report.stage ≡ true → x ≡ line_answer (next_line m.report s m.next.at)
-      → Appends holds now (take x.line.len x.line.bytes) → Written (record { report = x.report; next = x.next }) held now
+      → Appends holds now (take x.line.len x.line.bytes) → Written x.progress held now
   unfolding line_answer
   written_next {m} {held} {holds} {now} before h e told =
-      let P : LineAnswer → Type 0 = λ y. Appends holds now (take y.line.len y.line.bytes) → Written (record { report = y.report; next = y.next }) held now in
+      let P : LineAnswer → Type 0 = λ y. Appends holds now (take y.line.len y.line.bytes) → Written y.progress held now in
       let text : List ℕ = (made_line s m).text in
       let all : flatten before.half.so_far ++ text ≡ flatten (halfway_next s before.half h).so_far = sym (ap flatten (next_so_far s before.half h) ∙ flatten_last before.half.so_far text) in
       subst P (sym e)

@@ -8,7 +8,7 @@ ghost use Rattle.walk_report.specs.Report.{report};
 
 use std::io;
 use std::io::Write;
-use walk_report::{LineAnswer, Progress};
+use walk_report::LineAnswer;
 
 // The number of bytes of an archive that are read at most.
 const ARCHIVE: usize = 65536;
@@ -18,15 +18,11 @@ const ARCHIVE: usize = 65536;
 fn write_report<W: Write>(out: &mut W, archive: &[u8]) -> io::Result<()>
     ensures { OnOk result (Appends (W.contents out.old) (W.contents out.new) (report archive.now)) }
 {
-    let mut state = walk_report::begin(archive);
-    while walk_report::pending(state.report) {
-        let LineAnswer { line, report, next } = walk_report::next_line(
-            state.report,
-            archive,
-            state.next,
-        );
+    let mut progress = walk_report::begin(archive);
+    while progress.is_pending() {
+        let LineAnswer { line, progress: after } = progress.next_line(archive);
         line.write_to(out)?;
-        state = Progress { report, next };
+        progress = after;
     }
     Ok(())
 }

@@ -4,8 +4,8 @@ use Rattle.walk_report.proofs.LinesLeft.{lines_left}
 use Rattle.walkreport.proofs.Written.{Written}
 use Rattle.walkreport.proofs.write_report.Given as goal
 
-abbrev pub invariant-loop-state : goal.invariant-loop-state
-invariant-loop-state g l = Written l.archive l.state (g.W.Write.contents l.initial.out) (g.W.Write.contents l.out)
+abbrev pub invariant-loop-progress : goal.invariant-loop-progress
+invariant-loop-progress g l = Written l.archive l.progress (g.W.Write.contents l.initial.out) (g.W.Write.contents l.out)
 
-abbrev pub decreases-loop-state : goal.decreases-loop-state
-decreases-loop-state g l = lines_left l.state.report
+abbrev pub decreases-loop-progress : goal.decreases-loop-progress
+decreases-loop-progress g l = lines_left l.progress.report
