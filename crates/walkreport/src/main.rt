@@ -8,7 +8,6 @@ ghost use Rattle.walk_report.specs.Report.{report};
 
 use std::io;
 use std::io::Write;
-use walk_report::LineAnswer;
 
 // The number of bytes of an archive that are read at most.
 const ARCHIVE: usize = 65536;
@@ -20,9 +19,9 @@ fn write_report<W: Write>(out: &mut W, archive: &[u8]) -> io::Result<()>
 {
     let mut progress = walk_report::begin(archive);
     while progress.is_pending() {
-        let LineAnswer { line, progress: after } = progress.next_line(archive);
-        line.write_to(out)?;
-        progress = after;
+        let answer = progress.next_line(archive);
+        answer.line.write_to(out)?;
+        progress = answer.progress;
     }
     Ok(())
 }

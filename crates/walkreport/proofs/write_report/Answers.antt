@@ -9,12 +9,12 @@ pub loop-progress-init : goal.loop-progress-init
 loop-progress-init g c = written_begin _ _ c.begin-progress.ensures
 
 pub loop-progress-preserved : goal.loop-progress-preserved
-loop-progress-preserved g c = written_next _ c.loop-progress.invariant (sym c.is_pending.ensures ∙ c.loop-progress-test.true) c.next_line.ensures c.in_ok-write_to.ensures.written
+loop-progress-preserved g c = written_next _ c.loop-progress.invariant (sym c.is_pending.ensures ∙ c.loop-progress-test.true) c.next_line-answer.ensures c.in_ok-write_to.ensures.written
 
 pub loop-progress-smaller : goal.loop-progress-smaller
 unfolding line_answer
 loop-progress-smaller g c =
-    subst (λ (x : LineAnswer). lines_left x.progress.report < lines_left c.loop-progress.progress.report) (sym c.next_line.ensures)
+    subst (λ (x : LineAnswer). lines_left x.progress.report < lines_left c.loop-progress.progress.report) (sym c.next_line-answer.ensures)
     (lines_fewer _ _ _ (sym c.is_pending.ensures ∙ c.loop-progress-test.true))
 
 pub returns : goal.returns
