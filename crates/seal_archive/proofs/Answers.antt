@@ -2,7 +2,7 @@
 -- `short`, `unread`, `archive_refused`: the output is too short; the archive is refused.
 -- `below_first`, `above_last`, `is_held`, `accepted_writes`: of an accepted archive with room, k is no operation's
 -- number; operation k is held; else the suppressed archive is written. `suppresses`: as the code writes it.
--- `header_accepted`, `header_read`, `at_operations`, `suppressible`: what the code knows once it has read the header.
+-- `header_accepted`, `accepted_as`: the header of an archive that no check refuses is read, and the archive is accepted.
 use Prim.Native.Nat.{ℕ, ◌+◌, ◌≤◌, ◌<◌}
 use mathlib.Core.Path.{◌≡◌, refl, sym, ap, ◌∙◌}
 use mathlib.Core.Bool.{true, false}
@@ -14,19 +14,17 @@ use Rattle.std.specs.Prelude.{Result, Ok, Err}
 use Rattle.std.specs.Result.{IsOk}
 use Rattle.refusals.specs.{Refusals.number, declared.Refusal.Refusal}
 use Rattle.jacobian.specs.Checks.{unless, ◌or_else◌}
-use Rattle.stored_form.specs.{Number.Bytes, Reading.Reading, Reading.found, Reading.refused, Reading.checked, Reading.reading_refusal, Cuts.fields_end, Record.empty_record, Reader.read_fields, Reader.header_layout, declared.Record.Record}
+use Rattle.stored_form.specs.{Number.Bytes, Reading.Reading, Reading.found, Reading.refused, Reading.checked, Reading.reading_refusal, Cuts.fields_end, Reader.header_layout, declared.Record.Record}
 use Rattle.binary_field.proofs.Refusing.{number_positive}
 use Rattle.stored_form.proofs.Readings.{then_found, then_refused, checked_none, checked_some, same_found}
-use Rattle.stored_form_theorems.proofs.Checking.{first_read}
+use Rattle.stored_form_theorems.specs.Checking.{record_values}
 use Rattle.written_form.specs.Effect.{Effect, effect, write, room_refusal}
-use Rattle.archive.specs.{Archive.Archive, Archive.read_archive, Archive.archive_said, Archive.archive_refusal, Reader.read_header, Reader.reader, Reader.operations_expected, Reader.advance_reading, declared.Reader.Reader, Skipping.skip_fields, declared.Advance.Advance}
-use Rattle.archive.proofs.Skipped.{skip_inside}
+use Rattle.archive.specs.{Archive.Archive, Archive.read_archive, Archive.archive_said, Archive.archive_refusal, Reader.read_header, Reader.reader, Reader.operations_expected, Reader.advance_reading, declared.Reader.Reader, declared.Advance.Advance}
 use Rattle.archive_theorems.specs.Written.{archive_bytes}
-use Rattle.archive_theorems.proofs.{Parts.parts_of}
 use Rattle.suppression_theory.specs.Archives.{held, suppressed}
 use Rattle.seal_archive.specs.Suppress.{written_effect, length_written, refuse_archive, write_archive, put_archive, growth, suppress_refusal, suppress_archive, suppress_call}
-use Rattle.seal_archive.specs.internal.Accepted.{AtOperations, Suppressible}
-use Rattle.seal_archive.proofs.Accepted.{said_read, said_laid, header_counted}
+use Rattle.seal_archive.specs.internal.Accepted.{IsAccepted}
+use Rattle.seal_archive.proofs.Accepted.{said_read, header_found, header_counted}
 
 refused_read : {A : Type 0} (x : Reading A) → ¬ (reading_refusal x ≡ 0) → x ≡ refused (reading_refusal x)
 refused_read (found a next) z = absurd (z refl)
@@ -52,35 +50,41 @@ module _ (s : List ℕ) (k : ℕ) (out : List ℕ) where
     pub archive_refused : (r : Refusal) → number r ≡ archive_refusal s → refuse_archive (number r) out ≡ suppress_call s k out
     archive_refused r e = unread e (number_positive r)
 
-    module _ (b : Bytes s) (accepted : archive_refusal s ≡ 0) where
+    module _ {h : Record} {first : ℕ} (accepted : IsAccepted s h first) where
       abbrev a : Archive
       a = archive_said s
 
-      by_number : {n : ℕ} → suppress_refusal k a ≡ n → suppress_call s k out ≡ put_archive (checked n (found (suppressed k a) (said_read s b accepted).0)) out
+      read : (end : ℕ) × (read_archive s ≡ found a end)
+      read = said_read s accepted.in_range accepted.passes
+
+      counted : h.count ≡ length a.operations
+      counted = header_counted accepted
+
+      by_number : {n : ℕ} → suppress_refusal k a ≡ n → suppress_call s k out ≡ put_archive (checked n (found (suppressed k a) read.0)) out
       unfolding suppress_call suppress_archive
       by_number e =
           ap (λ (x : Reading Archive). put_archive x out)
-          (then_found _ (read_first ∙ (said_read s b accepted).1) ∙ ap (λ (n : ℕ). checked n (found (suppressed k a) (said_read s b accepted).0)) e)
+          (then_found _ (read_first ∙ read.1) ∙ ap (λ (n : ℕ). checked n (found (suppressed k a) read.0)) e)
 
       pub below_first : k < 1 → refuse_archive 123 out ≡ suppress_call s k out
       unfolding suppress_refusal unless ◌or_else◌ put_archive
       below_first h = sym (by_number (rw (lt-leb 1 k h) refl) ∙ ap (λ (x : Reading Archive). put_archive x out) (checked_some 123 _ (λ e. omega arith)))
 
       module _ (low : 1 ≤ k) where
-        pub above_last : length a.operations < k → refuse_archive 123 out ≡ suppress_call s k out
+        pub above_last : h.count < k → refuse_archive 123 out ≡ suppress_call s k out
         unfolding suppress_refusal unless ◌or_else◌ put_archive
-        above_last h = sym (by_number (rw (le-leb 1 k low, lt-leb k (length a.operations) h) refl) ∙ ap (λ (x : Reading Archive). put_archive x out) (checked_some 123 _ (λ e. omega arith)))
+        above_last above = sym (by_number (rw (le-leb 1 k low, lt-leb k (length a.operations) (omega (arith, counted, above))) refl) ∙ ap (λ (x : Reading Archive). put_archive x out) (checked_some 123 _ (λ e. omega arith)))
 
-        module _ (high : k ≤ length a.operations) where
+        module _ (high : k ≤ h.count) where
           pub is_held : held k a ≡ true → refuse_archive 124 out ≡ suppress_call s k out
           unfolding suppress_refusal unless ◌or_else◌ put_archive
-          is_held h =
-              sym (by_number (rw (le-leb 1 k low, le-leb k (length a.operations) high, h) refl) ∙ ap (λ (x : Reading Archive). put_archive x out) (checked_some 124 _ (λ e. omega arith)))
+          is_held e =
+              sym (by_number (rw (le-leb 1 k low, le-leb k (length a.operations) (omega (arith, counted, high)), e) refl) ∙ ap (λ (x : Reading Archive). put_archive x out) (checked_some 124 _ (λ z. omega arith)))
 
           pub accepted_writes : held k a ≡ false → write_archive (archive_bytes (suppressed k a)) out ≡ suppress_call s k out
           unfolding suppress_refusal unless ◌or_else◌ put_archive
-          accepted_writes h =
-              sym (by_number (rw (le-leb 1 k low, le-leb k (length a.operations) high, h) refl) ∙ ap (λ (x : Reading Archive). put_archive x out) (checked_none 0 _ refl))
+          accepted_writes e =
+              sym (by_number (rw (le-leb 1 k low, le-leb k (length a.operations) (omega (arith, counted, high)), e) refl) ∙ ap (λ (x : Reading Archive). put_archive x out) (checked_none 0 _ refl))
 
           pub suppresses : held k a ≡ false → {n : ℕ} {after : List ℕ} → effect n after ≡ write (archive_bytes (suppressed k a)) out → written_effect (length_written n) after ≡ suppress_call s k out
           unfolding write_archive write
@@ -88,31 +92,16 @@ module _ (s : List ℕ) (k : ℕ) (out : List ℕ) where
 
 -- ---- what the code knows
 
-module _ (s : List ℕ) (b : Bytes s) (accepted : archive_refusal s ≡ 0) where
-  header_found : read_header s ≡ found (reader (operations_expected (parts_of s (said_read s b accepted).1).values.count) (parts_of s (said_read s b accepted).1).values) (parts_of s (said_read s b accepted).1).first
+module _ (s : List ℕ) (b : Bytes s) (passes : archive_refusal s ≡ 0) where
+  read_is : read_header s ≡ found (reader (operations_expected (record_values header_layout s).count) (record_values header_layout s)) (fields_end (length header_layout) s 0)
   unfolding read_header
-  header_found = then_found _ (parts_of s (said_read s b accepted).1).header_read
+  read_is = then_found _ (header_found s b passes)
 
   pub header_accepted : (x : Result Advance Refusal) → advance_reading x ≡ read_header s → IsOk x
   header_accepted (Ok t) e = refl
-  header_accepted (Err r) e = let f : refused (number r) ≡ _ = e ∙ header_found in cc
+  header_accepted (Err r) e = let f : refused (number r) ≡ _ = e ∙ read_is in cc
 
-  pub header_read : {x : Result Advance Refusal} {t : Advance} → advance_reading x ≡ read_header s → x ≡ Ok t →
-      read_fields header_layout empty_record s 0 ≡ found t.reader.values (fields_end (length header_layout) s 0)
-  header_read {t = t} e is =
-      let p = parts_of s (said_read s b accepted).1 in
-      let place = (same_found (sym p.header_read ∙ (first_read s header_layout).value (ap reading_refusal p.header_read))).1 in
-      let values : t.reader.values ≡ p.values = ap (λ (r : Reader). r.values) (same_found (ap advance_reading (sym is) ∙ e ∙ header_found)).0 in
-      p.header_read ∙ ap (found p.values) place ∙ ap (λ (h : Record). found h (fields_end (length header_layout) s 0)) (sym values)
-
-  module _ {h : Record} {first : ℕ} (header : read_fields header_layout empty_record s 0 ≡ found h (fields_end (length header_layout) s 0)) (skipped : first ≡ skip_fields 5 s 0) where
-    first_is : first ≡ fields_end (length header_layout) s 0
-    first_is =
-        let l = said_laid s b accepted in
-        skipped ∙ skip_inside s 5 0 (omega (arith, l.first_begins, l.operations.ends, l.pairs.ends))
-
-    pub at_operations : AtOperations s first h.count
-    at_operations = record { accepted = accepted; begins = first_is; counted = header_counted s b accepted header }
-
-    pub suppressible : {k room : ℕ} → 1 ≤ k → k ≤ h.count → length s + growth ≤ room → Suppressible s h first k room
-    suppressible low high fits = record { operations = at_operations; header = header ∙ ap (found h) (sym first_is); low = low; high = high; fits = fits }
+  pub accepted_as : {x : Result Advance Refusal} {t : Advance} → advance_reading x ≡ read_header s → x ≡ Ok t → IsAccepted s t.reader.values t.next.at
+  accepted_as e is =
+      let same = same_found (ap advance_reading (sym is) ∙ e ∙ read_is) in
+      record { in_range = b; passes = passes; header = ap (λ (r : Reader). r.values) same.0; begins = same.1 }

@@ -13,7 +13,7 @@ use Rattle.std.specs.Result.{IsOk}
 use Rattle.refusals.specs.{Refusals.number, declared.Refusal.Refusal}
 use Rattle.jacobian.specs.{Answer.Accepts, Answer.Result, Answer.sum_answer, Answer.result, Answer.neutral_class, Group.opposite_of, Group.doublings, declared.Curve.Curve, declared.Class.Class}
 use Rattle.jacobian.proofs.{Calls.opposite_accepts, Group.sum_given, Group.doublings_accept}
-use Rattle.stored_form.specs.{Number.Bytes, Number.part, Head.head_bytes, Head.encode_field, Number.encode_number, Number.encode_numbers, Cuts.fields_end, Pairs.pairs_field, Reader.read_field, Reader.reading_of, Reading.found, Reading.refused, Record.with_operation, declared.Record.Record, declared.Read.Read}
+use Rattle.stored_form.specs.{Number.part, Head.head_bytes, Head.encode_field, Number.encode_number, Number.encode_numbers, Cuts.fields_end, Pairs.pairs_field, Reader.read_field, Reader.reading_of, Reading.found, Reading.refused, Record.with_operation, declared.Record.Record, declared.Read.Read}
 use Rattle.stored_form.specs.{Fields.drawing_field, Fields.count_field}
 use Rattle.stored_form.specs.Classes.{curve_fields_bytes, encode_row, encode_class, class_field, operation_fields}
 use Rattle.stored_form.proofs.{Lengths.length_stored, Readings.same_found}
@@ -27,8 +27,8 @@ use Rattle.written_form.specs.{Effect.effect, Effect.write, Ranges.append}
 use Rattle.written_form.proofs.Appending.{append_write}
 use Rattle.suppression_theory.specs.{Suppression.operation_of, Suppression.suppressed_operations, Suppression.suppressed_seal, Archives.suppressed}
 use Rattle.suppression_theory.proofs.Suppression.{suppressed_seal_accepts}
-use Rattle.seal_archive.specs.{internal.Accepted.Suppressible, internal.Accepted.replaced, internal.Accepted.both_replaced}
-use Rattle.seal_archive.proofs.Accepted.{said_stored, said_laid, header_curve, header_seal}
+use Rattle.seal_archive.specs.{Suppress.growth, internal.Accepted.IsAccepted, internal.Accepted.replaced, internal.Accepted.both_replaced}
+use Rattle.seal_archive.proofs.Accepted.{stored, laid, header_counted, header_curve, header_seal}
 
 -- a field copied after what was written
 append_field : {s : List ℕ} {at next : ℕ} {bytes : List ℕ} (xs out : List ℕ) → Field s at bytes next → next ≤ length s → length xs + length bytes ≤ length out
@@ -47,7 +47,7 @@ regroup x o n r q =
     sym (append_assoc (x ++ o ++ n) r q)
     ∙ ap (λ (y : List ℕ). y ++ q) (append_assoc (x ++ o) n r ∙ append_assoc x o (n ++ r))
 
-module _ {s : List ℕ} {h : Record} {first k room : ℕ} (b : Bytes s) (ask : Suppressible s h first k room) where
+module _ {s : List ℕ} {h : Record} {first k : ℕ} (accepted : IsAccepted s h first) (low : 1 ≤ k) (high : k ≤ h.count) where
   abbrev a : Archive
   a = archive_said s
 
@@ -57,40 +57,40 @@ module _ {s : List ℕ} {h : Record} {first k room : ℕ} (b : Bytes s) (ask : S
   abbrev p : ℕ
   p = length ops - k
 
-  laid : Layout s a
-  laid = said_laid s b ask.operations.accepted
+  fields : Layout s a
+  fields = laid accepted
 
   ok : Storable a
-  ok = (said_stored s b ask.operations.accepted).1
+  ok = (stored accepted).1
 
   count_is : h.count ≡ length ops
-  count_is = ask.operations.counted
+  count_is = header_counted accepted
 
-  first_is : first ≡ laid.first
-  first_is = ask.operations.begins ∙ laid.first_begins
+  first_is : first ≡ fields.first
+  first_is = accepted.begins ∙ fields.first_begins
 
   p_inside : p < length ops
-  p_inside = omega (arith, ask.low, ask.high, count_is)
+  p_inside = omega (arith, low, high, count_is)
 
   -- ---- offsets
 
   module _ {seal : ℕ} (skipped : seal ≡ skip_fields 4 s 0) where
-    seal_is : seal ≡ laid.seal_at
-    seal_is = skipped ∙ skip_inside s 4 0 (omega (arith, laid.seal_begins, laid.seal.ends, laid.operations.ends, laid.pairs.ends)) ∙ laid.seal_begins
+    seal_is : seal ≡ fields.seal_at
+    seal_is = skipped ∙ skip_inside s 4 0 (omega (arith, fields.seal_begins, fields.seal.ends, fields.operations.ends, fields.pairs.ends)) ∙ fields.seal_begins
 
   module _ {operation : ℕ} (skipped : operation ≡ skip_fields (h.count - k) s first) where
-    operation_is : operation ≡ fields_end p s laid.first
+    operation_is : operation ≡ fields_end p s fields.first
     operation_is =
         let e = ap₂ (λ (n j : ℕ). fields_end (n - k) s j) count_is first_is in
-        skipped ∙ skip_inside s (h.count - k) first (omega (arith, e, place_within laid ok p (omega (arith, p_inside)))) ∙ e
+        skipped ∙ skip_inside s (h.count - k) first (omega (arith, e, place_within fields ok p (omega (arith, p_inside)))) ∙ e
 
-    next_is : {next : ℕ} → next ≡ next_field s operation → next ≡ fields_end (suc p) s laid.first
+    next_is : {next : ℕ} → next ≡ next_field s operation → next ≡ fields_end (suc p) s fields.first
     unfolding fields_end
     next_is passed =
-        let at = fields_end p s laid.first in
+        let at = fields_end p s fields.first in
         let one : p + 1 ≡ suc p = omega arith in
-        let e = ap (λ (i : ℕ). fields_end i s laid.first) (sym one) ∙ fields_more s p 1 laid.first in
-        passed ∙ ap (next_field s) operation_is ∙ sym (next_within s at refl (omega (arith, e, place_within laid ok (suc p) p_inside))) ∙ sym e
+        let e = ap (λ (i : ℕ). fields_end i s fields.first) (sym one) ∙ fields_more s p 1 fields.first in
+        passed ∙ ap (next_field s) operation_is ∙ sym (next_within s at refl (omega (arith, e, place_within fields ok (suc p) p_inside))) ∙ sym e
 
     -- ---- the new seal
 
@@ -98,8 +98,8 @@ module _ {s : List ℕ} {h : Record} {first k room : ℕ} (b : Bytes s) (ask : S
     unfolding operation_of
     operation_found =
         let passes = all_at p neutral_class p_inside ok.operations_allowed in
-        let f = operation_stands laid ok p p_inside in
-        let read = up_to f (value_read_back (operation_law h) s (fields_end p s laid.first) (subst (λ (c : Curve). Accepts c (get_or ops p neutral_class)) (header_curve s b ask.operations.accepted ask.header) passes)) in
+        let f = operation_stands fields ok p p_inside in
+        let read = up_to f (value_read_back (operation_law h) s (fields_end p s fields.first) (subst (λ (c : Curve). Accepts c (get_or ops p neutral_class)) (header_curve accepted) passes)) in
         (_, ap (read_field 0x44 h s) operation_is ∙ read)
 
     pub operation_accepted : (x : std.Result Read Refusal) → reading_of x ≡ read_field 0x44 h s operation → IsOk x
@@ -113,9 +113,9 @@ module _ {s : List ℕ} {h : Record} {first k room : ℕ} (b : Bytes s) (ask : S
   pub both_accepted : {operation : Class} → operation ≡ operation_of k ops → Accepts h.curve h.class × Accepts h.curve operation
   unfolding operation_of
   both_accepted read =
-      let curve_is = header_curve s b ask.operations.accepted ask.header in
+      let curve_is = header_curve accepted in
       let passes = all_at p neutral_class p_inside ok.operations_allowed in
-      (subst₂ Accepts curve_is (header_seal s b ask.operations.accepted ask.header) ok.seal_allowed, subst₂ Accepts curve_is (sym read) passes)
+      (subst₂ Accepts curve_is (header_seal accepted) ok.seal_allowed, subst₂ Accepts curve_is (sym read) passes)
 
   pub new_seal : {operation : Class} → operation ≡ operation_of k ops →
       (sum_answer h.curve h.class (opposite_of h.curve (doublings h.curve (h.count - k) operation))).class ≡ suppressed_seal a.curve k a.seal ops
@@ -123,8 +123,8 @@ module _ {s : List ℕ} {h : Record} {first k room : ℕ} (b : Bytes s) (ask : S
   new_seal read =
       let c = a.curve in
       let newer = h.count - k in
-      let curve_is = sym (header_curve s b ask.operations.accepted ask.header) in
-      let seal_is = sym (header_seal s b ask.operations.accepted ask.header) in
+      let curve_is = sym (header_curve accepted) in
+      let seal_is = sym (header_seal accepted) in
       let rule : Curve → Class → ℕ → Class → Result = λ x seal n d. result (sum_answer x seal (opposite_of x (doublings x n d))) in
       let number : newer ≡ p = ap (λ (n : ℕ). n - k) count_is in
       let passes = all_at p neutral_class p_inside ok.operations_allowed in
@@ -158,42 +158,41 @@ module _ {s : List ℕ} {h : Record} {first k room : ℕ} (b : Bytes s) (ask : S
       ∙ ap (λ (n : ℕ). curve_fields_bytes a.curve ++ drawing_field a.drawing ++ count_field n ++ F ++ operation_fields (set ops p neutral_class) ++ pairs_field a.pairs) (sym (length-set ops p neutral_class))
 
   module _ {seal operation next : ℕ} (at_seal : seal ≡ skip_fields 4 s 0) (at_operation : operation ≡ skip_fields (h.count - k) s first) (at_next : next ≡ next_field s operation)
-      (out : List ℕ) (roomy : length out ≡ room) where
+      (out : List ℕ) (roomy : length s + growth ≤ length out) where
     -- the fields that are copied
     front : Field s 0 (front_bytes a) seal
-    front = subst (Field s 0 (front_bytes a)) (sym (seal_is at_seal)) laid.front
+    front = subst (Field s 0 (front_bytes a)) (sym (seal_is at_seal)) fields.front
 
     -- the new seal's field
     new_short : length F ≤ 51
-    new_short = class_short 0x43 a.curve _ (suppressed_seal_accepts ok.seal_allowed ok.operations_allowed k ask.low (omega (arith, ask.high, count_is))).none
+    new_short = class_short 0x43 a.curve _ (suppressed_seal_accepts ok.seal_allowed ok.operations_allowed k low (omega (arith, high, count_is))).none
 
     new : Field F 0 F (length F)
     new = record { stands = take-length F; ends = omega arith }
 
     newer : Field s first O operation
-    newer = subst₂ (λ (i j : ℕ). Field s i O j) (sym first_is) (sym (operation_is at_operation)) (operation_place laid ok p (omega (arith, p_inside))).0
+    newer = subst₂ (λ (i j : ℕ). Field s i O j) (sym first_is) (sym (operation_is at_operation)) (operation_place fields ok p (omega (arith, p_inside))).0
 
     replacing : Field (0x44 ∷ 0x00 ∷ 0x00 ∷ []) 0 N 3
     replacing = subst (λ (x : List ℕ). Field (0x44 ∷ 0x00 ∷ 0x00 ∷ []) 0 x 3) (sym neutral_field) (record { stands = refl; ends = refl })
 
     rest : Field s next R (length s)
-    rest = subst (λ (i : ℕ). Field s i R (length s)) (sym (next_is at_operation at_next)) (behind _ _ (operation_place laid ok (suc p) p_inside).1 laid.pairs)
+    rest = subst (λ (i : ℕ). Field s i R (length s)) (sym (next_is at_operation at_next)) (behind _ _ (operation_place fields ok (suc p) p_inside).1 fields.pairs)
 
     -- how long they are
     seal_long : seal + 3 ≤ first
     unfolding class_field
-    seal_long = omega (arith, seal_is at_seal, first_is, laid.seal.ends, length_stored 0x43 (encode_class a.seal))
+    seal_long = omega (arith, seal_is at_seal, first_is, fields.seal.ends, length_stored 0x43 (encode_class a.seal))
 
     operation_long : operation + 3 ≤ next
     unfolding class_field
     operation_long =
-        let f = operation_stands laid ok p p_inside in
+        let f = operation_stands fields ok p p_inside in
         omega (arith, operation_is at_operation, next_is at_operation at_next, f.ends, length_stored 0x44 (encode_class (get_or ops p neutral_class)))
 
     pub both_written : both_replaced s seal first F operation next (effect 0 out) ≡ write (archive_bytes (suppressed k a)) out
     unfolding both_replaced replaced write
     both_written =
-        let fits = ask.fits in
         let X = front_bytes a in
         let x = front.ends in
         let f = new.ends in

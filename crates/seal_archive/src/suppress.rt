@@ -1,6 +1,7 @@
 // Suppressing an operation of an archive: its class becomes neutral, and the last seal becomes the one that a walk
 // forward over the changed operations reaches. The new archive is the input with two fields replaced.
-ghost use Rattle.std.specs.Prelude.{◌≡◌, ◌&&◌, not, ◌+◌, ◌-◌, ◌≤◌, eqb, length};
+ghost use Rattle.std.specs.Prelude.{◌≡◌, ◌&&◌, not, ◌+◌, ◌-◌, ◌≤◌, eqb, length, MatchResult};
+ghost use Rattle.refusals.specs.Refusals.{number};
 ghost use Rattle.jacobian.specs.{Answer.Accepts, Answer.sum_answer, Group.opposite_of, Group.doublings};
 ghost use Rattle.stored_form.specs.{Head.length_at, Pairs.earlier};
 ghost use Rattle.archive.specs.Archive.{archive_said, archive_refusal};
@@ -8,7 +9,7 @@ ghost use Rattle.written_form.specs.{Effect.effect, Effect.write};
 ghost use Rattle.suppression_theory.specs.Archives.{held, suppressed};
 ghost use Rattle.archive_theorems.specs.Written.{archive_bytes};
 ghost use Rattle.seal_archive.specs.Suppress.{growth, written_effect, written_of, suppress_call};
-ghost use Rattle.seal_archive.specs.internal.Accepted.{AtOperations, Suppressible, replaced, both_replaced};
+ghost use Rattle.seal_archive.specs.internal.Accepted.{IsAccepted, replaced, both_replaced};
 
 use archive::skipping;
 use jacobian::{Class, Curve};
@@ -62,29 +63,6 @@ fn holds(s: &[u8], at: usize, p: u64, k: u64) -> bool
     p % 65536 == k && head::length_at(s, at) != 0
 }
 
-// Whether operation k of an accepted archive is held; its n operations begin at an offset. The pairs are taken from the
-// last to the first, so that their later operations, numbered from the oldest and stored newest first, come one after
-// the other.
-fn held(s: &[u8], first: usize, n: u64, k: u64) -> bool
-    requires { AtOperations s.now first n }
-    ensures { result ≡ held k (archive_said s.now) }
-{
-    let end = skipping::skip_fields(s, first, n);
-    let m = head::length_at(s, end) / PAIR_LENGTH;
-    let mut at = first;
-    let mut number = n;
-    for i in (0..m).rev() {
-        let p = pairs::pair_at(s, end + 3, i);
-        let later = p / 65536;
-        at = skipping::skip_fields(s, at, number - later);
-        number = later;
-        if holds(s, at, p, k) {
-            return true;
-        }
-    }
-    false
-}
-
 // Copies a range of the input to the output, and after it a field that replaces one.
 fn replaced(s: &[u8], kept: Range<usize>, field: &[u8], output: &mut [u8], at: usize) -> usize
     ensures { effect result output.new ≡ replaced s.now kept.start kept.end field.now (effect at output.old) }
@@ -115,36 +93,97 @@ fn both_replaced(
     ranges::append(s, operation.end, s.len(), output, suppressed)
 }
 
-// Writes an accepted archive with operation k suppressed, and answers the length. Its header was read, and its
-// operations begin at an offset.
-fn put_suppressed(s: &[u8], h: Record, first: usize, k: u64, output: &mut [u8]) -> usize
-    requires { Suppressible s.now h first k (length output.old) }
-    ensures { effect result output.new ≡ write (archive_bytes (suppressed k (archive_said s.now))) output.old }
-{
-    let newer = h.count - k;
-    let seal = skipping::skip_fields(s, 0, HEADER_FIELDS as u64 - 1);
-    let at = skipping::skip_fields(s, first, newer);
-    let next = skipping::next_field(s, at);
-    let read = stored_form::read_field(stored_form::OPERATION, h, s, Cursor { at }).unwrap();
-    let class = seal_less(h.curve, h.class, read.values.operation, newer);
-    let field = writing::class_bytes(class);
-    both_replaced(s, seal..first, field.bytes(), at..next, output)
+// An archive that no check refuses: its bytes, its header, and the offset at which its operations begin.
+#[derive(Clone, Copy)]
+struct Accepted<'a> {
+    bytes: &'a [u8],
+    header: Record,
+    first: usize,
+    ghost accepted: { IsAccepted bytes.now header first },
 }
 
-// Suppresses operation k of an accepted archive, which has room in the output, and answers the length.
-fn suppress_accepted(s: &[u8], k: u64, output: &mut [u8]) -> Result<usize, Refusal>
-    requires { (archive_refusal s.now ≡ 0) × (length s.now + growth ≤ length output.old) }
-    ensures { written_effect (written_of result) output.new ≡ suppress_call s.now k output.old }
-{
-    let h = archive::read_header(s).unwrap().reader.values;
-    if k < 1 || h.count < k {
-        return Err(Refusal::NoSuchOperation);
+impl<'a> Accepted<'a> {
+    // The archive of these bytes, or what refuses them.
+    fn of(bytes: &'a [u8]) -> Result<Self, Refusal>
+        ensures { MatchResult result (λ a. a.bytes.now ≡ bytes.now) (λ r. number r ≡ archive_refusal bytes.now) }
+    {
+        archive::check_archive(bytes)?;
+        let state = archive::read_header(bytes).unwrap();
+        Ok(Accepted {
+            bytes,
+            header: state.reader.values,
+            first: state.next.at,
+        })
     }
-    let first = skipping::skip_fields(s, 0, HEADER_FIELDS as u64);
-    if held(s, first, h.count, k) {
-        return Err(Refusal::OperationHeld);
+
+    // Whether operation k is held. The pairs are taken from the last to the first, so that their later operations,
+    // numbered from the oldest and stored newest first, come one after the other.
+    fn is_held(&self, k: u64) -> bool
+        ensures { result ≡ held k (archive_said self.now.bytes.now) }
+    {
+        let end = skipping::skip_fields(self.bytes, self.first, self.header.count);
+        let m = head::length_at(self.bytes, end) / PAIR_LENGTH;
+        let mut at = self.first;
+        let mut number = self.header.count;
+        for i in (0..m).rev() {
+            let p = pairs::pair_at(self.bytes, end + 3, i);
+            let later = p / 65536;
+            at = skipping::skip_fields(self.bytes, at, number - later);
+            number = later;
+            if holds(self.bytes, at, p, k) {
+                return true;
+            }
+        }
+        false
     }
-    Ok(put_suppressed(s, h, first, k, output))
+
+    // Writes the archive with operation k suppressed, and answers the length.
+    fn put_suppressed(&self, k: u64, output: &mut [u8]) -> usize
+        requires low { 1 ≤ k }
+        requires high { k ≤ self.now.header.count }
+        requires roomy { length self.now.bytes.now + growth ≤ length output.old }
+        ensures { effect result output.new ≡ write (archive_bytes (suppressed k (archive_said self.now.bytes.now))) output.old }
+    {
+        let newer = self.header.count - k;
+        let seal = skipping::skip_fields(self.bytes, 0, HEADER_FIELDS as u64 - 1);
+        let at = skipping::skip_fields(self.bytes, self.first, newer);
+        let next = skipping::next_field(self.bytes, at);
+        let read = stored_form::read_field(
+            stored_form::OPERATION,
+            self.header,
+            self.bytes,
+            Cursor { at },
+        )
+        .unwrap();
+        let class = seal_less(
+            self.header.curve,
+            self.header.class,
+            read.values.operation,
+            newer,
+        );
+        let field = writing::class_bytes(class);
+        both_replaced(
+            self.bytes,
+            seal..self.first,
+            field.bytes(),
+            at..next,
+            output,
+        )
+    }
+
+    // Suppresses operation k, with room in the output, and answers the length.
+    fn suppress(&self, k: u64, output: &mut [u8]) -> Result<usize, Refusal>
+        requires { length self.now.bytes.now + growth ≤ length output.old }
+        ensures { written_effect (written_of result) output.new ≡ suppress_call self.now.bytes.now k output.old }
+    {
+        if k < 1 || self.header.count < k {
+            return Err(Refusal::NoSuchOperation);
+        }
+        if self.is_held(k) {
+            return Err(Refusal::OperationHeld);
+        }
+        Ok(self.put_suppressed(k, output))
+    }
 }
 
 // Suppresses operation k of an archive, and answers the length.
@@ -154,8 +193,7 @@ fn suppress(s: &[u8], k: u64, output: &mut [u8]) -> Result<usize, Refusal>
     if output.len() < GROWTH || output.len() - GROWTH < s.len() {
         return Err(Refusal::OutputTooShort);
     }
-    archive::check_archive(s)?;
-    suppress_accepted(s, k, output)
+    Accepted::of(s)?.suppress(k, output)
 }
 
 // Suppresses operation k of an archive, counted 1 to n from the oldest: the new archive is written to the output.

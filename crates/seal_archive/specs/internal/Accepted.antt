@@ -1,31 +1,17 @@
--- For the contracts and the invariants of functions that are not open: where the parts of accepted bytes begin, and the
--- ranges of them that are copied.
-use Rattle.std.specs.Prelude.{ℕ, ◌+◌, ◌≤◌, ◌≡◌, List, [], ◌∷◌, length}
-use Rattle.stored_form.specs.{Reading.found, Cuts.fields_end, Record.empty_record, Reader.read_fields, Reader.header_layout, declared.Record.Record}
+-- For the contracts of functions that are not open: what an accepted archive is, and the ranges of its bytes that are
+-- copied.
+use Rattle.std.specs.Prelude.{ℕ, ◌≡◌, List, [], ◌∷◌, length}
+use Rattle.stored_form.specs.{Number.Bytes, Cuts.fields_end, Reader.header_layout, declared.Record.Record}
+use Rattle.stored_form_theorems.specs.Checking.{record_values}
 use Rattle.written_form.specs.{Effect.Effect, Ranges.append}
-use Rattle.archive.specs.Archive.{archive_said, archive_refusal}
-use Rattle.seal_archive.specs.Suppress.{growth}
+use Rattle.archive.specs.Archive.{archive_refusal}
 
--- the bytes are accepted; n operations begin at this offset
-pub record AtOperations (s : List ℕ) (first n : ℕ) : Type 0 where
-  pub accepted : archive_refusal s ≡ 0
+-- no check refuses these bytes; h is their header, and their operations begin at this offset
+pub record IsAccepted (s : List ℕ) (h : Record) (first : ℕ) : Type 0 where
+  pub in_range : Bytes s
+  pub passes : archive_refusal s ≡ 0
+  pub header : h ≡ record_values header_layout s
   pub begins : first ≡ fields_end (length header_layout) s 0
-  pub counted : n ≡ length (archive_said s).operations
-
--- these operations, and m pairs that begin at this offset
-pub record AtPairs (s : List ℕ) (first n at m : ℕ) : Type 0 where
-  pub operations : AtOperations s first n
-  pub begins : at ≡ fields_end n s first + 3
-  pub counted : m ≡ length (archive_said s).pairs
-
--- the header of these bytes is h, their operations begin at this offset, k is the number of one of them, and an output
--- of this length has the room that is asked for
-pub record Suppressible (s : List ℕ) (h : Record) (first k room : ℕ) : Type 0 where
-  pub operations : AtOperations s first h.count
-  pub header : read_fields header_layout empty_record s 0 ≡ found h first
-  pub low : 1 ≤ k
-  pub high : k ≤ h.count
-  pub fits : length s + growth ≤ room
 
 -- a range of s appended, and then a field in the place of one of s
 unfoldable pub replaced : List ℕ → ℕ → ℕ → List ℕ → Effect → Effect

@@ -15,8 +15,8 @@ returns-then-output-lt-GROWTH c =
       | then-output-lt-GROWTH-via-else-output-lt-GROWTH+then-output-s w ↦ omega arith
     ])
 
-pub returns-in_err-check_archive : goal.returns-in_err-check_archive
+pub returns-in_err-of : goal.returns-in_err-of
 unfolding refuse_archive
-returns-in_err-check_archive c =
+returns-in_err-of c =
     let p = err_from_is_err_and c.from_residual.result c.from_residual.ensures.1 in
-    rw (p.1, p.2) (archive_refused _ _ _ (omega arith) _ c.in_err-check_archive.ensures)
+    rw (p.1, p.2) (archive_refused _ _ _ (omega arith) _ c.in_err-of.ensures)
