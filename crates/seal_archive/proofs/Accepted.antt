@@ -1,6 +1,6 @@
 -- What accepted bytes say.
 -- `said_read`, `header_found`: they are read as the archive that they say, and what their header is.
--- `stored`, `laid`: they are its stored form, no check refuses its values, and where its fields stand.
+-- `said_stored`, `stored`, `laid`: they are its stored form, no check refuses its values, and where its fields stand.
 -- `header_curve`, `header_seal`, `header_counted`: the header has its curve and its seal, and counts its operations.
 use Prim.Native.Nat.{ℕ}
 use mathlib.Core.Path.{◌≡◌, sym, ap, ap₂, ◌∙◌}
@@ -24,7 +24,7 @@ module _ (s : List ℕ) (b : Bytes s) (e : archive_refusal s ≡ 0) where
   pub said_read : (end : ℕ) × (read_archive s ≡ found (archive_said s) end)
   said_read = let f = archive_found s e in (f.1, f.2 ∙ ap (λ (a : Archive). found a f.1) (sym (said_is s f.2)))
 
-  said_stored : (s ≡ archive_bytes (archive_said s)) × Storable (archive_said s)
+  pub said_stored : (s ≡ archive_bytes (archive_said s)) × Storable (archive_said s)
   said_stored = let w = archive_written s b said_read.1 in (w.0, w.2)
 
   -- its header, as it is read

@@ -14,7 +14,7 @@ use Rattle.std.specs.Prelude.{Result, Ok, Err}
 use Rattle.std.specs.Result.{IsOk}
 use Rattle.refusals.specs.{Refusals.number, declared.Refusal.Refusal}
 use Rattle.jacobian.specs.Checks.{unless, ◌or_else◌}
-use Rattle.stored_form.specs.{Number.Bytes, Reading.Reading, Reading.found, Reading.refused, Reading.checked, Reading.reading_refusal, Cuts.fields_end, Reader.header_layout, declared.Record.Record}
+use Rattle.stored_form.specs.{Number.Bytes, Reading.Reading, Reading.found, Reading.refused, Reading.checked, Reading.reading_refusal, Cuts.fields_end, Reader.header_layout}
 use Rattle.binary_field.proofs.Refusing.{number_positive}
 use Rattle.stored_form.proofs.Readings.{then_found, then_refused, checked_none, checked_some, same_found}
 use Rattle.stored_form_theorems.specs.Checking.{record_values}
@@ -24,7 +24,7 @@ use Rattle.archive_theorems.specs.Written.{archive_bytes}
 use Rattle.suppression_theory.specs.Archives.{held, suppressed}
 use Rattle.seal_archive.specs.Suppress.{written_effect, length_written, refuse_archive, write_archive, put_archive, growth, suppress_refusal, suppress_archive, suppress_call}
 use Rattle.seal_archive.specs.internal.Accepted.{IsAccepted}
-use Rattle.seal_archive.proofs.Accepted.{said_read, header_found, header_counted}
+use Rattle.seal_archive.proofs.Accepted.{said_read, header_found}
 
 refused_read : {A : Type 0} (x : Reading A) → ¬ (reading_refusal x ≡ 0) → x ≡ refused (reading_refusal x)
 refused_read (found a next) z = absurd (z refl)
@@ -50,15 +50,12 @@ module _ (s : List ℕ) (k : ℕ) (out : List ℕ) where
     pub archive_refused : (r : Refusal) → number r ≡ archive_refusal s → refuse_archive (number r) out ≡ suppress_call s k out
     archive_refused r e = unread e (number_positive r)
 
-    module _ {h : Record} {first : ℕ} (accepted : IsAccepted s h first) where
+    module _ (b : Bytes s) (accepted : archive_refusal s ≡ 0) where
       abbrev a : Archive
       a = archive_said s
 
       read : (end : ℕ) × (read_archive s ≡ found a end)
-      read = said_read s accepted.in_range accepted.passes
-
-      counted : h.count ≡ length a.operations
-      counted = header_counted accepted
+      read = said_read s b accepted
 
       by_number : {n : ℕ} → suppress_refusal k a ≡ n → suppress_call s k out ≡ put_archive (checked n (found (suppressed k a) read.0)) out
       unfolding suppress_call suppress_archive
@@ -71,20 +68,20 @@ module _ (s : List ℕ) (k : ℕ) (out : List ℕ) where
       below_first h = sym (by_number (rw (lt-leb 1 k h) refl) ∙ ap (λ (x : Reading Archive). put_archive x out) (checked_some 123 _ (λ e. omega arith)))
 
       module _ (low : 1 ≤ k) where
-        pub above_last : h.count < k → refuse_archive 123 out ≡ suppress_call s k out
+        pub above_last : length a.operations < k → refuse_archive 123 out ≡ suppress_call s k out
         unfolding suppress_refusal unless ◌or_else◌ put_archive
-        above_last above = sym (by_number (rw (le-leb 1 k low, lt-leb k (length a.operations) (omega (arith, counted, above))) refl) ∙ ap (λ (x : Reading Archive). put_archive x out) (checked_some 123 _ (λ e. omega arith)))
+        above_last h = sym (by_number (rw (le-leb 1 k low, lt-leb k (length a.operations) h) refl) ∙ ap (λ (x : Reading Archive). put_archive x out) (checked_some 123 _ (λ e. omega arith)))
 
-        module _ (high : k ≤ h.count) where
+        module _ (high : k ≤ length a.operations) where
           pub is_held : held k a ≡ true → refuse_archive 124 out ≡ suppress_call s k out
           unfolding suppress_refusal unless ◌or_else◌ put_archive
           is_held e =
-              sym (by_number (rw (le-leb 1 k low, le-leb k (length a.operations) (omega (arith, counted, high)), e) refl) ∙ ap (λ (x : Reading Archive). put_archive x out) (checked_some 124 _ (λ z. omega arith)))
+              sym (by_number (rw (le-leb 1 k low, le-leb k (length a.operations) high, e) refl) ∙ ap (λ (x : Reading Archive). put_archive x out) (checked_some 124 _ (λ z. omega arith)))
 
           pub accepted_writes : held k a ≡ false → write_archive (archive_bytes (suppressed k a)) out ≡ suppress_call s k out
           unfolding suppress_refusal unless ◌or_else◌ put_archive
           accepted_writes e =
-              sym (by_number (rw (le-leb 1 k low, le-leb k (length a.operations) (omega (arith, counted, high)), e) refl) ∙ ap (λ (x : Reading Archive). put_archive x out) (checked_none 0 _ refl))
+              sym (by_number (rw (le-leb 1 k low, le-leb k (length a.operations) high, e) refl) ∙ ap (λ (x : Reading Archive). put_archive x out) (checked_none 0 _ refl))
 
           pub suppresses : held k a ≡ false → {n : ℕ} {after : List ℕ} → effect n after ≡ write (archive_bytes (suppressed k a)) out → written_effect (length_written n) after ≡ suppress_call s k out
           unfolding write_archive write
