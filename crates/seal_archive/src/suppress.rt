@@ -60,7 +60,7 @@ fn seal_less(curve: Curve, seal: Class, a: Class, n: u64) -> Class
 fn holds(s: &[u8], at: usize, p: u64, k: u64) -> bool
     ensures { result ≡ (eqb (earlier p) k && not (eqb (length_at s.now at) 0)) }
 {
-    p % 65536 == k && head::length_at(s, at) != 0
+    pairs::earlier(p) == k && head::length_at(s, at) != 0
 }
 
 // Copies a range of the input to the output, and after it a field that replaces one.
@@ -127,7 +127,7 @@ impl<'a> Accepted<'a> {
         let mut number = self.header.count;
         for i in (0..m).rev() {
             let p = pairs::pair_at(self.bytes, end + 3, i);
-            let later = p / 65536;
+            let later = pairs::later(p);
             at = skipping::skip_fields(self.bytes, at, number - later);
             number = later;
             if holds(self.bytes, at, p, k) {

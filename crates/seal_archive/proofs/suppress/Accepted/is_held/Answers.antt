@@ -15,17 +15,19 @@ overflow_add-end c =
 
 pub overflow_sub-number : goal.overflow_sub-number
 overflow_sub-number c =
-    later_low c.args.self.now.accepted c.skip_fields-end.ensures c.length_at-m.ensures c.args.k c.loop-i.invariant c.loop-i-test.true c.pair_at-p.ensures
+    rw c.later-later.ensures (later_low c.args.self.now.accepted c.skip_fields-end.ensures c.length_at-m.ensures c.args.k c.loop-i.invariant c.loop-i-test.true c.pair_at-p.ensures)
 
 pub returns-then-holds : goal.returns-then-holds
 returns-then-holds c =
-    held_found c.args.self.now.accepted c.skip_fields-end.ensures c.length_at-m.ensures c.args.k c.loop-i.invariant c.loop-i-test.true c.pair_at-p.ensures c.skip_fields-at.ensures
+    let skipped = rw c.later-later.ensures at c.skip_fields-at.ensures in
+    held_found c.args.self.now.accepted c.skip_fields-end.ensures c.length_at-m.ensures c.args.k c.loop-i.invariant c.loop-i-test.true c.pair_at-p.ensures skipped
     (sym c.holds.ensures ∙ c.if-holds.true)
 
 pub loop-i-preserved : goal.loop-i-preserved
 loop-i-preserved c =
-    held_turn c.args.self.now.accepted c.skip_fields-end.ensures c.length_at-m.ensures c.args.k c.loop-i.invariant c.loop-i-test.true c.pair_at-p.ensures c.skip_fields-at.ensures
-    (sym c.holds.ensures ∙ c.if-holds.false)
+    let skipped = rw c.later-later.ensures at c.skip_fields-at.ensures in
+    rw c.later-later.ensures (held_turn c.args.self.now.accepted c.skip_fields-end.ensures c.length_at-m.ensures c.args.k c.loop-i.invariant c.loop-i-test.true c.pair_at-p.ensures skipped
+    (sym c.holds.ensures ∙ c.if-holds.false))
 
 pub returns : goal.returns
 returns c = held_none c.args.self.now.accepted c.skip_fields-end.ensures c.length_at-m.ensures c.args.k c.loop-i.invariant c.loop-i-test.false
