@@ -1,7 +1,7 @@
 -- Responses written into the lent output, and what a call does for what it reads.
 -- `put_written`, `put_refusal`: the effect of a response that fits, and of a refusal.
 -- `put_accepted`, `put_refused`: the same for a response that depends on a verdict.
--- `put_short`, `put_all`, `put_none`: the effect of a response as the code writes it.
+-- `put_short`, `put_all`: the effect of a response as the code writes it.
 -- `call_short`: an output that is too short is refused with 101.
 -- `call_refused`, `call_found`: a call whose record is refused, and one whose record is read.
 -- `answer_written`, `answer_refused`: a call whose response depends on a verdict.
@@ -49,17 +49,12 @@ module _ (v : Verdict) (xs out : List ℕ) where
 
 -- ---- a response as the code writes it
 
-module _ {r : Result (List ℕ) Refusal} (out : List ℕ) where
-  pub put_short : {bytes : List ℕ} {n : ℕ} → r ≡ Ok bytes → length out < length bytes → n ≡ 101 → effect n out ≡ put (response_of r) out
-  put_short {bytes} e h is = ap (λ (k : ℕ). effect k out) is ∙ put_over (bytes_response bytes) out h ∙ ap (λ (x : Result (List ℕ) Refusal). put (response_of x) out) (sym e)
+module _ (o : Response) (out : List ℕ) where
+  pub put_short : {n : ℕ} → length out < length o.bytes → n ≡ 101 → effect n out ≡ put o out
+  put_short h is = ap (λ (k : ℕ). effect k out) is ∙ put_over o out h
 
-  pub put_all : {bytes after : List ℕ} → r ≡ Ok bytes → length bytes ≤ length out → after ≡ bytes ++ drop (length bytes) out → effect (length bytes) after ≡ put (response_of r) out
-  put_all {bytes} e h f =
-      ap (effect (length bytes)) f ∙ sym (put_in (bytes_response bytes) out h) ∙ ap (λ (x : Result (List ℕ) Refusal). put (response_of x) out) (sym e)
-
-  pub put_none : {refusal : Refusal} {n : ℕ} → r ≡ Err refusal → n ≡ number refusal → effect n out ≡ put (response_of r) out
-  unfolding refuse
-  put_none is e = ap (λ (k : ℕ). effect k out) e ∙ sym (put_refusal _ out) ∙ ap (λ (x : Result (List ℕ) Refusal). put (response_of x) out) (sym is)
+  pub put_all : {after : List ℕ} → length o.bytes ≤ length out → after ≡ o.bytes ++ drop (length o.bytes) out → effect o.answer after ≡ put o out
+  put_all h f = ap (effect o.answer) f ∙ sym (put_in o out h)
 
 -- ---- a call
 

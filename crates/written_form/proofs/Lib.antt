@@ -3,6 +3,7 @@ pub mod Appending
 pub mod Effects
 pub mod Bytes
 pub mod Given
+pub mod Outputs
 pub mod Checking
 pub mod WroteOrRefused
 pub mod Wrote

@@ -1,6 +1,6 @@
 // The response of a call on byte areas, and the one function that writes it.
-ghost use Rattle.std.specs.Prelude.{◌≡◌, ◌+◌, ◌≤◌, ℕ, List, [], ◌++◌, length, take};
-ghost use Rattle.written_form.specs.Effect.{Response, room, read_call, on_reading, byte_call, effect, response_of, put};
+ghost use Rattle.std.specs.Prelude.{◌≡◌, ◌+◌, ◌-◌, ◌≤◌, ℕ, List, [], ◌++◌, length, take, drop, replicate};
+ghost use Rattle.written_form.specs.Effect.{Response, room, read_call, on_reading, byte_call, effect, response, response_of, put};
 ghost use Rattle.stored_form.specs.{Head.class_room, Reader.reading_of};
 ghost use Rattle.stored_form.specs.declared.Record.{Record};
 
@@ -18,19 +18,32 @@ pub const REGISTER_ROOM: usize = COUNT_ROOM + COUNT_ROOM + stored_form::CLASS_RO
 // The most bytes that a response has.
 pub const ROOM: usize = REGISTER_ROOM;
 
-// The bytes that a call writes at the start of the lent output: the first len of the array.
-#[derive(Drop)]
+// The bytes that a call writes at the start of the lent output: the first len of the array, which is 0 after them, so that
+// they determine it and an output is Copy.
+#[derive(Clone, Copy)]
 pub struct Output {
     len: usize,
     bytes: [u8; ROOM],
 }
 
 impl Model for Output {
+    ghost use Rattle.std.specs.Prelude.{◌≡◌, ◌-◌, ◌≤◌, ℕ, List, ◌++◌, length, take, drop, replicate};
+    ghost use Rattle.std.proofs.lemmas.List.{length-take-le, take-append-drop};
+    ghost use mathlib.Core.Path.{sym, ap, ◌∙◌};
+    ghost use Rattle.written_form.specs.Effect.{room};
+
     ghost Value = { List ℕ };
 
     ghost view = { λ o. take o.len o.bytes };
 
-    ghost invariant = { λ o. o.len ≤ room };
+    ghost invariant = { λ o. (o.len ≤ room) × (o.len ≤ length o.bytes) × (drop o.len o.bytes ≡ replicate (room - o.len) 0) };
+
+    ghost inverse = { λ bytes. record { len = length bytes; bytes = bytes ++ replicate (room - length bytes) 0 } };
+
+    ghost inverse_ok = { λ o h i. record {
+      len = length-take-le o.len o.bytes h.1 i;
+      bytes = (ap (λ (n : ℕ). take o.len o.bytes ++ replicate (room - n) 0) (length-take-le o.len o.bytes h.1) ∙ ap (λ (l : List ℕ). take o.len o.bytes ++ l) (sym h.2) ∙ take-append-drop o.len o.bytes) i;
+    } };
 }
 
 impl Output {
@@ -72,21 +85,28 @@ pub fn read_call(has: usize, least: usize, tags: &[u8], input: &[u8]) -> Result<
     stored_form::read_record(tags, input)
 }
 
-// Writes a response's bytes at the start of the output and answers their length; a refusal answers its number.
-// If the output is too short for the bytes, nothing is written and the answer is 101.
-pub fn put(response: Result<Output, Refusal>, output: &mut [u8]) -> u32
+// Writes bytes at the start of the output and answers `answer`.
+// If the output is too short for them, nothing is written and the answer is 101.
+pub fn put(answer: u32, bytes: &[u8], output: &mut [u8]) -> u32
+    ensures { effect result output.new ≡ put (response answer bytes.now) output.old }
+{
+    if output.len() < bytes.len() {
+        return Refusal::OutputTooShort.number();
+    }
+    ranges::copy(bytes, output);
+    answer
+}
+
+// Writes what a call responds: its bytes, with their length as the answer; a refusal writes none and answers its number.
+pub fn put_response(response: Result<Output, Refusal>, output: &mut [u8]) -> u32
     ensures { effect result output.new ≡ put (response_of response) output.old }
 {
     match response {
         Ok(written) => {
             let bytes = written.bytes();
-            if output.len() < bytes.len() {
-                return Refusal::OutputTooShort.number();
-            }
-            ranges::copy(bytes, output);
-            bytes.len() as u32
+            put(bytes.len() as u32, bytes, output)
         }
-        Err(refusal) => refusal.number(),
+        Err(refusal) => put(refusal.number(), &[], output),
     }
 }
 
@@ -124,7 +144,7 @@ pub fn byte_call<C: ByteCall + Copy>(
 ) -> u32
     ensures { effect result output.new ≡ byte_call least tags.now (C.response call) input.now output.old }
 {
-    put(answer_read(call, output.len(), least, tags, input), output)
+    put_response(answer_read(call, output.len(), least, tags, input), output)
 }
 
 // A call that answers a class.
