@@ -25,8 +25,8 @@ pub const LINE: usize = 320;
 // It has no invariant: its definitions take any length, by `take`.
 #[derive(Clone, Copy)]
 pub struct Line {
-    len: usize,
-    bytes: [u8; LINE],
+    pub len: usize,
+    pub bytes: [u8; LINE],
 }
 
 // A push says what it appends. `write!` may fail, and says nothing after an Err, so a line is no `fmt::Write`.
