@@ -58,11 +58,12 @@ pub fn unary_rows(op: Unary, d: u8, f: Row, a: RowPair) -> Option<CountedRows>
 
 // The operation on two pairs, or `None` where one is no divisor. The half of the first less the second is the only
 // divisor that doubled, plus the second, is the first.
+// The second is checked first: where an operation's class is refused, the seal, mostly valid, costs no division.
 pub fn binary_rows(op: Binary, d: u8, f: Row, a: RowPair, b: RowPair) -> Option<CountedRows>
     ensures { BinaryAnswers op d f a b result }
 {
     let curve = Curve::of_row(d, f)?;
-    let w = curve.cofactor_of_divisor(a)?;
     curve.cofactor_of_divisor(b)?;
+    let w = curve.cofactor_of_divisor(a)?;
     Some(curve.binary(op, a, w, b))
 }
