@@ -2,7 +2,7 @@
 // A case is a byte for the call, a byte for the degree, and numbers of eight bytes each, high byte first.
 #![tactic(auto)]
 
-ghost use Rattle.std.specs.Prelude.{◌≤◌, ◌<◌, ◌≡◌, ◌+◌, ◌*◌, get_or, length, take, IfOk, IfErr, OnOk, ℕ, List, Option, ⊤};
+ghost use Rattle.std.specs.Prelude.{◌≤◌, ◌<◌, ◌≡◌, ◌+◌, ◌*◌, get_or, length, take, IfOk, IfErr, OnOk, ℕ, List, Option};
 ghost use Rattle.std.specs.Io.{ReadsAtMost};
 ghost use Rattle.std.specs.Io.KnownBytes.{Appends, Consumes, IsAtEnd};
 ghost use Rattle.text.specs.Failures.{AppendsFront, ConsumesFront};
@@ -103,12 +103,15 @@ fn offset(place: u8) -> usize
 
 // A program that answers cases.
 pub trait Trial {
-    // The lines that may answer a case in a state, and the states after it; unless a trial says it, any.
-    ghost answers: { Self → List ℕ → Option TheLine → Self → Type 0 } = { λ _ _ _ _. ⊤ };
+    // The line that answers a case in a state; none where the case has none.
+    ghost line_of: { Self → List ℕ → Option TheLine };
+
+    // The state after a case.
+    ghost after: { Self → List ℕ → Self };
 
     // The line that answers a case; none where it has none.
     fn answer(&mut self, case: Case) -> Option<Line>
-        ensures { answers self.old case.entry.bytes.now result self.new };
+        ensures { (result ≡ line_of self.old case.entry.bytes.now) × (self.new ≡ after self.old case.entry.bytes.now) };
 
     // Reads case after case into a room of a case's size and writes their lines, until the input has none left.
     // A proved loop has to end, and the input need not: the turns are counted, up to a number that no run uses up.
@@ -118,7 +121,7 @@ pub trait Trial {
         input: &mut R,
         out: &mut W,
     ) -> io::Result<()>
-        ensures { OnOk result (Ran answers (length room.old) self.old self.new (R.remaining input.old) (R.remaining input.new) (W.contents out.old) (W.contents out.new)) }
+        ensures { OnOk result (Ran line_of after (length room.old) self.old self.new (R.remaining input.old) (R.remaining input.new) (W.contents out.old) (W.contents out.new)) }
     {
         for _ in 0..u64::MAX {
             if read_case(input, out, room)? < room.len() {
