@@ -7,6 +7,11 @@
 // `cut short`.
 #![tactic(auto)]
 
+ghost use Rattle.std.specs.Prelude.{◌≡◌};
+ghost use Rattle.binary_field.specs.Answer.{reply, solution_reply};
+ghost use Rattle.text.specs.Line.{with_bytes};
+ghost use Rattle.element_trial.specs.Answers.{reply_text, root_text, line_of};
+
 use refusals::Refusal;
 use std::io;
 use text::Line;
@@ -17,6 +22,11 @@ use trial_text::{Case, Trial};
 struct Elements;
 
 impl Trial for Elements {
+    ghost line_of = { λ _ case. line_of case };
+
+    ghost after = { λ elements _. elements };
+
+    #[tactic(auto, unfolding(crate::specs::Answers::call_text))]
     fn answer(&mut self, case: Case) -> Option<Line> {
         let (d, a, b) = (case.degree(), case.number(0), case.number(1));
         let mut line = Line::new();
@@ -36,7 +46,9 @@ impl Trial for Elements {
 
 // Appends an element, or its refusal.
 // Each trial has a `push_answer` of its own, since what an answer appends differs.
-fn push_answer(line: &mut Line, answer: Result<u64, Refusal>) {
+fn push_answer(line: &mut Line, answer: Result<u64, Refusal>)
+    ensures { line.new ≡ with_bytes line.old (reply_text (reply answer)) }
+{
     match answer {
         Ok(element) => line.push_hexadecimal(element),
         Err(refusal) => line.push_refusal(refusal.number()),
@@ -44,7 +56,9 @@ fn push_answer(line: &mut Line, answer: Result<u64, Refusal>) {
 }
 
 // Appends a root of the quadratic equation, that there is none, or its refusal.
-fn push_root(line: &mut Line, answer: Result<Option<u64>, Refusal>) {
+fn push_root(line: &mut Line, answer: Result<Option<u64>, Refusal>)
+    ensures { line.new ≡ with_bytes line.old (root_text (solution_reply answer)) }
+{
     match answer {
         Ok(Some(root)) => line.push_hexadecimal(root),
         Ok(None) => line.push_bytes(b"no root"),

@@ -1,0 +1,2 @@
+-- What the trial of the calls on elements answers.
+pub mod Answers
