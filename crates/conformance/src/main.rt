@@ -20,6 +20,12 @@
 // `cut short`.
 #![tactic(auto)]
 
+ghost use Rattle.std.specs.Prelude.{◌≡◌};
+ghost use Rattle.jacobian.specs.Answer.{verdict, reply};
+ghost use Rattle.seal_licence.specs.Multiples.{class_result};
+ghost use Rattle.text.specs.Line.{with_bytes};
+ghost use Rattle.conformance.specs.Answers.{verdict_text, result_text, reply_text, counted_text, half_of_double, double_of_half, line_of};
+
 use jacobian::{Class, CountedClass, Curve};
 use refusals::Refusal;
 use seal_licence::multiples;
@@ -32,6 +38,11 @@ use trial_text::{Case, Trial};
 struct Classes;
 
 impl Trial for Classes {
+    ghost line_of = { λ _ case. line_of case };
+
+    ghost after = { λ classes _. classes };
+
+    #[tactic(auto, unfolding(crate::specs::Answers::call_text))]
     fn answer(&mut self, case: Case) -> Option<Line> {
         let (curve, a, b) = (case.curve(), case.class(3), case.class(10));
         let mut line = Line::new();
@@ -59,7 +70,9 @@ impl Trial for Classes {
 }
 
 // Appends that a call accepted, or its refusal.
-fn push_accepted(line: &mut Line, answer: Result<(), Refusal>) {
+fn push_accepted(line: &mut Line, answer: Result<(), Refusal>)
+    ensures { line.new ≡ with_bytes line.old (verdict_text (verdict answer)) }
+{
     match answer {
         Ok(()) => line.push_bytes(b"accepted"),
         Err(refusal) => line.push_refusal(refusal.number()),
@@ -67,7 +80,9 @@ fn push_accepted(line: &mut Line, answer: Result<(), Refusal>) {
 }
 
 // Appends a class, or its refusal.
-fn push_class(line: &mut Line, answer: Result<Class, Refusal>) {
+fn push_class(line: &mut Line, answer: Result<Class, Refusal>)
+    ensures { line.new ≡ with_bytes line.old (result_text (class_result answer)) }
+{
     match answer {
         Ok(class) => line.push_class(class.degree, class.u, class.v, class.degree),
         Err(refusal) => line.push_refusal(refusal.number()),
@@ -76,12 +91,17 @@ fn push_class(line: &mut Line, answer: Result<Class, Refusal>) {
 
 // Appends a class without its number of reduction steps, or its refusal.
 // Each trial has a `push_answer` of its own, since what an answer appends differs.
-fn push_answer(line: &mut Line, answer: Result<CountedClass, Refusal>) {
+fn push_answer(line: &mut Line, answer: Result<CountedClass, Refusal>)
+    ensures { line.new ≡ with_bytes line.old (reply_text (reply answer)) }
+{
     push_class(line, answer.map(|counted| counted.class));
 }
 
 // Appends a class with its number of reduction steps, or its refusal.
-fn push_counted(line: &mut Line, answer: Result<CountedClass, Refusal>) {
+#[tactic(auto, using(text::proofs::Appending::both))]
+fn push_counted(line: &mut Line, answer: Result<CountedClass, Refusal>)
+    ensures { line.new ≡ with_bytes line.old (counted_text (reply answer)) }
+{
     push_answer(line, answer);
     if let Ok(counted) = answer {
         line.push(b' ');
@@ -90,12 +110,18 @@ fn push_counted(line: &mut Line, answer: Result<CountedClass, Refusal>) {
 }
 
 // The half of the double, or the refusal of the double.
-fn half_of_double(curve: Curve, class: Class) -> Result<CountedClass, Refusal> {
+#[tactic(auto, unfolding(crate::specs::Answers::half_of_double))]
+fn half_of_double(curve: Curve, class: Class) -> Result<CountedClass, Refusal>
+    ensures { reply result ≡ half_of_double curve class }
+{
     jacobian::half(curve, jacobian::double(curve, class)?.class)
 }
 
 // The double of the half, or the refusal of the half.
-fn double_of_half(curve: Curve, class: Class) -> Result<CountedClass, Refusal> {
+#[tactic(auto, unfolding(crate::specs::Answers::double_of_half))]
+fn double_of_half(curve: Curve, class: Class) -> Result<CountedClass, Refusal>
+    ensures { reply result ≡ double_of_half curve class }
+{
     jacobian::double(curve, jacobian::half(curve, class)?.class)
 }
 

@@ -1,0 +1,2 @@
+-- What the trial of the calls on classes answers.
+pub mod Answers

@@ -1,0 +1,2 @@
+-- What the trial of the calls on a register answers.
+pub mod Answers
