@@ -4,7 +4,7 @@ use Rattle.std.proofs.Common.{ℕ, ◌≡◌, ◌<◌, ◌≤◌, List, eqb, con
 use Rattle.std.specs.Prelude.{codes}
 use Rattle.std.proofs.lemmas.Bool.Decides.{eqb_tells}
 use Rattle.jacobian.specs.declared.{Curve.Curve, Class.Class}
-use Rattle.conformance.specs.Answers.{call_text}
+use Rattle.conformance.specs.Texts.{call_text}
 
 skipped : (call k : ℕ) (x y : List ℕ) → (call ≡ k → ⊥) → cond (eqb call k) x y ≡ y
 skipped call k x y other = elim (eqb_tells call k) [ inl w ↦ absurd (other w.1) | inr w ↦ ap (λ b. cond b x y) w.0 ]

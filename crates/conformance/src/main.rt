@@ -20,11 +20,12 @@
 // `cut short`.
 #![tactic(auto)]
 
-ghost use Rattle.std.specs.Prelude.{◌≡◌};
+ghost use Rattle.std.specs.Prelude.{◌≡◌, Some};
 ghost use Rattle.jacobian.specs.Answer.{verdict, reply};
 ghost use Rattle.seal_licence.specs.Multiples.{class_result};
 ghost use Rattle.text.specs.Line.{with_bytes};
-ghost use Rattle.conformance.specs.Answers.{verdict_text, result_text, reply_text, counted_text, half_of_double, double_of_half, line_of};
+ghost use Rattle.conformance.specs.Texts.{verdict_text, result_text, reply_text, counted_text, half_of_double, double_of_half, case_text};
+ghost use Rattle.conformance.specs.internal.Lengths.{text_short};
 
 use jacobian::{Class, CountedClass, Curve};
 use refusals::Refusal;
@@ -38,11 +39,11 @@ use trial_text::{Case, Trial};
 struct Classes;
 
 impl Trial for Classes {
-    ghost line_of = { λ _ case. line_of case };
+    ghost text_of = { λ _ case. Some (case_text case) };
 
     ghost after = { λ classes _. classes };
 
-    #[tactic(auto, unfolding(crate::specs::Answers::call_text))]
+    #[tactic(auto, unfolding(crate::specs::Texts::call_text))]
     fn answer(&mut self, case: Case) -> Option<Line> {
         let (curve, a, b) = (case.curve(), case.class(3), case.class(10));
         let mut line = Line::new();
@@ -67,6 +68,8 @@ impl Trial for Classes {
         }
         Some(line)
     }
+
+    ghost has_room = { λ _ case. text_short case };
 }
 
 // Appends that a call accepted, or its refusal.
@@ -110,7 +113,7 @@ fn push_counted(line: &mut Line, answer: Result<CountedClass, Refusal>)
 }
 
 // The half of the double, or the refusal of the double.
-#[tactic(auto, unfolding(crate::specs::Answers::half_of_double))]
+#[tactic(auto, unfolding(crate::specs::Texts::half_of_double))]
 fn half_of_double(curve: Curve, class: Class) -> Result<CountedClass, Refusal>
     ensures { reply result ≡ half_of_double curve class }
 {
@@ -118,7 +121,7 @@ fn half_of_double(curve: Curve, class: Class) -> Result<CountedClass, Refusal>
 }
 
 // The double of the half, or the refusal of the half.
-#[tactic(auto, unfolding(crate::specs::Answers::double_of_half))]
+#[tactic(auto, unfolding(crate::specs::Texts::double_of_half))]
 fn double_of_half(curve: Curve, class: Class) -> Result<CountedClass, Refusal>
     ensures { reply result ≡ double_of_half curve class }
 {

@@ -7,10 +7,11 @@
 // `cut short`.
 #![tactic(auto)]
 
-ghost use Rattle.std.specs.Prelude.{◌≡◌};
+ghost use Rattle.std.specs.Prelude.{◌≡◌, Some};
 ghost use Rattle.binary_field.specs.Answer.{reply, solution_reply};
 ghost use Rattle.text.specs.Line.{with_bytes};
-ghost use Rattle.element_trial.specs.Answers.{reply_text, root_text, line_of};
+ghost use Rattle.element_trial.specs.Texts.{reply_text, root_text, case_text};
+ghost use Rattle.element_trial.specs.internal.Lengths.{text_short};
 
 use refusals::Refusal;
 use std::io;
@@ -22,11 +23,11 @@ use trial_text::{Case, Trial};
 struct Elements;
 
 impl Trial for Elements {
-    ghost line_of = { λ _ case. line_of case };
+    ghost text_of = { λ _ case. Some (case_text case) };
 
     ghost after = { λ elements _. elements };
 
-    #[tactic(auto, unfolding(crate::specs::Answers::call_text))]
+    #[tactic(auto, unfolding(crate::specs::Texts::call_text))]
     fn answer(&mut self, case: Case) -> Option<Line> {
         let (d, a, b) = (case.degree(), case.number(0), case.number(1));
         let mut line = Line::new();
@@ -42,6 +43,8 @@ impl Trial for Elements {
         }
         Some(line)
     }
+
+    ghost has_room = { λ _ case. text_short case };
 }
 
 // Appends an element, or its refusal.

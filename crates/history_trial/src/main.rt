@@ -18,7 +18,8 @@ ghost use Rattle.std.specs.Prelude.{◌≡◌, [], ◌∷◌};
 ghost use Rattle.jacobian.specs.{Answer.neutral_class, Curves.curve_with};
 ghost use Rattle.history.specs.Register.{register_reply};
 ghost use Rattle.text.specs.Line.{with_bytes};
-ghost use Rattle.history_trial.specs.Answers.{counts_text, spaced_class, reply_text, register_text, started, line_of, after};
+ghost use Rattle.history_trial.specs.Texts.{counts_text, spaced_class, reply_text, register_text, started, case_text, case_register};
+ghost use Rattle.history_trial.specs.internal.Lengths.{text_short};
 
 use history::{Register, RegisterAnswer};
 use jacobian::Class;
@@ -33,11 +34,11 @@ struct Registers {
 }
 
 impl Trial for Registers {
-    ghost line_of = { λ trial case. line_of trial.register case };
+    ghost text_of = { λ trial case. case_text trial.register case };
 
-    ghost after = { λ trial case. record { register = after trial.register case } };
+    ghost after = { λ trial case. record { register = case_register trial.register case } };
 
-    #[tactic(auto, unfolding(crate::specs::Answers::call_line, crate::specs::Answers::register_after))]
+    #[tactic(auto, unfolding(crate::specs::Texts::call_text, crate::specs::Texts::register_after))]
     fn answer(&mut self, case: Case) -> Option<Line> {
         let mut line = Line::new();
         // The byte is the input's format, so the calls are no enum.
@@ -54,6 +55,8 @@ impl Trial for Registers {
         }
         Some(line)
     }
+
+    ghost has_room = { λ trial case. text_short trial.register case };
 }
 
 impl Registers {
@@ -76,7 +79,7 @@ impl Registers {
 }
 
 // The register that a case starts.
-#[tactic(auto, unfolding(crate::specs::Answers::started))]
+#[tactic(auto, unfolding(crate::specs::Texts::started))]
 fn started(case: Case) -> Register
     ensures { result ≡ started case.entry.bytes.now }
 {
@@ -89,7 +92,7 @@ fn started(case: Case) -> Register
 }
 
 // Appends the count and the released step.
-#[tactic(auto, using(text::proofs::Appending::both), unfolding(crate::specs::Answers::counts_text))]
+#[tactic(auto, using(text::proofs::Appending::both), unfolding(crate::specs::Texts::counts_text))]
 fn push_counts(line: &mut Line, register: Register)
     ensures { line.new ≡ with_bytes line.old (counts_text register) }
 {
@@ -99,7 +102,7 @@ fn push_counts(line: &mut Line, register: Register)
 }
 
 // Appends a blank and a class, of u and v the coefficients below x^n.
-#[tactic(auto, using(text::proofs::Appending::both), unfolding(crate::specs::Answers::spaced_class))]
+#[tactic(auto, using(text::proofs::Appending::both), unfolding(crate::specs::Texts::spaced_class))]
 fn push_class(line: &mut Line, class: Class, n: u64)
     ensures { line.new ≡ with_bytes line.old (spaced_class class n) }
 {
@@ -108,7 +111,7 @@ fn push_class(line: &mut Line, class: Class, n: u64)
 }
 
 // Appends all numbers of a register.
-#[tactic(auto, using(text::proofs::Appending::both), unfolding(crate::specs::Answers::register_text, crate::specs::Answers::lowest_first))]
+#[tactic(auto, using(text::proofs::Appending::both), unfolding(crate::specs::Texts::register_text, crate::specs::Texts::lowest_first))]
 fn push_register(line: &mut Line, register: Register)
     ensures { line.new ≡ with_bytes line.old (register_text register) }
 {

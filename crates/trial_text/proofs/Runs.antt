@@ -1,7 +1,7 @@
 -- A run of a trial, as its loop goes on.
 -- `begun`: before the first turn; `turned`: after one more; `over`: what was read last is no whole case; `out`: the last
 -- turn was made.
-use Rattle.std.proofs.Common.{ℕ, ◌≡◌, ◌≤◌, ◌<◌, ◌+◌, ◌-◌, List, [], ◌∷◌, ◌++◌, length, take, All, Option, refl, sym, ap, ◌∙◌, subst, take_all, append-nil, append_assoc, length-append, arith, inl, inr}
+use Rattle.std.proofs.Common.{ℕ, ◌≡◌, ◌≤◌, ◌<◌, ◌+◌, ◌-◌, List, [], ◌∷◌, ◌++◌, length, take, All, Option, None, Some, refl, sym, ap, ◌∙◌, subst, take_all, append-nil, append_assoc, length-append, arith, inl, inr}
 use Rattle.std.specs.Prelude.{fold}
 use Rattle.std.specs.List.{concat}
 use Rattle.std.specs.Io.KnownBytes.{Appends, Consumes, IsAtEnd}
@@ -12,9 +12,10 @@ use Rattle.std.proofs.lemmas.List.Elements.{All-push}
 use borrow.Author.Tests.{le-ltb}
 use lib.Dec.{ltb}
 use mathlib.Core.Bool.{Bool, true, false, cond}
-use Rattle.text.specs.declared.Line.{Line}
+use Rattle.text.specs.{Line.line_room, Line.in_line, Line.with_bytes, declared.Line.Line}
+use Rattle.text.proofs.Appending.{both, laid, line_bytes}
 use Rattle.trial_text.specs.Cases.{cut_short, cut_short_line}
-use Rattle.trial_text.specs.Runs.{written_lines, written_for, most_turns, Ran}
+use Rattle.trial_text.specs.Runs.{HasRoom, line_with, ended, lines, most_turns, Ran}
 
 -- of a whole case nothing is told
 told_none : (n size : ℕ) → size ≤ n → cut_short n size ≡ []
@@ -24,16 +25,29 @@ told_none n size h = go (ltb 0 n) (ltb n size) (le-ltb n size h)
     go true b e = rw e
     go false b e = refl
 
-module _ {T : Type 0} (line_of : T → List ℕ → Option Line) (after : T → List ℕ → T) where
+-- the bytes of a text's line, ended by a line feed, are the text and a line feed
+pub told_line : (said : Option (List ℕ)) (line : Line) → HasRoom said → Some line ≡ line_with said → let full = with_bytes line (0x0A ∷ []) in take full.len full.bytes ≡ ended said
+told_line None line room e = cc
+told_line (Some text) line room e =
+    let same : line ≡ with_bytes (in_line []) text = cc in
+    let fits : length (text ++ 0x0A ∷ []) ≤ line_room = omega (arith, length-append text (0x0A ∷ [])) in
+    rw (same, both text (0x0A ∷ []) (in_line []), laid (text ++ 0x0A ∷ []) fits) (line_bytes (text ++ 0x0A ∷ []))
+
+-- where no line answers, nothing is written
+pub told_nothing : (said : Option (List ℕ)) → None ≡ line_with said → [] ≡ ended said
+told_nothing None e = refl
+told_nothing (Some text) e = cc
+
+module _ {T : Type 0} (text_of : T → List ℕ → Option (List ℕ)) (after : T → List ℕ → T) where
   -- one case more is answered in the state that the cases before it lead to
-  lines_more : (s : T) (cases : List (List ℕ)) (case : List ℕ) → written_lines line_of after s (cases ++ case ∷ []) ≡ written_lines line_of after s cases ++ written_for (line_of (fold after s cases) case)
+  lines_more : (s : T) (cases : List (List ℕ)) (case : List ℕ) → lines text_of after s (cases ++ case ∷ []) ≡ lines text_of after s cases ++ ended (text_of (fold after s cases) case)
   lines_more s [] case = append-nil _
-  lines_more s (c ∷ cases) case = ap (λ l. written_for (line_of s c) ++ l) (lines_more (after s c) cases case) ∙ sym (append_assoc (written_for (line_of s c)) _ _)
+  lines_more s (c ∷ cases) case = ap (λ l. ended (text_of s c) ++ l) (lines_more (after s c) cases case) ∙ sym (append_assoc (ended (text_of s c)) _ _)
 
   -- so far a run read these cases
   pub record Going (size : ℕ) (start end : T) (given left held holds : Option (List ℕ)) (turns : ℕ) : Type 0 where
     pub cases : List (List ℕ)
-    pub written : Appends held holds (written_lines line_of after start cases)
+    pub written : Appends held holds (lines text_of after start cases)
     pub state : end ≡ fold after start cases
     pub taken : Consumes given left (concat cases)
     pub whole : All (λ case. length case ≡ size) cases
@@ -44,7 +58,7 @@ module _ {T : Type 0} (line_of : T → List ℕ → Option Line) (after : T → 
 
   module _ {size turns : ℕ} {start s : T} {given left rest held holds : Option (List ℕ)} (before : Going size start s given left held holds turns) where
     pub over : {now : Option (List ℕ)} (case : List ℕ) (n : ℕ) → length case ≡ size → n ≡ length (take n case) → n < size → IsAtEnd rest → Consumes left rest (take n case) → Appends holds now (cut_short n (length case))
-        → Ran line_of after size start s given rest held now
+        → Ran text_of after size start s given rest held now
     over {now} case n e some short end taken told =
         let told_here : Appends holds now (cut_short n size) = subst (λ k. Appends holds now (cut_short n k)) e told in
         let few : length (take n case) ≤ size - 1 = omega arith in (
@@ -60,9 +74,9 @@ module _ {T : Type 0} (line_of : T → List ℕ → Option Line) (after : T → 
           },
         )
 
-    pub turned : {t : T} {now : Option (List ℕ)} (case : List ℕ) (n : ℕ) (line : Option Line) (told : Option (List ℕ)) → length case ≡ size → length case ≤ n → Consumes left rest (take n case) → Appends holds told (cut_short n (length case))
-        → (line ≡ line_of s case) × (t ≡ after s case) → Appends told now (written_for line) → Going size start t given rest held now (turns + 1)
-    turned {t} {now} case n line told e all taken short (answered, next) more =
+    pub turned : {t : T} {now : Option (List ℕ)} (case : List ℕ) (n : ℕ) (bytes : List ℕ) (told : Option (List ℕ)) → length case ≡ size → length case ≤ n → Consumes left rest (take n case) → Appends holds told (cut_short n (length case))
+        → bytes ≡ ended (text_of s case) → t ≡ after s case → Appends told now bytes → Going size start t given rest held now (turns + 1)
+    turned {t} {now} case n bytes told e all taken short answered next more =
         let nothing : Appends holds told [] = subst (Appends holds told) (told_none n (length case) all) short in
         let one : Consumes left rest (concat (case ∷ [])) = rw append-nil (subst (Consumes left rest) (take_all n case all) taken) in
         let count : length (before.cases ++ case ∷ []) ≡ turns + 1 = rw (length-append before.cases (case ∷ [])) (ap (λ k. k + 1) before.counted) in
@@ -76,7 +90,7 @@ module _ {T : Type 0} (line_of : T → List ℕ → Option Line) (after : T → 
         }
 
   module _ {size turns : ℕ} {start s : T} {given left held holds : Option (List ℕ)} (before : Going size start s given left held holds turns) where
-    pub out : turns ≡ most_turns → Ran line_of after size start s given left held holds
+    pub out : turns ≡ most_turns → Ran text_of after size start s given left held holds
     out all = (
       before.cases,
       [],

@@ -1,7 +1,7 @@
 -- A turn that reads a whole case makes one more turn; any other ends the run, and so does the last turn.
 use Rattle.std.proofs.Common.{arith, rules, ◌≡◌, ◌<◌, ◌≤◌, length}
 use Rattle.std.proofs.KnownBytes.{Appends-nil}
-use Rattle.trial_text.proofs.Runs.{begun, over, turned, out}
+use Rattle.trial_text.proofs.Runs.{told_line, told_nothing, begun, over, turned, out}
 use Rattle.trial_text.proofs.Trial.run.Goals as goal
 use Rattle.trial_text.proofs.Trial.run.Goals.{in-Some+in_ok-write_to, in_default}
 
@@ -18,12 +18,12 @@ loop-preserved g c =
     elim c.match-answer.branch [
       | in-Some+in_ok-write_to w ↦ record {
         same_room = whole;
-        going = rw w.out-is (turned _ _ before case _ _ _ whole all read.taken read.told w.in-Some.ensures
+        going = rw w.out-is (turned _ _ before case _ _ _ whole all read.taken read.told (told_line (g.Self.Trial.text_of c.loop.self case) _ (g.met.Self.Trial.has_room c.loop.self case) w.in-Some.ensures.0) w.in-Some.ensures.1
             (rw w.push.ensures at w.in_ok-write_to.ensures.written));
       }
       | in_default w ↦ record {
         same_room = whole;
-        going = rw w.out-is (turned _ _ before case _ _ _ whole all read.taken read.told w.in_default.ensures (Appends-nil _));
+        going = rw w.out-is (turned _ _ before case _ _ _ whole all read.taken read.told (told_nothing (g.Self.Trial.text_of c.loop.self case) w.in_default.ensures.0) w.in_default.ensures.1 (Appends-nil _));
       }
     ]
 

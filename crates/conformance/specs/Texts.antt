@@ -1,10 +1,10 @@
--- The line that answers a case of the calls on classes, by its call byte.
-use Rattle.std.specs.Prelude.{ℕ, List, Option, Some, [], ◌∷◌, ◌++◌, cond, eqb, codes, get_or}
+-- The text that answers a case of the calls on classes, by its call byte.
+use Rattle.std.specs.Prelude.{ℕ, List, ◌∷◌, ◌++◌, cond, eqb, codes, get_or}
 use Rattle.jacobian.specs.Answer.{Verdict, accepted, refused, Result, Reply, result, curve_answer, membership_answer, opposite_answer, double_answer, half_answer, sum_answer, double_and_add_answer, subtract_and_halve_answer}
 use Rattle.jacobian.specs.{Curves.curve_with, declared.Curve.Curve, declared.Class.Class}
 use Rattle.stamps.specs.Stamps.{stamp_answer}
 use Rattle.seal_licence.specs.Multiples.{multiple_answer, halvings_answer}
-use Rattle.text.specs.{Line.in_line, Line.with_bytes, Text.decimal, Text.class_text, Text.refusal_text, declared.Line.Line}
+use Rattle.text.specs.Text.{decimal, class_text, refusal_text}
 use Rattle.trial_text.specs.Cases.{row_at, class_at}
 
 -- ---- texts
@@ -67,6 +67,6 @@ call_text call c a b =
     (cond (eqb call 15) (result_text (halvings_answer c a b.degree))
     (codes "no such call")))))))))))))))
 
--- the line that answers a case
-abbrev pub line_of : List ℕ → Option Line
-line_of case = Some (with_bytes (in_line []) (call_text (get_or case 0 0) (curve_with (get_or case 1 0) (row_at case 0)) (class_at case 3) (class_at case 10)))
+-- the text that answers a case
+abbrev pub case_text : List ℕ → List ℕ
+case_text case = call_text (get_or case 0 0) (curve_with (get_or case 1 0) (row_at case 0)) (class_at case 3) (class_at case 10)

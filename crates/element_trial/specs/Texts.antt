@@ -1,7 +1,7 @@
--- The line that answers a case of the calls on elements, by its call byte.
-use Rattle.std.specs.Prelude.{ℕ, List, Option, Some, [], cond, eqb, codes, get_or}
+-- The text that answers a case of the calls on elements, by its call byte.
+use Rattle.std.specs.Prelude.{ℕ, List, cond, eqb, codes, get_or}
 use Rattle.binary_field.specs.Answer.{Reply, element, refusal, QuadraticReply, found, no_root, refused, sum_reply, product_reply, square_reply, root_reply, inverse_reply, quadratic_reply}
-use Rattle.text.specs.{Line.in_line, Line.with_bytes, Text.hexadecimal, Text.refusal_text, declared.Line.Line}
+use Rattle.text.specs.Text.{hexadecimal, refusal_text}
 use Rattle.trial_text.specs.Cases.{number_at}
 
 -- an element in hexadecimal, or the refusal
@@ -26,6 +26,6 @@ call_text call d a b =
     (cond (eqb call 6) (root_text (quadratic_reply d a))
     (codes "no such call"))))))
 
--- the line that answers a case
-abbrev pub line_of : List ℕ → Option Line
-line_of case = Some (with_bytes (in_line []) (call_text (get_or case 0 0) (get_or case 1 0) (number_at case 0) (number_at case 1)))
+-- the text that answers a case
+abbrev pub case_text : List ℕ → List ℕ
+case_text case = call_text (get_or case 0 0) (get_or case 1 0) (number_at case 0) (number_at case 1)

@@ -1,9 +1,9 @@
--- The line that answers a case of the calls on a register, and the register after it, by the call byte.
+-- The text that answers a case of the calls on a register, and the register after it, by the call byte.
 use Rattle.std.specs.Prelude.{ℕ, List, Option, Some, None, [], ◌∷◌, ◌++◌, cond, eqb, codes, get_or}
 use Rattle.jacobian.specs.{Answer.Verdict, Answer.accepted, Answer.refused, Curves.coefficients, Curves.curve_with, declared.Class.Class}
 use Rattle.history.specs.Register.{RegisterReply, commit_answer, undo_answer, release_answer}
 use Rattle.history.specs.declared.Register.{Register}
-use Rattle.text.specs.{Line.in_line, Line.with_bytes, Text.decimal, Text.row_text, Text.class_text, Text.refusal_text, declared.Line.Line}
+use Rattle.text.specs.Text.{decimal, row_text, class_text, refusal_text}
 use Rattle.trial_text.specs.Cases.{number_at, row_at, class_at}
 
 -- ---- texts
@@ -48,16 +48,16 @@ started case = record {
   released = number_at case 11;
 }
 
--- the line that answers a call; none for a start
-unfoldable pub call_line : ℕ → Register → Class → Option Line
-call_line call r a =
+-- the text that answers a call; none for a start
+unfoldable pub call_text : ℕ → Register → Class → Option (List ℕ)
+call_text call r a =
     cond (eqb call 0) None
-    (Some (with_bytes (in_line []) (
+    (Some (
     cond (eqb call 1) (reply_text (commit_answer r a))
     (cond (eqb call 2) (reply_text (undo_answer r a))
     (cond (eqb call 3) (register_text r)
     (cond (eqb call 4) (reply_text (release_answer r))
-    (codes "no such call")))))))
+    (codes "no such call"))))))
 
 -- the register after a call; that of a start is given
 unfoldable pub register_after : ℕ → Register → Class → Register → Register
@@ -68,10 +68,10 @@ register_after call r a begun =
     (cond (eqb call 4) (release_answer r).register
     r)))
 
--- the line that answers a case, where the register is this one
-abbrev pub line_of : Register → List ℕ → Option Line
-line_of r case = call_line (get_or case 0 0) r (class_at case 12)
+-- the text that answers a case, where the register is this one
+abbrev pub case_text : Register → List ℕ → Option (List ℕ)
+case_text r case = call_text (get_or case 0 0) r (class_at case 12)
 
 -- the register after a case
-abbrev pub after : Register → List ℕ → Register
-after r case = register_after (get_or case 0 0) r (class_at case 12) (started case)
+abbrev pub case_register : Register → List ℕ → Register
+case_register r case = register_after (get_or case 0 0) r (class_at case 12) (started case)
