@@ -178,7 +178,7 @@ def is_written(said, names):
     given = dict(zip(named[1].split(), arguments(said)[1:]))
     parameters = [n for group in re.findall(r"\(([^()]*?) : ", record[1]) for n in group.split()]
     values = dict(zip(parameters, (given.get(a) for a in arguments(named[3]))))
-    first = re.fullmatch(r"pub \w+ : Appends (\w+) (\w+) [^λ→]*", fields_of(named[2], text).strip().split("\n")[0])
+    first = re.fullmatch(r"pub \w+ : Appends (\w+) (\w+) \([^λ→]*\)", fields_of(named[2], text).strip().split("\n")[0])
     return bool(first) and [values.get(first[1]), values.get(first[2])] == [held, holds]
 
 
