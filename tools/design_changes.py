@@ -38,23 +38,25 @@ def squeezed(text):
 
 
 def functions(texts):
-    """Open functions and methods: the signature, and the clauses."""
+    """Open functions and methods, those of open traits too: the signature, and the clauses."""
     found = {}
     for path, text in texts.items():
         if not path.endswith(".rt"):
             continue
-        crate, owner = path.split("/")[1], ""
-        for m in re.finditer(r"^impl(?:<[^>]*>)? (?:\w+ for )?(\w+)|^(?:    )?pub (?:extern \"C\" )?fn (\w+)(.*?)^ *\{$|^\}$", text, re.M | re.S):
+        crate, owner, trait = path.split("/")[1], "", False
+        begins = r"^(impl|pub trait)(?:<[^>]*>)? (?:\w+ for )?(\w+)"
+        function = r"^(?:    )?(pub (?:extern \"C\" )?|(?:final )?)fn (\w+)(.*?)(?:\{$|;$)"
+        for m in re.finditer(rf"{begins}|{function}|^\}}$", text, re.M | re.S):
             if m[1]:
-                owner = m[1] + "::"
-            elif m[2]:
-                head = squeezed(m[3])
+                owner, trait = m[2] + "::", m[1] != "impl"
+            elif not m[4]:
+                owner, trait = "", False
+            elif trait or m[3].startswith("pub "):
+                head = squeezed(m[5])
                 signature = re.split(r" (?=requires |ensures )", head)[0]
                 clauses = re.split(r" (?=requires |ensures )", head)[1:]
-                name = ("" if text[m.start()] == "p" else owner) + m[2]
-                found[crate, name] = "fn " + m[2] + signature, clauses
-            else:
-                owner = ""
+                name = (owner if text[m.start()] == " " else "") + m[4]
+                found[crate, name] = "fn " + m[4] + signature, clauses
     return found
 
 
@@ -62,15 +64,17 @@ def types(texts):
     found = {}
     for path, text in texts.items():
         if path.endswith(".rt"):
-            for m in re.finditer(r"^pub (struct|enum|trait|type) (\w+)(.*?)(?:^\}|;)$", text, re.M | re.S):
+            for m in re.finditer(r"^pub (?:(struct|enum|type) (\w+)(.*?)(?:^\}|;)$|trait (\w+)(.*?)^\}$)", text, re.M | re.S):
+                if m[4]:
+                    found[path.split("/")[1], m[4]] = squeezed(f"trait {m[4]} {{ {' '.join(re.findall(r'^    ghost .*?;$', m[5], re.M | re.S))[:-1]} }}")
+                    continue
                 body = re.sub(r"//.*", "", m[3])
-                body = re.sub(r"(\bfn [^;{]*?)(\s+\{.*?^    \})", r"\1", body, flags=re.S | re.M)
                 found[path.split("/")[1], m[2]] = squeezed(f"{m[1]} {m[2]}{body}") + (" }" if "{" in body and m[1] != "type" else "")
     return found
 
 
 def declarations(texts, folder):
-    """Declarations of antt files: the text of each, up to the next empty line."""
+    """Declarations of antt files: the text of each, up to the next empty line. Of specs/ the definitions alone."""
     found = {}
     for path, text in texts.items():
         if path.endswith(".antt") and f"/{folder}/" in path and not re.search(r"/(Answers|Invariants)\.antt$", path):
@@ -78,7 +82,8 @@ def declarations(texts, folder):
             for block in re.split(r"\n\s*\n", text):
                 block = "\n".join(l for l in block.split("\n") if not l.lstrip().startswith(("--", "use ", "pub use ", "unfoldable pub use ", "unfolding ")))
                 m = re.match(r"\s*(?:(?:unfoldable|abbrev|pub|pattern) )*(?:(data|record|ruleset) )?([^\s:]+)", block)
-                if m and ":" in block and m[2] not in ("module", "infixr", "infixl", "infix", "mod"):
+                lemma = folder == "specs" and not re.match(r"\s*(?:pub )?(?:abbrev|unfoldable|data|record|open) ", block)
+                if m and ":" in block and not lemma and m[2] not in ("module", "infixr", "infixl", "infix", "mod"):
                     found[crate, path[len(f"crates/{crate}/{folder}/") :], m[2]] = squeezed(block)
     return found
 

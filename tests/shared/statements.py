@@ -149,11 +149,44 @@ def on_a_case(said):
     return set(filter(re.compile(r"(?:If|On|Match)[A-Z]\w*|(?:Reads|Writes)AtMost").fullmatch, words(said)))
 
 
-def is_equation_on_ok(said, value):
+def open_functions(text):
+    """The name and the head of each open function of a file of code: a `pub fn`, and of a `pub trait` each `fn`, also one
+    that has no body or is final."""
+    traits = [m.span() for m in re.finditer(r"^pub trait .*?^}", text, re.M | re.S)]
+    for m in re.finditer(r'^\s*(pub (?:extern "C" )?|(?:final )?)fn (\w+)(.*?)(?:\{|;)\n', text, re.M | re.S):
+        if m[1].startswith("pub ") or any(start < m.start() < end for start, end in traits):
+            yield m[2], m[3]
+
+
+def arguments(said):
+    """The words of an application, each of which may be in parentheses."""
+    return re.findall(r"\((?:[^()]|\((?:[^()]|\([^()]*\))*\))*\)|[^\s()]+", said)
+
+
+def is_written(said, names):
+    """Is what is said an equation for what came behind what the writer held, or a type of specs/ that is, for some
+    values, a record whose first field is one?"""
+    held, holds = "(W.contents out.old)", "(W.contents out.new)"
+    if said.startswith(f"Appends {held} {holds} "):
+        return not re.search("[λ→]", said)
+    path, name = place(names.get(said.split(" ")[0], ""), "specs")
+    text = read(path) if path else ""
+    named = re.search(rf"^{re.escape(name or ' ')} ([^=\n]*) = (?:\(\w+ : [^\n]*?\) × )*(\w+) ([^\n]*)$", text, re.M)
+    record = named and re.search(rf"^pub record {named[2]} (.*) : Type 0 where$", text, re.M)
+    if not record:
+        return False
+    given = dict(zip(named[1].split(), arguments(said)[1:]))
+    parameters = [n for group in re.findall(r"\(([^()]*?) : ", record[1]) for n in group.split()]
+    values = dict(zip(parameters, (given.get(a) for a in arguments(named[3]))))
+    first = re.fullmatch(r"pub \w+ : Appends (\w+) (\w+) \([^λ→]*\)", fields_of(named[2], text).strip().split("\n")[0])
+    return bool(first) and [values.get(first[1]), values.get(first[2])] == [held, holds]
+
+
+def is_equation_on_ok(said, value, names):
     """Is what is said of a result with such a value, where it has one, an equation for it; of one that has no value, an
     equation for what was written?"""
     if value == "()":
-        return bool(re.fullmatch(r"OnOk result \(Appends \(W\.contents out\.old\) \(W\.contents out\.new\) [^λ→]*\)", said))
+        return said.startswith("OnOk result (") and said.endswith(")") and is_written(said[len("OnOk result ("):-1], names)
     return bool(re.fullmatch(r"IfOk result \(λ (\w+)\. \1 ≡ [^λ→≡]*\)", said))
 
 

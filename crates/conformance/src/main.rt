@@ -20,6 +20,13 @@
 // `cut short`.
 #![tactic(auto)]
 
+ghost use Rattle.std.specs.Prelude.{◌≡◌, Some};
+ghost use Rattle.jacobian.specs.Answer.{verdict, reply};
+ghost use Rattle.seal_licence.specs.Multiples.{class_result};
+ghost use Rattle.text.specs.Line.{with_bytes};
+ghost use Rattle.conformance.specs.Texts.{verdict_text, result_text, reply_text, counted_text, half_of_double, double_of_half, case_text};
+ghost use Rattle.conformance.specs.internal.Lengths.{text_short};
+
 use jacobian::{Class, CountedClass, Curve};
 use refusals::Refusal;
 use seal_licence::multiples;
@@ -32,6 +39,11 @@ use trial_text::{Case, Trial};
 struct Classes;
 
 impl Trial for Classes {
+    ghost text_of = { λ _ case. Some (case_text case) };
+
+    ghost after = { λ classes _. classes };
+
+    #[tactic(auto, unfolding(crate::specs::Texts::call_text))]
     fn answer(&mut self, case: Case) -> Option<Line> {
         let (curve, a, b) = (case.curve(), case.class(3), case.class(10));
         let mut line = Line::new();
@@ -56,10 +68,14 @@ impl Trial for Classes {
         }
         Some(line)
     }
+
+    ghost has_room = { λ _ case. text_short case };
 }
 
 // Appends that a call accepted, or its refusal.
-fn push_accepted(line: &mut Line, answer: Result<(), Refusal>) {
+fn push_accepted(line: &mut Line, answer: Result<(), Refusal>)
+    ensures { line.new ≡ with_bytes line.old (verdict_text (verdict answer)) }
+{
     match answer {
         Ok(()) => line.push_bytes(b"accepted"),
         Err(refusal) => line.push_refusal(refusal.number()),
@@ -67,7 +83,9 @@ fn push_accepted(line: &mut Line, answer: Result<(), Refusal>) {
 }
 
 // Appends a class, or its refusal.
-fn push_class(line: &mut Line, answer: Result<Class, Refusal>) {
+fn push_class(line: &mut Line, answer: Result<Class, Refusal>)
+    ensures { line.new ≡ with_bytes line.old (result_text (class_result answer)) }
+{
     match answer {
         Ok(class) => line.push_class(class.degree, class.u, class.v, class.degree),
         Err(refusal) => line.push_refusal(refusal.number()),
@@ -76,12 +94,17 @@ fn push_class(line: &mut Line, answer: Result<Class, Refusal>) {
 
 // Appends a class without its number of reduction steps, or its refusal.
 // Each trial has a `push_answer` of its own, since what an answer appends differs.
-fn push_answer(line: &mut Line, answer: Result<CountedClass, Refusal>) {
+fn push_answer(line: &mut Line, answer: Result<CountedClass, Refusal>)
+    ensures { line.new ≡ with_bytes line.old (reply_text (reply answer)) }
+{
     push_class(line, answer.map(|counted| counted.class));
 }
 
 // Appends a class with its number of reduction steps, or its refusal.
-fn push_counted(line: &mut Line, answer: Result<CountedClass, Refusal>) {
+#[tactic(auto, using(text::proofs::Appending::both))]
+fn push_counted(line: &mut Line, answer: Result<CountedClass, Refusal>)
+    ensures { line.new ≡ with_bytes line.old (counted_text (reply answer)) }
+{
     push_answer(line, answer);
     if let Ok(counted) = answer {
         line.push(b' ');
@@ -90,12 +113,18 @@ fn push_counted(line: &mut Line, answer: Result<CountedClass, Refusal>) {
 }
 
 // The half of the double, or the refusal of the double.
-fn half_of_double(curve: Curve, class: Class) -> Result<CountedClass, Refusal> {
+#[tactic(auto, unfolding(crate::specs::Texts::half_of_double))]
+fn half_of_double(curve: Curve, class: Class) -> Result<CountedClass, Refusal>
+    ensures { reply result ≡ half_of_double curve class }
+{
     jacobian::half(curve, jacobian::double(curve, class)?.class)
 }
 
 // The double of the half, or the refusal of the half.
-fn double_of_half(curve: Curve, class: Class) -> Result<CountedClass, Refusal> {
+#[tactic(auto, unfolding(crate::specs::Texts::double_of_half))]
+fn double_of_half(curve: Curve, class: Class) -> Result<CountedClass, Refusal>
+    ensures { reply result ≡ double_of_half curve class }
+{
     jacobian::double(curve, jacobian::half(curve, class)?.class)
 }
 

@@ -7,6 +7,12 @@
 // `cut short`.
 #![tactic(auto)]
 
+ghost use Rattle.std.specs.Prelude.{◌≡◌, Some};
+ghost use Rattle.binary_field.specs.Answer.{reply, solution_reply};
+ghost use Rattle.text.specs.Line.{with_bytes};
+ghost use Rattle.element_trial.specs.Texts.{reply_text, root_text, case_text};
+ghost use Rattle.element_trial.specs.internal.Lengths.{text_short};
+
 use refusals::Refusal;
 use std::io;
 use text::Line;
@@ -17,6 +23,11 @@ use trial_text::{Case, Trial};
 struct Elements;
 
 impl Trial for Elements {
+    ghost text_of = { λ _ case. Some (case_text case) };
+
+    ghost after = { λ elements _. elements };
+
+    #[tactic(auto, unfolding(crate::specs::Texts::call_text))]
     fn answer(&mut self, case: Case) -> Option<Line> {
         let (d, a, b) = (case.degree(), case.number(0), case.number(1));
         let mut line = Line::new();
@@ -32,11 +43,15 @@ impl Trial for Elements {
         }
         Some(line)
     }
+
+    ghost has_room = { λ _ case. text_short case };
 }
 
 // Appends an element, or its refusal.
 // Each trial has a `push_answer` of its own, since what an answer appends differs.
-fn push_answer(line: &mut Line, answer: Result<u64, Refusal>) {
+fn push_answer(line: &mut Line, answer: Result<u64, Refusal>)
+    ensures { line.new ≡ with_bytes line.old (reply_text (reply answer)) }
+{
     match answer {
         Ok(element) => line.push_hexadecimal(element),
         Err(refusal) => line.push_refusal(refusal.number()),
@@ -44,7 +59,9 @@ fn push_answer(line: &mut Line, answer: Result<u64, Refusal>) {
 }
 
 // Appends a root of the quadratic equation, that there is none, or its refusal.
-fn push_root(line: &mut Line, answer: Result<Option<u64>, Refusal>) {
+fn push_root(line: &mut Line, answer: Result<Option<u64>, Refusal>)
+    ensures { line.new ≡ with_bytes line.old (root_text (solution_reply answer)) }
+{
     match answer {
         Ok(Some(root)) => line.push_hexadecimal(root),
         Ok(None) => line.push_bytes(b"no root"),

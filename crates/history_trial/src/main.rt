@@ -14,6 +14,13 @@
 // `cut short`.
 #![tactic(auto)]
 
+ghost use Rattle.std.specs.Prelude.{◌≡◌, [], ◌∷◌};
+ghost use Rattle.jacobian.specs.{Answer.neutral_class, Curves.curve_with};
+ghost use Rattle.history.specs.Register.{register_reply};
+ghost use Rattle.text.specs.Line.{with_bytes};
+ghost use Rattle.history_trial.specs.Texts.{counts_text, spaced_class, reply_text, register_text, started, case_text, case_register};
+ghost use Rattle.history_trial.specs.internal.Lengths.{text_short};
+
 use history::{Register, RegisterAnswer};
 use jacobian::Class;
 use std::io;
@@ -27,6 +34,11 @@ struct Registers {
 }
 
 impl Trial for Registers {
+    ghost text_of = { λ trial case. case_text trial.register case };
+
+    ghost after = { λ trial case. record { register = case_register trial.register case } };
+
+    #[tactic(auto, unfolding(crate::specs::Texts::call_text, crate::specs::Texts::register_after))]
     fn answer(&mut self, case: Case) -> Option<Line> {
         let mut line = Line::new();
         // The byte is the input's format, so the calls are no enum.
@@ -43,12 +55,18 @@ impl Trial for Registers {
         }
         Some(line)
     }
+
+    ghost has_room = { λ trial case. text_short trial.register case };
 }
 
 impl Registers {
     // Keeps the register of an answer, and appends its count, released step and seal, or the refusal.
     // Each trial has a `push_answer` of its own, since what an answer appends differs.
-    fn push_answer(&mut self, line: &mut Line, answer: RegisterAnswer) {
+    #[tactic(auto, using(text::proofs::Appending::both))]
+    fn push_answer(&mut self, line: &mut Line, answer: RegisterAnswer)
+        ensures kept { self.new.register ≡ answer.register }
+        ensures told { line.new ≡ with_bytes line.old (reply_text (register_reply answer)) }
+    {
         self.register = answer.register;
         match answer.outcome {
             Ok(()) => {
@@ -61,7 +79,10 @@ impl Registers {
 }
 
 // The register that a case starts.
-fn started(case: Case) -> Register {
+#[tactic(auto, unfolding(crate::specs::Texts::started))]
+fn started(case: Case) -> Register
+    ensures { result ≡ started case.entry.bytes.now }
+{
     Register {
         curve: case.curve(),
         count: case.number(3),
@@ -71,20 +92,29 @@ fn started(case: Case) -> Register {
 }
 
 // Appends the count and the released step.
-fn push_counts(line: &mut Line, register: Register) {
+#[tactic(auto, using(text::proofs::Appending::both), unfolding(crate::specs::Texts::counts_text))]
+fn push_counts(line: &mut Line, register: Register)
+    ensures { line.new ≡ with_bytes line.old (counts_text register) }
+{
     line.push_decimal(register.count);
     line.push(b' ');
     line.push_decimal(register.released);
 }
 
 // Appends a blank and a class, of u and v the coefficients below x^n.
-fn push_class(line: &mut Line, class: Class, n: u64) {
+#[tactic(auto, using(text::proofs::Appending::both), unfolding(crate::specs::Texts::spaced_class))]
+fn push_class(line: &mut Line, class: Class, n: u64)
+    ensures { line.new ≡ with_bytes line.old (spaced_class class n) }
+{
     line.push(b' ');
     line.push_class(class.degree, class.u, class.v, n);
 }
 
 // Appends all numbers of a register.
-fn push_register(line: &mut Line, register: Register) {
+#[tactic(auto, using(text::proofs::Appending::both), unfolding(crate::specs::Texts::register_text, crate::specs::Texts::lowest_first))]
+fn push_register(line: &mut Line, register: Register)
+    ensures { line.new ≡ with_bytes line.old (register_text register) }
+{
     let [highest, middle, lowest] = jacobian::curves::coefficients(register.curve);
     line.push_decimal(u64::from(register.curve.degree));
     line.push(b' ');
@@ -95,7 +125,9 @@ fn push_register(line: &mut Line, register: Register) {
 }
 
 // The register before the first start. Its degree is 0, so every call refuses it.
-fn unset() -> Register {
+fn unset() -> Register
+    ensures { result ≡ record { curve = curve_with 0 (0 ∷ 0 ∷ 0 ∷ []); count = 0; seal = neutral_class; released = 0 } }
+{
     Register {
         curve: jacobian::curves::curve_with(0, [0; jacobian::curves::COEFFICIENTS]),
         count: 0,

@@ -1,2 +1,3 @@
--- Laws of a trial's run.
+-- Laws of a trial's run, and of the lengths of its texts.
+pub mod Lengths
 pub mod Runs

@@ -2,13 +2,12 @@
 // A case is a byte for the call, a byte for the degree, and numbers of eight bytes each, high byte first.
 #![tactic(auto)]
 
-ghost use Rattle.std.specs.Prelude.{◌≤◌, ◌<◌, ◌≡◌, ◌+◌, ◌*◌, get_or, length, take, IfOk, IfErr, OnOk, ℕ, List, Option, ⊤};
+ghost use Rattle.std.specs.Prelude.{◌≤◌, ◌<◌, ◌≡◌, ◌+◌, ◌*◌, get_or, length, take, IfOk, IfErr, OnOk, ℕ, List, Option};
 ghost use Rattle.std.specs.Io.{ReadsAtMost};
 ghost use Rattle.std.specs.Io.KnownBytes.{Appends, Consumes, IsAtEnd};
 ghost use Rattle.text.specs.Failures.{AppendsFront, ConsumesFront};
 ghost use Rattle.jacobian.specs.Curves.{curve_with};
-ghost use Rattle.text.specs.declared.Line.{Line as TheLine};
-ghost use Rattle.trial_text.specs.Runs.{Ran};
+ghost use Rattle.trial_text.specs.Runs.{HasRoom, line_with, Ran};
 ghost use Rattle.trial_text.specs.Cases.{eight_bytes, number_at, numbers_from, row_at, class_at, cut_short, cut_short_line};
 
 use jacobian::{Class, Curve};
@@ -103,12 +102,18 @@ fn offset(place: u8) -> usize
 
 // A program that answers cases.
 pub trait Trial {
-    // The lines that may answer a case in a state, and the states after it; unless a trial says it, any.
-    ghost answers: { Self → List ℕ → Option TheLine → Self → Type 0 } = { λ _ _ _ _. ⊤ };
+    // The text that answers a case in a state; none where the case has none.
+    ghost text_of: { Self → List ℕ → Option (List ℕ) };
+
+    // The state after a case.
+    ghost after: { Self → List ℕ → Self };
 
     // The line that answers a case; none where it has none.
     fn answer(&mut self, case: Case) -> Option<Line>
-        ensures { answers self.old case.entry.bytes.now result self.new };
+        ensures { (result ≡ line_with (text_of self.old case.entry.bytes.now)) × (self.new ≡ after self.old case.entry.bytes.now) };
+
+    // The text and a line feed fit a line.
+    ghost has_room: { (state : Self) (case : List ℕ) → HasRoom (text_of state case) };
 
     // Reads case after case into a room of a case's size and writes their lines, until the input has none left.
     // A proved loop has to end, and the input need not: the turns are counted, up to a number that no run uses up.
@@ -118,7 +123,7 @@ pub trait Trial {
         input: &mut R,
         out: &mut W,
     ) -> io::Result<()>
-        ensures { OnOk result (Ran answers (length room.old) self.old self.new (R.remaining input.old) (R.remaining input.new) (W.contents out.old) (W.contents out.new)) }
+        ensures { OnOk result (Ran text_of after (length room.old) self.old self.new (R.remaining input.old) (R.remaining input.new) (W.contents out.old) (W.contents out.new)) }
     {
         for _ in 0..u64::MAX {
             if read_case(input, out, room)? < room.len() {

@@ -1,0 +1,3 @@
+-- What the trial of the calls on elements answers.
+pub mod Texts
+pub mod internal

@@ -1,0 +1,2 @@
+-- What the trial's law cites.
+pub mod Lengths
