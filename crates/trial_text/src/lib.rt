@@ -76,12 +76,16 @@ impl Case<'_> {
         self.bytes.get(at).copied().unwrap_or(0)
     }
 
-    // The number in the eight bytes from an offset on.
+    // The number in the eight bytes from an offset on. Bytes that the case has are taken in one piece.
     fn eight_bytes(&self, at: usize) -> u64
         requires { at ≤ 4092 }
         ensures { result ≡ eight_bytes self.now.bytes.now at }
     {
-        u64::from_be_bytes(std::array::from_fn(|i| self.byte(at + i)))
+        let bytes: Option<&[u8]> = self.bytes.get(at..at + 8);
+        match bytes {
+            Some(&[a, b, c, d, e, f, g, h]) => u64::from_be_bytes([a, b, c, d, e, f, g, h]),
+            _ => u64::from_be_bytes(std::array::from_fn(|i| self.byte(at + i))),
+        }
     }
 
     // The three numbers from an offset on.
@@ -89,7 +93,11 @@ impl Case<'_> {
         requires { at ≤ 4076 }
         ensures { result ≡ numbers_from self.now.bytes.now at }
     {
-        std::array::from_fn(|i| self.eight_bytes(at + 8 * i))
+        [
+            self.eight_bytes(at),
+            self.eight_bytes(at + 8),
+            self.eight_bytes(at + 16),
+        ]
     }
 }
 
