@@ -15,7 +15,7 @@ use mathlib.Core.Bool.{Bool, true, false, cond}
 use Rattle.text.specs.{Line.line_room, Line.in_line, Line.with_bytes, declared.Line.Line}
 use Rattle.text.proofs.Appending.{both, laid, line_bytes}
 use Rattle.trial_text.specs.Cases.{cut_short, cut_short_line}
-use Rattle.trial_text.specs.Runs.{HasRoom, line_with, ended, lines, most_turns, Ran}
+use Rattle.trial_text.specs.Runs.{HasRoom, line_with, ended, lines, most_turns, RanByTexts}
 
 -- of a whole case nothing is told
 told_none : (n size : ℕ) → size ≤ n → cut_short n size ≡ []
@@ -58,7 +58,7 @@ module _ {T : Type 0} (text_of : T → List ℕ → Option (List ℕ)) (after : 
 
   module _ {size turns : ℕ} {start s : T} {given left rest held holds : Option (List ℕ)} (before : Going size start s given left held holds turns) where
     pub over : {now : Option (List ℕ)} (case : List ℕ) (n : ℕ) → length case ≡ size → n ≡ length (take n case) → n < size → IsAtEnd rest → Consumes left rest (take n case) → Appends holds now (cut_short n (length case))
-        → Ran text_of after size start s given rest held now
+        → RanByTexts text_of after size start s given rest held now
     over {now} case n e some short end taken told =
         let told_here : Appends holds now (cut_short n size) = subst (λ k. Appends holds now (cut_short n k)) e told in
         let few : length (take n case) ≤ size - 1 = omega arith in (
@@ -90,7 +90,7 @@ module _ {T : Type 0} (text_of : T → List ℕ → Option (List ℕ)) (after : 
         }
 
   module _ {size turns : ℕ} {start s : T} {given left held holds : Option (List ℕ)} (before : Going size start s given left held holds turns) where
-    pub out : turns ≡ most_turns → Ran text_of after size start s given left held holds
+    pub out : turns ≡ most_turns → RanByTexts text_of after size start s given left held holds
     out all = (
       before.cases,
       [],

@@ -7,7 +7,7 @@ ghost use Rattle.std.specs.Io.{ReadsAtMost};
 ghost use Rattle.std.specs.Io.KnownBytes.{Appends, Consumes, IsAtEnd};
 ghost use Rattle.text.specs.Failures.{AppendsFront, ConsumesFront};
 ghost use Rattle.jacobian.specs.Curves.{curve_with};
-ghost use Rattle.trial_text.specs.Runs.{HasRoom, line_with, Ran};
+ghost use Rattle.trial_text.specs.Runs.{HasRoom, line_with, RanByTexts};
 ghost use Rattle.trial_text.specs.Cases.{eight_bytes, number_at, numbers_from, row_at, class_at, cut_short, cut_short_line};
 
 use jacobian::{Class, Curve};
@@ -131,7 +131,7 @@ pub trait Trial {
         input: &mut R,
         out: &mut W,
     ) -> io::Result<()>
-        ensures { OnOk result (Ran text_of after (length room.old) self.old self.new (R.remaining input.old) (R.remaining input.new) (W.contents out.old) (W.contents out.new)) }
+        ensures { OnOk result (RanByTexts text_of after (length room.old) self.old self.new (R.remaining input.old) (R.remaining input.new) (W.contents out.old) (W.contents out.new)) }
     {
         for _ in 0..u64::MAX {
             if read_case(input, out, room)? < room.len() {
