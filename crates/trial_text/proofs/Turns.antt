@@ -1,5 +1,5 @@
--- A run as its turns, by any lines and states that may answer a case.
--- `turns_made`: a run by texts made turns, each with the line of a text and the state after it.
+-- A run by texts as turns, by any relation that the line of each text and the state after it meet.
+-- `turns_made`: where the texts have room, a run by texts made such turns.
 use Rattle.std.proofs.Common.{ℕ, ◌≡◌, List, [], ◌∷◌, ◌++◌, length, All, Option, None, Some, refl, append-nil, append_assoc}
 use Rattle.std.specs.Prelude.{fold}
 use Rattle.std.specs.List.{concat}

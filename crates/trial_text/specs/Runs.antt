@@ -47,14 +47,16 @@ pub record RunOver {T : Type 0} (text_of : T → List ℕ → Option (List ℕ))
 abbrev pub RanByTexts : {T : Type 0} → (T → List ℕ → Option (List ℕ)) → (T → List ℕ → T) → ℕ → T → T → Option (List ℕ) → Option (List ℕ) → Option (List ℕ) → Option (List ℕ) → Type 0
 RanByTexts text_of after size start end given left held holds = (cases : List (List ℕ)) × (rest : List ℕ) × RunOver text_of after size start end given left held holds cases rest
 
--- ---- the same by any lines and states that may answer a case
+-- ---- a run by turns, each by a relation `answers` of a state, a case, its line and the state after
+-- It leaves open how long the rest is, and whether the run went on to the end of the input.
 
--- what is written for a case: the line and a line feed, or nothing
+-- what is written for a case: the line and, where the line has room, a line feed; nothing where it has no line
 abbrev pub written_for : Option Line → List ℕ
 written_for None = []
 written_for (Some line) = let ended = with_bytes line (0x0A ∷ []) in take ended.len ended.bytes
 
--- turns from one state of a trial to another: a case of the size each, with the bytes read and the bytes written
+-- turns from one state of a trial to another, each with a case of the size; the bytes that they read, and those that
+-- they wrote
 pub data Turns {T : Type 0} (answers : T → List ℕ → Option Line → T → Type 0) (size : ℕ) (start : T) : List ℕ → List ℕ → T → Type 0 where
   none : Turns answers size start [] [] start
   turn : {read written : List ℕ} {s t : T} (case : List ℕ) (line : Option Line) → Turns answers size start read written s → length case ≡ size → answers s case line t
